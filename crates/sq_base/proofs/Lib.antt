@@ -1,0 +1,4 @@
+pub mod FieldLaws
+pub mod HandleLaws
+pub mod NameLaws
+pub mod StampLaws

@@ -1,0 +1,36 @@
+-- The text of a receipt handle. Own.
+use Rattle.std.specs.Prelude.{ℕ, ◌<◌, ◌≤◌, ◌&&◌, List, ◌∷◌, ◌++◌, length, nat_le, nat_lt, ◌==◌, if◌then◌else◌, Option, Some, None}
+use Rattle.sq_base.specs.Fields.{field, ◌>>=◌, field_at, part_at}
+use Rattle.sq_base.specs.declared.handle.Handle.{Handle}
+
+-- queue, home, slot, serial and receive number in hexadecimal digits, with a `-` between
+unfoldable pub handle_text : Handle → List ℕ
+handle_text h = field 12 h.queue ++ (45 ∷ (field 3 h.home ++ (45 ∷ (field 8 h.slot ++ (45 ∷ (field 16 h.serial ++ (45 ∷ field 8 h.receive)))))))
+
+-- what may stand in a handle
+pub record Fits (h : Handle) : Type 0 where
+  pub queue : (1 ≤ h.queue) × (h.queue < 281474976710656)
+  pub home : h.home < 16
+  pub slot : h.slot < 4294967296
+  pub serial : h.serial < 4611686018427387904
+  pub receive : (1 ≤ h.receive) × (h.receive ≤ 4294967295)
+
+abbrev pub in_range : Handle → Option Handle
+in_range h =
+    if nat_le 1 h.queue && nat_lt h.queue 281474976710656 then
+    if nat_lt h.home 16 then
+    if nat_lt h.serial 4611686018427387904 then
+    if nat_le 1 h.receive && nat_le h.receive 4294967295 then Some h else None
+    else None
+    else None
+    else None
+
+-- the handle that a text spells
+unfoldable pub handle_at : List ℕ → Option Handle
+handle_at bytes = do
+  queue ← part_at 12 bytes
+  home ← part_at 3 queue.1
+  slot ← part_at 8 home.1
+  serial ← part_at 16 slot.1
+  receive ← field_at 8 serial.1
+  if length receive.1 == 0 then in_range (record { queue = queue.0; home = home.0; slot = slot.0; serial = serial.0; receive = receive.0 }) else None

@@ -1,0 +1,109 @@
+//! Message bodies: which texts they are, and their digest.
+ghost use Rattle.std.specs.Prelude.{◌≡◌, ◌⊎◌, length, IfOk, IfErr, OnOk, MatchResult};
+ghost use Rattle.std.specs.List.{list_all};
+ghost use Rattle.std.specs.Str.{chars};
+ghost use Rattle.md5.specs.Md5.{md5};
+ghost use Rattle.hex.specs.Hex.{encode_lower};
+ghost use Rattle.sq_base.specs.Bodies.{allowed, body_check};
+ghost use Rattle.sq_base.specs.declared.refusal.Refusal.TheVariants.{NoMemory};
+
+use crate::refusal::Refusal;
+use md5::{Digest, Md5};
+use std::alloc::Global;
+use std::marker::Model;
+
+/// How many bytes a body may have where its queue says nothing less
+/// (SQS API Reference, SetQueueAttributes, MaximumMessageSize).
+pub const BODY_LIMIT: usize = 262_144;
+
+/// The text of a message.
+#[derive(Drop)]
+pub struct Body {
+    text: String,
+}
+
+impl Model for Body {
+    ghost use Rattle.std.specs.Prelude.{List, ℕ, string_bytes};
+
+    ghost Value = { List ℕ };
+
+    ghost view = { λ b. string_bytes b.text };
+}
+
+impl Body {
+    /// Whether a text may be a body of at most so many bytes (SQS API Reference, SendMessage,
+    /// MessageBody): InvalidParameterValue where it is empty or longer, else InvalidMessageContents
+    /// where one of its characters may not stand in a body.
+    pub fn check(text: &str, limit: usize) -> Result<(), Refusal>
+        ensures { result ≡ body_check text.now limit }
+    {
+        if text.is_empty() || text.len() > limit {
+            return Err(Refusal::InvalidParameterValue);
+        }
+        if !has_allowed(text) {
+            return Err(Refusal::InvalidMessageContents);
+        }
+        Ok(())
+    }
+
+    /// The body of a text. Refused as by `check`, and then where no memory is found.
+    pub fn new(alloc: Global, text: &str, limit: usize) -> Result<Body, Refusal>
+        ensures value { IfOk result (λ b. b ≡ text.now) }
+        ensures checked { OnOk result (body_check text.now limit ≡ Ok tt) }
+        ensures err { IfErr result (λ e. (e ≡ NoMemory) ⊎ (body_check text.now limit ≡ Err e)) }
+        ensures refused { MatchResult (body_check text.now limit) (λ _. IfErr result (λ e. e ≡ NoMemory)) (λ e. result ≡ Err e) }
+    {
+        Self::check(text, limit)?;
+        Ok(Body {
+            text: String::from_str(alloc, text)?,
+        })
+    }
+
+    /// The same body. Refused only where no memory is found.
+    pub fn copy(&self) -> Result<Body, Refusal>
+        ensures value { IfOk result (λ b. b ≡ self.now) }
+        ensures refused { IfErr result (λ e. e ≡ NoMemory) }
+    {
+        Ok(Body {
+            text: self.text.clone()?,
+        })
+    }
+
+    /// The text of the body.
+    pub fn as_str(&self) -> &str
+        ensures { result.now ≡ self.now }
+    {
+        self.text.as_str()
+    }
+
+    /// How many bytes the body has.
+    pub fn len(&self) -> usize
+        ensures { result ≡ length self.now }
+    {
+        self.text.len()
+    }
+}
+
+/// The MD5 digest (RFC 1321) of a body in digits of `0-9a-f`
+/// (SQS API Reference, SendMessage, MD5OfMessageBody).
+pub fn body_md5(b: &Body) -> [u8; 32]
+    ensures { result ≡ encode_lower (md5 b.now) }
+{
+    let digest = Md5::digest(b.as_str().as_bytes());
+    let mut text = [0u8; 32];
+    let _ = hex::encode_to_slice(&digest, &mut text);
+    text
+}
+
+#[tactic(auto, unfolding(crate::specs::Bodies::allowed))]
+fn is_allowed(c: char) -> bool
+    ensures { result ≡ allowed c }
+{
+    matches!(c, '\t' | '\n' | '\r' | '\u{20}'..='\u{D7FF}' | '\u{E000}'..='\u{FFFD}' | '\u{10000}'..='\u{10FFFF}')
+}
+
+fn has_allowed(text: &str) -> bool
+    ensures { result ≡ list_all allowed (chars text.now) }
+{
+    text.chars().all(|c| is_allowed(c))
+}

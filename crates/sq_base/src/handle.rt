@@ -1,0 +1,82 @@
+//! The handle of a received message, and its text.
+ghost use Rattle.std.specs.Prelude.{◌≡◌, IfSome, Some};
+ghost use Rattle.sq_base.specs.Handles.{handle_text, handle_at, Fits};
+
+use crate::fields::{put_at, put_dash, take_field, take_part};
+use crate::ids::{HomeNo, QueueNo, Serial};
+use crate::ranges::Receives;
+
+/// Which row of which home was received, and for which time
+/// (SQS API Reference, ReceiveMessage, ReceiptHandle; its text is own).
+#[derive(Clone, Copy, PartialEq, Eq, PartialOrd, Ord, Debug)]
+pub struct Handle {
+    pub queue: QueueNo,
+    pub home: HomeNo,
+    pub slot: u32,
+    pub serial: Serial,
+    /// 1 for the first receive of the row at its home.
+    pub receive: Receives,
+}
+
+impl Handle {
+    /// The numbers of a handle are in their ranges. It does nothing: its contract is the law that
+    /// `read_handle` asks for.
+    pub fn fits(&self)
+        ensures { Fits self.now }
+    {
+        let _ = (
+            self.queue.get(),
+            self.home.get(),
+            self.serial.get(),
+            self.receive.get(),
+        );
+        let _slot = self.slot;
+    }
+}
+
+/// Writes the text of a handle: queue, home, slot, serial and receive number in 12, 3, 8, 16 and 8
+/// digits of `0-9a-f`, with a `-` between.
+#[tactic(auto, unfolding(crate::specs::Handles::handle_text))]
+pub fn write_handle(h: &Handle, out: &mut [u8; 51])
+    ensures { out.new ≡ handle_text h.now }
+{
+    put_at(out, 0, 12, h.queue.get());
+    put_dash(out, 12);
+    put_at(out, 13, 3, h.home.get() as u64);
+    put_dash(out, 16);
+    put_at(out, 17, 8, h.slot as u64);
+    put_dash(out, 25);
+    put_at(out, 26, 16, h.serial.get());
+    put_dash(out, 42);
+    put_at(out, 43, 8, h.receive.get() as u64);
+}
+
+#[tactic(auto, unfolding(crate::specs::Handles::handle_at))]
+fn handle_of(b: &[u8]) -> Option<Handle>
+    ensures { result ≡ handle_at b.now }
+{
+    let (queue, rest) = take_part(b, 12)?;
+    let (home, rest) = take_part(rest, 3)?;
+    let (slot, rest) = take_part(rest, 8)?;
+    let (serial, rest) = take_part(rest, 16)?;
+    let (receive, rest) = take_field(rest, 8)?;
+    if !rest.is_empty() {
+        return None;
+    }
+    Some(Handle {
+        queue: QueueNo::new(queue)?,
+        home: HomeNo::new(home)?,
+        slot: slot as u32,
+        serial: Serial::new(serial)?,
+        receive: Receives::new(receive)?,
+    })
+}
+
+/// The handle whose text this is, none where it is the text of none: where its length is not 51, a
+/// digit is not of `0-9a-f`, or a number is out of its range.
+pub fn read_handle(b: &[u8]) -> Option<Handle>
+    ensures found { IfSome result (λ h. b.now ≡ handle_text h) }
+    ensures only { (h : Handle) → Fits h → b.now ≡ handle_text h → result ≡ Some h }
+{
+    handle_of(b)
+}

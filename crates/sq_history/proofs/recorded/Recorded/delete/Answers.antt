@@ -1,0 +1,9 @@
+use Rattle.std.proofs.Common.{rules}
+use Rattle.sq_model.specs.declared.calls.HomeCall.TheVariants.{Delete}
+use Rattle.sq_history.proofs.HistoryLaws.{kept_more}
+use Rattle.sq_history.proofs.recorded.Recorded.delete.Goals as goal
+
+pub invariant_of-self-2 : goal.invariant_of-self-2
+invariant_of-self-2 g c =
+    kept_more (record { site = c.self.inside.shard.site; home = c.self.inside.shard.home; last = c.self.inside.log.last; events = c.self.inside.log.events.items }) _
+    c.args.by.now c.args.now c.args.name (Delete c.args.receipt.now) c.add.result c.self.invariant (search rules)

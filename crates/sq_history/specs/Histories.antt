@@ -1,0 +1,47 @@
+-- What a recorded call does, and what is true of every recorded home.
+use Rattle.std.specs.Prelude.{◌≡◌, ◌⊎◌, ℕ, List, [], ◌∷◌, ◌++◌, length, Option, Some, Ok, Err}
+use Rattle.std.specs.List.{All}
+use Rattle.sq_base.specs.StampValue.{StampValue}
+use Rattle.sq_base.specs.Stamps.{start, after}
+use Rattle.sq_base.specs.declared.refusal.Refusal.{Refusal}
+use Rattle.sq_base.specs.declared.refusal.Refusal.TheVariants.{NoMemory}
+use Rattle.sq_base.specs.declared.ids.HomeId.{HomeId}
+use Rattle.sq_model.specs.declared.place.Component.{Component}
+use Rattle.sq_model.specs.declared.place.Component.TheVariants as part
+use Rattle.sq_model.specs.declared.calls.HomeCall.{HomeCall}
+use Rattle.sq_model.specs.declared.replies.HomeReply.{HomeReply}
+use Rattle.sq_model.specs.declared.event.Actor.{Actor}
+use Rattle.sq_model.specs.Homes.{Unopened, HomeStep, home_refusal}
+use Rattle.sq_model.specs.Replays.{HomeEvent, Replays, StampsRise}
+use Rattle.sq_history.specs.HistoryValue.{HistoryValue}
+use Rattle.sq_history.specs.HomeNote.{HomeNote}
+
+abbrev pub event_of : StampValue → Actor → HomeId → HomeCall → HomeReply → HomeEvent
+event_of stamp by home call reply =
+    record { stamp = stamp; actor = by.number; place = by.place; component = part.Home home; call = call; reply = reply }
+
+abbrev pub note_of : StampValue → Actor → HomeId → ℕ → HomeCall → HomeReply → Option (List ℕ) → HomeNote
+note_of stamp by home index call reply name =
+    record { place = by.place; stamp = stamp; home = home; index = index; call = call; reply = reply; name = name }
+
+-- Exactly one event was added: a step of the home at a new stamp, above the home's last and above what the actor had seen. The note is its own.
+pub record Records (old new : HistoryValue) (by : Actor) (now : ℕ) (name : Option (List ℕ)) (call : HomeCall) (note : HomeNote) : Type 0 where
+  pub stamped : after old.last by.seen now ≡ Ok note.stamp
+  pub step : HomeStep old.site old.home note.stamp.moment call note.reply new.home
+  pub site : new.site ≡ old.site
+  pub last : new.last ≡ note.stamp
+  pub events : new.events ≡ old.events ++ event_of note.stamp by old.site.home call note.reply ∷ []
+  pub noted : note ≡ note_of note.stamp by old.site.home (length old.events) call note.reply name
+
+-- No memory was found, or the first check in order that fails: the clock's, the counts', the home's.
+abbrev pub IsRefused : HistoryValue → Actor → ℕ → HomeCall → Refusal → Type 0
+IsRefused old by now call e =
+    (e ≡ NoMemory)
+    ⊎ (after old.last by.seen now ≡ Err e)
+    ⊎ ((stamp : StampValue) × (after old.last by.seen now ≡ Ok stamp) × (home_refusal old.site old.home stamp.moment call ≡ Some e))
+
+-- True of every recorded home: it is the replay of its events, whose stamps rise, and each event is its own.
+pub record IsKept (h : HistoryValue) : Type 0 where
+  pub replays : Replays (HomeStep h.site) Unopened h.events h.home
+  pub rising : StampsRise start h.events h.last
+  pub own : All (λ e. e.component ≡ part.Home h.site.home) h.events

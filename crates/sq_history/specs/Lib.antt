@@ -1,0 +1,3 @@
+pub mod HistoryValue
+pub mod HomeNote
+pub mod Histories

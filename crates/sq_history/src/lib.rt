@@ -1,0 +1,6 @@
+//! A home with its history.
+#![tactic(auto)]
+
+pub mod log;
+pub mod record;
+pub mod recorded;

@@ -1,0 +1,233 @@
+//! A home, and all that was done to it.
+ghost use Rattle.std.specs.Prelude.{◌≡◌, [], IfOk, IfErr, OnErr};
+ghost use Rattle.sq_base.specs.Stamps.{start};
+ghost use Rattle.sq_model.specs.Homes.{Unopened as Never};
+ghost use Rattle.sq_model.specs.declared.calls.HomeCall.TheVariants.{Configure, Send, Look, Delete};
+ghost use Rattle.sq_model.specs.declared.replies.HomeReply.TheVariants.{Sent};
+ghost use Rattle.sq_shard.specs.Looks.{look_reply};
+
+use crate::log::{Doing, Log};
+use crate::record::HomeRecord;
+use sq_base::body::Body;
+use sq_base::name::QueueName;
+use sq_base::ranges::{Delay, MaxMessages, Timeout};
+use sq_base::refusal::Refusal;
+use sq_base::settings::Settings;
+use sq_base::stamp::Stamp;
+use sq_model::calls::{HomeCall, Receipt};
+use sq_model::event::{Actor, Event};
+use sq_model::replies::{HomeReply, SentMessage};
+use sq_model::rows::{Rows, copy_rows};
+use sq_shard::plain::PlainStore;
+use sq_shard::shard::Shard;
+use sq_shard::store::Store;
+use std::alloc::Global;
+use std::marker::Model;
+
+/// The home that the service uses.
+pub type Home = Recorded<PlainStore>;
+
+/// A home with its history: it is always the replay of its events.
+///
+/// A recorded call adds one event at a stamp above the home's last and above what the actor had seen, and gives
+/// the record of it. One that is refused changes nothing and adds none. Clock readings are in ms.
+#[derive(Drop)]
+pub struct Recorded<S: Store> {
+    shard: Shard<S>,
+    log: Log,
+}
+
+impl<S: Store> Model for Recorded<S> {
+    ghost use Rattle.sq_history.specs.HistoryValue.{HistoryValue};
+    ghost use Rattle.sq_history.specs.Histories.{IsKept};
+
+    ghost Value = { HistoryValue };
+
+    ghost view = { λ a. record { site = a.shard.site; home = a.shard.home; last = a.log.last; events = a.log.events.items } };
+
+    ghost invariant = { λ a. IsKept (record { site = a.shard.site; home = a.shard.home; last = a.log.last; events = a.log.events.items }) };
+}
+
+impl<S: Store> Recorded<S> {
+    ghost use Rattle.sq_history.specs.Histories.{Records, IsRefused, IsKept};
+
+    /// A home that was never opened, with no event.
+    pub fn unopened(alloc: Global, shard: Shard<S>) -> Recorded<S>
+        requires { shard.home ≡ Never }
+        ensures { result ≡ record { site = shard.site; home = Never; last = start; events = [] } }
+    {
+        Recorded {
+            shard,
+            log: Log {
+                last: Stamp::start(),
+                events: Vec::new(alloc),
+            },
+        }
+    }
+
+    /// All events, the first first. The home is always the replay of them.
+    pub fn events(&self) -> &[Event<HomeCall, HomeReply>]
+        ensures items { result.now ≡ self.now.events }
+        ensures kept { IsKept self.now }
+    {
+        self.log.events.as_slice()
+    }
+
+    /// The stamp of the last event.
+    pub fn last(&self) -> Stamp
+        ensures { result ≡ self.now.last }
+    {
+        self.log.last
+    }
+
+    /// Takes settings whose version is above its own, and opens a home that was never opened.
+    /// Refused as NoMemory, ClockRange, Worn, QueueDoesNotExist (closed).
+    pub fn configure(
+        &mut self,
+        by: &Actor,
+        now: u64,
+        name: Option<QueueName>,
+        settings: &Settings,
+        version: u64,
+    ) -> Result<HomeRecord, Refusal>
+        ensures recorded { IfOk result (λ r. Records self.old self.new by.now now name (Configure settings.now version) r) }
+        ensures refusal { IfErr result (IsRefused self.old by.now now (Configure settings.now version)) }
+        ensures err { OnErr result (self.new ≡ self.old) }
+    {
+        self.log.reserve()?;
+        let stamp = Stamp::after(self.log.last, by.seen, now)?;
+        self.shard.configure(stamp.moment, *settings, version)?;
+        let home = self.shard.site().home;
+        let kept = (HomeCall::Configure(*settings, version), HomeReply::Done);
+        let told = (HomeCall::Configure(*settings, version), HomeReply::Done);
+        let doing = Doing {
+            by,
+            stamp,
+            home,
+            name,
+        };
+        Ok(self.log.add(doing, kept, told))
+    }
+
+    /// Puts a message last; without a delay the home's is taken.
+    /// Refused as NoMemory, ClockRange, Worn, QueueDoesNotExist (not serving), OverLimit (full).
+    pub fn send(
+        &mut self,
+        by: &Actor,
+        now: u64,
+        name: Option<QueueName>,
+        body: Body,
+        delay: Option<Delay>,
+    ) -> Result<(SentMessage, HomeRecord), Refusal>
+        ensures recorded { IfOk result (λ r. Records self.old self.new by.now now name (Send body delay) r.1) }
+        ensures sent { IfOk result (λ r. r.1.reply ≡ Sent r.0) }
+        ensures refusal { IfErr result (IsRefused self.old by.now now (Send body delay)) }
+        ensures err { OnErr result (self.new ≡ self.old) }
+    {
+        self.log.reserve()?;
+        let kept_body = body.copy()?;
+        let told_body = body.copy()?;
+        let kept_delay = delay;
+        let told_delay = delay;
+        let stamp = Stamp::after(self.log.last, by.seen, now)?;
+        let sent = self.shard.send(stamp.moment, body, delay)?;
+        let home = self.shard.site().home;
+        let kept_sent = sent;
+        let told_sent = sent;
+        let kept = (HomeCall::Send(kept_body, kept_delay), HomeReply::Sent(kept_sent));
+        let told = (HomeCall::Send(told_body, told_delay), HomeReply::Sent(told_sent));
+        let doing = Doing {
+            by,
+            stamp,
+            home,
+            name,
+        };
+        Ok((sent, self.log.add(doing, kept, told)))
+    }
+
+    /// Receives up to `max` messages; without a timeout the home's is taken. The record's reply has the rows, as they
+    /// stand after it, or says that too many are in flight.
+    /// Refused as NoMemory, ClockRange, Worn, QueueDoesNotExist (not serving).
+    pub fn look(
+        &mut self,
+        alloc: Global,
+        by: &Actor,
+        now: u64,
+        name: Option<QueueName>,
+        max: MaxMessages,
+        timeout: Option<Timeout>,
+    ) -> Result<HomeRecord, Refusal>
+        ensures recorded { IfOk result (λ r. Records self.old self.new by.now now name (Look max timeout) r) }
+        ensures refusal { IfErr result (IsRefused self.old by.now now (Look max timeout)) }
+        ensures err { OnErr result (self.new ≡ self.old) }
+    {
+        self.log.reserve()?;
+        let stamp = Stamp::after(self.log.last, by.seen, now)?;
+        let chosen_for = timeout;
+        let kept_timeout = timeout;
+        let told_timeout = timeout;
+        let kept_max = max;
+        let told_max = max;
+        let given = self.shard.choose(alloc, stamp.moment, max, chosen_for)?;
+        let copy = copy_given(alloc, &given)?;
+        self.shard.give(stamp.moment, timeout, &given);
+        let home = self.shard.site().home;
+        let kept = (HomeCall::Look(kept_max, kept_timeout), reply_of_look(given));
+        let told = (HomeCall::Look(told_max, told_timeout), reply_of_look(copy));
+        let doing = Doing {
+            by,
+            stamp,
+            home,
+            name,
+        };
+        Ok(self.log.add(doing, kept, told))
+    }
+
+    /// Takes out the row on which slot, serial and receive number agree; where there is none it is done too.
+    /// Refused as NoMemory, ClockRange, Worn, QueueDoesNotExist (not serving), ReceiptHandleIsInvalid (a serial that
+    /// was never given).
+    pub fn delete(
+        &mut self,
+        by: &Actor,
+        now: u64,
+        name: Option<QueueName>,
+        receipt: &Receipt,
+    ) -> Result<HomeRecord, Refusal>
+        ensures recorded { IfOk result (λ r. Records self.old self.new by.now now name (Delete receipt.now) r) }
+        ensures refusal { IfErr result (IsRefused self.old by.now now (Delete receipt.now)) }
+        ensures err { OnErr result (self.new ≡ self.old) }
+    {
+        self.log.reserve()?;
+        let stamp = Stamp::after(self.log.last, by.seen, now)?;
+        self.shard.delete(stamp.moment, *receipt)?;
+        let home = self.shard.site().home;
+        let kept = (HomeCall::Delete(*receipt), HomeReply::Done);
+        let told = (HomeCall::Delete(*receipt), HomeReply::Done);
+        let doing = Doing {
+            by,
+            stamp,
+            home,
+            name,
+        };
+        Ok(self.log.add(doing, kept, told))
+    }
+}
+
+fn copy_given(alloc: Global, given: &Option<Rows>) -> Result<Option<Rows>, Refusal>
+    ensures copy { IfOk result (λ copy. copy ≡ given.now) }
+    ensures refused { IfErr result (λ e. e ≡ Refusal.NoMemory) }
+{
+    match given {
+        Some(rows) => Ok(Some(copy_rows(alloc, rows.as_slice())?)),
+        None => Ok(None),
+    }
+}
+
+fn reply_of_look(given: Option<Rows>) -> HomeReply
+    ensures { result ≡ look_reply given }
+{
+    match given {
+        Some(given) => HomeReply::Looked(given),
+        None => HomeReply::Over,
+    }
+}

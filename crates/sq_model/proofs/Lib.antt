@@ -1,0 +1,4 @@
+pub mod Refusals
+pub mod LineageLaws
+pub mod RowLaws
+pub mod ReplayLaws

@@ -1,0 +1,4 @@
+pub mod Rows
+pub mod Homes
+pub mod Lineages
+pub mod Replays

@@ -1,0 +1,66 @@
+-- What becomes of a message: where its rows are, and how they leave the system. A lineage is the id of the first send.
+use Rattle.std.specs.Prelude.{◌≡◌, ℕ, ◌&&◌, ◌==◌, Bool, List, [], ◌∷◌, ◌++◌, map, filter, count_by}
+use Rattle.sq_base.specs.declared.message_id.MessageId.{MessageId}
+use Rattle.sq_base.specs.declared.row.Row.{Row}
+use Rattle.sq_base.specs.declared.settings.Settings.{Settings}
+use Rattle.sq_model.specs.declared.calls.HomeCall.{HomeCall}
+use Rattle.sq_model.specs.declared.calls.HomeCall.TheVariants.{Close, Delete, Purge, Enter, GiveBack}
+use Rattle.sq_model.specs.declared.replies.HomeReply.{HomeReply}
+use Rattle.sq_model.specs.declared.replies.HomeReply.TheVariants.{Sent, Left}
+use Rattle.sq_model.specs.Rows.{is_expired, trimmed, is_named}
+use Rattle.sq_model.specs.Homes.{Home, Unopened, Serving, Closed}
+
+-- how a message left the system
+pub data Cause : Type 0 where
+  Expired Deleted Purged ClosedAway GivenUp : Cause
+
+pub record Ending : Type 0 where
+  pub line : MessageId
+  pub cause : Cause
+
+abbrev pub ended : Cause → List Row → List Ending
+ended cause rows = map (λ row. record { line = row.lineage; cause = cause }) rows
+
+abbrev pub expired : Settings → ℕ → List Row → List Row
+expired s m rows = filter (is_expired s m) rows
+
+-- Who leaves the system in a step of a home. A trim comes first, so what is expired is not deleted, purged or closed away.
+abbrev pub home_ends : Home → ℕ → HomeCall → List Ending
+home_ends (Serving s v n rows) m (Delete receipt) = ended Expired (expired s m rows) ++ ended Deleted (filter (is_named receipt) (trimmed s m rows))
+home_ends (Serving s v n rows) m Purge = ended Expired (expired s m rows) ++ ended Purged (trimmed s m rows)
+home_ends (Serving s v n rows) m Close = ended Expired (expired s m rows) ++ ended ClosedAway (trimmed s m rows)
+home_ends (Serving s v n rows) m call = ended Expired (expired s m rows)
+home_ends home m call = []
+
+-- who is sent in a step
+abbrev pub home_sends : HomeReply → List MessageId
+home_sends (Sent sent) = sent.id ∷ []
+home_sends reply = []
+
+-- what goes from the home into transit
+abbrev pub home_outs : HomeReply → List Row
+home_outs (Left item) = item.value.row ∷ []
+home_outs reply = []
+
+-- what comes into the home from transit
+abbrev pub home_ins : HomeCall → List Row
+home_ins (Enter item) = item.value.row ∷ []
+home_ins (GiveBack item) = item.value.row ∷ []
+home_ins call = []
+
+abbrev pub rows_of : Home → List Row
+rows_of (Serving s v n rows) = rows
+rows_of home = []
+
+abbrev pub same_id : MessageId → MessageId → Bool
+same_id x y = (y.queue == x.queue) && (y.home == x.home) && (y.serial == x.serial)
+
+-- how often a message stands in a list
+abbrev pub rows_with : MessageId → List Row → ℕ
+rows_with x rows = count_by (λ row. same_id x row.lineage) rows
+
+abbrev pub ends_with : MessageId → List Ending → ℕ
+ends_with x ends = count_by (λ e. same_id x e.line) ends
+
+abbrev pub sends_with : MessageId → List MessageId → ℕ
+sends_with x ids = count_by (same_id x) ids

@@ -1,0 +1,42 @@
+//! What a home is asked.
+use crate::item::{Item, TaskNo};
+use sq_base::body::Body;
+use sq_base::ids::Serial;
+use sq_base::ranges::{Delay, MaxMessages, Receives, Timeout};
+use sq_base::settings::Settings;
+
+/// One receive of a row at a home: what a receipt handle names there.
+#[derive(Clone, Copy, PartialEq, Eq, Debug)]
+pub struct Receipt {
+    pub slot: u32,
+    pub serial: Serial,
+    pub receive: Receives,
+}
+
+/// The steps of a home, those that it shares with the ledger among them.
+#[derive(Drop)]
+pub enum HomeCall {
+    /// Takes settings of this version.
+    Configure(Settings, u64),
+    Close,
+    /// Puts a message last; without a delay the home's is taken.
+    Send(Body, Option<Delay>),
+    /// Receives up to so many messages; without a timeout the home's is taken.
+    Look(MaxMessages, Option<Timeout>),
+    Delete(Receipt),
+    Change(Receipt, Timeout),
+    Purge,
+    Count,
+    /// A dead message leaves for the dead-letter queue.
+    LeaveDead,
+    /// A message leaves for a move task.
+    LeaveTask(TaskNo),
+    /// A message comes in at its target.
+    Enter(Box<Item>),
+    /// A message whose target is closed is sent back.
+    TurnBack(Box<Item>),
+    /// A message that was sent back comes in at its source.
+    GiveBack(Box<Item>),
+    /// A message that was sent back to a closed source is given up.
+    GiveUp(Box<Item>),
+}

@@ -1,0 +1,25 @@
+//! What was done, by whom and when.
+use crate::calls::HomeCall;
+use crate::place::Component;
+use crate::replies::HomeReply;
+use sq_base::stamp::Stamp;
+
+/// A step that was done.
+#[derive(Drop)]
+pub struct Event<K, R> {
+    pub stamp: Stamp,
+    pub actor: u32,
+    /// The number of the event among its actor's, from 0 upwards.
+    pub place: u64,
+    pub component: Component,
+    pub call: K,
+    pub reply: R,
+}
+
+/// Who does a step: its number, how many steps it did before, and the last stamp that it saw.
+#[derive(Clone, Copy, PartialEq, Eq, Debug)]
+pub struct Actor {
+    pub number: u32,
+    pub place: u64,
+    pub seen: Stamp,
+}

@@ -1,0 +1,24 @@
+//! Where a step is done.
+use sq_base::ids::HomeId;
+
+/// A part of the system that keeps a history of its own.
+#[derive(Clone, Copy, PartialEq, Eq, Debug)]
+pub enum Component {
+    Directory,
+    Ledger,
+    Home(HomeId),
+}
+
+/// How many rows a home may hold, and how many of them may be in flight. Own.
+#[derive(Clone, Copy, PartialEq, Eq, Debug)]
+pub struct Limits {
+    pub rows: u32,
+    pub flights: u32,
+}
+
+/// A home that never changes: its id and its limits.
+#[derive(Clone, Copy, PartialEq, Eq, Debug)]
+pub struct Site {
+    pub home: HomeId,
+    pub limits: Limits,
+}

@@ -1,0 +1,10 @@
+use Rattle.std.proofs.Common.{◌≡◌, ℕ, ◌+◌, ◌<◌, ◌≤◌, false, true, not, arith, rules, length, inl, inr, subst, sym}
+use Rattle.sq_model.specs.Rows.{is_free}
+use Rattle.sq_shard.proofs.Lists.{taken_by, taken_more}
+use Rattle.sq_shard.proofs.rows.free_slot.Goals as goal
+
+pub returns : goal.returns
+returns c =
+    let rows = c.args.rows.now in
+    let crowded = taken_by (length rows + 1) rows (taken_more (length rows) c.loop-slot.slot rows (omega arith) c.loop-slot.invariant (search rules)) in
+    absurd (omega (arith, crowded))

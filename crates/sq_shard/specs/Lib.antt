@@ -1,0 +1,2 @@
+pub mod ShardValue
+pub mod Looks

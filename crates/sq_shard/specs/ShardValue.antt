@@ -1,0 +1,17 @@
+-- What contracts see of a shard.
+use Rattle.std.specs.Prelude.{ℕ, List}
+use Rattle.sq_base.specs.declared.row.Row.{Row}
+use Rattle.sq_base.specs.declared.settings.Settings.{Settings}
+use Rattle.sq_model.specs.declared.place.Site.{Site}
+use Rattle.sq_model.specs.Homes.{Home, Unopened as Never, Serving as Serves, Closed as Gone}
+use Rattle.sq_shard.specs.declared.shard.Status.{Status}
+use Rattle.sq_shard.specs.declared.shard.Status.TheVariants.{Unopened, Serving, Closed}
+
+pub record ShardValue : Type 0 where
+  pub site : Site
+  pub home : Home
+
+abbrev pub home_of : Status → Settings → ℕ → ℕ → List Row → Home
+home_of Unopened settings version next rows = Never
+home_of Serving settings version next rows = Serves settings version next rows
+home_of Closed settings version next rows = Gone

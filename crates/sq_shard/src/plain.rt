@@ -1,0 +1,85 @@
+//! Rows one after another.
+ghost use Rattle.std.specs.Prelude.{◌≡◌, ◌-◌, [], vec_len, vec_capacity};
+
+use crate::rows;
+use crate::store::Store;
+use sq_base::refusal::Refusal;
+use sq_base::row::Row;
+use sq_base::settings::Settings;
+use sq_model::calls::Receipt;
+use sq_model::rows::Rows;
+use std::alloc::Global;
+
+/// The plain store: each step walks all rows.
+#[derive(Drop)]
+pub struct PlainStore {
+    rows: Vec<Row>,
+}
+
+impl PlainStore {
+    /// A store without rows, which takes no memory yet.
+    pub fn new(alloc: Global) -> PlainStore
+        ensures rows { ⟦<PlainStore as Store>⟧.rows result ≡ [] }
+        ensures slots { ⟦<PlainStore as Store>⟧.slots result ≡ 0 }
+    {
+        PlainStore {
+            rows: Vec::new(alloc),
+        }
+    }
+}
+
+impl Store for PlainStore {
+    ghost rows = { λ s. s.rows.items };
+
+    ghost reserved = { λ s. vec_capacity s.rows - vec_len s.rows };
+
+    ghost slots = { λ s. vec_len s.rows };
+
+    fn count_kept(&self, settings: &Settings, moment: u64) -> usize {
+        rows::count_kept(&self.rows, settings, moment)
+    }
+
+    fn count_flying(&self, settings: &Settings, moment: u64) -> usize {
+        rows::count_flying(&self.rows, settings, moment)
+    }
+
+    fn has_live(&self, settings: &Settings, moment: u64) -> bool {
+        rows::has_live(&self.rows, settings, moment)
+    }
+
+    fn pick(
+        &self,
+        alloc: Global,
+        settings: &Settings,
+        moment: u64,
+        until: u64,
+        max: usize,
+    ) -> Result<Rows, Refusal> {
+        rows::pick(alloc, &self.rows, settings, moment, until, max)
+    }
+
+    fn reserve(&mut self) -> Result<(), Refusal> {
+        self.rows.try_reserve(1)?;
+        Ok(())
+    }
+
+    fn trim(&mut self, settings: &Settings, moment: u64) {
+        rows::trim(&mut self.rows, settings, moment)
+    }
+
+    fn insert(&mut self, row: Row) -> u32 {
+        let slot = rows::free_slot(&self.rows);
+        let mut row = row;
+        row.slot = slot;
+        let _ = self.rows.push(row);
+        slot
+    }
+
+    fn receive(&mut self, settings: &Settings, given: &[Row], moment: u64, until: u64) {
+        rows::receive(&mut self.rows, settings, given, moment, until)
+    }
+
+    fn take(&mut self, receipt: &Receipt) {
+        rows::take(&mut self.rows, receipt)
+    }
+}

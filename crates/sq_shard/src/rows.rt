@@ -1,0 +1,210 @@
+//! Work on a list of rows.
+ghost use Rattle.std.specs.Prelude.{◌≡◌, ℕ, ◌<◌, ◌≤◌, List, length, count_by, filter, map, not, true, IfOk, take, vec_len, vec_capacity, IfErr, ◌==◌};
+ghost use Rattle.std.specs.List.{list_any};
+ghost use Rattle.sq_model.specs.Rows as model;
+ghost use Rattle.sq_model.specs.Homes as homes;
+
+use sq_base::body::Body;
+use sq_base::ids::{HomeId, Serial};
+use sq_base::message_id::MessageId;
+use sq_base::refusal::Refusal;
+use sq_base::row::Row;
+use sq_base::settings::{Redrive, Settings};
+use sq_model::calls::Receipt;
+use sq_model::rows::{Rows, copy_row};
+use std::alloc::Global;
+
+pub fn is_kept(settings: &Settings, moment: u64, row: &Row) -> bool
+    ensures { result ≡ not (model.is_expired settings.now moment row.now) }
+{
+    let retention = settings.retention.get() as u64 * 1000;
+    moment < retention || moment - retention < row.enqueued
+}
+
+pub fn is_flying(moment: u64, row: &Row) -> bool
+    ensures { result ≡ model.is_flying moment row.now }
+{
+    0 < row.receives && moment < row.visible_from
+}
+
+fn is_spent(policy: &Option<Redrive>, row: &Row) -> bool
+    ensures { result ≡ model.is_spent policy.now row.now }
+{
+    match policy {
+        None => false,
+        Some(redrive) => redrive.max_receives.get() <= row.receives,
+    }
+}
+
+pub fn is_dead(settings: &Settings, moment: u64, row: &Row) -> bool
+    ensures { result ≡ model.is_dead settings.now moment row.now }
+{
+    row.visible_from <= moment && is_spent(&settings.redrive, row)
+}
+
+pub fn is_live(settings: &Settings, moment: u64, row: &Row) -> bool
+    ensures { result ≡ model.is_live settings.now moment row.now }
+{
+    row.visible_from <= moment && !is_dead(settings, moment, row) && row.receives < u32::MAX
+}
+
+fn is_named(receipt: &Receipt, row: &Row) -> bool
+    ensures { result ≡ model.is_named receipt.now row.now }
+{
+    row.slot == receipt.slot
+        && row.serial == receipt.serial
+        && row.receives == receipt.receive.get()
+}
+
+/// The id of the row to which a home gives a serial.
+pub fn fresh_id(home: &HomeId, serial: Serial) -> MessageId
+    ensures { result ≡ homes.fresh_id home.now serial }
+{
+    MessageId {
+        queue: home.queue,
+        home: home.home,
+        serial,
+    }
+}
+
+/// A message that is sent, before it has a slot.
+pub fn sent_row(home: &HomeId, serial: Serial, moment: u64, until: u64, body: Body) -> Row
+    ensures { result ≡ homes.sent_row home.now serial 0 moment until body }
+{
+    let id = fresh_id(home, serial);
+    let lineage = fresh_id(home, serial);
+    Row {
+        id,
+        lineage,
+        body,
+        serial,
+        slot: 0,
+        enqueued: moment,
+        visible_from: until,
+        receives: 0,
+        last_receive: None,
+        origin: None,
+    }
+}
+
+pub fn count_kept(rows: &[Row], settings: &Settings, moment: u64) -> usize
+    ensures { result ≡ length (model.trimmed settings.now moment rows.now) }
+{
+    rows.iter()
+        .filter(|row| is_kept(settings, moment, row))
+        .count()
+}
+
+pub fn count_flying(rows: &[Row], settings: &Settings, moment: u64) -> usize
+    ensures { result ≡ count_by (model.is_flying moment) (model.trimmed settings.now moment rows.now) }
+{
+    rows.iter()
+        .filter(|row| is_kept(settings, moment, row))
+        .filter(|row| is_flying(moment, row))
+        .count()
+}
+
+pub fn has_live(rows: &[Row], settings: &Settings, moment: u64) -> bool
+    ensures { result ≡ list_any (model.is_live settings.now moment) (model.trimmed settings.now moment rows.now) }
+{
+    rows.iter()
+        .filter(|row| is_kept(settings, moment, row))
+        .any(|row| is_live(settings, moment, row))
+}
+
+pub fn trim(rows: &mut Vec<Row>, settings: &Settings, moment: u64)
+    ensures rows { rows.new.items ≡ model.trimmed settings.now moment rows.old.items }
+    ensures len { vec_len rows.new ≤ vec_len rows.old }
+    ensures capacity { vec_capacity rows.new ≡ vec_capacity rows.old }
+{
+    rows.retain(|row| is_kept(settings, moment, row))
+}
+
+pub fn take(rows: &mut Vec<Row>, receipt: &Receipt)
+    ensures rows { rows.new.items ≡ model.without receipt.now rows.old.items }
+    ensures len { vec_len rows.new ≤ vec_len rows.old }
+{
+    rows.retain(|row| !is_named(receipt, row))
+}
+
+// The same row after a receive.
+fn received_copy(row: &Row, moment: u64, until: u64) -> Result<Row, Refusal>
+    requires { row.now.receives < 4294967295 }
+    ensures copy { IfOk result (λ copy. copy ≡ model.received moment until row.now) }
+    ensures err { IfErr result (λ e. e ≡ Refusal.NoMemory) }
+{
+    let mut copy = copy_row(row)?;
+    copy.receives += 1;
+    copy.last_receive = Some(moment);
+    copy.visible_from = until;
+    Ok(copy)
+}
+
+/// The first live rows, as they stand after a receive.
+pub fn pick(
+    alloc: Global,
+    rows: &[Row],
+    settings: &Settings,
+    moment: u64,
+    until: u64,
+    max: usize,
+) -> Result<Rows, Refusal>
+    ensures given { IfOk result (λ given. given ≡ take max (map (model.received moment until) (filter (model.is_live settings.now moment) (model.trimmed settings.now moment rows.now)))) }
+    ensures err { IfErr result (λ e. e ≡ Refusal.NoMemory) }
+{
+    let mut given = Rows::new(alloc);
+    for row in rows {
+        if given.len() < max && is_kept(settings, moment, row) && is_live(settings, moment, row) {
+            given.push(received_copy(row, moment, until)?)?;
+        }
+    }
+    Ok(given)
+}
+
+/// Receives the live rows with the serials of those given.
+pub fn receive(rows: &mut [Row], settings: &Settings, given: &[Row], moment: u64, until: u64)
+    ensures { rows.new ≡ map (model.received_if settings.now (model.serials_of given.now) moment until) rows.old }
+{
+    for row in rows.iter_mut() {
+        receive_row(row, settings, given, moment, until);
+    }
+}
+
+fn has_serial(rows: &[Row], serial: Serial) -> bool
+    ensures { result ≡ list_any (λ c. c == serial) (model.serials_of rows.now) }
+{
+    rows.iter().map(|row| row.serial).any(|c| c == serial)
+}
+
+fn receive_row(row: &mut Row, settings: &Settings, given: &[Row], moment: u64, until: u64)
+    ensures { row.new ≡ model.received_if settings.now (model.serials_of given.now) moment until row.old }
+{
+    if is_live(settings, moment, row) && has_serial(given, row.serial) {
+        row.receives += 1;
+        row.last_receive = Some(moment);
+        row.visible_from = until;
+    }
+}
+
+fn has_slot(rows: &[Row], slot: u32) -> bool
+    ensures { result ≡ list_any (λ row. row.slot == slot) rows.now }
+{
+    rows.iter().any(|row| row.slot == slot)
+}
+
+/// A slot that no row has: the number of the rows, or else the least.
+pub fn free_slot(rows: &[Row]) -> u32
+    requires { length rows.now < 4294967296 }
+    ensures { model.is_free result rows.now ≡ true }
+{
+    let count = rows.len() as u32;
+    if !has_slot(rows, count) {
+        return count;
+    }
+    for slot in 0..count {
+        if !has_slot(rows, slot) {
+            return slot;
+        }
+    }
+    count
+}

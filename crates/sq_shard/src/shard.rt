@@ -1,0 +1,253 @@
+//! One home: its status, its settings and its rows.
+ghost use Rattle.std.specs.Prelude.{◌≡◌, ◌⊎◌, ◌<◌, ◌+◌, Some, None, IfOk, IfErr, OnOk, OnErr, []};
+ghost use Rattle.sq_model.specs.Homes.{HomeStep, home_refusal};
+ghost use Rattle.sq_model.specs.Homes.{Unopened as Never};
+ghost use Rattle.sq_model.specs.declared.calls.HomeCall.TheVariants.{Configure, Send, Look, Delete};
+ghost use Rattle.sq_model.specs.declared.replies.HomeReply.TheVariants.{Done, Sent};
+ghost use Rattle.sq_shard.specs.Looks.{look_reply, look_after};
+ghost use Rattle.sq_model.specs.Rows.{ms};
+
+use crate::rows;
+use crate::store::Store;
+use sq_base::body::Body;
+use sq_base::ids::Serial;
+use sq_base::ranges::{Delay, MaxMessages, Timeout};
+use sq_base::refusal::Refusal;
+use sq_base::settings::Settings;
+use sq_model::calls::Receipt;
+use sq_model::place::Site;
+use sq_model::replies::SentMessage;
+use sq_model::rows::Rows;
+use std::alloc::Global;
+use std::marker::Model;
+
+/// The last serial; a home whose next one it is takes no row more.
+const LAST_SERIAL: u64 = 4_611_686_018_427_387_903;
+
+// So many seconds after a moment.
+fn after_seconds(moment: u64, seconds: u32) -> u64
+    requires { moment < 4611686018427387904 }
+    ensures { result ≡ moment + ms seconds }
+{
+    moment + seconds as u64 * 1000
+}
+
+#[derive(Clone, Copy, PartialEq, Eq, Debug)]
+enum Status {
+    Unopened,
+    Serving,
+    Closed,
+}
+
+/// One home of a queue, over a store of its rows. Moments are in ms, below 2^62.
+///
+/// A call that is refused leaves the home as it was, without a trim.
+#[derive(Drop)]
+pub struct Shard<S: Store> {
+    site: Site,
+    status: Status,
+    settings: Settings,
+    version: u64,
+    next: Serial,
+    store: S,
+}
+
+impl<S: Store> Model for Shard<S> {
+    ghost use Rattle.std.specs.Prelude.{◌≡◌, ◌≤◌, List, []};
+    ghost use Rattle.sq_model.specs.Rows.{RisesFrom};
+    ghost use Rattle.sq_shard.specs.ShardValue.{ShardValue, home_of};
+
+    ghost Value = { ShardValue };
+
+    ghost view = { λ a. record { site = a.site; home = home_of a.status a.settings a.version a.next (S.rows a.store) } };
+
+    ghost use Rattle.sq_shard.specs.declared.shard.Status.TheVariants.{Unopened};
+
+    ghost invariant = { λ a. record { rising : RisesFrom 0 (S.rows a.store) a.next; slots : S.slots a.store ≤ a.site.limits.rows; empty : a.status ≡ Unopened → S.rows a.store ≡ [] } };
+}
+
+impl<S: Store> Shard<S> {
+    /// A home that was never opened, over a store without rows.
+    pub fn unopened(site: Site, store: S) -> Shard<S>
+        requires rows { S.rows store ≡ [] }
+        requires slots { S.slots store ≡ 0 }
+        ensures { result ≡ record { site = site; home = Never } }
+    {
+        Shard {
+            site,
+            status: Status::Unopened,
+            settings: Settings::standard(),
+            version: 0,
+            next: Serial::first(),
+            store,
+        }
+    }
+
+    /// Which home it is, and its limits.
+    pub fn site(&self) -> &Site
+        ensures { result.now ≡ self.now.site }
+    {
+        &self.site
+    }
+
+    /// Takes settings whose version is above its own; opens a home that was never opened.
+    /// Refused as QueueDoesNotExist where the home is closed.
+    #[tactic(auto, unfolding(sq_model::specs::Homes::HomeStep, sq_model::specs::Homes::home_refusal), using(sq_model::proofs::RowLaws::rises_trimmed))]
+    pub fn configure(
+        &mut self,
+        moment: u64,
+        settings: Settings,
+        version: u64,
+    ) -> Result<(), Refusal>
+        ensures step { OnOk result (HomeStep self.old.site self.old.home moment (Configure settings version) Done self.new.home) }
+        ensures site { self.new.site ≡ self.old.site }
+        ensures refusal { IfErr result (λ e. home_refusal self.old.site self.old.home moment (Configure settings version) ≡ Some e) }
+        ensures err { OnErr result (self.new ≡ self.old) }
+    {
+        match self.status {
+            Status::Unopened => {
+                self.status = Status::Serving;
+                self.settings = settings;
+                self.version = version;
+                self.next = Serial::first();
+                Ok(())
+            }
+            Status::Serving => {
+                self.store.trim(&self.settings, moment);
+                if self.version < version {
+                    self.settings = settings;
+                    self.version = version;
+                }
+                Ok(())
+            }
+            Status::Closed => Err(Refusal::QueueDoesNotExist),
+        }
+    }
+
+    /// Puts a message last; without a delay the home's is taken.
+    /// Refused as NoMemory, QueueDoesNotExist (not serving), Worn (no serial is left), OverLimit (full).
+    #[tactic(auto, unfolding(sq_model::specs::Homes::HomeStep, sq_model::specs::Homes::home_refusal), using(sq_model::proofs::RowLaws::rises_trimmed, sq_model::proofs::RowLaws::rises_push))]
+    pub fn send(
+        &mut self,
+        moment: u64,
+        body: Body,
+        delay: Option<Delay>,
+    ) -> Result<SentMessage, Refusal>
+        requires { moment < 4611686018427387904 }
+        ensures step { IfOk result (λ sent. HomeStep self.old.site self.old.home moment (Send body delay) (Sent sent) self.new.home) }
+        ensures site { self.new.site ≡ self.old.site }
+        ensures refusal { IfErr result (λ e. (e ≡ Refusal.NoMemory) ⊎ (home_refusal self.old.site self.old.home moment (Send body delay) ≡ Some e)) }
+        ensures err { OnErr result (self.new ≡ self.old) }
+    {
+        let Status::Serving = self.status else {
+            return Err(Refusal::QueueDoesNotExist);
+        };
+        self.store.reserve()?;
+        let Some(after) = Serial::new(self.next.get() + 1) else {
+            return Err(Refusal::Worn);
+        };
+        if self.store.count_kept(&self.settings, moment) >= self.site.limits.rows as usize {
+            return Err(Refusal::OverLimit);
+        }
+        self.store.trim(&self.settings, moment);
+        let delay = delay.unwrap_or(self.settings.delay);
+        let until = after_seconds(moment, delay.get());
+        let row = rows::sent_row(&self.site.home, self.next, moment, until, body);
+        let id = rows::fresh_id(&self.site.home, self.next);
+        let slot = self.store.insert(row);
+        self.next = after;
+        Ok(SentMessage { id, slot })
+    }
+
+    /// What a look at this moment gives, as it stands after it, and nothing is changed yet: up to `max` messages,
+    /// or none where live messages are there and too many are in flight.
+    /// Refused as NoMemory, QueueDoesNotExist (not serving).
+    #[tactic(auto, unfolding(sq_model::specs::Homes::HomeStep, sq_model::specs::Homes::home_refusal), using(sq_model::proofs::RowLaws::rises_trimmed, sq_model::proofs::RowLaws::rises_received))]
+    pub fn choose(
+        &self,
+        alloc: Global,
+        moment: u64,
+        max: MaxMessages,
+        timeout: Option<Timeout>,
+    ) -> Result<Option<Rows>, Refusal>
+        requires { moment < 4611686018427387904 }
+        ensures step { IfOk result (λ given. HomeStep self.now.site self.now.home moment (Look max timeout) (look_reply given) (look_after self.now.home moment timeout given)) }
+        ensures refusal { IfErr result (λ e. (e ≡ Refusal.NoMemory) ⊎ (home_refusal self.now.site self.now.home moment (Look max timeout) ≡ Some e)) }
+    {
+        let Status::Serving = self.status else {
+            return Err(Refusal::QueueDoesNotExist);
+        };
+        let flying = self.store.count_flying(&self.settings, moment);
+        let room = (self.site.limits.flights as usize).saturating_sub(flying);
+        if room == 0 && self.store.has_live(&self.settings, moment) {
+            return Ok(None);
+        }
+        let until = after_seconds(moment, timeout.unwrap_or(self.settings.timeout).get());
+        let most = room.min(max.get() as usize);
+        let given = self
+            .store
+            .pick(alloc, &self.settings, moment, until, most)?;
+        Ok(Some(given))
+    }
+
+    /// Receives the live rows that were chosen; without a timeout the home's is taken.
+    #[tactic(auto, using(sq_model::proofs::RowLaws::rises_trimmed, sq_model::proofs::RowLaws::rises_received))]
+    pub fn give(&mut self, moment: u64, timeout: Option<Timeout>, given: &Option<Rows>)
+        requires { moment < 4611686018427387904 }
+        ensures home { self.new.home ≡ look_after self.old.home moment timeout given.now }
+        ensures site { self.new.site ≡ self.old.site }
+    {
+        let Status::Serving = self.status else {
+            return;
+        };
+        self.store.trim(&self.settings, moment);
+        let until = after_seconds(moment, timeout.unwrap_or(self.settings.timeout).get());
+        match given {
+            Some(given) => self
+                .store
+                .receive(&self.settings, given.as_slice(), moment, until),
+            None => {}
+        }
+    }
+
+    /// Receives up to `max` messages, and gives them as they stand then: `choose` and `give` in one.
+    /// Refused as NoMemory, QueueDoesNotExist (not serving).
+    pub fn look(
+        &mut self,
+        alloc: Global,
+        moment: u64,
+        max: MaxMessages,
+        timeout: Option<Timeout>,
+    ) -> Result<Option<Rows>, Refusal>
+        requires { moment < 4611686018427387904 }
+        ensures step { IfOk result (λ given. HomeStep self.old.site self.old.home moment (Look max timeout) (look_reply given) self.new.home) }
+        ensures site { self.new.site ≡ self.old.site }
+        ensures refusal { IfErr result (λ e. (e ≡ Refusal.NoMemory) ⊎ (home_refusal self.old.site self.old.home moment (Look max timeout) ≡ Some e)) }
+        ensures err { OnErr result (self.new ≡ self.old) }
+    {
+        let hidden_for = timeout;
+        let given = self.choose(alloc, moment, max, timeout)?;
+        self.give(moment, hidden_for, &given);
+        Ok(given)
+    }
+
+    /// Takes out the row on which slot, serial and receive number agree; where there is none it is done too.
+    /// Refused as QueueDoesNotExist (not serving), ReceiptHandleIsInvalid (a serial that was never given).
+    #[tactic(auto, unfolding(sq_model::specs::Homes::HomeStep, sq_model::specs::Homes::home_refusal), using(sq_model::proofs::RowLaws::rises_trimmed, sq_model::proofs::RowLaws::rises_without))]
+    pub fn delete(&mut self, moment: u64, receipt: Receipt) -> Result<(), Refusal>
+        ensures step { OnOk result (HomeStep self.old.site self.old.home moment (Delete receipt) Done self.new.home) }
+        ensures site { self.new.site ≡ self.old.site }
+        ensures refusal { IfErr result (λ e. home_refusal self.old.site self.old.home moment (Delete receipt) ≡ Some e) }
+        ensures err { OnErr result (self.new ≡ self.old) }
+    {
+        let Status::Serving = self.status else {
+            return Err(Refusal::QueueDoesNotExist);
+        };
+        if receipt.serial >= self.next {
+            return Err(Refusal::ReceiptHandleIsInvalid);
+        }
+        self.store.trim(&self.settings, moment);
+        self.store.take(&receipt);
+        Ok(())
+    }
+}
