@@ -70,6 +70,13 @@ impl HomeNo {
         }
     }
 
+    /// The first home of a queue.
+    pub fn first() -> HomeNo
+        ensures { result ≡ 0 }
+    {
+        HomeNo(0)
+    }
+
     /// The number, from 0 to 15.
     pub fn get(self) -> u8
         ensures value { result ≡ self }

@@ -15,7 +15,7 @@ pub struct Row {
     pub slot: u32,
     pub enqueued: u64,
     pub visible_from: u64,
-    /// How often the row was received at this home.
+    /// The receive number: how often it was received, as its home counts.
     pub receives: u32,
     /// The moment of the last receive, none where there was none.
     pub last_receive: Option<u64>,

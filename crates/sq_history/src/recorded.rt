@@ -43,9 +43,9 @@ impl<S: Store> Model for Recorded<S> {
 
     ghost Value = { HistoryValue };
 
-    ghost view = { λ a. record { site = a.shard.site; home = a.shard.home; last = a.log.last; events = a.log.events.items } };
+    ghost view = { λ a. record { site = a.shard.site; home = a.shard.home; no_slot = a.shard.no_slot; last = a.log.last; events = a.log.events.items } };
 
-    ghost invariant = { λ a. IsKept (record { site = a.shard.site; home = a.shard.home; last = a.log.last; events = a.log.events.items }) };
+    ghost invariant = { λ a. IsKept (record { site = a.shard.site; home = a.shard.home; no_slot = a.shard.no_slot; last = a.log.last; events = a.log.events.items }) };
 }
 
 impl<S: Store> Recorded<S> {
@@ -54,7 +54,7 @@ impl<S: Store> Recorded<S> {
     /// A home that was never opened, with no event.
     pub fn unopened(alloc: Global, shard: Shard<S>) -> Recorded<S>
         requires { shard.home ≡ Never }
-        ensures { result ≡ record { site = shard.site; home = Never; last = start; events = [] } }
+        ensures { result ≡ record { site = shard.site; home = Never; no_slot = shard.no_slot; last = start; events = [] } }
     {
         Recorded {
             shard,

@@ -18,7 +18,7 @@ use Rattle.sq_model.specs.declared.calls.HomeCall.TheVariants.{Configure, Close,
 use Rattle.sq_model.specs.declared.replies.HomeReply.{HomeReply}
 use Rattle.sq_model.specs.declared.replies.HomeReply.TheVariants.{Done, Sent, Looked, Over, Counted, Left, NoLiveRow, NoOrigin, SourceClosed, Entered}
 use Rattle.sq_model.specs.Rows.{ms, is_expired, trimmed, is_live, is_named, is_held, serials_of, received, received_if, changed_if, Takes}
-use Rattle.sq_model.specs.Homes.{Home, Unopened, Serving, Closed, HomeStep, sent_row, moved, entered_as, entered_row}
+use Rattle.sq_model.specs.Homes.{Home, Unopened, Serving, Closed, HomeStep, sent_row, returned_as, entered_as}
 use Rattle.sq_model.specs.Lineages.{Cause, Expired, Deleted, Purged, ClosedAway, Ending, ended, expired, home_ends, home_sends, home_outs, home_ins, rows_of, same_id, rows_with, ends_with, sends_with}
 
 abbrev one : MessageId → Row → ℕ
@@ -56,6 +56,14 @@ changed_line m receipt until row =
 entered_line : (reason : Reason) (home : HomeId) (source serial slot m : ℕ) (row : Row) → (entered_as reason home source serial slot m row).lineage ≡ row.lineage
 entered_line DeadLetter home source serial slot m row = refl
 entered_line (Task task) home source serial slot m row = refl
+
+returned_line : (reason : Reason) (serial slot m : ℕ) (row : Row) → (returned_as reason serial slot m row).lineage ≡ row.lineage
+returned_line DeadLetter serial slot m row = refl
+returned_line (Task task) serial slot m row = refl
+
+returned_push : (x : MessageId) (rows : List Row) (reason : Reason) (serial slot m : ℕ) (row : Row) → rows_with x (rows ++ returned_as reason serial slot m row ∷ []) ≡ rows_with x rows + one x row
+returned_push x rows reason serial slot m row =
+    rows_push x rows (returned_as reason serial slot m row) ∙ ap (λ y. rows_with x rows + cond (same_id x y) 1 0) (returned_line reason serial slot m row)
 
 entered_push : (x : MessageId) (rows : List Row) (reason : Reason) (home : HomeId) (source serial slot m : ℕ) (row : Row) → rows_with x (rows ++ entered_as reason home source serial slot m row ∷ []) ≡ rows_with x rows + one x row
 entered_push x rows reason home source serial slot m row =
@@ -108,16 +116,16 @@ home_law x site (Serving s v n rows) m (Change receipt timeout) Done after h =
 home_law x site (Serving s v n rows) m Purge Done after h = rw h (omega (arith, all_law x s m rows Purged))
 home_law x site (Serving s v n rows) m Count (Counted counts) after h = rw h.1 (omega (arith, trim_law x s m rows))
 home_law x site (Serving s v n rows) m LeaveDead (Left item) after h =
-    rw h.3.2 (omega (arith, trim_law x s m rows, takes_law x item.value.row (trimmed s m rows) h.3.0 h.3.1))
+    rw h.3.2 (omega (arith, trim_law x s m rows, takes_law x item.row (trimmed s m rows) h.3.0 h.3.1))
 home_law x site (Serving s v n rows) m (LeaveTask task) (Left item) after h =
-    rw h.2.2 (omega (arith, trim_law x s m rows, takes_law x item.value.row (trimmed s m rows) h.2.0 h.2.1))
+    rw h.2.2 (omega (arith, trim_law x s m rows, takes_law x item.row (trimmed s m rows) h.2.0 h.2.1))
 home_law x site (Serving s v n rows) m (LeaveTask task) NoLiveRow after h = rw h.1 (omega (arith, trim_law x s m rows))
 home_law x site (Serving s v n rows) m (LeaveTask task) (NoOrigin serial) after h = rw h.1 (omega (arith, trim_law x s m rows))
 home_law x site Closed m (LeaveTask task) SourceClosed after h = rw h refl
 home_law x site (Serving s v n rows) m (Enter item) (Entered slot) after h =
-    rw h.2 (omega (arith, trim_law x s m rows, entered_push x (trimmed s m rows) item.value.reason site.home item.value.source n slot m item.value.row))
+    rw h.2 (omega (arith, trim_law x s m rows, entered_push x (trimmed s m rows) item.reason site.home item.source n slot m item.row))
 home_law x site Closed m (TurnBack item) Done after h = rw h.1 refl
 home_law x site (Serving s v n rows) m (GiveBack item) (Entered slot) after h =
-    rw h.2 (omega (arith, trim_law x s m rows, rows_push x (trimmed s m rows) (moved n slot m item.value.row)))
+    rw h.2 (omega (arith, trim_law x s m rows, returned_push x (trimmed s m rows) item.reason n slot m item.row))
 home_law x site Closed m (GiveUp item) Done after h = rw h.1 refl
 home_law x site home m call reply after h = elim h [ ]

@@ -51,6 +51,14 @@ entered_as (Task task) home source serial slot m row = record (moved serial slot
 abbrev pub entered_row : HomeId → ℕ → ℕ → ℕ → Item → Row
 entered_row home serial slot m item = entered_as item.reason home item.source serial slot m item.row
 
+-- a message that comes back to its source
+abbrev pub returned_as : Reason → ℕ → ℕ → ℕ → Row → Row
+returned_as DeadLetter serial slot m row = moved serial slot m row
+returned_as (Task task) serial slot m row = moved serial slot m row
+
+abbrev pub returned_row : ℕ → ℕ → ℕ → Item → Row
+returned_row serial slot m item = returned_as item.reason serial slot m item.row
+
 abbrev pub dead_target : Option Redrive → Option ℕ
 dead_target policy = option_map (λ redrive. redrive.target) policy
 
@@ -106,14 +114,14 @@ HomeStep site (Serving s v n rows) m Purge Done after = after ≡ Serving s v n 
 HomeStep site (Serving s v n rows) m Count (Counted counts) after =
     (counts ≡ counts_of m (trimmed s m rows)) × (after ≡ Serving s v n (trimmed s m rows))
 HomeStep site (Serving s v n rows) m LeaveDead (Left item) after =
-    IsFrom site.home DeadLetter item.value
-    × (Some item.value.target ≡ dead_target s.redrive)
-    × (is_dead s m item.value.row ≡ true)
-    × ((rest : List Row) × Takes item.value.row (trimmed s m rows) rest × (after ≡ Serving s v n rest))
+    IsFrom site.home DeadLetter item
+    × (Some item.target ≡ dead_target s.redrive)
+    × (is_dead s m item.row ≡ true)
+    × ((rest : List Row) × Takes item.row (trimmed s m rows) rest × (after ≡ Serving s v n rest))
 HomeStep site (Serving s v n rows) m (LeaveTask task) (Left item) after =
-    IsFrom site.home (Task task) item.value
-    × (is_live s m item.value.row ≡ true)
-    × ((rest : List Row) × Takes item.value.row (trimmed s m rows) rest × (after ≡ Serving s v n rest))
+    IsFrom site.home (Task task) item
+    × (is_live s m item.row ≡ true)
+    × ((rest : List Row) × Takes item.row (trimmed s m rows) rest × (after ≡ Serving s v n rest))
 HomeStep site (Serving s v n rows) m (LeaveTask task) NoLiveRow after =
     (list_any (is_live s m) (trimmed s m rows) ≡ false) × (after ≡ Serving s v n (trimmed s m rows))
 HomeStep site (Serving s v n rows) m (LeaveTask task) (NoOrigin serial) after =
@@ -121,49 +129,50 @@ HomeStep site (Serving s v n rows) m (LeaveTask task) (NoOrigin serial) after =
     × (after ≡ Serving s v n (trimmed s m rows))
 HomeStep site Closed m (LeaveTask task) SourceClosed after = after ≡ Closed
 HomeStep site (Serving s v n rows) m (Enter item) (Entered slot) after =
-    (may_enter site.home item.value ≡ true)
+    (may_enter site.home item ≡ true)
     × HasPlace site.limits n slot (trimmed s m rows)
-    × (after ≡ Serving s v (n + 1) (trimmed s m rows ++ entered_row site.home n slot m item.value ∷ []))
-HomeStep site Closed m (TurnBack item) Done after = (may_enter site.home item.value ≡ true) × (after ≡ Closed)
+    × (after ≡ Serving s v (n + 1) (trimmed s m rows ++ entered_row site.home n slot m item ∷ []))
+HomeStep site Closed m (TurnBack item) Done after = (may_enter site.home item ≡ true) × (after ≡ Closed)
 HomeStep site (Serving s v n rows) m (GiveBack item) (Entered slot) after =
-    (may_return site.home item.value ≡ true)
+    (may_return site.home item ≡ true)
     × HasPlace site.limits n slot (trimmed s m rows)
-    × (after ≡ Serving s v (n + 1) (trimmed s m rows ++ moved n slot m item.value.row ∷ []))
-HomeStep site Closed m (GiveUp item) Done after = (may_return site.home item.value ≡ true) × (after ≡ Closed)
+    × (after ≡ Serving s v (n + 1) (trimmed s m rows ++ returned_row n slot m item ∷ []))
+HomeStep site Closed m (GiveUp item) Done after = (may_return site.home item ≡ true) × (after ≡ Closed)
 -- no other reply is given
 HomeStep site home m call reply after = ⊥
 
 abbrev pub refused_if : Bool → Refusal → Option Refusal → Option Refusal
 refused_if test refusal later = if test then Some refusal else later
 
--- a home that takes one row more
-abbrev pub place_refusal : Limits → ℕ → List Row → Option Refusal → Option Refusal
-place_refusal l next rows later = refused_if (nat_le last_serial next) Worn (refused_if (nat_le l.rows (length rows)) OverLimit later)
+-- a home that takes one row more; its serials or its slots may be used up
+abbrev pub place_refusal : Limits → Bool → ℕ → List Row → Option Refusal → Option Refusal
+place_refusal l no_slot next rows later = refused_if (nat_le last_serial next || no_slot) Worn (refused_if (nat_le l.rows (length rows)) OverLimit later)
 
--- the first check of the home that fails
-unfoldable pub home_refusal : Site → Home → ℕ → HomeCall → Option Refusal
-home_refusal site Unopened m (Configure t w) = None
-home_refusal site (Serving s v n rows) m (Configure t w) = None
-home_refusal site Unopened m Close = None
-home_refusal site (Serving s v n rows) m Close = None
-home_refusal site (Serving s v n rows) m (Send body delay) = place_refusal site.limits n (trimmed s m rows) None
-home_refusal site (Serving s v n rows) m (Look max timeout) = None
-home_refusal site (Serving s v n rows) m (Delete receipt) = refused_if (nat_le n receipt.serial) ReceiptHandleIsInvalid None
-home_refusal site (Serving s v n rows) m (Change receipt timeout) =
+-- The first check of the home that fails, where no_slot says that no slot below 2^32 is left for a row more.
+unfoldable pub home_refusal : Site → Bool → Home → ℕ → HomeCall → Option Refusal
+home_refusal site no_slot Unopened m (Configure t w) = None
+home_refusal site no_slot (Serving s v n rows) m (Configure t w) = None
+home_refusal site no_slot Unopened m Close = None
+home_refusal site no_slot (Serving s v n rows) m Close = None
+home_refusal site no_slot (Serving s v n rows) m (Send body delay) = place_refusal site.limits no_slot n (trimmed s m rows) None
+home_refusal site no_slot (Serving s v n rows) m (Look max timeout) = None
+home_refusal site no_slot (Serving s v n rows) m (Delete receipt) = refused_if (nat_le n receipt.serial) ReceiptHandleIsInvalid None
+home_refusal site no_slot (Serving s v n rows) m (Change receipt timeout) =
     refused_if (nat_le n receipt.serial) ReceiptHandleIsInvalid
     (refused_if (not (list_any (is_held m receipt) (trimmed s m rows))) MessageNotInflight
     (refused_if (list_any (λ row. is_held m receipt row && is_late (m + ms timeout) row.last_receive) (trimmed s m rows)) InvalidParameterValue None))
-home_refusal site (Serving s v n rows) m Purge = None
-home_refusal site (Serving s v n rows) m Count = None
-home_refusal site (Serving s v n rows) m LeaveDead = None
-home_refusal site (Serving s v n rows) m (LeaveTask task) = None
-home_refusal site Closed m (LeaveTask task) = None
-home_refusal site (Serving s v n rows) m (Enter item) =
-    place_refusal site.limits n (trimmed s m rows) (refused_if (not (may_enter site.home item.value)) UnsupportedOperation None)
-home_refusal site (Serving s v n rows) m (TurnBack item) = Some UnsupportedOperation
-home_refusal site Closed m (TurnBack item) = refused_if (not (may_enter site.home item.value)) UnsupportedOperation None
-home_refusal site (Serving s v n rows) m (GiveBack item) =
-    place_refusal site.limits n (trimmed s m rows) (refused_if (not (may_return site.home item.value)) UnsupportedOperation None)
-home_refusal site (Serving s v n rows) m (GiveUp item) = Some UnsupportedOperation
-home_refusal site Closed m (GiveUp item) = refused_if (not (may_return site.home item.value)) UnsupportedOperation None
-home_refusal site home m call = Some QueueDoesNotExist
+home_refusal site no_slot (Serving s v n rows) m Purge = None
+home_refusal site no_slot (Serving s v n rows) m Count = None
+home_refusal site no_slot (Serving s v n rows) m LeaveDead = None
+home_refusal site no_slot (Serving s v n rows) m (LeaveTask task) = None
+home_refusal site no_slot Closed m (LeaveTask task) = None
+home_refusal site no_slot (Serving s v n rows) m (Enter item) =
+    place_refusal site.limits no_slot n (trimmed s m rows) (refused_if (not (may_enter site.home item)) UnsupportedOperation None)
+home_refusal site no_slot (Serving s v n rows) m (TurnBack item) = Some UnsupportedOperation
+home_refusal site no_slot Closed m (TurnBack item) = refused_if (not (may_enter site.home item)) UnsupportedOperation None
+home_refusal site no_slot (Serving s v n rows) m (GiveBack item) =
+    place_refusal site.limits no_slot n (trimmed s m rows) (refused_if (not (may_return site.home item)) UnsupportedOperation None)
+home_refusal site no_slot (Serving s v n rows) m (GiveUp item) = Some UnsupportedOperation
+home_refusal site no_slot Closed m (GiveUp item) = refused_if (not (may_return site.home item)) UnsupportedOperation None
+home_refusal site no_slot Unopened m call = Some QueueDoesNotExist
+home_refusal site no_slot Closed m call = Some QueueDoesNotExist

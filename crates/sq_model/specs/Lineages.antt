@@ -30,7 +30,8 @@ home_ends (Serving s v n rows) m (Delete receipt) = ended Expired (expired s m r
 home_ends (Serving s v n rows) m Purge = ended Expired (expired s m rows) ++ ended Purged (trimmed s m rows)
 home_ends (Serving s v n rows) m Close = ended Expired (expired s m rows) ++ ended ClosedAway (trimmed s m rows)
 home_ends (Serving s v n rows) m call = ended Expired (expired s m rows)
-home_ends home m call = []
+home_ends Unopened m call = []
+home_ends Closed m call = []
 
 -- who is sent in a step
 abbrev pub home_sends : HomeReply → List MessageId
@@ -39,18 +40,19 @@ home_sends reply = []
 
 -- what goes from the home into transit
 abbrev pub home_outs : HomeReply → List Row
-home_outs (Left item) = item.value.row ∷ []
+home_outs (Left item) = item.row ∷ []
 home_outs reply = []
 
 -- what comes into the home from transit
 abbrev pub home_ins : HomeCall → List Row
-home_ins (Enter item) = item.value.row ∷ []
-home_ins (GiveBack item) = item.value.row ∷ []
+home_ins (Enter item) = item.row ∷ []
+home_ins (GiveBack item) = item.row ∷ []
 home_ins call = []
 
 abbrev pub rows_of : Home → List Row
 rows_of (Serving s v n rows) = rows
-rows_of home = []
+rows_of Unopened = []
+rows_of Closed = []
 
 abbrev pub same_id : MessageId → MessageId → Bool
 same_id x y = (y.queue == x.queue) && (y.home == x.home) && (y.serial == x.serial)

@@ -1,5 +1,5 @@
 //! What a home is asked.
-use crate::item::{Item, TaskNo};
+use crate::item::{BoxedItem, TaskNo};
 use sq_base::body::Body;
 use sq_base::ids::Serial;
 use sq_base::ranges::{Delay, MaxMessages, Receives, Timeout};
@@ -32,11 +32,11 @@ pub enum HomeCall {
     /// A message leaves for a move task.
     LeaveTask(TaskNo),
     /// A message comes in at its target.
-    Enter(Box<Item>),
+    Enter(BoxedItem),
     /// A message whose target is closed is sent back.
-    TurnBack(Box<Item>),
+    TurnBack(BoxedItem),
     /// A message that was sent back comes in at its source.
-    GiveBack(Box<Item>),
+    GiveBack(BoxedItem),
     /// A message that was sent back to a closed source is given up.
-    GiveUp(Box<Item>),
+    GiveUp(BoxedItem),
 }

@@ -1,6 +1,10 @@
 //! A message between two queues.
+ghost use Rattle.std.specs.Prelude.{◌≡◌, IfOk, IfErr};
+
 use sq_base::ids::QueueNo;
+use sq_base::refusal::Refusal;
 use sq_base::row::Row;
+use std::alloc::Global;
 use std::marker::Model;
 
 /// The number of an item in transit, from 1 upwards and never twice. Own.
@@ -53,4 +57,36 @@ pub struct Item {
     pub reason: Reason,
     /// Whether it goes back to its source, since its target was closed.
     pub homeward: bool,
+}
+
+/// An item behind an address that no contract sees.
+#[derive(Drop)]
+pub struct BoxedItem {
+    item: Box<Item>,
+}
+
+impl Model for BoxedItem {
+    ghost use Rattle.sq_model.specs.declared.item.Item.{Item};
+
+    ghost Value = { Item };
+
+    ghost view = { λ boxed. boxed.item.value };
+}
+
+impl BoxedItem {
+    /// Refused for want of memory alone.
+    pub fn new(alloc: Global, item: Item) -> Result<BoxedItem, Refusal>
+        ensures item { IfOk result (λ boxed. boxed ≡ item) }
+        ensures refused { IfErr result (λ e. e ≡ Refusal.NoMemory) }
+    {
+        Ok(BoxedItem {
+            item: Box::new(alloc, item)?,
+        })
+    }
+
+    pub fn get(&self) -> &Item
+        ensures { result.now ≡ self.now }
+    {
+        &self.item
+    }
 }

@@ -1,5 +1,5 @@
 //! Theorems of the model, each the contract of a function without code.
-ghost use Rattle.std.specs.Prelude.{◌≡◌, ◌+◌, ℕ};
+ghost use Rattle.std.specs.Prelude.{◌≡◌, ◌+◌, ℕ, false};
 ghost use Rattle.sq_base.specs.declared.message_id.MessageId.{MessageId};
 ghost use Rattle.sq_model.specs.declared.place.Site.{Site};
 ghost use Rattle.sq_model.specs.declared.calls.HomeCall.{HomeCall};
@@ -7,10 +7,10 @@ ghost use Rattle.sq_model.specs.declared.replies.HomeReply.{HomeReply};
 ghost use Rattle.sq_model.specs.Homes.{Home, HomeStep, home_refusal};
 ghost use Rattle.sq_model.specs.Lineages.{home_ends, home_sends, home_outs, home_ins, rows_of, rows_with, ends_with, sends_with};
 
-/// A step is given only where no check fails.
+/// A step is given only where no check fails, as long as a slot is left.
 pub fn steps_are_allowed()
     ensures { (site : Site) (home : Home) (m : ℕ) (call : HomeCall) (reply : HomeReply) (after : Home)
-        → HomeStep site home m call reply after → home_refusal site home m call ≡ None }
+        → HomeStep site home m call reply after → home_refusal site false home m call ≡ None }
 {}
 
 /// In a step of a home no message is lost and none is made twice: for each message, what is in the home

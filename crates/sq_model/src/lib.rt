@@ -8,3 +8,4 @@ pub mod laws;
 pub mod place;
 pub mod replies;
 pub mod rows;
+pub mod worked;

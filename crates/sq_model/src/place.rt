@@ -1,7 +1,8 @@
 //! Where a step is done.
 use sq_base::ids::HomeId;
 
-/// A part of the system that keeps a history of its own.
+/// A part of the system that keeps a history of its own. A step that a home shares with the ledger stands in both
+/// histories, and names the home in both.
 #[derive(Clone, Copy, PartialEq, Eq, Debug)]
 pub enum Component {
     Directory,

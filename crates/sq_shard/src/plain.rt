@@ -1,5 +1,5 @@
 //! Rows one after another.
-ghost use Rattle.std.specs.Prelude.{◌≡◌, ◌-◌, [], vec_len, vec_capacity};
+ghost use Rattle.std.specs.Prelude.{◌≡◌, ◌-◌, [], vec_len, vec_capacity, nat_le, false};
 
 use crate::rows;
 use crate::store::Store;
@@ -20,7 +20,7 @@ impl PlainStore {
     /// A store without rows, which takes no memory yet.
     pub fn new(alloc: Global) -> PlainStore
         ensures rows { ⟦<PlainStore as Store>⟧.rows result ≡ [] }
-        ensures slots { ⟦<PlainStore as Store>⟧.slots result ≡ 0 }
+        ensures slot { ⟦<PlainStore as Store>⟧.no_slot result ≡ false }
     {
         PlainStore {
             rows: Vec::new(alloc),
@@ -33,7 +33,7 @@ impl Store for PlainStore {
 
     ghost reserved = { λ s. vec_capacity s.rows - vec_len s.rows };
 
-    ghost slots = { λ s. vec_len s.rows };
+    ghost no_slot = { λ s. nat_le 4294967296 (vec_len s.rows) };
 
     fn count_kept(&self, settings: &Settings, moment: u64) -> usize {
         rows::count_kept(&self.rows, settings, moment)
@@ -45,6 +45,10 @@ impl Store for PlainStore {
 
     fn has_live(&self, settings: &Settings, moment: u64) -> bool {
         rows::has_live(&self.rows, settings, moment)
+    }
+
+    fn has_slot(&self) -> bool {
+        self.rows.len() < 4_294_967_296
     }
 
     fn pick(

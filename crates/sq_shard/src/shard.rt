@@ -1,5 +1,5 @@
 //! One home: its status, its settings and its rows.
-ghost use Rattle.std.specs.Prelude.{◌≡◌, ◌⊎◌, ◌<◌, ◌+◌, Some, None, IfOk, IfErr, OnOk, OnErr, []};
+ghost use Rattle.std.specs.Prelude.{◌≡◌, ◌⊎◌, ◌<◌, ◌+◌, false, Some, None, IfOk, IfErr, OnOk, OnErr, []};
 ghost use Rattle.sq_model.specs.Homes.{HomeStep, home_refusal};
 ghost use Rattle.sq_model.specs.Homes.{Unopened as Never};
 ghost use Rattle.sq_model.specs.declared.calls.HomeCall.TheVariants.{Configure, Send, Look, Delete};
@@ -53,25 +53,25 @@ pub struct Shard<S: Store> {
 }
 
 impl<S: Store> Model for Shard<S> {
-    ghost use Rattle.std.specs.Prelude.{◌≡◌, ◌≤◌, List, []};
+    ghost use Rattle.std.specs.Prelude.{◌≡◌, List, []};
     ghost use Rattle.sq_model.specs.Rows.{RisesFrom};
     ghost use Rattle.sq_shard.specs.ShardValue.{ShardValue, home_of};
 
     ghost Value = { ShardValue };
 
-    ghost view = { λ a. record { site = a.site; home = home_of a.status a.settings a.version a.next (S.rows a.store) } };
+    ghost view = { λ a. record { site = a.site; home = home_of a.status a.settings a.version a.next (S.rows a.store); no_slot = S.no_slot a.store } };
 
     ghost use Rattle.sq_shard.specs.declared.shard.Status.TheVariants.{Unopened};
 
-    ghost invariant = { λ a. record { rising : RisesFrom 0 (S.rows a.store) a.next; slots : S.slots a.store ≤ a.site.limits.rows; empty : a.status ≡ Unopened → S.rows a.store ≡ [] } };
+    ghost invariant = { λ a. record { rising : RisesFrom 0 (S.rows a.store) a.next; empty : a.status ≡ Unopened → S.rows a.store ≡ [] } };
 }
 
 impl<S: Store> Shard<S> {
     /// A home that was never opened, over a store without rows.
     pub fn unopened(site: Site, store: S) -> Shard<S>
         requires rows { S.rows store ≡ [] }
-        requires slots { S.slots store ≡ 0 }
-        ensures { result ≡ record { site = site; home = Never } }
+        requires slot { S.no_slot store ≡ false }
+        ensures { result ≡ record { site = site; home = Never; no_slot = false } }
     {
         Shard {
             site,
@@ -101,7 +101,7 @@ impl<S: Store> Shard<S> {
     ) -> Result<(), Refusal>
         ensures step { OnOk result (HomeStep self.old.site self.old.home moment (Configure settings version) Done self.new.home) }
         ensures site { self.new.site ≡ self.old.site }
-        ensures refusal { IfErr result (λ e. home_refusal self.old.site self.old.home moment (Configure settings version) ≡ Some e) }
+        ensures refusal { IfErr result (λ e. home_refusal self.old.site self.old.no_slot self.old.home moment (Configure settings version) ≡ Some e) }
         ensures err { OnErr result (self.new ≡ self.old) }
     {
         match self.status {
@@ -125,7 +125,7 @@ impl<S: Store> Shard<S> {
     }
 
     /// Puts a message last; without a delay the home's is taken.
-    /// Refused as NoMemory, QueueDoesNotExist (not serving), Worn (no serial is left), OverLimit (full).
+    /// Refused as NoMemory, QueueDoesNotExist (not serving), Worn (no serial or no slot is left), OverLimit (full).
     #[tactic(auto, unfolding(sq_model::specs::Homes::HomeStep, sq_model::specs::Homes::home_refusal), using(sq_model::proofs::RowLaws::rises_trimmed, sq_model::proofs::RowLaws::rises_push))]
     pub fn send(
         &mut self,
@@ -136,7 +136,7 @@ impl<S: Store> Shard<S> {
         requires { moment < 4611686018427387904 }
         ensures step { IfOk result (λ sent. HomeStep self.old.site self.old.home moment (Send body delay) (Sent sent) self.new.home) }
         ensures site { self.new.site ≡ self.old.site }
-        ensures refusal { IfErr result (λ e. (e ≡ Refusal.NoMemory) ⊎ (home_refusal self.old.site self.old.home moment (Send body delay) ≡ Some e)) }
+        ensures refusal { IfErr result (λ e. (e ≡ Refusal.NoMemory) ⊎ (home_refusal self.old.site self.old.no_slot self.old.home moment (Send body delay) ≡ Some e)) }
         ensures err { OnErr result (self.new ≡ self.old) }
     {
         let Status::Serving = self.status else {
@@ -146,6 +146,9 @@ impl<S: Store> Shard<S> {
         let Some(after) = Serial::new(self.next.get() + 1) else {
             return Err(Refusal::Worn);
         };
+        if !self.store.has_slot() {
+            return Err(Refusal::Worn);
+        }
         if self.store.count_kept(&self.settings, moment) >= self.site.limits.rows as usize {
             return Err(Refusal::OverLimit);
         }
@@ -172,7 +175,7 @@ impl<S: Store> Shard<S> {
     ) -> Result<Option<Rows>, Refusal>
         requires { moment < 4611686018427387904 }
         ensures step { IfOk result (λ given. HomeStep self.now.site self.now.home moment (Look max timeout) (look_reply given) (look_after self.now.home moment timeout given)) }
-        ensures refusal { IfErr result (λ e. (e ≡ Refusal.NoMemory) ⊎ (home_refusal self.now.site self.now.home moment (Look max timeout) ≡ Some e)) }
+        ensures refusal { IfErr result (λ e. (e ≡ Refusal.NoMemory) ⊎ (home_refusal self.now.site self.now.no_slot self.now.home moment (Look max timeout) ≡ Some e)) }
     {
         let Status::Serving = self.status else {
             return Err(Refusal::QueueDoesNotExist);
@@ -222,7 +225,7 @@ impl<S: Store> Shard<S> {
         requires { moment < 4611686018427387904 }
         ensures step { IfOk result (λ given. HomeStep self.old.site self.old.home moment (Look max timeout) (look_reply given) self.new.home) }
         ensures site { self.new.site ≡ self.old.site }
-        ensures refusal { IfErr result (λ e. (e ≡ Refusal.NoMemory) ⊎ (home_refusal self.old.site self.old.home moment (Look max timeout) ≡ Some e)) }
+        ensures refusal { IfErr result (λ e. (e ≡ Refusal.NoMemory) ⊎ (home_refusal self.old.site self.old.no_slot self.old.home moment (Look max timeout) ≡ Some e)) }
         ensures err { OnErr result (self.new ≡ self.old) }
     {
         let hidden_for = timeout;
@@ -237,7 +240,7 @@ impl<S: Store> Shard<S> {
     pub fn delete(&mut self, moment: u64, receipt: Receipt) -> Result<(), Refusal>
         ensures step { OnOk result (HomeStep self.old.site self.old.home moment (Delete receipt) Done self.new.home) }
         ensures site { self.new.site ≡ self.old.site }
-        ensures refusal { IfErr result (λ e. home_refusal self.old.site self.old.home moment (Delete receipt) ≡ Some e) }
+        ensures refusal { IfErr result (λ e. home_refusal self.old.site self.old.no_slot self.old.home moment (Delete receipt) ≡ Some e) }
         ensures err { OnErr result (self.new ≡ self.old) }
     {
         let Status::Serving = self.status else {

@@ -1,5 +1,5 @@
 //! What a home keeps its rows in.
-ghost use Rattle.std.specs.Prelude.{◌≡◌, ◌++◌, ◌∷◌, [], ℕ, ◌+◌, ◌<◌, ◌≤◌, List, length, count_by, map, max, true, IfOk, IfErr, OnOk};
+ghost use Rattle.std.specs.Prelude.{◌≡◌, ◌++◌, ◌∷◌, [], ℕ, ◌<◌, ◌≤◌, Bool, List, length, count_by, map, not, true, false, IfOk, IfErr, OnOk};
 ghost use Rattle.std.specs.List.{list_any};
 ghost use Rattle.sq_base.specs.declared.row.Row.{Row};
 ghost use Rattle.sq_model.specs.Rows.{trimmed, is_flying, is_live, IsLook, RisesFrom, serials_of, received_if, without, is_free};
@@ -19,8 +19,8 @@ pub trait Store: Drop {
     /// For how many more rows there is memory.
     ghost reserved: { Self → ℕ };
 
-    /// No slot from here on was ever needed.
-    ghost slots: { Self → ℕ };
+    /// Whether no slot below 2^32 is left for a row more.
+    ghost no_slot: { Self → Bool };
 
     /// How many rows a trim at this moment keeps.
     fn count_kept(&self, settings: &Settings, moment: u64) -> usize
@@ -33,6 +33,10 @@ pub trait Store: Drop {
     /// Whether one of these is live.
     fn has_live(&self, settings: &Settings, moment: u64) -> bool
         ensures { result ≡ list_any (is_live settings.now moment) (trimmed settings.now moment (rows self.now)) };
+
+    /// Whether a slot is left for a row more.
+    fn has_slot(&self) -> bool
+        ensures { result ≡ not (no_slot self.now) };
 
     /// Up to `max` of the live ones, as they stand after a receive that hides them until a moment.
     fn pick(
@@ -50,31 +54,28 @@ pub trait Store: Drop {
     /// Makes room for one more row.
     fn reserve(&mut self) -> Result<(), Refusal>
         ensures rows { rows self.new ≡ rows self.old }
-        ensures slots { slots self.new ≡ slots self.old }
+        ensures slot { no_slot self.new ≡ no_slot self.old }
         ensures reserved { OnOk result (0 < reserved self.new) }
         ensures err { IfErr result (λ e. e ≡ Refusal.NoMemory) };
 
     /// Leaves out the rows past their retention.
     fn trim(&mut self, settings: &Settings, moment: u64)
         ensures rows { rows self.new ≡ trimmed settings.now moment (rows self.old) }
-        ensures slots { slots self.new ≤ slots self.old }
+        ensures slot { no_slot self.old ≡ false → no_slot self.new ≡ false }
         ensures reserved { reserved self.old ≤ reserved self.new };
 
     /// Puts a row last, in a slot that no row has, and gives the slot.
     fn insert(&mut self, row: Row) -> u32
         requires reserved { 0 < reserved self.old }
-        requires slots { slots self.old < 4294967296 }
+        requires slot { no_slot self.old ≡ false }
         ensures free { is_free result (rows self.old) ≡ true }
-        ensures rows { rows self.new ≡ rows self.old ++ record row { slot = result } ∷ [] }
-        ensures slots { slots self.new ≤ max (slots self.old) (length (rows self.old) + 1) };
+        ensures rows { rows self.new ≡ rows self.old ++ record row { slot = result } ∷ [] };
 
     /// Receives the live rows with the serials of these.
     fn receive(&mut self, settings: &Settings, given: &[Row], moment: u64, until: u64)
-        ensures rows { rows self.new ≡ map (received_if settings.now (serials_of given.now) moment until) (rows self.old) }
-        ensures slots { slots self.new ≤ slots self.old };
+        ensures { rows self.new ≡ map (received_if settings.now (serials_of given.now) moment until) (rows self.old) };
 
     /// Takes out the row on which slot, serial and receive number agree.
     fn take(&mut self, receipt: &Receipt)
-        ensures rows { rows self.new ≡ without receipt.now (rows self.old) }
-        ensures slots { slots self.new ≤ slots self.old };
+        ensures { rows self.new ≡ without receipt.now (rows self.old) };
 }
