@@ -15,6 +15,7 @@ pub record Fits (h : Handle) : Type 0 where
   pub serial : h.serial < 4611686018427387904
   pub receive : (1 ≤ h.receive) × (h.receive ≤ 4294967295)
 
+-- a handle, where its numbers may stand in one
 abbrev pub in_range : Handle → Option Handle
 in_range h =
     if nat_le 1 h.queue && nat_lt h.queue 281474976710656 then

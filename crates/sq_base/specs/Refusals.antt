@@ -3,7 +3,7 @@ use Rattle.std.specs.Prelude.{ℕ, List, codes}
 use Rattle.sq_base.specs.declared.refusal.Refusal.{Refusal}
 use Rattle.sq_base.specs.declared.refusal.Refusal.TheVariants.{NoMemory, ClockRange, Worn, InvalidRequest, InvalidAttributeName, InvalidAttributeValue, InvalidParameterValue, InvalidAddress, QueueDoesNotExist, QueueNameExists, QueueDeletedRecently, PurgeQueueInProgress, InvalidMessageContents, OverLimit, ReceiptHandleIsInvalid, MessageNotInflight, EmptyBatchRequest, TooManyEntriesInBatchRequest, InvalidBatchEntryId, BatchEntryIdsNotDistinct, BatchRequestTooLong, ResourceNotFoundException, UnsupportedOperation, TableFull}
 
--- own
+-- the numbers are own
 abbrev pub number_of : Refusal → ℕ
 number_of NoMemory = 1
 number_of ClockRange = 2

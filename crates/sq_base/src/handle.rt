@@ -75,6 +75,7 @@ fn handle_of(b: &[u8]) -> Option<Handle>
 /// The handle whose text this is, none where it is the text of none: where its length is not 51, a
 /// digit is not of `0-9a-f`, or a number is out of its range.
 pub fn read_handle(b: &[u8]) -> Option<Handle>
+    ensures value { result ≡ handle_at b.now }
     ensures found { IfSome result (λ h. b.now ≡ handle_text h) }
     ensures only { (h : Handle) → Fits h → b.now ≡ handle_text h → result ≡ Some h }
 {

@@ -1,5 +1,5 @@
 //! Numbers of queues, homes and rows.
-ghost use Rattle.std.specs.Prelude.{◌≡◌, ◌<◌, ◌≤◌, nat_lt, nat_le, ◌&&◌, if◌then◌else◌, Some, None};
+ghost use Rattle.std.specs.Prelude.{◌≡◌, ◌+◌, ◌<◌, ◌≤◌, nat_lt, nat_le, ◌&&◌, if◌then◌else◌, Some, None};
 
 use std::marker::Model;
 
@@ -29,6 +29,13 @@ impl QueueNo {
         } else {
             None
         }
+    }
+
+    /// The queue whose number is one more.
+    pub fn following(place: u32) -> QueueNo
+        ensures { result ≡ place + 1 }
+    {
+        QueueNo(place as u64 + 1)
     }
 
     /// The number, from 1 to 2^48 - 1.

@@ -1,5 +1,5 @@
 //! Stamps: what a history is ordered by.
-ghost use Rattle.std.specs.Prelude.{◌≡◌, ◌↔◌, min, true};
+ghost use Rattle.std.specs.Prelude.{◌≡◌, ◌↔◌, true};
 ghost use Rattle.sq_base.specs.StampValue.{StampValue};
 ghost use Rattle.sq_base.specs.Stamps as stamps;
 

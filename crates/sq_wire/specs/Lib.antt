@@ -1,0 +1,11 @@
+pub mod Requests
+pub mod NamesValue
+pub mod WorldValue
+pub mod Worlds
+pub mod Calls
+pub mod Replies
+pub mod Scripts
+pub mod Texts
+pub mod Served
+pub mod Lines
+pub mod Runs

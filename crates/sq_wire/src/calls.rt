@@ -1,10 +1,15 @@
 //! Requests and replies as values (SQS API Reference).
+ghost use Rattle.std.specs.Prelude.{◌≡◌, IfOk, IfErr};
+
 use sq_base::handle::Handle;
 use sq_base::ids::HomeId;
 use sq_base::message_id::MessageId;
 use sq_base::name::QueueName;
 use sq_base::ranges::{Delay, MaxMessages, Timeout};
+use sq_base::refusal::Refusal;
 use sq_model::rows::Rows;
+use std::alloc::Global;
+use std::marker::Model;
 
 /// CreateQueue, with the default attributes.
 #[derive(Clone, Copy, PartialEq, Eq, Debug)]
@@ -12,11 +17,43 @@ pub struct CreateQueue {
     pub name: QueueName,
 }
 
-/// SendMessage. The body has 1 to `BODY_LIMIT` bytes; its characters are not checked yet.
+/// The text of a body whose characters are not checked yet.
+#[derive(Drop)]
+pub struct BodyText {
+    text: String,
+}
+
+impl Model for BodyText {
+    ghost use Rattle.std.specs.Prelude.{List, ℕ, string_bytes};
+
+    ghost Value = { List ℕ };
+
+    ghost view = { λ b. string_bytes b.text };
+}
+
+impl BodyText {
+    /// Refused for want of memory alone.
+    pub fn new(alloc: Global, text: &str) -> Result<BodyText, Refusal>
+        ensures text { IfOk result (λ b. b ≡ text.now) }
+        ensures refused { IfErr result (λ e. e ≡ Refusal.NoMemory) }
+    {
+        Ok(BodyText {
+            text: String::from_str(alloc, text)?,
+        })
+    }
+
+    pub fn as_str(&self) -> &str
+        ensures { result.now ≡ self.now }
+    {
+        self.text.as_str()
+    }
+}
+
+/// SendMessage. The body has 1 to `BODY_LIMIT` bytes.
 #[derive(Drop)]
 pub struct SendMessage {
     pub queue: QueueName,
-    pub body: String,
+    pub body: BodyText,
     pub delay: Option<Delay>,
 }
 
@@ -42,6 +79,13 @@ pub enum Call {
     SendMessage(SendMessage),
     ReceiveMessage(ReceiveMessage),
     DeleteMessage(DeleteMessage),
+}
+
+/// A request with the clock reading of its line, in ms, where it has one.
+#[derive(Drop)]
+pub struct Request {
+    pub clock: Option<u64>,
+    pub call: Call,
 }
 
 /// The messages that a home gave, as they stand in it.

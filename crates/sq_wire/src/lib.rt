@@ -1,7 +1,16 @@
 //! Lines of requests in, lines of replies out.
 #![tactic(auto)]
 
+pub mod buffer;
 pub mod calls;
+pub mod counted;
+pub mod lines;
 pub mod names;
 pub mod options;
+pub mod put;
+pub mod reply;
+pub mod request;
+pub mod run;
+pub mod script;
+pub mod text;
 pub mod world;

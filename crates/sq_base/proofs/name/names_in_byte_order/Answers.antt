@@ -1,4 +1,3 @@
-use Rattle.std.proofs.Common.{◌≡◌}
 use Rattle.sq_base.proofs.NameLaws.{names_ordered}
 use Rattle.sq_base.proofs.name.names_in_byte_order.Goals as goal
 

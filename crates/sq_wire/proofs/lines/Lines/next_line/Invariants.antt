@@ -1,0 +1,15 @@
+use Rattle.std.proofs.Common.{◌≡◌, ◌++◌, ◌+◌, ◌-◌, ◌≤◌, IfSome, Some, length, false}
+use Rattle.sq_wire.specs.Lines.{lines_left, has_feed}
+use Rattle.sq_wire.proofs.lines.Lines.next_line.Given as goal
+
+abbrev pub invariant-loop-at : goal.invariant-loop-at
+invariant-loop-at g l = record {
+  lines : IfSome (lines_left l.fn.self (g.R.Read.remaining l.fn.reader.inner)) (λ ls. lines_left (l.self-inside.begun.items ++ l.self-inside.ahead) (g.R.Read.remaining l.reader.inner) ≡ Some ls);
+  plain : has_feed l.self-inside.begun.items ≡ false;
+  within : length l.self-inside.begun.items ≤ 4194304;
+  failed : l.reader.failed ≡ l.fn.reader.failed;
+}
+
+-- what is begun and what is ahead grow with each turn, to at most the limit and a chunk
+abbrev pub decreases-loop-at : goal.decreases-loop-at
+decreases-loop-at g l = 4259841 - (length l.self-inside.begun.items + length l.self-inside.ahead)

@@ -1,0 +1,30 @@
+-- Lines of an input.
+use Rattle.std.specs.Prelude.{ℕ, List, [], ◌∷◌, ◌++◌, ◌==◌, ◌||◌, Bool, false, if◌then◌else◌, Option, option_map, ◌<◌, ◌≡◌, ◌⊎◌, length}
+
+-- a byte before the first of the lines
+abbrev pub longer : ℕ → List (List ℕ) → List (List ℕ)
+longer b [] = (b ∷ []) ∷ []
+longer b (l ∷ ls) = (b ∷ l) ∷ ls
+
+-- the bytes up to each line feed, and what is left where bytes remain
+unfoldable pub lines_of : List ℕ → List (List ℕ)
+lines_of [] = []
+lines_of (b ∷ bs) = if b == 10 then [] ∷ lines_of bs else longer b (lines_of bs)
+
+-- the lines of what was read and what is still to come, where that is known
+abbrev pub lines_left : List ℕ → Option (List ℕ) → Option (List (List ℕ))
+lines_left read known = option_map (λ xs. lines_of (read ++ xs)) known
+
+-- whether a line feed is among the bytes
+unfoldable pub has_feed : List ℕ → Bool
+has_feed [] = false
+has_feed (b ∷ bs) = b == 10 || has_feed bs
+
+-- the first of the lines is there, and longer than n
+abbrev pub FirstIsOver : ℕ → List (List ℕ) → Type 0
+FirstIsOver n [] = ⊥
+FirstIsOver n (line ∷ lines) = n < length line
+
+-- a count of failures rose, or stands at its end
+abbrev pub Rose : ℕ → ℕ → Type 0
+Rose before after = (before < after) ⊎ (after ≡ 18446744073709551615)

@@ -1,0 +1,9 @@
+-- What contracts see of the names of the queues.
+use Rattle.std.specs.Prelude.{ℕ, List}
+use Rattle.sq_base.specs.StampValue.{StampValue}
+
+-- the names in order of creation, the stamp of the last creation, and how many there may be
+pub record NamesValue : Type 0 where
+  pub made : List (List ℕ)
+  pub last : StampValue
+  pub places : ℕ

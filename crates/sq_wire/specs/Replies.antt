@@ -1,0 +1,109 @@
+-- The texts of replies.
+use Rattle.std.specs.Prelude.{ℕ, ◌≤◌, List, ◌++◌, map, codes, Result, Ok, Err}
+use Rattle.std.specs.List.{All}
+use Rattle.std.specs.Int.{w128, to_be_bytes}
+use Rattle.std.specs.Str.{IsAscii}
+use Rattle.hex.specs.Hex.{encode_lower}
+use Rattle.md5.specs.Md5.{md5}
+use Rattle.serde_json.specs.Data.{Data, object, array, string, member, no_members}
+use Rattle.serde_json.specs.View.{items_of}
+use Rattle.serde_json.specs.Written.{compact_text}
+use Rattle.uuid.specs.Text.{hyphenated_text, lower}
+use Rattle.sq_base.specs.declared.handle.Handle.{Handle}
+use Rattle.sq_base.specs.declared.ids.HomeId.{HomeId}
+use Rattle.sq_base.specs.declared.message_id.MessageId.{MessageId}
+use Rattle.sq_base.specs.declared.refusal.Refusal.{Refusal}
+use Rattle.sq_base.specs.declared.refusal.Refusal.TheVariants.{NoMemory, ClockRange, Worn, InvalidRequest, InvalidAttributeName, InvalidAttributeValue, InvalidParameterValue, InvalidAddress, QueueDoesNotExist, QueueNameExists, QueueDeletedRecently, PurgeQueueInProgress, InvalidMessageContents, OverLimit, ReceiptHandleIsInvalid, MessageNotInflight, EmptyBatchRequest, TooManyEntriesInBatchRequest, InvalidBatchEntryId, BatchEntryIdsNotDistinct, BatchRequestTooLong, ResourceNotFoundException, UnsupportedOperation, TableFull}
+use Rattle.sq_base.specs.declared.row.Row.{Row}
+use Rattle.sq_base.specs.Handles.{handle_text}
+use Rattle.sq_base.specs.MessageIds.{id_number}
+use Rattle.sq_base.specs.Refusals.{name_of}
+use Rattle.sq_wire.specs.declared.calls.Answer.{Answer}
+use Rattle.sq_wire.specs.declared.calls.Answer.TheVariants.{Queue, Sent, Received, Done}
+
+-- the number of a refusal in decimal digits
+abbrev pub digits_of : Refusal → List ℕ
+digits_of NoMemory = codes "1"
+digits_of ClockRange = codes "2"
+digits_of Worn = codes "3"
+digits_of InvalidRequest = codes "4"
+digits_of InvalidAttributeName = codes "5"
+digits_of InvalidAttributeValue = codes "6"
+digits_of InvalidParameterValue = codes "7"
+digits_of InvalidAddress = codes "8"
+digits_of QueueDoesNotExist = codes "9"
+digits_of QueueNameExists = codes "10"
+digits_of QueueDeletedRecently = codes "11"
+digits_of PurgeQueueInProgress = codes "12"
+digits_of InvalidMessageContents = codes "13"
+digits_of OverLimit = codes "14"
+digits_of ReceiptHandleIsInvalid = codes "15"
+digits_of MessageNotInflight = codes "16"
+digits_of EmptyBatchRequest = codes "17"
+digits_of TooManyEntriesInBatchRequest = codes "18"
+digits_of InvalidBatchEntryId = codes "19"
+digits_of BatchEntryIdsNotDistinct = codes "20"
+digits_of BatchRequestTooLong = codes "21"
+digits_of ResourceNotFoundException = codes "22"
+digits_of UnsupportedOperation = codes "23"
+digits_of TableFull = codes "24"
+
+-- the text of a refusal. Own.
+unfoldable pub error_text : Refusal → List ℕ
+error_text r = codes "{\"Error\":{\"Code\":\"" ++ name_of r ++ codes "\",\"Number\":" ++ digits_of r ++ codes "}}"
+
+-- the URL of a queue (SQS API Reference, QueueUrl)
+abbrev pub queue_url : List ℕ → List ℕ
+queue_url name = codes "http://localhost/000000000000/" ++ name
+
+-- the UUID of an id in lower case, with hyphens
+unfoldable pub id_text : MessageId → List ℕ
+id_text id = hyphenated_text lower (to_be_bytes w128 (id_number id))
+
+-- the handle of a row that a home gave
+abbrev pub handle_of : HomeId → Row → Handle
+handle_of home row = record { queue = home.queue; home = home.home; slot = row.slot; serial = row.serial; receive = row.receives }
+
+abbrev pub queue_data : List ℕ → Data
+queue_data name = object (member (codes "QueueUrl") (string (queue_url name)) no_members)
+
+-- the digest of a body, and the UUID of the message
+abbrev pub sent_data : List ℕ → List ℕ → Data
+sent_data digest id = object (member (codes "MD5OfMessageBody") (string digest) (member (codes "MessageId") (string id) no_members))
+
+-- a message of a receive (SQS API Reference, Message)
+abbrev pub told_data : List ℕ → List ℕ → List ℕ → List ℕ → Data
+told_data body digest id handle =
+    object (member (codes "Body") (string body)
+    (member (codes "MD5OfBody") (string digest)
+    (member (codes "MessageId") (string id)
+    (member (codes "ReceiptHandle") (string handle) no_members))))
+
+abbrev pub message_data : HomeId → Row → Data
+message_data home row = told_data row.body (encode_lower (md5 row.body)) (id_text row.id) (handle_text (handle_of home row))
+
+abbrev pub received_data : HomeId → List Row → Data
+received_data home rows = object (member (codes "Messages") (array (items_of (map (message_data home) rows))) no_members)
+
+abbrev pub answer_data : Answer → Data
+answer_data (Queue name) = queue_data name
+answer_data (Sent id digest) = sent_data digest (id_text id)
+answer_data (Received given) = received_data given.home given.rows
+answer_data Done = object no_members
+
+-- the text of a reply: JSON with no space, and the members of an object in the order of their bytes
+abbrev pub reply_text_of : Result Answer Refusal → List ℕ
+reply_text_of (Ok answer) = compact_text (answer_data answer)
+reply_text_of (Err refusal) = error_text refusal
+
+-- all of these rows were received
+abbrev pub AreReceived : List Row → Type 0
+AreReceived rows = All (λ row. 1 ≤ row.receives) rows
+
+-- what an answer tells can be told: a digest is ASCII, and the rows that are given were received
+abbrev pub GivenWell : Result Answer Refusal → Type 0
+GivenWell (Ok (Queue name)) = Unit {0}
+GivenWell (Ok (Sent id digest)) = IsAscii digest
+GivenWell (Ok (Received given)) = AreReceived given.rows
+GivenWell (Ok Done) = Unit {0}
+GivenWell (Err refusal) = Unit {0}

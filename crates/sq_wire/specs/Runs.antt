@@ -1,0 +1,63 @@
+-- A world that is asked line after line.
+use Rattle.std.specs.Prelude.{ℕ, List, [], ◌∷◌, ◌++◌, ◌≡◌, ◌≤◌, ◌⊎◌, length, take, drop, Option, slice_get, Some}
+use Rattle.std.specs.Io.KnownBytes.{Appends}
+use Rattle.sq_wire.specs.Scripts.{ScriptValue, Gives, Loses}
+use Rattle.sq_wire.specs.Lines.{Rose, FirstIsOver}
+use Rattle.sq_wire.specs.declared.run.ServeFault.{ServeFault}
+use Rattle.sq_wire.specs.declared.run.ServeFault.TheVariants.{Read, Write, NoMemory, TooLong}
+
+-- for each line in order the text of a call on it and a line feed, and nothing else
+abbrev pub Answers : ScriptValue → List (List ℕ) → List ℕ → ScriptValue → Type 0
+Answers world [] out after = (out ≡ []) × (after ≡ world)
+Answers world (line ∷ lines) out after = (text : List ℕ) × (mid : ScriptValue) × (rest : List ℕ) × Gives world line text mid × (out ≡ text ++ 10 ∷ rest) × Answers mid lines rest after
+
+-- no line is too long
+abbrev pub AllWithin : List (List ℕ) → Type 0
+AllWithin [] = Unit {0}
+AllWithin (line ∷ lines) = (length line ≤ 4194304) × AllWithin lines
+
+-- the answers to these lines were written
+pub record Writes (old new : Option (List ℕ)) (world : ScriptValue) (lines : List (List ℕ)) (after : ScriptValue) : Type 0 where
+  pub out : List ℕ
+  pub answers : Answers world lines out after
+  pub appends : Appends old new out
+  pub within : AllWithin lines
+
+-- the answers to the first n lines were written, and no more than a front of the next
+pub record WritesPart (old new : Option (List ℕ)) (world : ScriptValue) (lines : List (List ℕ)) (n : ℕ) (after : ScriptValue) : Type 0 where
+  pub out : List ℕ
+  pub mid : ScriptValue
+  pub line : List ℕ
+  pub text : List ℕ
+  pub part : ℕ
+  pub answers : Answers world (take n lines) out mid
+  pub next : slice_get lines n ≡ Some line
+  pub gives : Gives mid line text after
+  pub appends : Appends old new (out ++ take part (text ++ 10 ∷ []))
+  pub within : AllWithin (take n lines)
+
+-- the next line was asked, and there was no memory for its answer
+pub record LosesNext (world : ScriptValue) (lines : List (List ℕ)) (n : ℕ) (after : ScriptValue) : Type 0 where
+  pub line : List ℕ
+  pub next : slice_get lines n ≡ Some line
+  pub loses : Loses world line after
+
+-- the answers to the first n lines were written, and of the next one nothing
+pub record WritesNoMore (old new : Option (List ℕ)) (world : ScriptValue) (lines : List (List ℕ)) (n : ℕ) (after : ScriptValue) : Type 0 where
+  pub mid : ScriptValue
+  pub writes : Writes old new world (take n lines) mid
+  pub last : (after ≡ mid) ⊎ LosesNext mid lines n after
+
+-- what a fault says of what was written
+abbrev pub StopsAt : ServeFault → List (List ℕ) → Option (List ℕ) → Option (List ℕ) → ScriptValue → ScriptValue → Type 0
+StopsAt (Read n) lines old new world after = Writes old new world (take n lines) after
+StopsAt (TooLong n) lines old new world after = Writes old new world (take n lines) after × FirstIsOver 4194304 (drop n lines)
+StopsAt (NoMemory n) lines old new world after = WritesNoMore old new world lines n after
+StopsAt (Write n) lines old new world after = WritesPart old new world lines n after
+
+-- a fault of reading or writing is one of a call, but for one of reading after 2^40 lines
+abbrev pub IsOfCall : ServeFault → ℕ → ℕ → ℕ → ℕ → Type 0
+IsOfCall (Read n) r r2 w w2 = Rose r r2 ⊎ (n ≡ 1099511627776)
+IsOfCall (Write n) r r2 w w2 = Rose w w2
+IsOfCall (NoMemory n) r r2 w w2 = Unit {0}
+IsOfCall (TooLong n) r r2 w w2 = Unit {0}

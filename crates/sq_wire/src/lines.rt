@@ -1,0 +1,156 @@
+//! Reading a line.
+ghost use Rattle.std.specs.Prelude.{◌≡◌, ◌∷◌, ◌++◌, [], IfOk, IfErr, IfSome, MatchOption, option_map, Some, OnOk, OnErr, ◌<◌, ◌≤◌, ◌+◌, take, drop, length, false};
+ghost use Rattle.sq_wire.specs.Lines.{lines_left, lines_of, FirstIsOver, Rose};
+ghost use Rattle.sq_wire.specs.declared.lines.LineFault.TheVariants.{TooLong, Read};
+
+use crate::buffer::Buffer;
+use crate::counted::Counted;
+use memchr::memchr;
+use std::alloc::{AllocError, Global};
+use std::io::Read;
+use std::marker::Model;
+use std::mem;
+
+/// The greatest number of bytes in a line.
+pub const LIMIT: usize = 4_194_304;
+
+/// Why there is no next line.
+#[derive(Clone, Copy, PartialEq, Eq, Debug)]
+pub enum LineFault {
+    /// A read failed.
+    Read,
+    NoMemory,
+    /// The next line is longer than `LIMIT`.
+    TooLong,
+}
+
+impl From<AllocError> for LineFault {
+    ghost use Rattle.std.specs.Prelude.{◌≡◌};
+    ghost use Rattle.sq_wire.specs.declared.lines.LineFault.TheVariants.{NoMemory};
+
+    ghost from_gives = { λ _ e. e ≡ NoMemory };
+
+    fn from(_: AllocError) -> LineFault {
+        LineFault::NoMemory
+    }
+}
+
+/// What was read and not yet given out: the front of a line, and what was read behind it.
+#[derive(Drop)]
+pub struct Lines {
+    begun: Vec<u8>,
+    ahead: Buffer,
+}
+
+impl Model for Lines {
+    ghost use Rattle.std.specs.Prelude.{ℕ, List, ◌≡◌, ◌≤◌, ◌++◌, false, vec_len};
+    ghost use Rattle.sq_wire.specs.Lines.{has_feed};
+
+    ghost Value = { List ℕ };
+
+    ghost view = { λ l. l.begun.items ++ l.ahead };
+
+    ghost invariant = { λ l. (has_feed l.begun.items ≡ false) × (vec_len l.begun ≤ 4194304) };
+}
+
+// Ends the line that was begun before the line feed at a place of what was read ahead.
+fn end_line(
+    alloc: Global,
+    begun: &mut Vec<u8>,
+    ahead: &mut Buffer,
+    at: usize,
+) -> Result<Vec<u8>, LineFault>
+    requires place { at < length ahead.old }
+    requires limit { length begun.old.items ≤ 4194304 }
+    ensures line { IfOk result (λ line. line.items ≡ begun.old.items ++ take at ahead.old) }
+    ensures within { IfOk result (λ line. length line.items ≤ 4194304) }
+    ensures rest { OnOk result (ahead.new ≡ drop (at + 1) ahead.old) }
+    ensures none { OnOk result (begun.new.items ≡ []) }
+    ensures kept { OnErr result ((begun.new.items ≡ begun.old.items) × (ahead.new ≡ ahead.old)) }
+    ensures long { IfErr result (λ e. e ≡ TooLong → 4194304 < length begun.old.items + at) }
+    ensures other { IfErr result (λ e. e ≡ Read → ⊥) }
+{
+    if at > LIMIT - begun.len() {
+        return Err(LineFault::TooLong);
+    }
+    begun.extend_from_slice(&ahead.bytes()[..at])?;
+    ahead.consume(at + 1);
+    Ok(mem::replace(begun, Vec::new(alloc)))
+}
+
+// Adds what was read ahead to the line that was begun.
+fn add_ahead(begun: &mut Vec<u8>, ahead: &mut Buffer) -> Result<(), LineFault>
+    requires limit { length begun.old.items ≤ 4194304 }
+    ensures line { OnOk result (begun.new.items ≡ begun.old.items ++ ahead.old) }
+    ensures within { length begun.new.items ≤ 4194304 }
+    ensures rest { OnOk result (ahead.new ≡ []) }
+    ensures kept { OnErr result ((begun.new.items ≡ begun.old.items) × (ahead.new ≡ ahead.old)) }
+    ensures long { IfErr result (λ e. e ≡ TooLong → 4194304 < length begun.old.items + length ahead.old) }
+    ensures other { IfErr result (λ e. e ≡ Read → ⊥) }
+{
+    let count = ahead.bytes().len();
+    if count > LIMIT - begun.len() {
+        return Err(LineFault::TooLong);
+    }
+    begun.extend_from_slice(ahead.bytes())?;
+    ahead.consume(count);
+    Ok(())
+}
+
+// The line that was begun, where it has a byte.
+fn last_line(alloc: Global, begun: &mut Vec<u8>) -> Option<Vec<u8>>
+    ensures line { MatchOption result (begun.old.items ≡ []) (λ line. (line.items ≡ begun.old.items) × (0 < length begun.old.items)) }
+    ensures none { begun.new.items ≡ [] }
+{
+    if begun.is_empty() {
+        None
+    } else {
+        Some(mem::replace(begun, Vec::new(alloc)))
+    }
+}
+
+impl Lines {
+    pub fn new(alloc: Global) -> Result<Lines, AllocError>
+        ensures { IfOk result (λ l. l ≡ []) }
+    {
+        Ok(Lines {
+            begun: Vec::new(alloc),
+            ahead: Buffer::new(alloc)?,
+        })
+    }
+
+    /// The next line without its line feed, or none at the end. It reads no more than it must, and
+    /// keeps what it has read where there is a fault.
+    pub fn next_line<R: Read>(
+        &mut self,
+        alloc: Global,
+        reader: &mut Counted<R>,
+    ) -> Result<Option<Vec<u8>>, LineFault>
+        ensures taken { IfOk result (λ next. IfSome (lines_left self.old (R.remaining reader.old.inner)) (λ lines.
+            MatchOption next (lines ≡ []) (λ line. option_map (λ rest. line.items ∷ rest) (lines_left self.new (R.remaining reader.new.inner)) ≡ Some lines))) }
+        ensures within { IfOk result (λ next. IfSome next (λ line. length line.items ≤ 4194304)) }
+        ensures kept { OnErr result (IfSome (lines_left self.old (R.remaining reader.old.inner)) (λ lines. lines_left self.new (R.remaining reader.new.inner) ≡ Some lines)) }
+        ensures long { IfErr result (λ e. e ≡ TooLong → FirstIsOver 4194304 (lines_of self.new)) }
+        ensures long_line { IfErr result (λ e. e ≡ TooLong → IfSome (lines_left self.old (R.remaining reader.old.inner)) (λ lines. FirstIsOver 4194304 lines)) }
+        ensures rises { reader.old.failed ≤ reader.new.failed }
+        ensures count { IfErr result (λ e. e ≡ Read → Rose reader.old.failed reader.new.failed) }
+    {
+        loop {
+            if let Some(at) = memchr(b'\n', self.ahead.bytes()) {
+                match end_line(alloc, &mut self.begun, &mut self.ahead, at) {
+                    Ok(line) => return Ok(Some(line)),
+                    Err(fault) => return Err(fault),
+                }
+            }
+            if let Err(fault) = add_ahead(&mut self.begun, &mut self.ahead) {
+                return Err(fault);
+            }
+            let Ok(count) = self.ahead.fill(reader) else {
+                return Err(LineFault::Read);
+            };
+            if count == 0 {
+                return Ok(last_line(alloc, &mut self.begun));
+            }
+        }
+    }
+}

@@ -1,0 +1,40 @@
+//! A line of a script and its reply.
+ghost use Rattle.std.specs.Prelude.{IfOk, OnErr};
+ghost use Rattle.sq_wire.specs.Scripts.{script_at, LineTold, Gives, Loses};
+ghost use Rattle.sq_wire.specs.Replies.{GivenWell};
+
+use crate::calls::Answer;
+use crate::reply::reply_text;
+use crate::request::read_request;
+use crate::text::Text;
+use crate::world::World;
+use sq_base::refusal::Refusal;
+use std::alloc::{AllocError, Global};
+
+// Does what a line asks; its clock reading stands for the lines after it that have none.
+fn tell(alloc: Global, world: &mut World, clock: &mut u64, line: &[u8]) -> Result<Answer, Refusal>
+    ensures told { LineTold (script_at world.old clock.old) line.now result (script_at world.new clock.new) }
+    ensures well { GivenWell result }
+{
+    let request = read_request(alloc, line)?;
+    if let Some(reading) = request.clock {
+        *clock = reading;
+    }
+    world.call(alloc, *clock, &request.call)
+}
+
+/// Does what a line asks, and gives the text of its reply, without its line feed. Where there is no memory for
+/// the text of an answer, the call is done all the same.
+#[tactic(auto, unfolding(crate::specs::Scripts::Gives, crate::specs::Scripts::Loses))]
+pub fn answer(
+    alloc: Global,
+    world: &mut World,
+    clock: &mut u64,
+    line: &[u8],
+) -> Result<Text, AllocError>
+    ensures ok { IfOk result (λ text. Gives (script_at world.old clock.old) line.now text (script_at world.new clock.new)) }
+    ensures err { OnErr result (Loses (script_at world.old clock.old) line.now (script_at world.new clock.new)) }
+{
+    let told = tell(alloc, world, clock, line);
+    reply_text(alloc, &told)
+}

@@ -1,0 +1,191 @@
+//! The words of a command line.
+ghost use Rattle.std.specs.Prelude.{◌≡◌, ◌≤◌, IfOk, IfSome, IfNone, None, Ok, ℕ, map, false};
+ghost use Rattle.clap.specs.Words.{app_of, first_value, found_of, rule_of};
+ghost use Rattle.clap.specs.declared.Command.TheViews.{out-Command as fields_of};
+ghost use Rattle.sqd.specs.CommandLine.{number_rule, program_app, script_app, with_number};
+ghost use Rattle.sqd.specs.Flags.{IsWhole, IsNumberOf, AreOptionsOf, IsModeOf};
+
+use clap::builder::ValueParser;
+use clap::error::ErrorKind;
+use clap::{Arg, ArgMatches, Command, Error};
+use sq_wire::options::Options;
+use std::alloc::{AllocError, Global};
+
+/// What a command line asks for.
+#[derive(Clone, Copy, PartialEq, Eq, Debug)]
+pub enum Mode {
+    /// Answer the lines of the standard input.
+    Script(Options),
+}
+
+/// Why a command line asks for nothing.
+#[derive(Drop)]
+pub enum Refused {
+    NoMemory,
+    /// A mistake in the words, or a request for help.
+    Usage(Error),
+}
+
+impl From<AllocError> for Refused {
+    fn from(_: AllocError) -> Refused {
+        Refused::NoMemory
+    }
+}
+
+impl From<Error> for Refused {
+    fn from(error: Error) -> Refused {
+        if error.kind() == ErrorKind::OutOfMemory {
+            Refused::NoMemory
+        } else {
+            Refused::Usage(error)
+        }
+    }
+}
+
+// A flag that takes a whole number within bounds.
+fn number_flag<'a>(
+    alloc: Global,
+    name: &'a str,
+    least: u64,
+    greatest: u64,
+    help: &'a str,
+) -> Arg<'a>
+    ensures rule { rule_of result ≡ number_rule name.entry.now least greatest }
+    ensures local { result.global ≡ false }
+{
+    Arg::new(alloc, name)
+        .long(name)
+        .value_name("N")
+        .value_parser(ValueParser::Unsigned(least, greatest))
+        .help(help)
+}
+
+// Adds a flag to a command.
+fn with_number<'a>(
+    alloc: Global,
+    command: Command<'a>,
+    name: &'a str,
+    least: u64,
+    greatest: u64,
+    help: &'a str,
+) -> Result<Command<'a>, AllocError>
+    requires { (fields_of command).has_globals ≡ false }
+    ensures app { IfOk result (λ c. app_of c ≡ with_number name.entry.now least greatest (app_of command.entry)) }
+    ensures local { IfOk result (λ c. (fields_of c).has_globals ≡ false) }
+{
+    command.arg(number_flag(alloc, name, least, greatest, help))
+}
+
+const HOMES: &str = "Homes of a queue: 1 to 16 [default: 4]";
+
+const SAMPLE: &str = "Homes that a receive looks at: 1 to N of --homes [default: 2, or 1 of 1]";
+
+const QUEUES: &str = "Queues that are ever made: 1 to 1024 [default: 64]";
+
+const ROWS: &str = "Messages of a home: 1 to 1048576 [default: 1048576]";
+
+const FLIGHTS: &str = "Messages of a queue in flight: N of --homes to 120000 [default: 120000]";
+
+const TRANSIT: &str = "Messages between queues: 1 to 100000 [default: 10000]";
+
+const SEED: &str = "What the choices of homes begin from: any u64 [default: 0]";
+
+fn script_command<'a>(alloc: Global) -> Result<Command<'a>, AllocError>
+    ensures app { IfOk result (λ c. app_of c ≡ script_app) }
+    ensures local { IfOk result (λ c. (fields_of c).has_globals ≡ false) }
+{
+    let command = Command::new(alloc, "script");
+    let command = with_number(alloc, command, "homes", 1, 16, HOMES)?;
+    let command = with_number(alloc, command, "sample", 1, 16, SAMPLE)?;
+    let command = with_number(alloc, command, "queues", 1, 1024, QUEUES)?;
+    let command = with_number(alloc, command, "rows", 1, 1_048_576, ROWS)?;
+    let command = with_number(alloc, command, "flights", 1, 120_000, FLIGHTS)?;
+    let command = with_number(alloc, command, "transit", 1, 100_000, TRANSIT)?;
+    with_number(alloc, command, "seed", 0, u64::MAX, SEED)
+}
+
+fn program_command<'a>(alloc: Global) -> Result<Command<'a>, AllocError>
+    ensures app { IfOk result (λ c. app_of c ≡ program_app) }
+{
+    let script = script_command(alloc)?;
+    let script = script.about(
+        "Answers each line of the standard input, a request in JSON, with a line",
+    );
+    let program = Command::new(alloc, "sqd").subcommand_required(true);
+    let program = program.about("A queue service in the manner of Amazon SQS standard queues");
+    program.subcommand(script)
+}
+
+// A whole number within bounds.
+fn whole(text: &str, least: u64, greatest: u64) -> Option<u64>
+    ensures range { IfSome result (λ n. (least ≤ n) × (n ≤ greatest)) }
+    ensures value { IfSome result (λ n. IsWhole text.now n) }
+    ensures none { IfNone result ((n : ℕ) → IsWhole text.now n → least ≤ n → n ≤ greatest → ⊥) }
+{
+    let number = text.parse::<u64>().ok()?;
+    if least <= number && number <= greatest {
+        Some(number)
+    } else {
+        None
+    }
+}
+
+// The number of a flag, or its default, or the flag's name where its text is no number in bounds.
+fn number<'a>(
+    matches: &ArgMatches<'_>,
+    name: &'a str,
+    least: u64,
+    greatest: u64,
+    default: u64,
+) -> Result<u64, &'a str>
+    requires { (least ≤ default) × (default ≤ greatest) }
+    ensures there { IfOk result (λ n. IsNumberOf (first_value (found_of matches.now) name.entry.now) least greatest default n) }
+    ensures absent { first_value (found_of matches.now) name.entry.now ≡ None → result ≡ Ok default }
+{
+    match matches.get_str(name) {
+        None => Ok(default),
+        Some(text) => match whole(text, least, greatest) {
+            Some(number) => Ok(number),
+            None => Err(name),
+        },
+    }
+}
+
+/// The options of matched flags, or the name of one whose text is no number in its bounds.
+pub fn options_of(matches: &ArgMatches<'_>) -> Result<Options, &'static str>
+    ensures { IfOk result (λ o. AreOptionsOf (first_value (found_of matches.now)) o) }
+{
+    let homes = number(matches, "homes", 1, 16, 4)? as u32;
+    let sample = number(matches, "sample", 1, 16, (homes as u64).min(2))? as u32;
+    Ok(Options {
+        homes,
+        sample,
+        queues: number(matches, "queues", 1, 1024, 64)? as u32,
+        rows: number(matches, "rows", 1, 1_048_576, 1_048_576)? as u32,
+        flights: number(matches, "flights", 1, 120_000, 120_000)? as u32,
+        transit: number(matches, "transit", 1, 100_000, 10_000)? as u32,
+        seed: number(matches, "seed", 0, u64::MAX, 0)?,
+    })
+}
+
+// An error of the form that clap gives its own.
+fn usage(alloc: Global, command: &mut Command<'_>, name: &str) -> Result<Error, AllocError> {
+    let message = format!(in alloc; "invalid value for '--{name} <N>'")?;
+    command.error(ErrorKind::ValueValidation, message.as_str())
+}
+
+/// What words ask for. The first of them is the program's own name.
+pub fn flags<'a>(alloc: Global, words: &'a [&'a str]) -> Result<Mode, Refused>
+    ensures { IfOk result (λ mode. IsModeOf (map (λ word. word.now) words.entry.now) mode) }
+{
+    let mut command = program_command(alloc)?;
+    let matches = command.try_get_matches_from_mut(words)?;
+    let Some(found) = matches.subcommand_matches("script") else {
+        let error = command.error(ErrorKind::MissingSubcommand, "a subcommand is required")?;
+        return Err(Refused::from(error));
+    };
+    match options_of(found) {
+        Ok(options) => Ok(Mode::Script(options)),
+        Err(name) => Err(Refused::from(usage(alloc, &mut command, name)?)),
+    }
+}

@@ -1,0 +1,132 @@
+//! The program as a function of its words, its input and its outputs.
+ghost use Rattle.std.specs.Prelude.{◌≡◌, ◌≤◌, ◌⊎◌, [], ◌≢◌, map};
+ghost use Rattle.clap.specs.Words.{kind_of};
+ghost use Rattle.clap.specs.declared.error.kind.ErrorKind.{ErrorKind};
+ghost use Rattle.clap.specs.declared.error.kind.ErrorKind.TheVariants.{DisplayHelp, DisplayVersion};
+ghost use Rattle.sq_wire.specs.Lines.{lines_left};
+ghost use Rattle.sq_wire.specs.Served.{IsServed};
+ghost use Rattle.sq_wire.specs.declared.options.Options.{Options};
+ghost use Rattle.sqd.specs.Endings.{Answered, Stopped, Shown};
+ghost use Rattle.sqd.specs.Flags.{IsModeOf};
+ghost use Rattle.sqd.specs.declared.flags.Mode.TheVariants.{Script as ByScript};
+
+use crate::flags::{Mode, Refused, flags};
+use clap::Error;
+use sq_base::refusal::Refusal;
+use sq_wire::counted::Counted;
+use sq_wire::options::Options;
+use sq_wire::put::put;
+use sq_wire::run::{ServeFault, run_script};
+use sq_wire::world::World;
+use std::alloc::Global;
+use std::io::{Read, Write};
+
+// Tells why a run ended early. Nobody can be told that this failed.
+fn report<E: Write>(errors: &mut E, fault: ServeFault) {
+    let (name, count) = match fault {
+        ServeFault::Read(count) => ("read failed", count),
+        ServeFault::Write(count) => ("write failed", count),
+        ServeFault::NoMemory(count) => ("no memory", count),
+        ServeFault::TooLong(count) => ("line too long", count),
+    };
+    let _ = writeln!(errors, "sqd: {name} after {count} requests");
+    let _ = errors.flush();
+}
+
+// Shows a text that was asked for.
+fn show<W: Write, E: Write>(output: &mut Counted<W>, errors: &mut E, text: &str) -> u8
+    ensures bound { result ≤ 1 }
+    ensures shown { Shown (W.contents output.old.inner) (W.contents output.new.inner) }
+{
+    if put(output, text.as_bytes()).is_err() || output.flush().is_err() {
+        report(errors, ServeFault::Write(0));
+        return 1;
+    }
+    0
+}
+
+// Answers bad words, or a request for help.
+fn explain<W: Write, E: Write>(
+    alloc: Global,
+    error: &Error,
+    output: &mut Counted<W>,
+    errors: &mut E,
+) -> u8
+    ensures bound { result ≤ 2 }
+    ensures help { kind_of error.now ≡ DisplayHelp → result ≤ 1 }
+    ensures mistake { kind_of error.now ≢ DisplayHelp → kind_of error.now ≢ DisplayVersion → 1 ≤ result }
+    ensures shown { Shown (W.contents output.old.inner) (W.contents output.new.inner) }
+    ensures kept { result ≡ 2 → output.new ≡ output.old }
+{
+    let Ok(text) = format!(in alloc; "{error}") else {
+        report(errors, ServeFault::NoMemory(0));
+        return 1;
+    };
+    if error.use_stderr() {
+        let _ = errors.write_all(text.as_bytes());
+        let _ = errors.flush();
+        return 2;
+    }
+    show(output, errors, text.as_str())
+}
+
+// Answers each line of the input over a world of its own.
+fn script<R: Read, W: Write, E: Write>(
+    alloc: Global,
+    options: Options,
+    input: &mut Counted<R>,
+    output: &mut Counted<W>,
+    errors: &mut E,
+) -> u8
+    ensures bound { result ≤ 2 }
+    ensures done { result ≡ 0 → Answered options (lines_left [] (R.remaining input.old.inner)) (W.contents output.old.inner) (W.contents output.new.inner) }
+    ensures fault { result ≡ 1 → Stopped options (lines_left [] (R.remaining input.old.inner)) (W.contents output.old.inner) (W.contents output.new.inner) }
+    ensures bad { result ≡ 2 → ¬ IsServed options }
+    ensures kept { result ≡ 2 → (input.new ≡ input.old) × (output.new ≡ output.old) }
+{
+    let mut world = match World::new(alloc, options) {
+        Ok(world) => world,
+        Err(Refusal::InvalidParameterValue) => {
+            let _ = errors.write_all(b"sqd: bad options\n");
+            let _ = errors.flush();
+            return 2;
+        }
+        Err(_) => {
+            report(errors, ServeFault::NoMemory(0));
+            return 1;
+        }
+    };
+    match run_script(alloc, input, output, &mut world) {
+        Ok(_) => 0,
+        Err(fault) => {
+            report(errors, fault);
+            1
+        }
+    }
+}
+
+/// The whole program. Its status is 0, 1 for a fault and 2 for bad words or options.
+pub fn run<R: Read, W: Write, E: Write>(
+    alloc: Global,
+    words: &[&str],
+    input: &mut Counted<R>,
+    output: &mut Counted<W>,
+    errors: &mut E,
+) -> u8
+    ensures bound { result ≤ 2 }
+    // Each line is answered, or none is read and a text is shown.
+    ensures done { result ≡ 0 → ((options : Options) × IsModeOf (map (λ word. word.now) words.now) (ByScript options) × Answered options (lines_left [] (R.remaining input.old.inner)) (W.contents output.old.inner) (W.contents output.new.inner))
+        ⊎ ((input.new ≡ input.old) × Shown (W.contents output.old.inner) (W.contents output.new.inner)) }
+    ensures fault { result ≡ 1 → ((options : Options) × IsModeOf (map (λ word. word.now) words.now) (ByScript options) × Stopped options (lines_left [] (R.remaining input.old.inner)) (W.contents output.old.inner) (W.contents output.new.inner))
+        ⊎ ((input.new ≡ input.old) × Shown (W.contents output.old.inner) (W.contents output.new.inner)) }
+    ensures bad { result ≡ 2 → (input.new ≡ input.old) × (output.new ≡ output.old) }
+{
+    match flags(alloc, words) {
+        Ok(Mode::Script(options)) => script(alloc, options, input, output, errors),
+        Err(Refused::Usage(error)) => explain(alloc, &error, output, errors),
+        Err(Refused::NoMemory) => {
+            report(errors, ServeFault::NoMemory(0));
+            1
+        }
+    }
+}
