@@ -6,7 +6,6 @@ use Rattle.sq_base.specs.Stamps.{start, after}
 use Rattle.sq_base.specs.declared.refusal.Refusal.{Refusal}
 use Rattle.sq_base.specs.declared.refusal.Refusal.TheVariants.{NoMemory}
 use Rattle.sq_base.specs.declared.ids.HomeId.{HomeId}
-use Rattle.sq_model.specs.declared.place.Component.{Component}
 use Rattle.sq_model.specs.declared.place.Component.TheVariants as part
 use Rattle.sq_model.specs.declared.calls.HomeCall.{HomeCall}
 use Rattle.sq_model.specs.declared.replies.HomeReply.{HomeReply}

@@ -4,3 +4,5 @@
 pub mod log;
 pub mod record;
 pub mod recorded;
+#[cfg(test)]
+mod tests;

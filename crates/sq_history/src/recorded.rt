@@ -134,8 +134,14 @@ impl<S: Store> Recorded<S> {
         let home = self.shard.site().home;
         let kept_sent = sent;
         let told_sent = sent;
-        let kept = (HomeCall::Send(kept_body, kept_delay), HomeReply::Sent(kept_sent));
-        let told = (HomeCall::Send(told_body, told_delay), HomeReply::Sent(told_sent));
+        let kept = (
+            HomeCall::Send(kept_body, kept_delay),
+            HomeReply::Sent(kept_sent),
+        );
+        let told = (
+            HomeCall::Send(told_body, told_delay),
+            HomeReply::Sent(told_sent),
+        );
         let doing = Doing {
             by,
             stamp,

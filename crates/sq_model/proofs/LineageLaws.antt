@@ -1,7 +1,7 @@
 -- In a step of a home no message is lost and none is made twice.
-use Rattle.std.proofs.Common.{◌≡◌, ℕ, ◌+◌, Bool, true, false, not, cond, List, [], ◌∷◌, ◌++◌, map, refl, arith, ap, ◌∙◌, Option, unwrap_or}
-use Rattle.std.specs.Prelude.{nat_lt, ◌&&◌, ◌==◌, filter, min, if◌then◌else◌}
-use Rattle.std.specs.List.{list_any, sum_by}
+use Rattle.std.proofs.Common.{◌≡◌, ℕ, ◌+◌, Bool, true, false, not, cond, List, [], ◌∷◌, ◌++◌, map, refl, arith, ap, ◌∙◌, unwrap_or}
+use Rattle.std.specs.Prelude.{nat_lt, ◌&&◌, ◌==◌, filter, if◌then◌else◌}
+use Rattle.std.specs.List.{list_any}
 use Rattle.std.proofs.lemmas.List.Sums.{sum_by-append, sum_by-cons, sum_by_push}
 use Rattle.std.proofs.lemmas.List.Filters.{sum_by-filter_both}
 use Rattle.sq_base.specs.declared.ids.HomeId.{HomeId}
@@ -9,7 +9,6 @@ use Rattle.sq_base.specs.declared.message_id.MessageId.{MessageId}
 use Rattle.sq_base.specs.declared.row.Row.{Row}
 use Rattle.sq_base.specs.declared.settings.Settings.{Settings}
 use Rattle.sq_model.specs.declared.place.Site.{Site}
-use Rattle.sq_model.specs.declared.item.Item.{Item}
 use Rattle.sq_model.specs.declared.item.Reason.{Reason}
 use Rattle.sq_model.specs.declared.item.Reason.TheVariants.{DeadLetter, Task}
 use Rattle.sq_model.specs.declared.calls.Receipt.{Receipt}

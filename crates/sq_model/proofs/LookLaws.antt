@@ -5,7 +5,7 @@ use Rattle.sq_model.specs.declared.place.Site.{Site}
 use Rattle.sq_model.specs.declared.calls.HomeCall.TheVariants.{Look}
 use Rattle.sq_model.specs.declared.replies.HomeReply.{HomeReply}
 use Rattle.sq_model.specs.declared.replies.HomeReply.TheVariants.{Looked, Over}
-use Rattle.sq_model.specs.Homes.{Home, Unopened, Serving, Closed, HomeStep}
+use Rattle.sq_model.specs.Homes.{Home, Serving, HomeStep}
 
 -- rows, or that too many are in flight
 pub look_over : (site : Site) (home : Home) (m max : ℕ) (timeout : Option ℕ) (reply : HomeReply) (after : Home)

@@ -1,7 +1,6 @@
 -- A step is given only where no check fails.
-use Rattle.std.proofs.Common.{◌≡◌, ℕ, ◌<◌, Bool, true, false, not, refl, List, Some, None, Option, length, arith, ap}
+use Rattle.std.proofs.Common.{◌≡◌, ℕ, ◌<◌, Bool, true, false, not, refl, List, None, Option, arith}
 use Rattle.std.specs.Prelude.{nat_le}
-use Rattle.std.specs.List.{list_any}
 use Rattle.std.proofs.lemmas.Grind.{common_steps}
 use Rattle.sq_base.specs.declared.refusal.Refusal.{Refusal}
 use Rattle.sq_base.specs.declared.row.Row.{Row}
@@ -11,7 +10,7 @@ use Rattle.sq_model.specs.declared.calls.HomeCall.{HomeCall}
 use Rattle.sq_model.specs.declared.calls.HomeCall.TheVariants.{Configure, Close, Send, Look, Delete, Change, Purge, Count, LeaveDead, LeaveTask, Enter, TurnBack, GiveBack, GiveUp}
 use Rattle.sq_model.specs.declared.replies.HomeReply.{HomeReply}
 use Rattle.sq_model.specs.declared.replies.HomeReply.TheVariants.{Done, Sent, Looked, Over, Counted, Left, NoLiveRow, NoOrigin, SourceClosed, Entered}
-use Rattle.sq_model.specs.Homes.{Home, Unopened, Serving, Closed, HomeStep, home_refusal, place_refusal, refused_if, HasPlace, last_serial}
+use Rattle.sq_model.specs.Homes.{Home, Unopened, Serving, Closed, HomeStep, home_refusal, place_refusal, refused_if, HasPlace}
 
 below : (a b : ℕ) → a < b → nat_le b a ≡ false
 below a b h = grind (arith, common_steps)

@@ -1,5 +1,5 @@
 -- A history with one event more.
-use Rattle.std.proofs.Common.{◌≡◌, ℕ, List, [], ◌∷◌, ◌++◌, refl, subst}
+use Rattle.std.proofs.Common.{ℕ, List, [], ◌∷◌, ◌++◌, refl, subst}
 use Rattle.sq_base.specs.StampValue.{StampValue}
 use Rattle.sq_base.specs.Stamps.{Below}
 use Rattle.sq_model.specs.declared.event.Event.{Event}

@@ -13,13 +13,12 @@ use Rattle.sq_model.specs.declared.place.Site.{Site}
 use Rattle.sq_model.specs.declared.item.Item.{Item}
 use Rattle.sq_model.specs.declared.item.Reason.{Reason}
 use Rattle.sq_model.specs.declared.item.Reason.TheVariants.{DeadLetter, Task}
-use Rattle.sq_model.specs.declared.calls.Receipt.{Receipt}
 use Rattle.sq_model.specs.declared.calls.HomeCall.{HomeCall}
 use Rattle.sq_model.specs.declared.calls.HomeCall.TheVariants.{Configure, Close, Send, Look, Delete, Change, Purge, Count, LeaveDead, LeaveTask, Enter, TurnBack, GiveBack, GiveUp}
 use Rattle.sq_model.specs.declared.replies.Counts.{Counts}
 use Rattle.sq_model.specs.declared.replies.HomeReply.{HomeReply}
 use Rattle.sq_model.specs.declared.replies.HomeReply.TheVariants.{Done, Sent, Looked, Over, Counted, Left, NoLiveRow, NoOrigin, SourceClosed, Entered}
-use Rattle.sq_model.specs.Rows.{ms, trimmed, is_visible, is_delayed, is_flying, is_dead, is_live, room, serials_of, IsLook, received_if, without, is_named, is_held, is_late, changed_if, Takes, is_free}
+use Rattle.sq_model.specs.Rows.{ms, trimmed, is_visible, is_delayed, is_flying, is_dead, is_live, room, serials_of, IsLook, received_if, without, is_held, is_late, changed_if, Takes, is_free}
 
 pub data Home : Type 0 where
   Unopened : Home

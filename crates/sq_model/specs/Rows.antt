@@ -1,5 +1,5 @@
 -- A row at a moment, and lists of rows. Moments are in ms, settings in seconds.
-use Rattle.std.specs.Prelude.{◌≡◌, ℕ, ◌+◌, ◌-◌, ◌*◌, ◌≤◌, Bool, true, false, not, ◌&&◌, ◌==◌, List, [], ◌∷◌, ◌++◌, length, filter, map, count_by, min, nat_le, nat_lt, if◌then◌else◌, Option, Some, None, unwrap_or}
+use Rattle.std.specs.Prelude.{◌≡◌, ℕ, ◌+◌, ◌-◌, ◌*◌, ◌≤◌, Bool, true, false, not, ◌&&◌, ◌==◌, List, [], ◌∷◌, ◌++◌, length, filter, map, count_by, min, nat_le, nat_lt, if◌then◌else◌, Option, Some, None}
 use Rattle.std.specs.List.{list_any, All, Contains}
 use Rattle.sq_base.specs.declared.row.Row.{Row}
 use Rattle.sq_base.specs.declared.settings.Settings.{Settings}

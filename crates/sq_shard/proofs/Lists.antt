@@ -1,5 +1,5 @@
 -- Lists that are changed element by element, and slots that are taken.
-use Rattle.std.proofs.Common.{◌≡◌, ℕ, zero, suc, ◌+◌, ◌<◌, ◌≤◌, List, [], ◌∷◌, length, take, drop, get_or, set, map, ◌++◌, Bool, true, false, not, cond, refl, arith, sym, ap, ◌∙◌, inl, inr}
+use Rattle.std.proofs.Common.{◌≡◌, ℕ, zero, suc, ◌+◌, ◌<◌, ◌≤◌, List, [], ◌∷◌, length, take, drop, get_or, set, map, ◌++◌, Bool, true, false, not, cond, refl, arith, ap, ◌∙◌, inl, inr}
 use Rattle.std.specs.Prelude.{nat_eq, filter, ◌||◌, ◌==◌}
 use Rattle.std.specs.List.{list_any}
 use Rattle.std.proofs.lemmas.List.{get_or_default}

@@ -4,7 +4,7 @@ use Rattle.sq_base.specs.declared.row.Row.{Row}
 use Rattle.sq_model.specs.declared.replies.HomeReply.{HomeReply}
 use Rattle.sq_model.specs.declared.replies.HomeReply.TheVariants.{Looked, Over}
 use Rattle.sq_model.specs.Rows.{ms, trimmed, serials_of, received_if}
-use Rattle.sq_model.specs.Homes.{Home, Unopened, Serving, Closed}
+use Rattle.sq_model.specs.Homes.{Home, Serving}
 
 abbrev pub look_reply : Option (List Row) → HomeReply
 look_reply None = Over

@@ -187,9 +187,7 @@ impl<S: Store> Shard<S> {
         }
         let until = after_seconds(moment, timeout.unwrap_or(self.settings.timeout).get());
         let most = room.min(max.get() as usize);
-        let given = self
-            .store
-            .pick(alloc, &self.settings, moment, until, most)?;
+        let given = self.store.pick(alloc, &self.settings, moment, until, most)?;
         Ok(Some(given))
     }
 

@@ -78,7 +78,7 @@ abbrev pub ConfigureAt : WorldValue → ℕ → ℕ → List ℕ → Result Answ
 ConfigureAt w now queue name (Ok told) after =
     (told ≡ answer.Queue name)
     × (((note : HomeNote) × Steps w after now name queue (Configure standard first_version) note)
-      ⊎ ((after ≡ w) × StepRefused w now queue (Configure standard first_version) QueueDoesNotExist))
+    ⊎ ((after ≡ w) × StepRefused w now queue (Configure standard first_version) QueueDoesNotExist))
 ConfigureAt w now queue name (Err e) after = (after ≡ w) × StepRefused w now queue (Configure standard first_version) e
 
 -- CreateQueue: the name is made, and then the queue's home is configured

@@ -22,7 +22,7 @@ abbrev pub LineTold : ScriptValue → List ℕ → Result Answer Refusal → Scr
 LineTold s line told after =
     ((after ≡ s) × ((told ≡ Err NoMemory) ⊎ ((e : Refusal) × (line_request line ≡ Err e) × (told ≡ Err e))))
     ⊎ ((request : Request) × (line_request line ≡ Ok request) × (after.clock ≡ unwrap_or request.clock s.clock)
-      × CallTold s.world (unwrap_or request.clock s.clock) request.call told after.world)
+    × CallTold s.world (unwrap_or request.clock s.clock) request.call told after.world)
 
 -- a line may have this text for its reply, and leave this
 unfoldable pub Gives : ScriptValue → List ℕ → List ℕ → ScriptValue → Type 0

@@ -12,5 +12,7 @@ pub mod reply;
 pub mod request;
 pub mod run;
 pub mod script;
+#[cfg(test)]
+mod tests;
 pub mod text;
 pub mod world;

@@ -207,7 +207,12 @@ impl World {
         Ok(queue)
     }
 
-    fn configure_to(&mut self, now: u64, queue: QueueNo, name: &QueueName) -> Result<Answer, Refusal>
+    fn configure_to(
+        &mut self,
+        now: u64,
+        queue: QueueNo,
+        name: &QueueName,
+    ) -> Result<Answer, Refusal>
         ensures { ConfigureAt self.old now queue name.now result self.new }
     {
         match self.configure_at(now, name, queue) {
@@ -281,7 +286,12 @@ impl World {
         self.receive_to(alloc, now, queue, call)
     }
 
-    fn delete_to(&mut self, now: u64, queue: QueueNo, call: &DeleteMessage) -> Result<Answer, Refusal>
+    fn delete_to(
+        &mut self,
+        now: u64,
+        queue: QueueNo,
+        call: &DeleteMessage,
+    ) -> Result<Answer, Refusal>
         ensures { DeleteAt self.old now queue call.now result self.new }
     {
         let Some(receipt) = receipt_at(queue, &call.handle) else {

@@ -90,6 +90,15 @@ const TRANSIT: &str = "Messages between queues: 1 to 100000 [default: 10000]";
 
 const SEED: &str = "What the choices of homes begin from: any u64 [default: 0]";
 
+const SCRIPT_FLAGS: &str = "Flags of script, each with a whole number N:
+      --homes    1 to 16, homes of a queue [default: 4]
+      --sample   1 to N of --homes, homes that a receive looks at [default: 2, or 1 of 1]
+      --queues   1 to 1024, queues that are ever made [default: 64]
+      --rows     1 to 1048576, messages of a home [default: 1048576]
+      --flights  N of --homes to 120000, messages of a queue in flight [default: 120000]
+      --transit  1 to 100000, messages between queues [default: 10000]
+      --seed     any u64, what the choices of homes begin from [default: 0]";
+
 fn script_command<'a>(alloc: Global) -> Result<Command<'a>, AllocError>
     ensures app { IfOk result (λ c. app_of c ≡ script_app) }
     ensures local { IfOk result (λ c. (fields_of c).has_globals ≡ false) }
@@ -113,6 +122,7 @@ fn program_command<'a>(alloc: Global) -> Result<Command<'a>, AllocError>
     );
     let program = Command::new(alloc, "sqd").subcommand_required(true);
     let program = program.about("A queue service in the manner of Amazon SQS standard queues");
+    let program = program.after_help(SCRIPT_FLAGS);
     program.subcommand(script)
 }
 

@@ -1,5 +1,4 @@
-use Rattle.std.proofs.Common.{◌≡◌, ℕ, ◌+◌, ◌<◌, ◌≤◌, false, true, not, arith, rules, length, inl, inr, subst, sym}
-use Rattle.sq_model.specs.Rows.{is_free}
+use Rattle.std.proofs.Common.{◌+◌, arith, rules, length}
 use Rattle.sq_shard.proofs.Lists.{taken_by, taken_more}
 use Rattle.sq_shard.proofs.rows.free_slot.Goals as goal
 

@@ -1,4 +1,4 @@
-use Rattle.std.proofs.Common.{◌≡◌, ◌∙◌, ap, sym, subst, rules, List, map, take}
+use Rattle.std.proofs.Common.{◌∙◌, ap, sym, subst, List, map, take}
 use Rattle.std.specs.Prelude.{filter}
 use Rattle.std.proofs.lemmas.Result.{IfOk-weaker}
 use Rattle.sq_base.specs.declared.row.Row.{Row}
