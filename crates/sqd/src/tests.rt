@@ -126,7 +126,9 @@ fn answers_lines(rt: HostRuntime) -> Result<(), Fail> {
         &mut errors,
     );
     assert!(rt; status == 0);
-    assert!(rt; output.inner().as_slice() == b"one\ntwo\n".as_slice());
+    let wanted =
+        b"{\"Error\":{\"Code\":\"InvalidRequest\",\"Number\":4}}\n{\"Error\":{\"Code\":\"InvalidRequest\",\"Number\":4}}\n";
+    assert!(rt; output.inner().as_slice() == wanted.as_slice());
     assert!(rt; errors.is_empty());
     Ok(())
 }
