@@ -77,6 +77,14 @@ impl HomeNo {
         }
     }
 
+    /// A number that is known to be below 16.
+    pub fn of(number: u8) -> HomeNo
+        requires { number < 16 }
+        ensures { result ≡ number }
+    {
+        HomeNo(number)
+    }
+
     /// The first home of a queue.
     pub fn first() -> HomeNo
         ensures { result ≡ 0 }

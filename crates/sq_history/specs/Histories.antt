@@ -37,7 +37,7 @@ abbrev pub IsRefused : HistoryValue → Actor → ℕ → HomeCall → Refusal �
 IsRefused old by now call e =
     (e ≡ NoMemory)
     ⊎ (after old.last by.seen now ≡ Err e)
-    ⊎ ((stamp : StampValue) × (after old.last by.seen now ≡ Ok stamp) × (home_refusal old.site old.no_slot old.home stamp.moment call ≡ Some e))
+    ⊎ ((stamp : StampValue) × (after old.last by.seen now ≡ Ok stamp) × (home_refusal old.site old.home stamp.moment call ≡ Some e))
 
 -- True of every recorded home: it is the replay of its events, whose stamps rise, and each event is its own.
 pub record IsKept (h : HistoryValue) : Type 0 where

@@ -1,14 +1,12 @@
 -- What contracts see of a recorded home.
-use Rattle.std.specs.Prelude.{List, Bool}
+use Rattle.std.specs.Prelude.{List}
 use Rattle.sq_base.specs.StampValue.{StampValue}
 use Rattle.sq_model.specs.declared.place.Site.{Site}
 use Rattle.sq_model.specs.Homes.{Home}
 use Rattle.sq_model.specs.Replays.{HomeEvent}
 
--- no_slot says that the home's store has no slot left for a row more
 pub record HistoryValue : Type 0 where
   pub site : Site
   pub home : Home
-  pub no_slot : Bool
   pub last : StampValue
   pub events : List HomeEvent

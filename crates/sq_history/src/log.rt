@@ -1,5 +1,6 @@
 //! The events of a home, in order.
-ghost use Rattle.std.specs.Prelude.{◌≡◌, ◌<◌, ◌++◌, ◌∷◌, [], OnOk, IfErr, vec_len, vec_capacity, length};
+ghost use Rattle.std.specs.Prelude.{◌≡◌, ◌⊎◌, ◌<◌, ◌++◌, ◌∷◌, [], OnOk, IfOk, IfErr, Ok, Err, vec_len, vec_capacity, length};
+ghost use Rattle.sq_base.specs.Stamps.{after};
 ghost use Rattle.sq_history.specs.Histories.{event_of, note_of};
 
 use crate::record::HomeRecord;
@@ -29,15 +30,17 @@ pub struct Doing<'a> {
 }
 
 impl Log {
-    /// Makes room for one event more. Refused for want of memory alone.
-    pub fn reserve(&mut self) -> Result<(), Refusal>
+    /// Makes room for one event more, and gives its stamp: above the last one, and above what the actor saw.
+    /// Refused as NoMemory, ClockRange, Worn.
+    pub fn begin(&mut self, by: &Actor, now: u64) -> Result<Stamp, Refusal>
         ensures last { self.new.last ≡ self.old.last }
         ensures items { self.new.events.items ≡ self.old.events.items }
         ensures room { OnOk result (vec_len self.new.events < vec_capacity self.new.events) }
-        ensures refused { IfErr result (λ e. e ≡ Refusal.NoMemory) }
+        ensures stamped { IfOk result (λ stamp. after self.old.last by.now.seen now ≡ Ok stamp) }
+        ensures refused { IfErr result (λ e. (e ≡ Refusal.NoMemory) ⊎ (after self.old.last by.now.seen now ≡ Err e)) }
     {
         self.events.try_reserve(1)?;
-        Ok(())
+        Stamp::after(self.last, by.seen, now)
     }
 
     /// Adds the event of a step, and gives its record; the call and the reply come twice, once for each.

@@ -1,9 +1,9 @@
 //! A home, and all that was done to it.
-ghost use Rattle.std.specs.Prelude.{◌≡◌, [], IfOk, IfErr, OnErr};
+ghost use Rattle.std.specs.Prelude.{◌≡◌, ◌↔◌, true, [], IfOk, IfErr, OnErr};
 ghost use Rattle.sq_base.specs.Stamps.{start};
-ghost use Rattle.sq_model.specs.Homes.{Unopened as Never};
-ghost use Rattle.sq_model.specs.declared.calls.HomeCall.TheVariants.{Configure, Send, Look, Delete};
-ghost use Rattle.sq_model.specs.declared.replies.HomeReply.TheVariants.{Sent};
+ghost use Rattle.sq_model.specs.Homes.{Unopened as Never, Closed as Gone};
+ghost use Rattle.sq_model.specs.declared.calls.HomeCall.TheVariants.{Configure, Close, Send, Look, Delete, Change, Purge, Count};
+ghost use Rattle.sq_model.specs.declared.replies.HomeReply.TheVariants.{Sent, Counted};
 ghost use Rattle.sq_shard.specs.Looks.{look_reply};
 
 use crate::log::{Doing, Log};
@@ -16,7 +16,7 @@ use sq_base::settings::Settings;
 use sq_base::stamp::Stamp;
 use sq_model::calls::{HomeCall, Receipt};
 use sq_model::event::{Actor, Event};
-use sq_model::replies::{HomeReply, SentMessage};
+use sq_model::replies::{Counts, HomeReply, SentMessage};
 use sq_model::rows::{Rows, copy_rows};
 use sq_shard::plain::PlainStore;
 use sq_shard::shard::Shard;
@@ -43,9 +43,9 @@ impl<S: Store> Model for Recorded<S> {
 
     ghost Value = { HistoryValue };
 
-    ghost view = { λ a. record { site = a.shard.site; home = a.shard.home; no_slot = a.shard.no_slot; last = a.log.last; events = a.log.events.items } };
+    ghost view = { λ a. record { site = a.shard.site; home = a.shard.home; last = a.log.last; events = a.log.events.items } };
 
-    ghost invariant = { λ a. IsKept (record { site = a.shard.site; home = a.shard.home; no_slot = a.shard.no_slot; last = a.log.last; events = a.log.events.items }) };
+    ghost invariant = { λ a. IsKept (record { site = a.shard.site; home = a.shard.home; last = a.log.last; events = a.log.events.items }) };
 }
 
 impl<S: Store> Recorded<S> {
@@ -54,7 +54,7 @@ impl<S: Store> Recorded<S> {
     /// A home that was never opened, with no event.
     pub fn unopened(alloc: Global, shard: Shard<S>) -> Recorded<S>
         requires { shard.home ≡ Never }
-        ensures { result ≡ record { site = shard.site; home = Never; no_slot = shard.no_slot; last = start; events = [] } }
+        ensures { result ≡ record { site = shard.site; home = Never; last = start; events = [] } }
     {
         Recorded {
             shard,
@@ -94,8 +94,7 @@ impl<S: Store> Recorded<S> {
         ensures refusal { IfErr result (IsRefused self.old by.now now (Configure settings.now version)) }
         ensures err { OnErr result (self.new ≡ self.old) }
     {
-        self.log.reserve()?;
-        let stamp = Stamp::after(self.log.last, by.seen, now)?;
+        let stamp = self.log.begin(by, now)?;
         self.shard.configure(stamp.moment, *settings, version)?;
         let home = self.shard.site().home;
         let kept = (HomeCall::Configure(*settings, version), HomeReply::Done);
@@ -124,12 +123,11 @@ impl<S: Store> Recorded<S> {
         ensures refusal { IfErr result (IsRefused self.old by.now now (Send body delay)) }
         ensures err { OnErr result (self.new ≡ self.old) }
     {
-        self.log.reserve()?;
+        let stamp = self.log.begin(by, now)?;
         let kept_body = body.copy()?;
         let told_body = body.copy()?;
         let kept_delay = delay;
         let told_delay = delay;
-        let stamp = Stamp::after(self.log.last, by.seen, now)?;
         let sent = self.shard.send(stamp.moment, body, delay)?;
         let home = self.shard.site().home;
         let kept_sent = sent;
@@ -167,8 +165,7 @@ impl<S: Store> Recorded<S> {
         ensures refusal { IfErr result (IsRefused self.old by.now now (Look max timeout)) }
         ensures err { OnErr result (self.new ≡ self.old) }
     {
-        self.log.reserve()?;
-        let stamp = Stamp::after(self.log.last, by.seen, now)?;
+        let stamp = self.log.begin(by, now)?;
         let chosen_for = timeout;
         let kept_timeout = timeout;
         let told_timeout = timeout;
@@ -203,8 +200,7 @@ impl<S: Store> Recorded<S> {
         ensures refusal { IfErr result (IsRefused self.old by.now now (Delete receipt.now)) }
         ensures err { OnErr result (self.new ≡ self.old) }
     {
-        self.log.reserve()?;
-        let stamp = Stamp::after(self.log.last, by.seen, now)?;
+        let stamp = self.log.begin(by, now)?;
         self.shard.delete(stamp.moment, *receipt)?;
         let home = self.shard.site().home;
         let kept = (HomeCall::Delete(*receipt), HomeReply::Done);
@@ -216,6 +212,125 @@ impl<S: Store> Recorded<S> {
             name,
         };
         Ok(self.log.add(doing, kept, told))
+    }
+
+    /// Hides a message in flight for so many seconds from the stamp's moment on, and for no longer than 12 hours after
+    /// its last receive; with 0 it is visible at once.
+    /// Refused as NoMemory, ClockRange, Worn, QueueDoesNotExist (not serving), ReceiptHandleIsInvalid (a serial that
+    /// was never given), MessageNotInflight (no row in flight on which slot, serial and receive number agree),
+    /// InvalidParameterValue (later than these 12 hours).
+    pub fn change(
+        &mut self,
+        by: &Actor,
+        now: u64,
+        name: Option<QueueName>,
+        receipt: &Receipt,
+        timeout: Timeout,
+    ) -> Result<HomeRecord, Refusal>
+        ensures recorded { IfOk result (λ r. Records self.old self.new by.now now name (Change receipt.now timeout) r) }
+        ensures refusal { IfErr result (IsRefused self.old by.now now (Change receipt.now timeout)) }
+        ensures err { OnErr result (self.new ≡ self.old) }
+    {
+        let stamp = self.log.begin(by, now)?;
+        let kept_timeout = timeout;
+        let told_timeout = timeout;
+        self.shard.change(stamp.moment, *receipt, timeout)?;
+        let home = self.shard.site().home;
+        let kept = (HomeCall::Change(*receipt, kept_timeout), HomeReply::Done);
+        let told = (HomeCall::Change(*receipt, told_timeout), HomeReply::Done);
+        let doing = Doing {
+            by,
+            stamp,
+            home,
+            name,
+        };
+        Ok(self.log.add(doing, kept, told))
+    }
+
+    /// Takes out all messages, those in flight or delayed among them; serials go on.
+    /// Refused as NoMemory, ClockRange, Worn, QueueDoesNotExist (not serving).
+    pub fn purge(
+        &mut self,
+        by: &Actor,
+        now: u64,
+        name: Option<QueueName>,
+    ) -> Result<HomeRecord, Refusal>
+        ensures recorded { IfOk result (λ r. Records self.old self.new by.now now name Purge r) }
+        ensures refusal { IfErr result (IsRefused self.old by.now now Purge) }
+        ensures err { OnErr result (self.new ≡ self.old) }
+    {
+        let stamp = self.log.begin(by, now)?;
+        self.shard.purge(stamp.moment)?;
+        let home = self.shard.site().home;
+        let kept = (HomeCall::Purge, HomeReply::Done);
+        let told = (HomeCall::Purge, HomeReply::Done);
+        let doing = Doing {
+            by,
+            stamp,
+            home,
+            name,
+        };
+        Ok(self.log.add(doing, kept, told))
+    }
+
+    /// How many messages are visible, in flight and delayed.
+    /// Refused as NoMemory, ClockRange, Worn, QueueDoesNotExist (not serving).
+    pub fn count(
+        &mut self,
+        by: &Actor,
+        now: u64,
+        name: Option<QueueName>,
+    ) -> Result<(Counts, HomeRecord), Refusal>
+        ensures recorded { IfOk result (λ r. Records self.old self.new by.now now name Count r.1) }
+        ensures counted { IfOk result (λ r. r.1.reply ≡ Counted r.0) }
+        ensures refusal { IfErr result (IsRefused self.old by.now now Count) }
+        ensures err { OnErr result (self.new ≡ self.old) }
+    {
+        let stamp = self.log.begin(by, now)?;
+        let counts = self.shard.count(stamp.moment)?;
+        let home = self.shard.site().home;
+        let kept = (HomeCall::Count, HomeReply::Counted(counts));
+        let told = (HomeCall::Count, HomeReply::Counted(counts));
+        let doing = Doing {
+            by,
+            stamp,
+            home,
+            name,
+        };
+        Ok((counts, self.log.add(doing, kept, told)))
+    }
+
+    /// Closes the home for good, and lets go of its messages.
+    /// Refused as NoMemory, ClockRange, Worn, QueueDoesNotExist (closed already).
+    pub fn close(
+        &mut self,
+        by: &Actor,
+        now: u64,
+        name: Option<QueueName>,
+    ) -> Result<HomeRecord, Refusal>
+        ensures recorded { IfOk result (λ r. Records self.old self.new by.now now name Close r) }
+        ensures refusal { IfErr result (IsRefused self.old by.now now Close) }
+        ensures err { OnErr result (self.new ≡ self.old) }
+    {
+        let stamp = self.log.begin(by, now)?;
+        self.shard.close(stamp.moment)?;
+        let home = self.shard.site().home;
+        let kept = (HomeCall::Close, HomeReply::Done);
+        let told = (HomeCall::Close, HomeReply::Done);
+        let doing = Doing {
+            by,
+            stamp,
+            home,
+            name,
+        };
+        Ok(self.log.add(doing, kept, told))
+    }
+
+    /// Whether the home is closed; it stays so.
+    pub fn is_closed(&self) -> bool
+        ensures { result ≡ true ↔ self.now.home ≡ Gone }
+    {
+        self.shard.is_closed()
     }
 }
 

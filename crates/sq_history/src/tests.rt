@@ -5,39 +5,64 @@ use crate::record::HomeRecord;
 use crate::recorded::{Home, Recorded};
 use sq_base::body::{BODY_LIMIT, Body};
 use sq_base::ids::{HomeId, HomeNo, QueueNo, Serial};
-use sq_base::ranges::{Delay, MaxMessages, Receives, Retention, Timeout};
+use sq_base::ranges::{Delay, MaxMessages, MaxReceives, Receives, Retention, Timeout};
 use sq_base::refusal::Refusal;
 use sq_base::row::Row;
-use sq_base::settings::Settings;
+use sq_base::settings::{Redrive, Settings};
 use sq_base::stamp::Stamp;
 use sq_model::calls::{HomeCall, Receipt};
 use sq_model::event::{Actor, Event};
 use sq_model::place::{Limits, Site};
-use sq_model::replies::{HomeReply, SentMessage};
+use sq_model::replies::HomeReply;
 use sq_shard::plain::PlainStore;
 use sq_shard::shard::Shard;
 use std::alloc::Global;
 use std::test::Fail;
 
-fn site(rows: u32, flights: u32) -> Option<Site> {
-    Some(Site {
+// What a test asks of a home. A receipt is that of a serial and a receive number, in slot 0.
+#[derive(Clone, Copy)]
+enum Act {
+    Configure(Settings, u64),
+    Send(Option<Delay>),
+    Look(Option<Timeout>),
+    Delete(u64, u64),
+    Change(u64, u64, Timeout),
+    Purge,
+    Count,
+    Close,
+}
+
+// What the home answered, in numbers.
+#[derive(Clone, Copy, PartialEq, Eq, Debug)]
+enum Told {
+    Done,
+    // Its slot and its serial.
+    Sent(u32, u64),
+    Nothing,
+    // The receive number of the one message that a look gave, and from when on it is visible.
+    Gave(u32, u64),
+    Over,
+    // Visible, in flight, delayed.
+    Counts(u32, u32, u32),
+    Refused(Refusal),
+    Other,
+}
+
+fn site(rows: u32, flights: u32) -> Site {
+    Site {
         home: HomeId {
-            queue: QueueNo::new(2)?,
+            queue: QueueNo::following(1),
             home: HomeNo::first(),
         },
         limits: Limits { rows, flights },
-    })
+    }
 }
 
-fn unopened(alloc: Global, rows: u32, flights: u32) -> Result<Home, Fail> {
-    let site = site(rows, flights).ok_or("2 is the number of a queue")?;
-    Ok(Recorded::unopened(alloc, Shard::unopened(site, PlainStore::new(alloc))))
-}
-
-fn opened(alloc: Global, rows: u32, flights: u32, settings: &Settings) -> Result<Home, Fail> {
-    let mut home = unopened(alloc, rows, flights)?;
-    home.configure(&actor(0), 0, None, settings, 1)?;
-    Ok(home)
+fn unopened(alloc: Global, rows: u32, flights: u32) -> Home {
+    Recorded::unopened(
+        alloc,
+        Shard::unopened(site(rows, flights), PlainStore::new(alloc)),
+    )
 }
 
 // An actor that did so many steps, and saw none.
@@ -55,73 +80,125 @@ fn stamp(moment: u64, count: u64) -> Stamp
     Stamp { moment, count }
 }
 
+fn receipt(serial: u64, receive: u64) -> Receipt {
+    Receipt {
+        slot: 0,
+        serial: Serial::new(serial).unwrap_or(Serial::first()),
+        receive: Receives::new(receive).unwrap_or(Receives::of(1)),
+    }
+}
+
+fn call(
+    home: &mut Home,
+    alloc: Global,
+    by: &Actor,
+    now: u64,
+    act: Act,
+) -> Result<HomeRecord, Refusal> {
+    match act {
+        Act::Configure(settings, version) => home.configure(by, now, None, &settings, version),
+        Act::Send(delay) => send(home, alloc, by, now, delay),
+        Act::Look(timeout) => home.look(alloc, by, now, None, MaxMessages::of(10), timeout),
+        Act::Delete(serial, receive) => home.delete(by, now, None, &receipt(serial, receive)),
+        Act::Change(serial, receive, timeout) => {
+            home.change(by, now, None, &receipt(serial, receive), timeout)
+        }
+        Act::Purge => home.purge(by, now, None),
+        Act::Count => count(home, by, now),
+        Act::Close => home.close(by, now, None),
+    }
+}
+
 fn send(
     home: &mut Home,
     alloc: Global,
+    by: &Actor,
     now: u64,
     delay: Option<Delay>,
-) -> Result<SentMessage, Refusal> {
-    let body = Body::new(alloc, "hello", BODY_LIMIT)?;
-    let (sent, _) = home.send(&actor(1), now, None, body, delay)?;
-    Ok(sent)
-}
-
-fn look(
-    home: &mut Home,
-    alloc: Global,
-    now: u64,
-    timeout: Option<Timeout>,
 ) -> Result<HomeRecord, Refusal> {
-    home.look(alloc, &actor(2), now, None, MaxMessages::of(10), timeout)
+    let body = Body::new(alloc, "hello", BODY_LIMIT)?;
+    let (_, record) = home.send(by, now, None, body, delay)?;
+    Ok(record)
 }
 
-fn rows_of(reply: &HomeReply) -> Option<&[Row]> {
+fn count(home: &mut Home, by: &Actor, now: u64) -> Result<HomeRecord, Refusal> {
+    let (_, record) = home.count(by, now, None)?;
+    Ok(record)
+}
+
+fn told_by_rows(rows: &[Row]) -> Told {
+    match rows {
+        [] => Told::Nothing,
+        [row] if row.body.as_str() == "hello" => Told::Gave(row.receives, row.visible_from),
+        _ => Told::Other,
+    }
+}
+
+fn told_by(reply: &HomeReply) -> Told {
     match reply {
-        HomeReply::Looked(rows) => Some(rows.as_slice()),
-        _ => None,
+        HomeReply::Done => Told::Done,
+        HomeReply::Sent(sent) => Told::Sent(sent.slot, sent.id.serial.get()),
+        HomeReply::Looked(rows) => told_by_rows(rows.as_slice()),
+        HomeReply::Over => Told::Over,
+        HomeReply::Counted(counts) => Told::Counts(counts.visible, counts.flying, counts.delayed),
+        _ => Told::Other,
     }
 }
 
-// The receive number of the one row that a look gave, or 0 where it gave none.
-fn received(record: &HomeRecord) -> Option<u32> {
-    match rows_of(record.reply())? {
-        [] => Some(0),
-        [row] => Some(row.receives),
-        _ => None,
+// Asks it once, by an actor that did as many steps as the home has events. One event more is there then, at the
+// stamp of the record, or none where it is refused: anything else is `Other`.
+fn step(home: &mut Home, alloc: Global, now: u64, act: Act) -> Told {
+    let events = home.events().len();
+    let last = home.last();
+    match call(home, alloc, &actor(events as u64), now, act) {
+        Ok(record) if home.events().len() > events && home.last() == record.stamp() => {
+            told_by(record.reply())
+        }
+        Err(e) if home.events().len() == events && home.last() == last => Told::Refused(e),
+        _ => Told::Other,
     }
 }
 
-fn receipt(slot: u32, serial: u64, receive: u64) -> Option<Receipt> {
-    Some(Receipt {
-        slot,
-        serial: Serial::new(serial)?,
-        receive: Receives::new(receive)?,
-    })
+// The moment of the first step that is not answered as it should be, and what it is answered.
+fn first_wrong(home: &mut Home, alloc: Global, steps: &[(u64, Act, Told)]) -> Option<(u64, Told)> {
+    for (now, act, want) in steps {
+        let told = step(home, alloc, *now, *act);
+        if told != *want {
+            return Some((*now, told));
+        }
+    }
+    None
+}
+
+// A home with one message.
+fn with_hello(alloc: Global) -> Home {
+    let mut home = unopened(alloc, 10, 10);
+    let _ = step(&mut home, alloc, 0, Act::Configure(Settings::standard(), 1));
+    let _ = step(&mut home, alloc, 1000, Act::Send(None));
+    home
 }
 
 #[test]
 fn the_last_receipt_deletes(rt: HostRuntime) -> Result<(), Fail> {
-    let mut home = opened(rt.alloc(), 10, 10, &Settings::standard())?;
-    send(&mut home, rt.alloc(), 1000, None)?;
-    let first = look(&mut home, rt.alloc(), 1000, None)?;
-    assert!(rt; received(&first) == Some(1));
-    let rows = rows_of(first.reply()).ok_or("a look gives rows")?;
-    assert!(rt; rows.iter().all(|row| row.body.as_str() == "hello" && row.visible_from == 31_000));
-    for (now, want) in [(30_999, 0), (31_000, 2), (60_999, 0)] {
-        let record = look(&mut home, rt.alloc(), now, None)?;
-        assert!(rt; received(&record) == Some(want), "at {now}");
-    }
-    let older = receipt(0, 0, 1).ok_or("a receipt")?;
-    let last = receipt(0, 0, 3).ok_or("a receipt")?;
-    home.delete(&actor(3), 60_999, None, &older)?;
-    let third = look(&mut home, rt.alloc(), 61_000, None)?;
-    assert!(rt; received(&third) == Some(3));
-    for now in [61_000, 61_000] {
-        let record = home.delete(&actor(3), now, None, &last)?;
-        assert!(rt; matches!(record.into_reply(), HomeReply::Done));
-    }
-    let gone = look(&mut home, rt.alloc(), 91_000, None)?;
-    assert!(rt; received(&gone) == Some(0));
+    let mut home = unopened(rt.alloc(), 10, 10);
+    let wrong = first_wrong(
+        &mut home,
+        rt.alloc(),
+        &[
+            (0, Act::Configure(Settings::standard(), 1), Told::Done),
+            (1000, Act::Send(None), Told::Sent(0, 0)),
+            (1000, Act::Look(None), Told::Gave(1, 31_000)),
+            (30_999, Act::Look(None), Told::Nothing),
+            (31_000, Act::Look(None), Told::Gave(2, 61_000)),
+            (60_999, Act::Look(None), Told::Nothing),
+            (60_999, Act::Delete(0, 1), Told::Done),
+            (61_000, Act::Look(None), Told::Gave(3, 91_000)),
+            (61_000, Act::Delete(0, 3), Told::Done),
+            (61_000, Act::Delete(0, 3), Told::Done),
+            (91_000, Act::Look(None), Told::Nothing),
+        ],
+    );
+    assert_eq!(rt; wrong, None);
     Ok(())
 }
 
@@ -133,96 +210,224 @@ fn settings(delay: Delay, retention: Retention) -> Settings {
     settings
 }
 
-// The receive number of a message that is sent at 1000 and looked for at `now`, or 0 where it is not there.
-fn receive_at(
-    alloc: Global,
-    settings: &Settings,
-    delay: Option<Delay>,
-    now: u64,
-) -> Result<Option<u32>, Fail> {
-    let mut home = opened(alloc, 10, 10, settings)?;
-    send(&mut home, alloc, 1000, delay)?;
-    let record = look(&mut home, alloc, now, Some(Timeout::of(0)))?;
-    Ok(received(&record))
+// A message is dead after one receive.
+fn strict() -> Settings {
+    let mut settings = Settings::standard();
+    settings.redrive = Some(Redrive {
+        target: QueueNo::following(0),
+        max_receives: MaxReceives::of(1),
+    });
+    settings
 }
 
 #[test]
 fn messages_are_there_in_time(rt: HostRuntime) -> Result<(), Fail> {
     for (by_default, kept, delay, now, want) in [
-        (0, 345_600, None, 1000, 1),
-        (0, 345_600, Some(Delay::of(900)), 900_999, 0),
-        (0, 345_600, Some(Delay::of(900)), 901_000, 1),
-        (900, 345_600, None, 900_999, 0),
-        (900, 345_600, None, 901_000, 1),
-        (900, 345_600, Some(Delay::of(0)), 1000, 1),
-        (0, 60, None, 60_999, 1),
-        (0, 60, None, 61_000, 0),
-        (0, 345_600, None, 345_600_999, 1),
-        (0, 345_600, None, 345_601_000, 0),
+        (0, 345_600, None, 1000, true),
+        (0, 345_600, Some(Delay::of(900)), 900_999, false),
+        (0, 345_600, Some(Delay::of(900)), 901_000, true),
+        (900, 345_600, None, 900_999, false),
+        (900, 345_600, None, 901_000, true),
+        (900, 345_600, Some(Delay::of(0)), 1000, true),
+        (0, 60, None, 60_999, true),
+        (0, 60, None, 61_000, false),
+        (0, 345_600, None, 345_600_999, true),
+        (0, 345_600, None, 345_601_000, false),
     ] {
-        let by_default = Delay::new(by_default).ok_or("a delay")?;
-        let kept = Retention::new(kept).ok_or("a retention")?;
-        let found = receive_at(rt.alloc(), &settings(by_default, kept), delay, now)?;
-        assert!(rt; found == Some(want), "at {now}");
+        let mut home = unopened(rt.alloc(), 10, 10);
+        let settings = settings(Delay::of(by_default), Retention::of(kept));
+        let want = if want {
+            Told::Gave(1, now)
+        } else {
+            Told::Nothing
+        };
+        let wrong = first_wrong(
+            &mut home,
+            rt.alloc(),
+            &[
+                (0, Act::Configure(settings, 1), Told::Done),
+                (1000, Act::Send(delay), Told::Sent(0, 0)),
+                (now, Act::Look(Some(Timeout::of(0))), want),
+            ],
+        );
+        assert_eq!(rt; wrong, None);
     }
     Ok(())
 }
 
 #[test]
 fn limits_are_kept(rt: HostRuntime) -> Result<(), Fail> {
-    let mut home = opened(rt.alloc(), 2, 1, &Settings::standard())?;
-    for slot in [0, 1] {
-        let sent = send(&mut home, rt.alloc(), 1000, None)?;
-        assert_eq!(rt; sent.slot, slot);
-        assert_eq!(rt; sent.id.serial.get(), slot as u64);
+    let mut home = unopened(rt.alloc(), 2, 1);
+    let wrong = first_wrong(
+        &mut home,
+        rt.alloc(),
+        &[
+            (0, Act::Configure(Settings::standard(), 1), Told::Done),
+            (1000, Act::Send(None), Told::Sent(0, 0)),
+            (1000, Act::Send(None), Told::Sent(1, 1)),
+            (1000, Act::Send(None), Told::Refused(Refusal::OverLimit)),
+            (1000, Act::Look(None), Told::Gave(1, 31_000)),
+            (1000, Act::Look(None), Told::Over),
+        ],
+    );
+    assert_eq!(rt; wrong, None);
+    Ok(())
+}
+
+#[test]
+fn a_change_hides_or_shows(rt: HostRuntime) -> Result<(), Fail> {
+    let mut home = unopened(rt.alloc(), 10, 10);
+    let longest = Timeout::of(43_200);
+    let ten = Timeout::of(10);
+    let wrong = first_wrong(
+        &mut home,
+        rt.alloc(),
+        &[
+            (0, Act::Configure(Settings::standard(), 1), Told::Done),
+            (1000, Act::Send(None), Told::Sent(0, 0)),
+            (2000, Act::Look(None), Told::Gave(1, 32_000)),
+            (2000, Act::Change(0, 1, longest), Told::Done),
+            (
+                2001,
+                Act::Change(0, 1, longest),
+                Told::Refused(Refusal::InvalidParameterValue),
+            ),
+            (
+                2001,
+                Act::Change(1, 1, ten),
+                Told::Refused(Refusal::ReceiptHandleIsInvalid),
+            ),
+            (32_000, Act::Look(None), Told::Nothing),
+            (32_000, Act::Change(0, 1, Timeout::of(0)), Told::Done),
+            (32_000, Act::Look(None), Told::Gave(2, 62_000)),
+            (
+                32_000,
+                Act::Change(0, 1, ten),
+                Told::Refused(Refusal::MessageNotInflight),
+            ),
+            (32_000, Act::Change(0, 2, ten), Told::Done),
+            (41_999, Act::Look(None), Told::Nothing),
+            (
+                42_000,
+                Act::Change(0, 2, ten),
+                Told::Refused(Refusal::MessageNotInflight),
+            ),
+            (42_000, Act::Look(None), Told::Gave(3, 72_000)),
+        ],
+    );
+    assert_eq!(rt; wrong, None);
+    Ok(())
+}
+
+#[test]
+fn messages_are_counted_and_purged(rt: HostRuntime) -> Result<(), Fail> {
+    let mut home = unopened(rt.alloc(), 10, 10);
+    let kept = settings(Delay::of(0), Retention::of(1000));
+    let wrong = first_wrong(
+        &mut home,
+        rt.alloc(),
+        &[
+            (0, Act::Configure(kept, 1), Told::Done),
+            (1000, Act::Send(None), Told::Sent(0, 0)),
+            (1000, Act::Look(None), Told::Gave(1, 31_000)),
+            (1000, Act::Send(None), Told::Sent(1, 1)),
+            (1001, Act::Send(Some(Delay::of(900))), Told::Sent(2, 2)),
+            (1001, Act::Count, Told::Counts(1, 1, 1)),
+            (31_000, Act::Count, Told::Counts(2, 0, 1)),
+            (901_001, Act::Count, Told::Counts(3, 0, 0)),
+            (1_001_000, Act::Count, Told::Counts(1, 0, 0)),
+            (1_001_000, Act::Send(None), Told::Sent(1, 3)),
+            (1_001_000, Act::Purge, Told::Done),
+            (1_001_000, Act::Count, Told::Counts(0, 0, 0)),
+            (1_001_000, Act::Send(None), Told::Sent(0, 4)),
+            (1_001_000, Act::Configure(strict(), 2), Told::Done),
+            (1_001_000, Act::Look(None), Told::Gave(1, 1_031_000)),
+            (1_031_000, Act::Look(None), Told::Nothing),
+            (1_031_000, Act::Count, Told::Counts(1, 0, 0)),
+        ],
+    );
+    assert_eq!(rt; wrong, None);
+    Ok(())
+}
+
+#[test]
+fn a_closed_home_refuses(rt: HostRuntime) -> Result<(), Fail> {
+    let mut home = with_hello(rt.alloc());
+    assert!(rt; !home.is_closed());
+    assert_eq!(rt; step(&mut home, rt.alloc(), 1000, Act::Close), Told::Done);
+    assert!(rt; home.is_closed());
+    for act in [
+        Act::Configure(Settings::standard(), 2),
+        Act::Send(None),
+        Act::Look(None),
+        Act::Delete(0, 1),
+        Act::Change(0, 1, Timeout::of(0)),
+        Act::Purge,
+        Act::Count,
+        Act::Close,
+    ] {
+        let told = step(&mut home, rt.alloc(), 1000, act);
+        assert_eq!(rt; told, Told::Refused(Refusal::QueueDoesNotExist));
     }
-    assert!(rt; send(&mut home, rt.alloc(), 1000, None) == Err(Refusal::OverLimit));
-    let first = look(&mut home, rt.alloc(), 1000, None)?;
-    assert!(rt; received(&first) == Some(1));
-    let second = look(&mut home, rt.alloc(), 1000, None)?;
-    assert!(rt; matches!(second.reply(), HomeReply::Over));
     Ok(())
 }
 
 #[test]
 fn refused_calls_leave_no_event(rt: HostRuntime) -> Result<(), Fail> {
-    let mut never = unopened(rt.alloc(), 10, 10)?;
-    assert!(rt; send(&mut never, rt.alloc(), 1000, None) == Err(Refusal::QueueDoesNotExist));
+    let mut never = unopened(rt.alloc(), 10, 10);
+    let told = step(&mut never, rt.alloc(), 1000, Act::Send(None));
+    assert_eq!(rt; told, Told::Refused(Refusal::QueueDoesNotExist));
     assert!(rt; never.events().is_empty() && never.last() == Stamp::start());
-    let mut home = opened(rt.alloc(), 10, 10, &Settings::standard())?;
-    send(&mut home, rt.alloc(), 1000, None)?;
-    for (serial, now, want) in [
-        (1, 1000, Refusal::ReceiptHandleIsInvalid),
-        (0, 4_611_686_018_427_387_904, Refusal::ClockRange),
-    ] {
-        let receipt = receipt(0, serial, 1).ok_or("a receipt")?;
-        match home.delete(&actor(2), now, None, &receipt) {
-            Ok(_) => assert!(rt; false, "it is refused as {want:?}"),
-            Err(e) => assert_eq!(rt; e, want),
-        }
-        assert_eq!(rt; home.events().len(), 2);
-        assert_eq!(rt; home.last(), stamp(1000, 0));
-    }
+    let mut home = unopened(rt.alloc(), 10, 10);
+    let wrong = first_wrong(
+        &mut home,
+        rt.alloc(),
+        &[
+            (0, Act::Configure(Settings::standard(), 1), Told::Done),
+            (1000, Act::Send(None), Told::Sent(0, 0)),
+            (
+                1000,
+                Act::Delete(1, 1),
+                Told::Refused(Refusal::ReceiptHandleIsInvalid),
+            ),
+            (
+                4_611_686_018_427_387_904,
+                Act::Delete(0, 1),
+                Told::Refused(Refusal::ClockRange),
+            ),
+        ],
+    );
+    assert_eq!(rt; wrong, None);
+    assert_eq!(rt; home.events().len(), 2);
+    assert_eq!(rt; home.last(), stamp(1000, 0));
     Ok(())
 }
 
-fn same_row(a: &Row, b: &Row) -> bool {
+fn same_message(a: &Row, b: &Row) -> bool {
     a.id == b.id
         && a.lineage == b.lineage
         && a.body.as_str() == b.body.as_str()
-        && a.serial == b.serial
-        && a.slot == b.slot
-        && a.enqueued == b.enqueued
+        && a.origin == b.origin
+}
+
+fn same_times(a: &Row, b: &Row) -> bool {
+    a.enqueued == b.enqueued
         && a.visible_from == b.visible_from
         && a.receives == b.receives
         && a.last_receive == b.last_receive
-        && a.origin == b.origin
+}
+
+fn same_row(a: &Row, b: &Row) -> bool {
+    a.serial == b.serial && a.slot == b.slot && same_message(a, b) && same_times(a, b)
 }
 
 // Whether both replies are of looks, and give the same message alone.
 fn give_the_same(a: &HomeReply, b: &HomeReply) -> bool {
-    match (rows_of(a), rows_of(b)) {
-        (Some([a]), Some([b])) => same_row(a, b),
+    match (a, b) {
+        (HomeReply::Looked(a), HomeReply::Looked(b)) => match (a.as_slice(), b.as_slice()) {
+            ([a], [b]) => same_row(a, b),
+            _ => false,
+        },
         _ => false,
     }
 }
@@ -231,68 +436,89 @@ fn is_at(event: &Event<HomeCall, HomeReply>, place: u64, stamp: Stamp) -> bool {
     event.actor == 7 && event.place == place && event.stamp == stamp
 }
 
+// Whether the record is of the event at its index.
+fn is_of(record: &HomeRecord, events: &[Event<HomeCall, HomeReply>]) -> bool {
+    match events.get(record.index() as usize) {
+        Some(event) => {
+            is_at(event, record.place(), record.stamp())
+                && give_the_same(record.reply(), &event.reply)
+        }
+        None => false,
+    }
+}
+
+fn are_at(events: &[Event<HomeCall, HomeReply>], wanted: &[(u64, Stamp)]) -> bool {
+    events.len() == wanted.len()
+        && events
+            .iter()
+            .zip(wanted)
+            .all(|(event, (place, stamp))| is_at(event, *place, *stamp))
+}
+
+// Whether it is of queue 2's first home, and of a look with no timeout and no name.
+fn is_of_the_look(record: &HomeRecord) -> bool {
+    record.home().queue.get() == 2
+        && record.home().home.get() == 0
+        && record.name().is_none()
+        && matches!(record.call(), HomeCall::Look(_, None))
+}
+
 #[test]
-fn each_call_has_its_event(rt: HostRuntime) -> Result<(), Fail> {
-    let mut home = opened(rt.alloc(), 10, 10, &Settings::standard())?;
-    send(&mut home, rt.alloc(), 1000, None)?;
-    let record = look(&mut home, rt.alloc(), 1000, None)?;
-    let mut ahead = actor(3);
-    ahead.seen = stamp(5000, 3);
-    let receipt = receipt(0, 0, 1).ok_or("a receipt")?;
-    home.delete(&ahead, 2000, None, &receipt)?;
+fn a_record_is_of_its_event(rt: HostRuntime) -> Result<(), Fail> {
+    let mut home = with_hello(rt.alloc());
+    let record = call(&mut home, rt.alloc(), &actor(2), 1000, Act::Look(None))?;
     assert!(rt; record.place() == 2 && record.index() == 2 && record.stamp() == stamp(1000, 1));
-    let events = home.events();
-    assert_eq!(rt; events.len(), 4);
-    assert!(rt; is_at(&events[0], 0, stamp(0, 1)));
-    assert!(rt; is_at(&events[1], 1, stamp(1000, 0)));
-    assert!(rt; is_at(&events[2], 2, stamp(1000, 1)));
-    assert!(rt; is_at(&events[3], 3, stamp(5000, 4)));
-    assert!(rt; give_the_same(record.reply(), &events[2].reply));
+    assert!(rt; is_of_the_look(&record));
+    assert!(rt; is_of(&record, home.events()));
     Ok(())
 }
 
-// Opens a home, sends, receives and deletes, one step at each call.
-fn step(home: &mut Home, alloc: Global) -> Result<(), Refusal> {
-    let by = actor(home.events().len() as u64);
-    match by.place {
-        0 => {
-            home.configure(&by, 0, None, &Settings::standard(), 1)?;
-        }
-        1 => {
-            let body = Body::new(alloc, "hello", BODY_LIMIT)?;
-            home.send(&by, 1000, None, body, None)?;
-        }
-        2 => {
-            home.look(alloc, &by, 1000, None, MaxMessages::of(10), None)?;
-        }
-        _ => {
-            if let Some(receipt) = receipt(0, 0, 1) {
-                home.delete(&by, 1000, None, &receipt)?;
-            }
-        }
-    }
+#[test]
+fn each_call_has_its_event(rt: HostRuntime) -> Result<(), Fail> {
+    let mut home = with_hello(rt.alloc());
+    let mut ahead = actor(2);
+    ahead.seen = stamp(5000, 3);
+    let deleted = call(&mut home, rt.alloc(), &ahead, 2000, Act::Delete(0, 1))?;
+    assert!(rt; matches!(deleted.into_reply(), HomeReply::Done));
+    let wanted = [(0, stamp(0, 1)), (1, stamp(1000, 0)), (2, stamp(5000, 4))];
+    assert!(rt; are_at(home.events(), &wanted));
     Ok(())
+}
+
+// Each call once, in an order in which each is done.
+fn act_at(place: usize) -> Act {
+    match place {
+        0 => Act::Configure(Settings::standard(), 1),
+        1 => Act::Send(None),
+        2 => Act::Look(None),
+        3 => Act::Change(0, 1, Timeout::of(0)),
+        4 => Act::Count,
+        5 => Act::Delete(0, 1),
+        6 => Act::Purge,
+        _ => Act::Close,
+    }
 }
 
 #[test]
 fn want_of_memory_changes_nothing(rt: HostRuntime) -> Result<(), Fail> {
-    let mut home = unopened(rt.alloc(), 1, 1)?;
-    let mut refused = false;
-    for _ in 0..5 {
-        let before = (home.events().len(), home.last());
-        match step(&mut home, rt.alloc()) {
-            Ok(()) => assert_eq!(rt; home.events().len(), before.0.saturating_add(1)),
-            Err(e) => {
+    let mut home = unopened(rt.alloc(), 1, 1);
+    let mut refused = 0_u32;
+    for _ in 0..9 {
+        if home.is_closed() {
+            break;
+        }
+        let act = act_at(home.events().len());
+        match step(&mut home, rt.alloc(), 1000, act) {
+            Told::Refused(e) => {
                 assert_eq!(rt; e, Refusal::NoMemory);
-                assert!(rt; (home.events().len(), home.last()) == before);
-                assert!(rt; !refused);
-                refused = true;
+                refused = refused.saturating_add(1);
             }
+            told => assert!(rt; told != Told::Other, "{told:?}"),
         }
     }
+    assert!(rt; refused < 2 && home.is_closed());
     let events = home.events();
-    assert!(rt; events.len() >= 4);
-    let given = rows_of(&events[2].reply).ok_or("a look gives rows")?;
-    assert!(rt; given.len() == 1 && given.iter().all(|row| row.receives == 1 && row.slot == 0));
+    assert_eq!(rt; events.len(), 8);
+    assert_eq!(rt; told_by(&events[2].reply), Told::Gave(1, 31_000));
     Ok(())
 }

@@ -1,5 +1,9 @@
 pub mod Refusals
 pub mod LineageLaws
 pub mod RowLaws
+pub mod SlotLaws
+pub mod Progress
 pub mod ReplayLaws
 pub mod LookLaws
+pub mod SystemLaws
+pub mod RunLaws

@@ -15,13 +15,13 @@ use Rattle.sq_model.specs.Homes.{Home, Unopened, Serving, Closed, HomeStep, home
 below : (a b : ℕ) → a < b → nat_le b a ≡ false
 below a b h = grind (arith, common_steps)
 
-has_place : (l : Limits) (next slot : ℕ) (rows : List Row) (later : Option Refusal) → HasPlace l next slot rows → later ≡ None → place_refusal l false next rows later ≡ None
-has_place l next slot rows later h e = rw (below _ _ h.not_worn, below _ _ h.within, e) refl
+has_place : (l : Limits) (next slot : ℕ) (rows : List Row) (later : Option Refusal) → HasPlace l next slot rows → later ≡ None → place_refusal l next rows later ≡ None
+has_place l next slot rows later h e = rw (below _ _ h.not_worn, below _ _ h.slot_left, below _ _ h.within, e) refl
 
 passes : (test : Bool) (refusal : Refusal) → test ≡ true → refused_if (not test) refusal None ≡ None
 passes test refusal e = rw e refl
 
-pub step_allowed : (site : Site) (home : Home) (m : ℕ) (call : HomeCall) (reply : HomeReply) (after : Home) → HomeStep site home m call reply after → home_refusal site false home m call ≡ None
+pub step_allowed : (site : Site) (home : Home) (m : ℕ) (call : HomeCall) (reply : HomeReply) (after : Home) → HomeStep site home m call reply after → home_refusal site home m call ≡ None
 unfolding HomeStep home_refusal
 step_allowed site Unopened m (Configure t w) Done after h = refl
 step_allowed site (Serving s v n rows) m (Configure t w) Done after h = refl

@@ -18,7 +18,7 @@ use Rattle.sq_model.specs.declared.calls.HomeCall.TheVariants.{Configure, Close,
 use Rattle.sq_model.specs.declared.replies.Counts.{Counts}
 use Rattle.sq_model.specs.declared.replies.HomeReply.{HomeReply}
 use Rattle.sq_model.specs.declared.replies.HomeReply.TheVariants.{Done, Sent, Looked, Over, Counted, Left, NoLiveRow, NoOrigin, SourceClosed, Entered}
-use Rattle.sq_model.specs.Rows.{ms, trimmed, is_visible, is_delayed, is_flying, is_dead, is_live, room, serials_of, IsLook, received_if, without, is_held, is_late, changed_if, Takes, is_free}
+use Rattle.sq_model.specs.Rows.{ms, trimmed, RisesFrom, is_visible, is_delayed, is_flying, is_dead, is_live, room, serials_of, IsLook, received_if, without, is_held, is_late, changed_if, Takes, is_free}
 
 pub data Home : Type 0 where
   Unopened : Home
@@ -29,6 +29,10 @@ pub data Home : Type 0 where
 -- no serial from here on is given
 abbrev pub last_serial : ℕ
 last_serial = 4611686018427387903
+
+-- so many slots are there, from 0 upwards; each row of a home has one of its own
+abbrev pub slots : ℕ
+slots = 4294967296
 
 abbrev pub fresh_id : HomeId → ℕ → MessageId
 fresh_id home serial = record { queue = home.queue; home = home.home; serial = serial }
@@ -67,6 +71,7 @@ counts_of m rows = record { visible = count_by (is_visible m) rows; flying = cou
 -- a row has room, and a serial and a slot are left for it
 pub record HasPlace (l : Limits) (next slot : ℕ) (rows : List Row) : Type 0 where
   pub not_worn : next < last_serial
+  pub slot_left : length rows < slots
   pub within : length rows < l.rows
   pub free : is_free slot rows ≡ true
 
@@ -144,34 +149,52 @@ abbrev pub refused_if : Bool → Refusal → Option Refusal → Option Refusal
 refused_if test refusal later = if test then Some refusal else later
 
 -- a home that takes one row more; its serials or its slots may be used up
-abbrev pub place_refusal : Limits → Bool → ℕ → List Row → Option Refusal → Option Refusal
-place_refusal l no_slot next rows later = refused_if (nat_le last_serial next || no_slot) Worn (refused_if (nat_le l.rows (length rows)) OverLimit later)
+abbrev pub place_refusal : Limits → ℕ → List Row → Option Refusal → Option Refusal
+place_refusal l next rows later =
+    refused_if (nat_le last_serial next || nat_le slots (length rows)) Worn (refused_if (nat_le l.rows (length rows)) OverLimit later)
 
--- The first check of the home that fails, where no_slot says that no slot below 2^32 is left for a row more.
-unfoldable pub home_refusal : Site → Bool → Home → ℕ → HomeCall → Option Refusal
-home_refusal site no_slot Unopened m (Configure t w) = None
-home_refusal site no_slot (Serving s v n rows) m (Configure t w) = None
-home_refusal site no_slot Unopened m Close = None
-home_refusal site no_slot (Serving s v n rows) m Close = None
-home_refusal site no_slot (Serving s v n rows) m (Send body delay) = place_refusal site.limits no_slot n (trimmed s m rows) None
-home_refusal site no_slot (Serving s v n rows) m (Look max timeout) = None
-home_refusal site no_slot (Serving s v n rows) m (Delete receipt) = refused_if (nat_le n receipt.serial) ReceiptHandleIsInvalid None
-home_refusal site no_slot (Serving s v n rows) m (Change receipt timeout) =
+-- the first check of the home that fails
+unfoldable pub home_refusal : Site → Home → ℕ → HomeCall → Option Refusal
+home_refusal site Unopened m (Configure t w) = None
+home_refusal site (Serving s v n rows) m (Configure t w) = None
+home_refusal site Unopened m Close = None
+home_refusal site (Serving s v n rows) m Close = None
+home_refusal site (Serving s v n rows) m (Send body delay) = place_refusal site.limits n (trimmed s m rows) None
+home_refusal site (Serving s v n rows) m (Look max timeout) = None
+home_refusal site (Serving s v n rows) m (Delete receipt) = refused_if (nat_le n receipt.serial) ReceiptHandleIsInvalid None
+home_refusal site (Serving s v n rows) m (Change receipt timeout) =
     refused_if (nat_le n receipt.serial) ReceiptHandleIsInvalid
     (refused_if (not (list_any (is_held m receipt) (trimmed s m rows))) MessageNotInflight
     (refused_if (list_any (λ row. is_held m receipt row && is_late (m + ms timeout) row.last_receive) (trimmed s m rows)) InvalidParameterValue None))
-home_refusal site no_slot (Serving s v n rows) m Purge = None
-home_refusal site no_slot (Serving s v n rows) m Count = None
-home_refusal site no_slot (Serving s v n rows) m LeaveDead = None
-home_refusal site no_slot (Serving s v n rows) m (LeaveTask task) = None
-home_refusal site no_slot Closed m (LeaveTask task) = None
-home_refusal site no_slot (Serving s v n rows) m (Enter item) =
-    place_refusal site.limits no_slot n (trimmed s m rows) (refused_if (not (may_enter site.home item)) UnsupportedOperation None)
-home_refusal site no_slot (Serving s v n rows) m (TurnBack item) = Some UnsupportedOperation
-home_refusal site no_slot Closed m (TurnBack item) = refused_if (not (may_enter site.home item)) UnsupportedOperation None
-home_refusal site no_slot (Serving s v n rows) m (GiveBack item) =
-    place_refusal site.limits no_slot n (trimmed s m rows) (refused_if (not (may_return site.home item)) UnsupportedOperation None)
-home_refusal site no_slot (Serving s v n rows) m (GiveUp item) = Some UnsupportedOperation
-home_refusal site no_slot Closed m (GiveUp item) = refused_if (not (may_return site.home item)) UnsupportedOperation None
-home_refusal site no_slot Unopened m call = Some QueueDoesNotExist
-home_refusal site no_slot Closed m call = Some QueueDoesNotExist
+home_refusal site (Serving s v n rows) m Purge = None
+home_refusal site (Serving s v n rows) m Count = None
+home_refusal site (Serving s v n rows) m LeaveDead = None
+home_refusal site (Serving s v n rows) m (LeaveTask task) = None
+home_refusal site Closed m (LeaveTask task) = None
+home_refusal site (Serving s v n rows) m (Enter item) =
+    place_refusal site.limits n (trimmed s m rows) (refused_if (not (may_enter site.home item)) UnsupportedOperation None)
+home_refusal site (Serving s v n rows) m (TurnBack item) = Some UnsupportedOperation
+home_refusal site Closed m (TurnBack item) = refused_if (not (may_enter site.home item)) UnsupportedOperation None
+home_refusal site (Serving s v n rows) m (GiveBack item) =
+    place_refusal site.limits n (trimmed s m rows) (refused_if (not (may_return site.home item)) UnsupportedOperation None)
+home_refusal site (Serving s v n rows) m (GiveUp item) = Some UnsupportedOperation
+home_refusal site Closed m (GiveUp item) = refused_if (not (may_return site.home item)) UnsupportedOperation None
+home_refusal site Unopened m call = Some QueueDoesNotExist
+home_refusal site Closed m call = Some QueueDoesNotExist
+
+-- serials rise below the next one
+abbrev pub IsRising : Home → Type 0
+IsRising (Serving s v n rows) = RisesFrom 0 rows n
+IsRising Unopened = Unit {0}
+IsRising Closed = Unit {0}
+
+-- a slot that was given is one of those that are there
+abbrev pub HasSlot : HomeReply → Type 0
+HasSlot (Sent sent) = sent.slot < slots
+HasSlot (Entered slot) = slot < slots
+HasSlot reply = Unit {0}
+
+-- no dead row is there to leave
+abbrev pub IsIdle : Home → ℕ → HomeCall → Type 0
+IsIdle (Serving s v n rows) m LeaveDead = list_any (is_dead s m) (trimmed s m rows) ≡ false
+IsIdle home m call = ⊥

@@ -3,3 +3,7 @@ pub mod Homes
 pub mod Lineages
 pub mod Replays
 pub mod Worked
+pub mod Directories
+pub mod Systems
+pub mod Places
+pub mod Merges

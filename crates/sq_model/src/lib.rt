@@ -2,6 +2,7 @@
 #![tactic(auto)]
 
 pub mod calls;
+pub mod directory;
 pub mod event;
 pub mod item;
 pub mod laws;

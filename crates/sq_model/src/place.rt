@@ -23,3 +23,19 @@ pub struct Site {
     pub home: HomeId,
     pub limits: Limits,
 }
+
+/// Where a message is that was sent. Own.
+#[derive(Clone, Copy, PartialEq, Eq, Debug)]
+pub enum Place {
+    InHome,
+    /// Between two queues.
+    InTransit,
+    Deleted,
+    /// Past its retention, and left out by a step.
+    Expired,
+    Purged,
+    /// Its queue was deleted.
+    ClosedAway,
+    /// Its queue was deleted while it was on its way back.
+    Dropped,
+}

@@ -36,6 +36,8 @@ impl Rows {
         ensures ok { OnOk result (self.new ≡ self.old ++ row ∷ []) }
         ensures err { IfErr result (λ e. (e ≡ Refusal.NoMemory) × (self.new ≡ self.old)) }
     {
+        // Most lists have one row, and a list that grows by itself has room for four at first.
+        self.items.try_reserve_exact(1)?;
         self.items.push(row)?;
         Ok(())
     }

@@ -36,7 +36,7 @@ pub fn only_the_last_receipt_deletes()
     ensures older { HomeStep wide (with_rows plain 1 (hello_twice ∷ [])) 31000 (Delete (receipt_of 1)) Done (with_rows plain 1 (hello_twice ∷ [])) }
     ensures last { HomeStep wide (with_rows plain 1 (hello_twice ∷ [])) 31000 (Delete (receipt_of 2)) Done (with_rows plain 1 []) }
     ensures again { HomeStep wide (with_rows plain 1 []) 31000 (Delete (receipt_of 2)) Done (with_rows plain 1 []) }
-    ensures never_given { home_refusal wide false (with_rows plain 1 (hello_twice ∷ [])) 31000 (Delete (record { slot = 0; serial = 1; receive = 2 })) ≡ Some ReceiptHandleIsInvalid }
+    ensures never_given { home_refusal wide (with_rows plain 1 (hello_twice ∷ [])) 31000 (Delete (record { slot = 0; serial = 1; receive = 2 })) ≡ Some ReceiptHandleIsInvalid }
 {}
 
 /// A message that is sent at 1000 with a delay of 900 seconds is delayed at 900,999 and live at 901,000.
@@ -74,24 +74,24 @@ pub fn too_many_in_flight_are_told()
 
 /// A home that may hold one message refuses the second; one that is past its retention takes no place.
 pub fn a_full_home_refuses_a_send()
-    ensures full { home_refusal narrow false (with_rows plain 1 (hello ∷ [])) 2000 (Send hello_text None) ≡ Some OverLimit }
+    ensures full { home_refusal narrow (with_rows plain 1 (hello ∷ [])) 2000 (Send hello_text None) ≡ Some OverLimit }
     ensures no_step { (id : MessageId) (slot : ℕ) (after : Home) → HomeStep narrow (with_rows plain 1 (hello ∷ [])) 2000 (Send hello_text None) (Sent (record { id = id; slot = slot })) after → ⊥ }
-    ensures after_trim { home_refusal narrow false (with_rows (kept_for 60) 1 (hello ∷ [])) 61000 (Send hello_text None) ≡ None }
+    ensures after_trim { home_refusal narrow (with_rows (kept_for 60) 1 (hello ∷ [])) 61000 (Send hello_text None) ≡ None }
 {}
 
 /// A timeout changed to 0 at 2000 makes the message live at 2000; a further change is refused, since it is not in flight.
 pub fn a_change_to_zero_shows_the_message()
     ensures changed { HomeStep wide (with_rows plain 1 (hello_once ∷ [])) 2000 (Change (receipt_of 1) 0) Done (with_rows plain 1 (record hello_once { visible_from = 2000 } ∷ [])) }
     ensures live { is_live plain 2000 (record hello_once { visible_from = 2000 }) ≡ true }
-    ensures not_in_flight { home_refusal wide false (with_rows plain 1 (record hello_once { visible_from = 2000 } ∷ [])) 2000 (Change (receipt_of 1) 5) ≡ Some MessageNotInflight }
-    ensures older_receipt { home_refusal wide false (with_rows plain 1 (hello_twice ∷ [])) 31000 (Change (receipt_of 1) 10) ≡ Some MessageNotInflight }
+    ensures not_in_flight { home_refusal wide (with_rows plain 1 (record hello_once { visible_from = 2000 } ∷ [])) 2000 (Change (receipt_of 1) 5) ≡ Some MessageNotInflight }
+    ensures older_receipt { home_refusal wide (with_rows plain 1 (hello_twice ∷ [])) 31000 (Change (receipt_of 1) 10) ≡ Some MessageNotInflight }
 {}
 
 /// A message that was received at 2000 may be hidden for 12 hours from 2000 on, and not 1 ms longer.
 pub fn twelve_hours_count_from_the_last_receive()
-    ensures allowed { home_refusal wide false (with_rows plain 1 (hello_late ∷ [])) 2000 (Change (receipt_of 1) 43200) ≡ None }
+    ensures allowed { home_refusal wide (with_rows plain 1 (hello_late ∷ [])) 2000 (Change (receipt_of 1) 43200) ≡ None }
     ensures changed { HomeStep wide (with_rows plain 1 (hello_late ∷ [])) 2000 (Change (receipt_of 1) 43200) Done (with_rows plain 1 (record hello_late { visible_from = 43202000 } ∷ [])) }
-    ensures late { home_refusal wide false (with_rows plain 1 (hello_late ∷ [])) 2001 (Change (receipt_of 1) 43200) ≡ Some InvalidParameterValue }
+    ensures late { home_refusal wide (with_rows plain 1 (hello_late ∷ [])) 2001 (Change (receipt_of 1) 43200) ≡ Some InvalidParameterValue }
 {}
 
 /// With one receive allowed, a message that was received once is dead from the moment at which it would be visible.

@@ -1,53 +1,7 @@
--- Lists that are changed element by element, and slots that are taken.
-use Rattle.std.proofs.Common.{◌≡◌, ℕ, zero, suc, ◌+◌, ◌<◌, ◌≤◌, List, [], ◌∷◌, length, take, drop, get_or, set, map, ◌++◌, Bool, true, false, not, cond, refl, arith, ap, ◌∙◌, inl, inr}
-use Rattle.std.specs.Prelude.{nat_eq, filter, ◌||◌, ◌==◌}
-use Rattle.std.specs.List.{list_any}
+-- Lists that are changed element by element.
+use Rattle.std.proofs.Common.{◌≡◌, ℕ, ◌+◌, ◌<◌, List, length, take, drop, get_or, set, map, ◌++◌}
 use Rattle.std.proofs.lemmas.List.{get_or_default}
 use Rattle.std.proofs.lemmas.List.Edits.{map_over_more}
-use Rattle.std.proofs.lemmas.Bool.{eqb-true, cases_lt}
-use Rattle.std.proofs.lemmas.Grind.{common_steps}
-use Rattle.sq_base.specs.declared.row.Row.{Row}
-use Rattle.sq_model.specs.Rows.{is_free}
 
 pub map_over_at : {X : Type 0} (f : X → X) (xs ys : List X) (i : ℕ) (d : X) → i < length xs → i < length ys → ys ≡ map f (take i xs) ++ drop i xs → set ys i (f (get_or ys i d)) ≡ map f (take (i + 1) xs) ++ drop (i + 1) xs
 map_over_at f xs ys i d h l inv = map_over_more f xs ys i (get_or ys i d) h inv (get_or_default ys i d (get_or ys i d) l)
-
-not_longer : {X : Type 0} (p : X → Bool) (xs : List X) → length (filter (λ x. not (p x)) xs) ≤ length xs
-not_longer p [] = omega arith
-not_longer p (x ∷ xs) =
-    elim (p x) as (λ b. length (cond (not b) (x ∷ filter (λ x. not (p x)) xs) (filter (λ x. not (p x)) xs)) ≤ length (x ∷ xs))
-    [ true ↦ omega (arith, not_longer p xs) | false ↦ omega (arith, not_longer p xs) ]
-
--- what is found is one less when it is taken out
-found_shorter : {X : Type 0} (p : X → Bool) (xs : List X) → list_any p xs ≡ true → length (filter (λ x. not (p x)) xs) < length xs
-found_shorter p [] h = absurd cc
-found_shorter p (x ∷ xs) h =
-    elim (p x) as (λ b. p x ≡ b → (b || list_any p xs) ≡ true → length (cond (not b) (x ∷ filter (λ x. not (p x)) xs) (filter (λ x. not (p x)) xs)) < length (x ∷ xs))
-    [ true ↦ (λ e k. omega (arith, not_longer p xs)) | false ↦ (λ e k. omega (arith, found_shorter p xs k)) ] refl h
-
-differs : (a j k : ℕ) → nat_eq a k ≡ true → j < k → nat_eq a j ≡ false
-differs a j k e lt = let is : a ≡ k = eqb-true a k e in grind (arith, common_steps)
-
--- a slot is still taken when another one is freed
-still_taken : (j k : ℕ) (rows : List Row) → j < k → list_any (λ row. row.slot == j) (filter (λ row. not (row.slot == k)) rows) ≡ list_any (λ row. row.slot == j) rows
-still_taken j k [] lt = refl
-still_taken j k (row ∷ rows) lt =
-    elim (nat_eq row.slot k) as (λ b. nat_eq row.slot k ≡ b → list_any (λ row. row.slot == j) (cond (not b) (row ∷ filter (λ row. not (row.slot == k)) rows) (filter (λ row. not (row.slot == k)) rows)) ≡ list_any (λ row. row.slot == j) (row ∷ rows))
-    [ true ↦ (λ e. rw (differs row.slot j k e lt) (still_taken j k rows lt)) | false ↦ (λ e. ap (λ b. nat_eq row.slot j || b) (still_taken j k rows lt)) ] refl
-
-not_false : (b : Bool) → not b ≡ false → b ≡ true
-not_false true e = refl
-not_false false e = absurd cc
-
--- so many slots are taken by as many rows at least
-pub taken_by : (n : ℕ) (rows : List Row) → ((k : ℕ) → k < n → is_free k rows ≡ false) → n ≤ length rows
-taken_by zero rows h = omega arith
-taken_by (suc n) rows h =
-    let there : list_any (λ row. row.slot == n) rows ≡ true = not_false _ (h n (omega arith)) in
-    let fewer = found_shorter (λ row. row.slot == n) rows there in
-    let rest = taken_by n (filter (λ row. not (row.slot == n)) rows) (λ k lt. ap not (still_taken k n rows lt) ∙ h k (omega (arith, lt))) in
-    omega (arith, fewer, rest)
-
-pub taken_more : (n m : ℕ) (rows : List Row) → n ≤ m → ((k : ℕ) → k < m → is_free k rows ≡ false) → list_any (λ row. row.slot == n) rows ≡ true → (k : ℕ) → k < n + 1 → is_free k rows ≡ false
-taken_more n m rows le h there k lt =
-    elim (cases_lt k n) [ inl low ↦ h k (omega (arith, low)) | inr high ↦ (let same : k ≡ n = omega (arith, high) in rw (same, there) refl) ]

@@ -1,5 +1,5 @@
 -- What contracts see of a shard.
-use Rattle.std.specs.Prelude.{ℕ, List, Bool}
+use Rattle.std.specs.Prelude.{ℕ, List}
 use Rattle.sq_base.specs.declared.row.Row.{Row}
 use Rattle.sq_base.specs.declared.settings.Settings.{Settings}
 use Rattle.sq_model.specs.declared.place.Site.{Site}
@@ -7,11 +7,9 @@ use Rattle.sq_model.specs.Homes.{Home, Unopened as Never, Serving as Serves, Clo
 use Rattle.sq_shard.specs.declared.shard.Status.{Status}
 use Rattle.sq_shard.specs.declared.shard.Status.TheVariants.{Unopened, Serving, Closed}
 
--- the last says that no slot is left for a row more
 pub record ShardValue : Type 0 where
   pub site : Site
   pub home : Home
-  pub no_slot : Bool
 
 abbrev pub home_of : Status → Settings → ℕ → ℕ → List Row → Home
 home_of Unopened settings version next rows = Never

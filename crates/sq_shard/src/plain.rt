@@ -1,12 +1,14 @@
 //! Rows one after another.
-ghost use Rattle.std.specs.Prelude.{◌≡◌, ◌-◌, [], vec_len, vec_capacity, nat_le, false};
+ghost use Rattle.std.specs.Prelude.{◌≡◌, ◌-◌, [], vec_len, vec_capacity};
 
 use crate::rows;
 use crate::store::Store;
+use sq_base::ranges::Timeout;
 use sq_base::refusal::Refusal;
 use sq_base::row::Row;
 use sq_base::settings::Settings;
 use sq_model::calls::Receipt;
+use sq_model::replies::Counts;
 use sq_model::rows::Rows;
 use std::alloc::Global;
 
@@ -19,8 +21,7 @@ pub struct PlainStore {
 impl PlainStore {
     /// A store without rows, which takes no memory yet.
     pub fn new(alloc: Global) -> PlainStore
-        ensures rows { ⟦<PlainStore as Store>⟧.rows result ≡ [] }
-        ensures slot { ⟦<PlainStore as Store>⟧.no_slot result ≡ false }
+        ensures { ⟦<PlainStore as Store>⟧.rows result ≡ [] }
     {
         PlainStore {
             rows: Vec::new(alloc),
@@ -32,8 +33,6 @@ impl Store for PlainStore {
     ghost rows = { λ s. s.rows.items };
 
     ghost reserved = { λ s. vec_capacity s.rows - vec_len s.rows };
-
-    ghost no_slot = { λ s. nat_le 4294967296 (vec_len s.rows) };
 
     fn count_kept(&self, settings: &Settings, moment: u64) -> usize {
         rows::count_kept(&self.rows, settings, moment)
@@ -47,8 +46,22 @@ impl Store for PlainStore {
         rows::has_live(&self.rows, settings, moment)
     }
 
-    fn has_slot(&self) -> bool {
-        self.rows.len() < 4_294_967_296
+    fn has_held(&self, settings: &Settings, moment: u64, receipt: &Receipt) -> bool {
+        rows::has_held(&self.rows, settings, moment, receipt)
+    }
+
+    fn has_late(
+        &self,
+        settings: &Settings,
+        moment: u64,
+        receipt: &Receipt,
+        timeout: Timeout,
+    ) -> bool {
+        rows::has_late(&self.rows, settings, moment, receipt, timeout)
+    }
+
+    fn count(&self, settings: &Settings, moment: u64) -> Counts {
+        rows::count(&self.rows, settings, moment)
     }
 
     fn pick(
@@ -85,5 +98,13 @@ impl Store for PlainStore {
 
     fn take(&mut self, receipt: &Receipt) {
         rows::take(&mut self.rows, receipt)
+    }
+
+    fn change(&mut self, receipt: &Receipt, moment: u64, until: u64) {
+        rows::change(&mut self.rows, receipt, moment, until)
+    }
+
+    fn clear(&mut self) {
+        self.rows.clear();
     }
 }

@@ -1,5 +1,5 @@
 //! Work on a list of rows.
-ghost use Rattle.std.specs.Prelude.{◌≡◌, ℕ, ◌<◌, ◌≤◌, List, length, count_by, filter, map, not, true, IfOk, take, vec_len, vec_capacity, IfErr, ◌==◌};
+ghost use Rattle.std.specs.Prelude.{◌≡◌, ◌+◌, ℕ, ◌<◌, ◌≤◌, List, length, count_by, filter, map, not, true, IfOk, take, vec_len, vec_capacity, IfErr, ◌==◌, ◌&&◌};
 ghost use Rattle.std.specs.List.{list_any};
 ghost use Rattle.sq_model.specs.Rows as model;
 ghost use Rattle.sq_model.specs.Homes as homes;
@@ -7,10 +7,12 @@ ghost use Rattle.sq_model.specs.Homes as homes;
 use sq_base::body::Body;
 use sq_base::ids::{HomeId, Serial};
 use sq_base::message_id::MessageId;
+use sq_base::ranges::Timeout;
 use sq_base::refusal::Refusal;
 use sq_base::row::Row;
 use sq_base::settings::{Redrive, Settings};
 use sq_model::calls::Receipt;
+use sq_model::replies::Counts;
 use sq_model::rows::{Rows, copy_row};
 use std::alloc::Global;
 
@@ -102,6 +104,101 @@ pub fn count_flying(rows: &[Row], settings: &Settings, moment: u64) -> usize
         .filter(|row| is_kept(settings, moment, row))
         .filter(|row| is_flying(moment, row))
         .count()
+}
+
+fn is_delayed(moment: u64, row: &Row) -> bool
+    ensures { result ≡ model.is_delayed moment row.now }
+{
+    row.receives == 0 && moment < row.visible_from
+}
+
+fn is_held(moment: u64, receipt: &Receipt, row: &Row) -> bool
+    ensures { result ≡ model.is_held moment receipt.now row.now }
+{
+    is_named(receipt, row) && is_flying(moment, row)
+}
+
+// Whether so many seconds after the moment are more than 12 hours after the last receive.
+fn is_late(moment: u64, timeout: Timeout, last_receive: Option<u64>) -> bool
+    ensures { result ≡ model.is_late (moment + model.ms timeout) last_receive }
+{
+    let hidden = timeout.get() as u64 * 1000;
+    match last_receive {
+        None => false,
+        Some(last) => last < moment && moment - last > 43_200_000 - hidden,
+    }
+}
+
+fn count_visible(rows: &[Row], settings: &Settings, moment: u64) -> usize
+    ensures { result ≡ count_by (model.is_visible moment) (model.trimmed settings.now moment rows.now) }
+{
+    rows.iter()
+        .filter(|row| is_kept(settings, moment, row))
+        .filter(|row| row.visible_from <= moment)
+        .count()
+}
+
+fn count_delayed(rows: &[Row], settings: &Settings, moment: u64) -> usize
+    ensures { result ≡ count_by (model.is_delayed moment) (model.trimmed settings.now moment rows.now) }
+{
+    rows.iter()
+        .filter(|row| is_kept(settings, moment, row))
+        .filter(|row| is_delayed(moment, row))
+        .count()
+}
+
+/// How many of the kept rows are in which state.
+#[tactic(auto, using(crate::proofs::Few::few_counted))]
+pub fn count(rows: &[Row], settings: &Settings, moment: u64) -> Counts
+    requires { length rows.now < 4294967296 }
+    ensures { result ≡ homes.counts_of moment (model.trimmed settings.now moment rows.now) }
+{
+    Counts {
+        visible: count_visible(rows, settings, moment) as u32,
+        flying: count_flying(rows, settings, moment) as u32,
+        delayed: count_delayed(rows, settings, moment) as u32,
+    }
+}
+
+/// Whether a kept row is that of the receipt, and in flight.
+pub fn has_held(rows: &[Row], settings: &Settings, moment: u64, receipt: &Receipt) -> bool
+    ensures { result ≡ list_any (model.is_held moment receipt.now) (model.trimmed settings.now moment rows.now) }
+{
+    rows.iter()
+        .filter(|row| is_kept(settings, moment, row))
+        .any(|row| is_held(moment, receipt, row))
+}
+
+/// Whether this row would be hidden for more than 12 hours after its last receive, if it were hidden for so many
+/// seconds from the moment on.
+pub fn has_late(
+    rows: &[Row],
+    settings: &Settings,
+    moment: u64,
+    receipt: &Receipt,
+    timeout: Timeout,
+) -> bool
+    ensures { result ≡ list_any (λ row. model.is_held moment receipt.now row && model.is_late (moment + model.ms timeout) row.last_receive) (model.trimmed settings.now moment rows.now) }
+{
+    rows.iter().filter(|row| is_kept(settings, moment, row)).any(|row| is_held(moment, receipt, row)
+        && is_late(moment, timeout, row.last_receive))
+}
+
+/// Hides the row of a receipt until another moment, where it is in flight.
+pub fn change(rows: &mut [Row], receipt: &Receipt, moment: u64, until: u64)
+    ensures { rows.new ≡ map (model.changed_if moment receipt.now until) rows.old }
+{
+    for row in rows.iter_mut() {
+        change_row(row, receipt, moment, until);
+    }
+}
+
+fn change_row(row: &mut Row, receipt: &Receipt, moment: u64, until: u64)
+    ensures { row.new ≡ model.changed_if moment receipt.now until row.old }
+{
+    if is_held(moment, receipt, row) {
+        row.visible_from = until;
+    }
 }
 
 pub fn has_live(rows: &[Row], settings: &Settings, moment: u64) -> bool

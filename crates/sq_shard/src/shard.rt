@@ -1,9 +1,9 @@
 //! One home: its status, its settings and its rows.
-ghost use Rattle.std.specs.Prelude.{◌≡◌, ◌⊎◌, ◌<◌, ◌+◌, false, Some, None, IfOk, IfErr, OnOk, OnErr, []};
+ghost use Rattle.std.specs.Prelude.{◌≡◌, ◌⊎◌, ◌↔◌, ◌<◌, ◌+◌, true, Some, None, IfOk, IfErr, OnOk, OnErr, []};
 ghost use Rattle.sq_model.specs.Homes.{HomeStep, home_refusal};
-ghost use Rattle.sq_model.specs.Homes.{Unopened as Never};
-ghost use Rattle.sq_model.specs.declared.calls.HomeCall.TheVariants.{Configure, Send, Look, Delete};
-ghost use Rattle.sq_model.specs.declared.replies.HomeReply.TheVariants.{Done, Sent};
+ghost use Rattle.sq_model.specs.Homes.{Unopened as Never, Closed as Gone};
+ghost use Rattle.sq_model.specs.declared.calls.HomeCall.TheVariants.{Configure, Close, Send, Look, Delete, Change, Purge, Count};
+ghost use Rattle.sq_model.specs.declared.replies.HomeReply.TheVariants.{Done, Sent, Counted};
 ghost use Rattle.sq_shard.specs.Looks.{look_reply, look_after};
 ghost use Rattle.sq_model.specs.Rows.{ms};
 
@@ -16,7 +16,7 @@ use sq_base::refusal::Refusal;
 use sq_base::settings::Settings;
 use sq_model::calls::Receipt;
 use sq_model::place::Site;
-use sq_model::replies::SentMessage;
+use sq_model::replies::{Counts, SentMessage};
 use sq_model::rows::Rows;
 use std::alloc::Global;
 use std::marker::Model;
@@ -53,25 +53,24 @@ pub struct Shard<S: Store> {
 }
 
 impl<S: Store> Model for Shard<S> {
-    ghost use Rattle.std.specs.Prelude.{◌≡◌, List, []};
+    ghost use Rattle.std.specs.Prelude.{◌≡◌, ◌≤◌, List, [], length};
     ghost use Rattle.sq_model.specs.Rows.{RisesFrom};
     ghost use Rattle.sq_shard.specs.ShardValue.{ShardValue, home_of};
 
     ghost Value = { ShardValue };
 
-    ghost view = { λ a. record { site = a.site; home = home_of a.status a.settings a.version a.next (S.rows a.store); no_slot = S.no_slot a.store } };
+    ghost view = { λ a. record { site = a.site; home = home_of a.status a.settings a.version a.next (S.rows a.store) } };
 
     ghost use Rattle.sq_shard.specs.declared.shard.Status.TheVariants.{Unopened};
 
-    ghost invariant = { λ a. record { rising : RisesFrom 0 (S.rows a.store) a.next; empty : a.status ≡ Unopened → S.rows a.store ≡ [] } };
+    ghost invariant = { λ a. record { rising : RisesFrom 0 (S.rows a.store) a.next; empty : a.status ≡ Unopened → S.rows a.store ≡ []; within : length (S.rows a.store) ≤ a.site.limits.rows } };
 }
 
 impl<S: Store> Shard<S> {
     /// A home that was never opened, over a store without rows.
     pub fn unopened(site: Site, store: S) -> Shard<S>
-        requires rows { S.rows store ≡ [] }
-        requires slot { S.no_slot store ≡ false }
-        ensures { result ≡ record { site = site; home = Never; no_slot = false } }
+        requires { S.rows store ≡ [] }
+        ensures { result ≡ record { site = site; home = Never } }
     {
         Shard {
             site,
@@ -84,15 +83,16 @@ impl<S: Store> Shard<S> {
     }
 
     /// Which home it is, and its limits.
-    pub fn site(&self) -> &Site
-        ensures { result.now ≡ self.now.site }
+    pub fn site(&self) -> Site
+        ensures { result ≡ self.now.site }
     {
-        &self.site
+        let Shard { site, .. } = self;
+        *site
     }
 
     /// Takes settings whose version is above its own; opens a home that was never opened.
     /// Refused as QueueDoesNotExist where the home is closed.
-    #[tactic(auto, unfolding(sq_model::specs::Homes::HomeStep, sq_model::specs::Homes::home_refusal), using(sq_model::proofs::RowLaws::rises_trimmed))]
+    #[tactic(auto, unfolding(sq_model::specs::Homes::HomeStep, sq_model::specs::Homes::home_refusal), using(sq_model::proofs::RowLaws::rises_trimmed, crate::proofs::Few::few_trimmed))]
     pub fn configure(
         &mut self,
         moment: u64,
@@ -101,7 +101,7 @@ impl<S: Store> Shard<S> {
     ) -> Result<(), Refusal>
         ensures step { OnOk result (HomeStep self.old.site self.old.home moment (Configure settings version) Done self.new.home) }
         ensures site { self.new.site ≡ self.old.site }
-        ensures refusal { IfErr result (λ e. home_refusal self.old.site self.old.no_slot self.old.home moment (Configure settings version) ≡ Some e) }
+        ensures refusal { IfErr result (λ e. home_refusal self.old.site self.old.home moment (Configure settings version) ≡ Some e) }
         ensures err { OnErr result (self.new ≡ self.old) }
     {
         match self.status {
@@ -125,8 +125,8 @@ impl<S: Store> Shard<S> {
     }
 
     /// Puts a message last; without a delay the home's is taken.
-    /// Refused as NoMemory, QueueDoesNotExist (not serving), Worn (no serial or no slot is left), OverLimit (full).
-    #[tactic(auto, unfolding(sq_model::specs::Homes::HomeStep, sq_model::specs::Homes::home_refusal), using(sq_model::proofs::RowLaws::rises_trimmed, sq_model::proofs::RowLaws::rises_push))]
+    /// Refused as NoMemory, QueueDoesNotExist (not serving), Worn (no serial is left), OverLimit (full).
+    #[tactic(auto, unfolding(sq_model::specs::Homes::HomeStep, sq_model::specs::Homes::home_refusal), using(sq_model::proofs::RowLaws::rises_trimmed, crate::proofs::Few::few_trimmed, sq_model::proofs::RowLaws::rises_push, crate::proofs::Few::few_pushed, crate::proofs::Few::full_refused))]
     pub fn send(
         &mut self,
         moment: u64,
@@ -136,7 +136,7 @@ impl<S: Store> Shard<S> {
         requires { moment < 4611686018427387904 }
         ensures step { IfOk result (λ sent. HomeStep self.old.site self.old.home moment (Send body delay) (Sent sent) self.new.home) }
         ensures site { self.new.site ≡ self.old.site }
-        ensures refusal { IfErr result (λ e. (e ≡ Refusal.NoMemory) ⊎ (home_refusal self.old.site self.old.no_slot self.old.home moment (Send body delay) ≡ Some e)) }
+        ensures refusal { IfErr result (λ e. (e ≡ Refusal.NoMemory) ⊎ (home_refusal self.old.site self.old.home moment (Send body delay) ≡ Some e)) }
         ensures err { OnErr result (self.new ≡ self.old) }
     {
         let Status::Serving = self.status else {
@@ -146,9 +146,6 @@ impl<S: Store> Shard<S> {
         let Some(after) = Serial::new(self.next.get() + 1) else {
             return Err(Refusal::Worn);
         };
-        if !self.store.has_slot() {
-            return Err(Refusal::Worn);
-        }
         if self.store.count_kept(&self.settings, moment) >= self.site.limits.rows as usize {
             return Err(Refusal::OverLimit);
         }
@@ -165,7 +162,7 @@ impl<S: Store> Shard<S> {
     /// What a look at this moment gives, as it stands after it, and nothing is changed yet: up to `max` messages,
     /// or none where live messages are there and too many are in flight.
     /// Refused as NoMemory, QueueDoesNotExist (not serving).
-    #[tactic(auto, unfolding(sq_model::specs::Homes::HomeStep, sq_model::specs::Homes::home_refusal), using(sq_model::proofs::RowLaws::rises_trimmed, sq_model::proofs::RowLaws::rises_received))]
+    #[tactic(auto, unfolding(sq_model::specs::Homes::HomeStep, sq_model::specs::Homes::home_refusal), using(sq_model::proofs::RowLaws::rises_trimmed, crate::proofs::Few::few_trimmed, sq_model::proofs::RowLaws::rises_received, crate::proofs::Few::few_mapped))]
     pub fn choose(
         &self,
         alloc: Global,
@@ -175,7 +172,7 @@ impl<S: Store> Shard<S> {
     ) -> Result<Option<Rows>, Refusal>
         requires { moment < 4611686018427387904 }
         ensures step { IfOk result (λ given. HomeStep self.now.site self.now.home moment (Look max timeout) (look_reply given) (look_after self.now.home moment timeout given)) }
-        ensures refusal { IfErr result (λ e. (e ≡ Refusal.NoMemory) ⊎ (home_refusal self.now.site self.now.no_slot self.now.home moment (Look max timeout) ≡ Some e)) }
+        ensures refusal { IfErr result (λ e. (e ≡ Refusal.NoMemory) ⊎ (home_refusal self.now.site self.now.home moment (Look max timeout) ≡ Some e)) }
     {
         let Status::Serving = self.status else {
             return Err(Refusal::QueueDoesNotExist);
@@ -192,7 +189,7 @@ impl<S: Store> Shard<S> {
     }
 
     /// Receives the live rows that were chosen; without a timeout the home's is taken.
-    #[tactic(auto, using(sq_model::proofs::RowLaws::rises_trimmed, sq_model::proofs::RowLaws::rises_received))]
+    #[tactic(auto, using(sq_model::proofs::RowLaws::rises_trimmed, crate::proofs::Few::few_trimmed, sq_model::proofs::RowLaws::rises_received, crate::proofs::Few::few_mapped))]
     pub fn give(&mut self, moment: u64, timeout: Option<Timeout>, given: &Option<Rows>)
         requires { moment < 4611686018427387904 }
         ensures home { self.new.home ≡ look_after self.old.home moment timeout given.now }
@@ -223,7 +220,7 @@ impl<S: Store> Shard<S> {
         requires { moment < 4611686018427387904 }
         ensures step { IfOk result (λ given. HomeStep self.old.site self.old.home moment (Look max timeout) (look_reply given) self.new.home) }
         ensures site { self.new.site ≡ self.old.site }
-        ensures refusal { IfErr result (λ e. (e ≡ Refusal.NoMemory) ⊎ (home_refusal self.old.site self.old.no_slot self.old.home moment (Look max timeout) ≡ Some e)) }
+        ensures refusal { IfErr result (λ e. (e ≡ Refusal.NoMemory) ⊎ (home_refusal self.old.site self.old.home moment (Look max timeout) ≡ Some e)) }
         ensures err { OnErr result (self.new ≡ self.old) }
     {
         let hidden_for = timeout;
@@ -234,11 +231,11 @@ impl<S: Store> Shard<S> {
 
     /// Takes out the row on which slot, serial and receive number agree; where there is none it is done too.
     /// Refused as QueueDoesNotExist (not serving), ReceiptHandleIsInvalid (a serial that was never given).
-    #[tactic(auto, unfolding(sq_model::specs::Homes::HomeStep, sq_model::specs::Homes::home_refusal), using(sq_model::proofs::RowLaws::rises_trimmed, sq_model::proofs::RowLaws::rises_without))]
+    #[tactic(auto, unfolding(sq_model::specs::Homes::HomeStep, sq_model::specs::Homes::home_refusal), using(sq_model::proofs::RowLaws::rises_trimmed, crate::proofs::Few::few_trimmed, sq_model::proofs::RowLaws::rises_without, crate::proofs::Few::few_without))]
     pub fn delete(&mut self, moment: u64, receipt: Receipt) -> Result<(), Refusal>
         ensures step { OnOk result (HomeStep self.old.site self.old.home moment (Delete receipt) Done self.new.home) }
         ensures site { self.new.site ≡ self.old.site }
-        ensures refusal { IfErr result (λ e. home_refusal self.old.site self.old.no_slot self.old.home moment (Delete receipt) ≡ Some e) }
+        ensures refusal { IfErr result (λ e. home_refusal self.old.site self.old.home moment (Delete receipt) ≡ Some e) }
         ensures err { OnErr result (self.new ≡ self.old) }
     {
         let Status::Serving = self.status else {
@@ -250,5 +247,96 @@ impl<S: Store> Shard<S> {
         self.store.trim(&self.settings, moment);
         self.store.take(&receipt);
         Ok(())
+    }
+
+    /// Hides a message in flight for so many seconds from the moment on, and for no longer than 12 hours after its
+    /// last receive; with 0 it is visible at once.
+    /// Refused as QueueDoesNotExist (not serving), ReceiptHandleIsInvalid (a serial that was never given),
+    /// MessageNotInflight (no row in flight on which slot, serial and receive number agree), InvalidParameterValue
+    /// (later than these 12 hours).
+    #[tactic(auto, unfolding(sq_model::specs::Homes::HomeStep, sq_model::specs::Homes::home_refusal), using(sq_model::proofs::RowLaws::rises_trimmed, crate::proofs::Few::few_trimmed, sq_model::proofs::RowLaws::rises_changed, crate::proofs::Few::few_mapped))]
+    pub fn change(&mut self, moment: u64, receipt: Receipt, timeout: Timeout) -> Result<(), Refusal>
+        requires { moment < 4611686018427387904 }
+        ensures step { OnOk result (HomeStep self.old.site self.old.home moment (Change receipt timeout) Done self.new.home) }
+        ensures site { self.new.site ≡ self.old.site }
+        ensures refusal { IfErr result (λ e. home_refusal self.old.site self.old.home moment (Change receipt timeout) ≡ Some e) }
+        ensures err { OnErr result (self.new ≡ self.old) }
+    {
+        let Status::Serving = self.status else {
+            return Err(Refusal::QueueDoesNotExist);
+        };
+        if self.next <= receipt.serial {
+            return Err(Refusal::ReceiptHandleIsInvalid);
+        }
+        if !self.store.has_held(&self.settings, moment, &receipt) {
+            return Err(Refusal::MessageNotInflight);
+        }
+        if self
+            .store
+            .has_late(&self.settings, moment, &receipt, timeout)
+        {
+            return Err(Refusal::InvalidParameterValue);
+        }
+        let until = after_seconds(moment, timeout.get());
+        self.store.trim(&self.settings, moment);
+        self.store.change(&receipt, moment, until);
+        Ok(())
+    }
+
+    /// Takes out all messages, those in flight or delayed among them; serials go on.
+    /// Refused as QueueDoesNotExist (not serving).
+    #[tactic(auto, unfolding(sq_model::specs::Homes::HomeStep, sq_model::specs::Homes::home_refusal))]
+    pub fn purge(&mut self, moment: u64) -> Result<(), Refusal>
+        ensures step { OnOk result (HomeStep self.old.site self.old.home moment Purge Done self.new.home) }
+        ensures site { self.new.site ≡ self.old.site }
+        ensures refusal { IfErr result (λ e. home_refusal self.old.site self.old.home moment Purge ≡ Some e) }
+        ensures err { OnErr result (self.new ≡ self.old) }
+    {
+        if let Status::Closed | Status::Unopened = self.status {
+            return Err(Refusal::QueueDoesNotExist);
+        }
+        self.store.clear();
+        Ok(())
+    }
+
+    /// How many messages are visible, in flight and delayed.
+    /// Refused as QueueDoesNotExist (not serving).
+    #[tactic(auto, unfolding(sq_model::specs::Homes::HomeStep, sq_model::specs::Homes::home_refusal), using(sq_model::proofs::RowLaws::rises_trimmed, crate::proofs::Few::few_trimmed))]
+    pub fn count(&mut self, moment: u64) -> Result<Counts, Refusal>
+        ensures step { IfOk result (λ counts. HomeStep self.old.site self.old.home moment Count (Counted counts) self.new.home) }
+        ensures site { self.new.site ≡ self.old.site }
+        ensures refusal { IfErr result (λ e. home_refusal self.old.site self.old.home moment Count ≡ Some e) }
+        ensures err { OnErr result (self.new ≡ self.old) }
+    {
+        let Status::Serving = self.status else {
+            return Err(Refusal::QueueDoesNotExist);
+        };
+        let counts = self.store.count(&self.settings, moment);
+        self.store.trim(&self.settings, moment);
+        Ok(counts)
+    }
+
+    /// Closes the home for good, and lets go of its messages.
+    /// Refused as QueueDoesNotExist (closed already).
+    #[tactic(auto, unfolding(sq_model::specs::Homes::HomeStep, sq_model::specs::Homes::home_refusal))]
+    pub fn close(&mut self, moment: u64) -> Result<(), Refusal>
+        ensures step { OnOk result (HomeStep self.old.site self.old.home moment Close Done self.new.home) }
+        ensures site { self.new.site ≡ self.old.site }
+        ensures refusal { IfErr result (λ e. home_refusal self.old.site self.old.home moment Close ≡ Some e) }
+        ensures err { OnErr result (self.new ≡ self.old) }
+    {
+        if let Status::Closed = self.status {
+            return Err(Refusal::QueueDoesNotExist);
+        }
+        self.status = Status::Closed;
+        self.store.clear();
+        Ok(())
+    }
+
+    /// Whether the home is closed; it stays so.
+    pub fn is_closed(&self) -> bool
+        ensures { result ≡ true ↔ self.now.home ≡ Gone }
+    {
+        matches!(self.status, Status::Closed)
     }
 }

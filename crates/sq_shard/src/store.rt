@@ -1,13 +1,16 @@
 //! What a home keeps its rows in.
-ghost use Rattle.std.specs.Prelude.{◌≡◌, ◌++◌, ◌∷◌, [], ℕ, ◌<◌, ◌≤◌, Bool, List, length, count_by, map, not, true, false, IfOk, IfErr, OnOk};
+ghost use Rattle.std.specs.Prelude.{◌≡◌, ◌+◌, ◌++◌, ◌∷◌, [], ℕ, ◌<◌, ◌≤◌, ◌&&◌, List, length, count_by, map, true, IfOk, IfErr, OnOk};
 ghost use Rattle.std.specs.List.{list_any};
 ghost use Rattle.sq_base.specs.declared.row.Row.{Row};
-ghost use Rattle.sq_model.specs.Rows.{trimmed, is_flying, is_live, IsLook, RisesFrom, serials_of, received_if, without, is_free};
+ghost use Rattle.sq_model.specs.Homes.{counts_of};
+ghost use Rattle.sq_model.specs.Rows.{ms, trimmed, is_flying, is_live, is_held, is_late, changed_if, IsLook, RisesFrom, serials_of, received_if, without, is_free};
 
+use sq_base::ranges::Timeout;
 use sq_base::refusal::Refusal;
 use sq_base::row::Row;
 use sq_base::settings::Settings;
 use sq_model::calls::Receipt;
+use sq_model::replies::Counts;
 use sq_model::rows::Rows;
 use std::alloc::Global;
 
@@ -18,9 +21,6 @@ pub trait Store: Drop {
 
     /// For how many more rows there is memory.
     ghost reserved: { Self → ℕ };
-
-    /// Whether no slot below 2^32 is left for a row more.
-    ghost no_slot: { Self → Bool };
 
     /// How many rows a trim at this moment keeps.
     fn count_kept(&self, settings: &Settings, moment: u64) -> usize
@@ -34,9 +34,25 @@ pub trait Store: Drop {
     fn has_live(&self, settings: &Settings, moment: u64) -> bool
         ensures { result ≡ list_any (is_live settings.now moment) (trimmed settings.now moment (rows self.now)) };
 
-    /// Whether a slot is left for a row more.
-    fn has_slot(&self) -> bool
-        ensures { result ≡ not (no_slot self.now) };
+    /// Whether one of these is the row of a receipt, and in flight.
+    fn has_held(&self, settings: &Settings, moment: u64, receipt: &Receipt) -> bool
+        ensures { result ≡ list_any (is_held moment receipt.now) (trimmed settings.now moment (rows self.now)) };
+
+    /// Whether that row would be hidden for more than 12 hours after its last receive, if it were hidden for so many
+    /// seconds from the moment on.
+    fn has_late(
+        &self,
+        settings: &Settings,
+        moment: u64,
+        receipt: &Receipt,
+        timeout: Timeout,
+    ) -> bool
+        ensures { result ≡ list_any (λ row. is_held moment receipt.now row && is_late (moment + ms timeout) row.last_receive) (trimmed settings.now moment (rows self.now)) };
+
+    /// How many of these are in which state.
+    fn count(&self, settings: &Settings, moment: u64) -> Counts
+        requires { length (rows self.now) < 4294967296 }
+        ensures { result ≡ counts_of moment (trimmed settings.now moment (rows self.now)) };
 
     /// Up to `max` of the live ones, as they stand after a receive that hides them until a moment.
     fn pick(
@@ -54,20 +70,18 @@ pub trait Store: Drop {
     /// Makes room for one more row.
     fn reserve(&mut self) -> Result<(), Refusal>
         ensures rows { rows self.new ≡ rows self.old }
-        ensures slot { no_slot self.new ≡ no_slot self.old }
         ensures reserved { OnOk result (0 < reserved self.new) }
         ensures err { IfErr result (λ e. e ≡ Refusal.NoMemory) };
 
     /// Leaves out the rows past their retention.
     fn trim(&mut self, settings: &Settings, moment: u64)
         ensures rows { rows self.new ≡ trimmed settings.now moment (rows self.old) }
-        ensures slot { no_slot self.old ≡ false → no_slot self.new ≡ false }
         ensures reserved { reserved self.old ≤ reserved self.new };
 
     /// Puts a row last, in a slot that no row has, and gives the slot.
     fn insert(&mut self, row: Row) -> u32
         requires reserved { 0 < reserved self.old }
-        requires slot { no_slot self.old ≡ false }
+        requires slot { length (rows self.old) < 4294967296 }
         ensures free { is_free result (rows self.old) ≡ true }
         ensures rows { rows self.new ≡ rows self.old ++ record row { slot = result } ∷ [] };
 
@@ -78,4 +92,12 @@ pub trait Store: Drop {
     /// Takes out the row on which slot, serial and receive number agree.
     fn take(&mut self, receipt: &Receipt)
         ensures { rows self.new ≡ without receipt.now (rows self.old) };
+
+    /// Hides the row of a receipt until another moment, where it is in flight.
+    fn change(&mut self, receipt: &Receipt, moment: u64, until: u64)
+        ensures { rows self.new ≡ map (changed_if moment receipt.now until) (rows self.old) };
+
+    /// Takes out all rows.
+    fn clear(&mut self)
+        ensures { rows self.new ≡ [] };
 }

@@ -1,22 +1,31 @@
 -- No answer has a float.
-use Rattle.std.proofs.Common.{◌≡◌, false, List, [], ◌∷◌, map, refl}
+use Rattle.std.proofs.Common.{◌≡◌, false, true, Bool, List, [], ◌∷◌, map, refl, ℕ}
 use Rattle.serde_json.specs.View.{items_of}
 use Rattle.serde_json.specs.Written.{has_float, items_have_float}
 use Rattle.sq_base.specs.declared.ids.HomeId.{HomeId}
 use Rattle.sq_base.specs.declared.row.Row.{Row}
+use Rattle.sq_wire.specs.declared.calls.AskedAttributes.{AskedAttributes}
 use Rattle.sq_wire.specs.declared.calls.Answer.{Answer}
 use Rattle.sq_wire.specs.declared.calls.Answer.TheVariants.{Queue, Sent, Received, Done}
-use Rattle.sq_wire.specs.Replies.{message_data, received_data, answer_data}
+use Rattle.sq_wire.specs.Replies.{attributes_data, told_data, message_data, received_data, answer_data}
 
-messages_no_float : (home : HomeId) (rows : List Row) → items_have_float (items_of (map (message_data home) rows)) ≡ false
-messages_no_float home [] = refl
-messages_no_float home (row ∷ rows) = messages_no_float home rows
+-- the attributes, where each test has a value
+told_no_float : (count sent : Bool) (row : Row) (body digest id handle : List ℕ) → has_float (told_data (attributes_data (record { receive_count = count; sent_timestamp = sent }) row) body digest id handle) ≡ false
+told_no_float true true row body digest id handle = refl
+told_no_float true false row body digest id handle = refl
+told_no_float false true row body digest id handle = refl
+told_no_float false false row body digest id handle = refl
 
-received_no_float : (home : HomeId) (rows : List Row) → has_float (received_data home rows) ≡ false
-received_no_float home rows = rw messages_no_float refl
+messages_no_float : (asked : AskedAttributes) (home : HomeId) (rows : List Row) → items_have_float (items_of (map (message_data asked home) rows)) ≡ false
+messages_no_float asked home [] = refl
+messages_no_float asked home (row ∷ rows) =
+    rw (told_no_float asked.receive_count asked.sent_timestamp row _ _ _ _, messages_no_float asked home rows) refl
+
+received_no_float : (asked : AskedAttributes) (home : HomeId) (rows : List Row) → has_float (received_data asked home rows) ≡ false
+received_no_float asked home rows = rw messages_no_float refl
 
 pub answer_no_float : (answer : Answer) → has_float (answer_data answer) ≡ false
 answer_no_float (Queue name) = refl
 answer_no_float (Sent id digest) = refl
-answer_no_float (Received given) = received_no_float given.home given.rows
+answer_no_float (Received given) = received_no_float given.attributes given.home given.rows
 answer_no_float Done = refl

@@ -9,7 +9,7 @@ use Rattle.sq_model.specs.declared.place.Site.{Site}
 use Rattle.sq_model.specs.declared.replies.HomeReply.TheVariants.{Looked}
 use Rattle.sq_model.specs.Homes.{Home, Unopened, Serving, Closed, HomeStep}
 use Rattle.sq_model.specs.Rows.{is_live, received, IsLook}
-use Rattle.sq_wire.specs.Replies.{AreReceived}
+use Rattle.sq_wire.specs.GivenValue.{AreReceived}
 
 all_received : (m until : ℕ) (rows : List Row) → AreReceived (map (received m until) rows)
 all_received m until rows = All-map (λ row. 1 ≤ row.receives) (received m until) rows (λ k row below. omega arith)

@@ -1,8 +1,10 @@
 pub mod RequestLaws
+pub mod DigitLaws
+pub mod AttributeLaws
+pub mod AgreeLaws
 pub mod AsciiLaws
 pub mod FloatLaws
 pub mod GivenLaws
-pub mod ToldLaws
 pub mod LineLaws
 pub mod RunLaws
 pub mod WriteLaws

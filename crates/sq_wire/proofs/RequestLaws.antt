@@ -1,14 +1,14 @@
 -- Reading a request.
-use Rattle.std.proofs.Common.{◌≡◌, ℕ, Bool, true, false, not, List, [], ◌∷◌, length, refl, arith, ap, sym, ◌∙◌, ◌≤◌, Err, Ok, Result, inl, inr, ◌⊎◌, ◌<◌, ◌+◌, suc}
-use Rattle.std.specs.Prelude.{IsTrue, ◌↔◌, String, nat_lt, ◌||◌, ◌==◌, if◌then◌else◌}
+use Rattle.std.proofs.Common.{◌≡◌, ℕ, Bool, true, false, not, List, [], ◌∷◌, length, refl, arith, ap, sym, ◌∙◌, ◌≤◌, Err, Result, inl, inr, ◌⊎◌, ◌<◌, suc}
+use Rattle.std.specs.Prelude.{String, nat_lt, ◌||◌, ◌==◌}
 use Rattle.sq_base.specs.declared.refusal.Refusal.{Refusal}
 use Rattle.sq_base.specs.declared.refusal.Refusal.TheVariants.{NoMemory}
 use Rattle.std.proofs.lemmas.Bool.{lt-ltb, le-ltb}
-use Rattle.std.proofs.lemmas.Grind.{common_steps}
 use Rattle.std.specs.declared.alloc.Global.{Global}
 use Rattle.serde_json.specs.declared.value.Value.{Value}
 use Rattle.serde_json.specs.View.{members_view}
-use Rattle.sq_wire.specs.Requests.{Reads, is_empty}
+use Rattle.sq_wire.specs.Reading.{Reads}
+use Rattle.sq_wire.specs.Members.{is_empty}
 
 -- what is refused reads so
 pub reads_refused : {A : Type 0} (e : Refusal) (read : Result A Refusal) → read ≡ Err e → Reads (Err e) read

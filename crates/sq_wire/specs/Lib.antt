@@ -1,6 +1,12 @@
+pub mod GivenValue
+pub mod Reading
+pub mod Members
+pub mod Attributes
+pub mod Actions
 pub mod Requests
 pub mod NamesValue
 pub mod WorldValue
+pub mod Created
 pub mod Worlds
 pub mod Calls
 pub mod Replies

@@ -1,11 +1,9 @@
 -- The texts of replies.
-use Rattle.std.specs.Prelude.{ℕ, ◌≤◌, List, ◌++◌, map, codes, Result, Ok, Err}
-use Rattle.std.specs.List.{All}
+use Rattle.std.specs.Prelude.{ℕ, List, ◌++◌, map, codes, Bool, true, false, ◌||◌, if◌then◌else◌, Option, Some, None, Result, Ok, Err, decimal}
 use Rattle.std.specs.Int.{w128, to_be_bytes}
-use Rattle.std.specs.Str.{IsAscii}
 use Rattle.hex.specs.Hex.{encode_lower}
 use Rattle.md5.specs.Md5.{md5}
-use Rattle.serde_json.specs.Data.{Data, object, array, string, member, no_members}
+use Rattle.serde_json.specs.Data.{Data, object, array, string, Members, member, no_members}
 use Rattle.serde_json.specs.View.{items_of}
 use Rattle.serde_json.specs.Written.{compact_text}
 use Rattle.uuid.specs.Text.{hyphenated_text, lower}
@@ -18,6 +16,7 @@ use Rattle.sq_base.specs.declared.row.Row.{Row}
 use Rattle.sq_base.specs.Handles.{handle_text}
 use Rattle.sq_base.specs.MessageIds.{id_number}
 use Rattle.sq_base.specs.Refusals.{name_of}
+use Rattle.sq_wire.specs.declared.calls.AskedAttributes.{AskedAttributes}
 use Rattle.sq_wire.specs.declared.calls.Answer.{Answer}
 use Rattle.sq_wire.specs.declared.calls.Answer.TheVariants.{Queue, Sent, Received, Done}
 
@@ -71,39 +70,44 @@ queue_data name = object (member (codes "QueueUrl") (string (queue_url name)) no
 abbrev pub sent_data : List ℕ → List ℕ → Data
 sent_data digest id = object (member (codes "MD5OfMessageBody") (string digest) (member (codes "MessageId") (string id) no_members))
 
--- a message of a receive (SQS API Reference, Message)
-abbrev pub told_data : List ℕ → List ℕ → List ℕ → List ℕ → Data
-told_data body digest id handle =
-    object (member (codes "Body") (string body)
+-- a member that is there where the test is true
+abbrev pub member_if : Bool → List ℕ → Data → Members → Members
+member_if true name d rest = member name d rest
+member_if false name d rest = rest
+
+-- the attributes of a message that are asked for: how often it was received, and the moment in ms at which it was sent
+-- (SQS API Reference, ReceiveMessage, MessageSystemAttributeNames)
+abbrev pub attributes_data : AskedAttributes → Row → Option Data
+attributes_data asked row = if asked.receive_count || asked.sent_timestamp then Some (object
+    (member_if asked.receive_count (codes "ApproximateReceiveCount") (string (decimal row.receives))
+    (member_if asked.sent_timestamp (codes "SentTimestamp") (string (decimal row.enqueued)) no_members))) else None
+
+abbrev pub told_members : List ℕ → List ℕ → List ℕ → List ℕ → Members
+told_members body digest id handle =
+    member (codes "Body") (string body)
     (member (codes "MD5OfBody") (string digest)
     (member (codes "MessageId") (string id)
-    (member (codes "ReceiptHandle") (string handle) no_members))))
+    (member (codes "ReceiptHandle") (string handle) no_members)))
 
-abbrev pub message_data : HomeId → Row → Data
-message_data home row = told_data row.body (encode_lower (md5 row.body)) (id_text row.id) (handle_text (handle_of home row))
+-- a message of a receive (SQS API Reference, Message)
+abbrev pub told_data : Option Data → List ℕ → List ℕ → List ℕ → List ℕ → Data
+told_data None body digest id handle = object (told_members body digest id handle)
+told_data (Some attributes) body digest id handle = object (member (codes "Attributes") attributes (told_members body digest id handle))
 
-abbrev pub received_data : HomeId → List Row → Data
-received_data home rows = object (member (codes "Messages") (array (items_of (map (message_data home) rows))) no_members)
+abbrev pub message_data : AskedAttributes → HomeId → Row → Data
+message_data asked home row =
+    told_data (attributes_data asked row) row.body (encode_lower (md5 row.body)) (id_text row.id) (handle_text (handle_of home row))
+
+abbrev pub received_data : AskedAttributes → HomeId → List Row → Data
+received_data asked home rows = object (member (codes "Messages") (array (items_of (map (message_data asked home) rows))) no_members)
 
 abbrev pub answer_data : Answer → Data
 answer_data (Queue name) = queue_data name
 answer_data (Sent id digest) = sent_data digest (id_text id)
-answer_data (Received given) = received_data given.home given.rows
+answer_data (Received given) = received_data given.attributes given.home given.rows
 answer_data Done = object no_members
 
 -- the text of a reply: JSON with no space, and the members of an object in the order of their bytes
 abbrev pub reply_text_of : Result Answer Refusal → List ℕ
 reply_text_of (Ok answer) = compact_text (answer_data answer)
 reply_text_of (Err refusal) = error_text refusal
-
--- all of these rows were received
-abbrev pub AreReceived : List Row → Type 0
-AreReceived rows = All (λ row. 1 ≤ row.receives) rows
-
--- what an answer tells can be told: a digest is ASCII, and the rows that are given were received
-abbrev pub GivenWell : Result Answer Refusal → Type 0
-GivenWell (Ok (Queue name)) = Unit {0}
-GivenWell (Ok (Sent id digest)) = IsAscii digest
-GivenWell (Ok (Received given)) = AreReceived given.rows
-GivenWell (Ok Done) = Unit {0}
-GivenWell (Err refusal) = Unit {0}

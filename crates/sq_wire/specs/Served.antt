@@ -1,5 +1,5 @@
 -- The options that a world takes, and the world that it begins as.
-use Rattle.std.specs.Prelude.{ℕ, zero, suc, ◌+◌, ◌≡◌, ◌≤◌, false, List, [], ◌∷◌, ◌++◌}
+use Rattle.std.specs.Prelude.{ℕ, zero, suc, ◌+◌, ◌≡◌, ◌≤◌, List, [], ◌∷◌, ◌++◌}
 use Rattle.sq_base.specs.Stamps.{start}
 use Rattle.sq_model.specs.Homes.{Unopened}
 use Rattle.sq_model.specs.declared.place.Limits.{Limits}
@@ -19,7 +19,7 @@ pub record IsServed (o : Options) : Type 0 where
 -- the home of a queue that was never made
 abbrev pub never_opened : Limits → ℕ → HistoryValue
 never_opened limits queue =
-    record { site = record { home = record { queue = queue; home = 0 }; limits = limits }; home = Unopened; no_slot = false; last = start; events = [] }
+    record { site = record { home = record { queue = queue; home = 0 }; limits = limits }; home = Unopened; last = start; events = [] }
 
 -- those of so many queues
 abbrev pub never_opened_homes : Limits → ℕ → List HistoryValue

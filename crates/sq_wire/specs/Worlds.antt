@@ -1,22 +1,16 @@
--- What a call does to a world: its steps in their order, and what is told of them.
-use Rattle.std.specs.Prelude.{◌≡◌, ◌⊎◌, ℕ, ◌+◌, ◌-◌, ◌≤◌, List, [], ◌∷◌, ◌++◌, length, position, option_map, unwrap_or, is_some, slice_get, slice_set, if◌then◌else◌, Option, Some, None, Result, Ok, Err}
+-- A step of a call at the home of a queue.
+use Rattle.std.specs.Prelude.{◌≡◌, ◌⊎◌, ℕ, ◌+◌, ◌-◌, List, slice_get, slice_set, if◌then◌else◌, Some, None}
 use Rattle.std.specs.Ordering.{is_lt}
-use Rattle.std.specs.Str.{bytes_eq}
 use Rattle.sq_base.specs.StampValue.{StampValue}
-use Rattle.sq_base.specs.Stamps.{after, stamp_cmp}
+use Rattle.sq_base.specs.Stamps.{stamp_cmp}
 use Rattle.sq_base.specs.declared.refusal.Refusal.{Refusal}
-use Rattle.sq_base.specs.declared.refusal.Refusal.TheVariants.{NoMemory, Worn, QueueDoesNotExist, TableFull}
+use Rattle.sq_base.specs.declared.refusal.Refusal.TheVariants.{Worn, QueueDoesNotExist}
 use Rattle.sq_model.specs.declared.calls.HomeCall.{HomeCall}
 use Rattle.sq_model.specs.declared.event.Actor.{Actor}
 use Rattle.sq_history.specs.HistoryValue.{HistoryValue}
 use Rattle.sq_history.specs.HomeNote.{HomeNote}
 use Rattle.sq_history.specs.Histories.{Records, IsRefused}
-use Rattle.sq_wire.specs.NamesValue.{NamesValue}
 use Rattle.sq_wire.specs.WorldValue.{WorldValue}
-
--- the number of the queue of a name: the n-th that was made has number n
-abbrev pub number_of : List ℕ → List (List ℕ) → Option ℕ
-number_of name made = option_map (λ at. at + 1) (position (λ other. bytes_eq other name) made)
 
 -- the greater of two stamps
 abbrev pub later : StampValue → StampValue → StampValue
@@ -29,20 +23,6 @@ acted actor stamp = record { number = actor.number; place = actor.place + 1; see
 -- the actor after it has looked at the names
 abbrev pub looked : WorldValue → WorldValue
 looked w = record w { actor = record w.actor { seen = later w.actor.seen w.names.last } }
-
--- A name is made, where it is not there yet; the queue of it has this number.
-pub record Creates (old new : NamesValue) (by : Actor) (now : ℕ) (name : List ℕ) (queue : ℕ) (stamp : StampValue) : Type 0 where
-  pub stamped : after old.last by.seen now ≡ Ok stamp
-  pub last : new.last ≡ stamp
-  pub number : queue ≡ unwrap_or (number_of name old.made) (length old.made + 1)
-  pub made : new.made ≡ (if is_some (number_of name old.made) then old.made else old.made ++ name ∷ [])
-  pub places : new.places ≡ old.places
-
-abbrev pub CreateRefused : NamesValue → Actor → ℕ → List ℕ → Refusal → Type 0
-CreateRefused old by now name e =
-    (e ≡ NoMemory)
-    ⊎ (after old.last by.seen now ≡ Err e)
-    ⊎ ((stamp : StampValue) × (after old.last by.seen now ≡ Ok stamp) × (number_of name old.made ≡ None) × (old.places ≤ length old.made) × (e ≡ TableFull))
 
 -- One step at the home of a queue: its history goes on by one event, the actor has done one step more, and all else stays.
 pub record Steps (old new : WorldValue) (now : ℕ) (name : List ℕ) (queue : ℕ) (call : HomeCall) (note : HomeNote) : Type 0 where

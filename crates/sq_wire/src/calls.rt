@@ -1,20 +1,34 @@
 //! Requests and replies as values (SQS API Reference).
 ghost use Rattle.std.specs.Prelude.{◌≡◌, IfOk, IfErr};
 
+use crate::digest::Digest;
+use crate::given::Given;
 use sq_base::handle::Handle;
-use sq_base::ids::HomeId;
 use sq_base::message_id::MessageId;
 use sq_base::name::QueueName;
-use sq_base::ranges::{Delay, MaxMessages, Timeout};
+use sq_base::ranges::{Delay, MaxMessages, Retention, Timeout, WaitTime};
 use sq_base::refusal::Refusal;
-use sq_model::rows::Rows;
 use std::alloc::Global;
 use std::marker::Model;
 
-/// CreateQueue, with the default attributes.
+/// The numeric attributes that a queue is given.
+#[derive(Clone, Copy, PartialEq, Eq, Debug)]
+pub struct QueueAttributes {
+    /// DelaySeconds.
+    pub delay: Option<Delay>,
+    /// MessageRetentionPeriod.
+    pub retention: Option<Retention>,
+    /// ReceiveMessageWaitTimeSeconds.
+    pub wait_time: Option<WaitTime>,
+    /// VisibilityTimeout.
+    pub timeout: Option<Timeout>,
+}
+
+/// CreateQueue; an attribute that is not given has its default.
 #[derive(Clone, Copy, PartialEq, Eq, Debug)]
 pub struct CreateQueue {
     pub name: QueueName,
+    pub attributes: QueueAttributes,
 }
 
 /// The text of a body whose characters are not checked yet.
@@ -57,12 +71,22 @@ pub struct SendMessage {
     pub delay: Option<Delay>,
 }
 
+/// The attributes that a received message is told with.
+#[derive(Clone, Copy, PartialEq, Eq, Debug)]
+pub struct AskedAttributes {
+    /// ApproximateReceiveCount.
+    pub receive_count: bool,
+    /// SentTimestamp.
+    pub sent_timestamp: bool,
+}
+
 /// ReceiveMessage.
 #[derive(Clone, Copy, PartialEq, Eq, Debug)]
 pub struct ReceiveMessage {
     pub queue: QueueName,
     pub max: MaxMessages,
     pub timeout: Option<Timeout>,
+    pub attributes: AskedAttributes,
 }
 
 /// DeleteMessage; without a handle where its text is none.
@@ -72,6 +96,14 @@ pub struct DeleteMessage {
     pub handle: Option<Handle>,
 }
 
+/// ChangeMessageVisibility; without a handle where its text is none.
+#[derive(Clone, Copy, PartialEq, Eq, Debug)]
+pub struct ChangeMessageVisibility {
+    pub queue: QueueName,
+    pub handle: Option<Handle>,
+    pub timeout: Timeout,
+}
+
 /// A request of a client.
 #[derive(Drop)]
 pub enum Call {
@@ -79,6 +111,7 @@ pub enum Call {
     SendMessage(SendMessage),
     ReceiveMessage(ReceiveMessage),
     DeleteMessage(DeleteMessage),
+    ChangeMessageVisibility(ChangeMessageVisibility),
 }
 
 /// A request with the clock reading of its line, in ms, where it has one.
@@ -88,20 +121,13 @@ pub struct Request {
     pub call: Call,
 }
 
-/// The messages that a home gave, as they stand in it.
-#[derive(Drop)]
-pub struct Given {
-    pub home: HomeId,
-    pub rows: Rows,
-}
-
 /// What a client is told where its request is not refused.
 #[derive(Drop)]
 pub enum Answer {
     /// The queue whose URL is told.
     Queue(QueueName),
-    /// The id of a message that was sent, and the MD5 digest of its body in hexadecimal digits.
-    Sent(MessageId, [u8; 32]),
+    /// The id of a message that was sent, and the digest of its body.
+    Sent(MessageId, Digest),
     Received(Given),
     Done,
 }

@@ -1,10 +1,15 @@
 //! Lines of requests in, lines of replies out.
 #![tactic(auto)]
 
+pub mod actions;
+pub mod attributes;
 pub mod buffer;
 pub mod calls;
 pub mod counted;
+pub mod digest;
+pub mod given;
 pub mod lines;
+pub mod members;
 pub mod names;
 pub mod options;
 pub mod put;

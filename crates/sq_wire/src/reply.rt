@@ -1,14 +1,14 @@
 //! The text of a reply.
-ghost use Rattle.std.specs.Prelude.{◌≡◌, ◌≤◌, IfOk, OnErr, IsOk, Ok, string_bytes};
-ghost use Rattle.std.specs.Str.{IsAscii};
+ghost use Rattle.std.specs.Prelude.{◌≡◌, ◌≤◌, IfOk, OnErr, IsOk, option_map, string_bytes};
 ghost use Rattle.serde_json.specs.View.{view};
 ghost use Rattle.serde_json.specs.Written.{compact_text};
-ghost use Rattle.sq_wire.specs.Replies.{error_text, handle_of, queue_data, sent_data, told_data, message_data, id_text, received_data, answer_data, reply_text_of, AreReceived, GivenWell};
+ghost use Rattle.sq_wire.specs.Replies.{error_text, handle_of, queue_data, sent_data, attributes_data, told_data, message_data, id_text, received_data, answer_data, reply_text_of};
 
-use crate::calls::{Answer, Given};
-use crate::text::Text;
+use crate::calls::{Answer, AskedAttributes};
+use crate::digest::Digest;
+use crate::given::Given;
+use crate::text::{Text, ascii_text};
 use serde_json::{Value, json};
-use sq_base::body::body_md5;
 use sq_base::handle::{Handle, write_handle};
 use sq_base::ids::HomeId;
 use sq_base::message_id::MessageId;
@@ -24,7 +24,6 @@ mod tests;
 
 /// The line that a client is sent, without its line feed. A refusal takes no memory.
 pub fn reply_text(alloc: Global, reply: &Result<Answer, Refusal>) -> Result<Text, AllocError>
-    requires { GivenWell reply.now }
     ensures text { IfOk result (λ text. text ≡ reply_text_of reply.now) }
     ensures refused { OnErr reply.now (IsOk result) }
 {
@@ -81,21 +80,19 @@ fn error_text(refusal: Refusal) -> &'static str
 }
 
 fn answer_text(alloc: Global, answer: &Answer) -> Result<String, AllocError>
-    requires { GivenWell (Ok answer.now) }
     ensures { IfOk result (λ text. string_bytes text ≡ compact_text (answer_data answer.now)) }
 {
     answer_value(alloc, answer)?.to_string(alloc)
 }
 
 fn answer_value(alloc: Global, answer: &Answer) -> Result<Value, AllocError>
-    requires { GivenWell (Ok answer.now) }
     ensures { IfOk result (λ v. view v ≡ answer_data answer.now) }
 {
     match answer {
         Answer::Queue(name) => queue_value(alloc, name),
         Answer::Sent(id, digest) => {
             let mut uuid = Uuid::encode_buffer();
-            sent_value(alloc, ascii_text(digest), id_text(id, &mut uuid))
+            sent_value(alloc, digest.as_str(), id_text(id, &mut uuid))
         }
         Answer::Received(given) => received_value(alloc, given),
         Answer::Done => json!(in alloc; {}),
@@ -117,49 +114,84 @@ fn sent_value(alloc: Global, digest: &str, id: &str) -> Result<Value, AllocError
 }
 
 fn received_value(alloc: Global, given: &Given) -> Result<Value, AllocError>
-    requires { AreReceived given.now.rows }
-    ensures { IfOk result (λ v. view v ≡ received_data given.now.home given.now.rows) }
+    ensures { IfOk result (λ v. view v ≡ received_data given.now.attributes given.now.home given.now.rows) }
 {
+    let asked = given.attributes();
+    let home = given.home();
     let mut list = Vec::new(alloc);
-    for row in given.rows.as_slice() {
-        list.push(message_value(alloc, &given.home, row)?)?;
+    for row in given.rows() {
+        list.push(message_value(alloc, asked, home, row)?)?;
     }
     json!(in alloc; {"Messages": Value::Array(list)})
 }
 
-fn message_value(alloc: Global, home: &HomeId, row: &Row) -> Result<Value, AllocError>
+fn message_value(
+    alloc: Global,
+    asked: &AskedAttributes,
+    home: &HomeId,
+    row: &Row,
+) -> Result<Value, AllocError>
     requires { 1 ≤ row.now.receives }
-    ensures { IfOk result (λ v. view v ≡ message_data home.now row.now) }
+    ensures { IfOk result (λ v. view v ≡ message_data asked.now home.now row.now) }
 {
-    let digest = body_md5(&row.body);
+    let digest = Digest::of(&row.body);
     let mut uuid = Uuid::encode_buffer();
     let id = id_text(&row.id, &mut uuid);
     let mut handle = [0u8; 51];
     write_handle(&handle_of(home, row), &mut handle);
-    told_value(
-        alloc,
-        row.body.as_str(),
-        ascii_text(&digest),
-        id,
-        ascii_text(&handle),
-    )
+    let attributes = attributes_value(alloc, asked, row)?;
+    let body = row.body.as_str();
+    let handle = ascii_text(&handle);
+    told_value(alloc, attributes, body, digest.as_str(), id, handle)
+}
+
+// The attributes of a message that are asked for, where one is.
+fn attributes_value(
+    alloc: Global,
+    asked: &AskedAttributes,
+    row: &Row,
+) -> Result<Option<Value>, AllocError>
+    ensures { IfOk result (λ v. option_map view v ≡ attributes_data asked.now row.now) }
+{
+    let count = row.receives.to_string(alloc)?;
+    let sent = row.enqueued.to_string(alloc)?;
+    let attributes = match (asked.receive_count, asked.sent_timestamp) {
+        (true, true) => json!(in alloc; {
+            "ApproximateReceiveCount": Value::String(count),
+            "SentTimestamp": Value::String(sent)
+        })?,
+        (true, false) => json!(in alloc; {"ApproximateReceiveCount": Value::String(count)})?,
+        (false, true) => json!(in alloc; {"SentTimestamp": Value::String(sent)})?,
+        (false, false) => return Ok(None),
+    };
+    Ok(Some(attributes))
 }
 
 fn told_value(
     alloc: Global,
+    attributes: Option<Value>,
     body: &str,
     digest: &str,
     id: &str,
     handle: &str,
 ) -> Result<Value, AllocError>
-    ensures { IfOk result (λ v. view v ≡ told_data body.now digest.now id.now handle.now) }
+    ensures { IfOk result (λ v. view v ≡ told_data (option_map view attributes) body.now digest.now id.now handle.now) }
 {
-    json!(in alloc; {
-        "Body": body,
-        "MD5OfBody": digest,
-        "MessageId": id,
-        "ReceiptHandle": handle
-    })
+    match attributes {
+        Some(attributes) => json!(in alloc; {
+            "Attributes": attributes,
+            "Body": body,
+            "MD5OfBody": digest,
+            "MessageId": id,
+            "ReceiptHandle": handle
+        }),
+        None => json!(in alloc; {
+            "Body": body,
+            "MD5OfBody": digest,
+            "MessageId": id,
+            "ReceiptHandle": handle
+        }),
+    }
 }
 
 /// The UUID of an id in lower case, written into a buffer.
@@ -181,15 +213,5 @@ fn handle_of(home: &HomeId, row: &Row) -> Handle
         slot: row.slot,
         serial: row.serial,
         receive: Receives::of(row.receives),
-    }
-}
-
-fn ascii_text(bytes: &[u8]) -> &str
-    requires { IsAscii bytes.now }
-    ensures { result.now ≡ bytes.now }
-{
-    match str::from_utf8(bytes) {
-        Ok(text) => text,
-        Err(_) => "",
     }
 }

@@ -1,7 +1,6 @@
 //! A line of a script and its reply.
 ghost use Rattle.std.specs.Prelude.{IfOk, OnErr};
 ghost use Rattle.sq_wire.specs.Scripts.{script_at, LineTold, Gives, Loses};
-ghost use Rattle.sq_wire.specs.Replies.{GivenWell};
 
 use crate::calls::Answer;
 use crate::reply::reply_text;
@@ -13,8 +12,7 @@ use std::alloc::{AllocError, Global};
 
 // Does what a line asks; its clock reading stands for the lines after it that have none.
 fn tell(alloc: Global, world: &mut World, clock: &mut u64, line: &[u8]) -> Result<Answer, Refusal>
-    ensures told { LineTold (script_at world.old clock.old) line.now result (script_at world.new clock.new) }
-    ensures well { GivenWell result }
+    ensures { LineTold (script_at world.old clock.old) line.now result (script_at world.new clock.new) }
 {
     let request = read_request(alloc, line)?;
     if let Some(reading) = request.clock {

@@ -172,6 +172,65 @@ fn other_handles_are_refused(rt: HostRuntime) -> Result<(), Fail> {
     Ok(())
 }
 
+const URL: &str = "\"QueueUrl\":\"http://localhost/000000000000/q\"";
+
+fn created(alloc: Global, attributes: &str) -> Result<String, Fail> {
+    let line = format!(in alloc;
+        "{{\"Action\":\"CreateQueue\",\"Attributes\":{{{attributes}}},\"QueueName\":\"q\"}}\n"
+    )?;
+    Ok(line)
+}
+
+#[test]
+fn a_queue_keeps_the_attributes_that_it_was_made_with(rt: HostRuntime) -> Result<(), Fail> {
+    let first = created(rt.alloc(), "\"DelaySeconds\":\"05\"")?;
+    let equal = created(rt.alloc(), "\"DelaySeconds\":5,\"VisibilityTimeout\":30")?;
+    let none = created(rt.alloc(), "")?;
+    let other = created(rt.alloc(), "\"DelaySeconds\":0")?;
+    let exists = "{\"Error\":{\"Code\":\"QueueNameExists\",\"Number\":10}}";
+    let script = format!(in rt.alloc(); "{first}{equal}{none}{other}{SEND}{RECEIVE}")?;
+    assert!(rt;
+        is_answered(
+            rt.alloc(),
+            script.as_bytes(),
+            &[CREATED, CREATED, CREATED, exists, SENT, "{\"Messages\":[]}"]
+        )?
+    );
+    Ok(())
+}
+
+#[test]
+fn a_message_is_visible_again_when_its_visibility_is_changed(rt: HostRuntime) -> Result<(), Fail> {
+    let change = "\"Action\":\"ChangeMessageVisibility\",\"VisibilityTimeout\":0";
+    let now = format!(in rt.alloc();
+        "{{{change},{URL},\"ReceiptHandle\":\"000000000001-000-00000000-0000000000000000-00000001\"}}\n"
+    )?;
+    let no_handle = format!(in rt.alloc(); "{{{change},{URL},\"ReceiptHandle\":\"\"}}\n")?;
+    let again = format!(in rt.alloc();
+        "{{\"Action\":\"ReceiveMessage\",\"AttributeNames\":[\"All\"],\"Now\":1500,{URL}}}\n"
+    )?;
+    let told =
+        "{\"Messages\":[{\"Attributes\":{\"ApproximateReceiveCount\":\"2\",\"SentTimestamp\":\"1000\"},\"Body\":\"hello\",\"MD5OfBody\":\"5d41402abc4b2a76b9719d911017c592\",\"MessageId\":\"00000000-0001-8000-8000-000000000000\",\"ReceiptHandle\":\"000000000001-000-00000000-0000000000000000-00000002\"}]}";
+    let not_in_flight = "{\"Error\":{\"Code\":\"MessageNotInflight\",\"Number\":16}}";
+    let script = format!(in rt.alloc(); "{CREATE}{SEND}{RECEIVE}{no_handle}{now}{now}{again}")?;
+    assert!(rt;
+        is_answered(
+            rt.alloc(),
+            script.as_bytes(),
+            &[
+                CREATED,
+                SENT,
+                RECEIVED,
+                NO_HANDLE,
+                "{}",
+                not_in_flight,
+                told
+            ]
+        )?
+    );
+    Ok(())
+}
+
 #[test]
 fn lines_that_are_no_requests_are_refused(rt: HostRuntime) -> Result<(), Fail> {
     let refused = "{\"Error\":{\"Code\":\"InvalidRequest\",\"Number\":4}}";

@@ -1,5 +1,6 @@
 //! The text of a reply.
 ghost use Rattle.std.specs.Prelude.{◌≡◌};
+ghost use Rattle.std.specs.Str.{IsAscii};
 ghost use Rattle.std.specs.String.{string_bytes};
 
 use std::marker::Model;
@@ -53,5 +54,16 @@ impl Text {
             Kept::Made(text) => text.as_bytes(),
             Kept::Fixed(text) => text.as_bytes(),
         }
+    }
+}
+
+/// ASCII bytes as a text.
+pub fn ascii_text(bytes: &[u8]) -> &str
+    requires { IsAscii bytes.now }
+    ensures { result.now ≡ bytes.now }
+{
+    match str::from_utf8(bytes) {
+        Ok(text) => text,
+        Err(_) => "",
     }
 }

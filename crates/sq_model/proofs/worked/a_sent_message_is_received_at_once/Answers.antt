@@ -7,7 +7,7 @@ use Rattle.sq_model.proofs.worked.a_sent_message_is_received_at_once.Goals as go
 
 pub returns-clause-sent : goal.returns-clause-sent
 unfolding HomeStep
-returns-clause-sent c = (record { not_worn = omega arith; within = omega arith; free = refl }, refl, refl)
+returns-clause-sent c = (record { not_worn = omega arith; slot_left = omega arith; within = omega arith; free = refl }, refl, refl)
 
 pub returns-clause-received : goal.returns-clause-received
 unfolding HomeStep

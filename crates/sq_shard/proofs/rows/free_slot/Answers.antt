@@ -1,5 +1,5 @@
 use Rattle.std.proofs.Common.{◌+◌, arith, rules, length}
-use Rattle.sq_shard.proofs.Lists.{taken_by, taken_more}
+use Rattle.sq_model.proofs.SlotLaws.{taken_by, taken_more}
 use Rattle.sq_shard.proofs.rows.free_slot.Goals as goal
 
 pub returns : goal.returns

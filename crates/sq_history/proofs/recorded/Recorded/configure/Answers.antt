@@ -4,6 +4,4 @@ use Rattle.sq_history.proofs.HistoryLaws.{kept_more}
 use Rattle.sq_history.proofs.recorded.Recorded.configure.Goals as goal
 
 pub invariant_of-self-2 : goal.invariant_of-self-2
-invariant_of-self-2 g c =
-    kept_more (record { site = c.self.inside.shard.site; home = c.self.inside.shard.home; no_slot = c.self.inside.shard.no_slot; last = c.self.inside.log.last; events = c.self.inside.log.events.items }) _
-    c.args.by.now c.args.now c.args.name (Configure c.args.settings.now c.args.version) c.add.result c.self.invariant (search rules)
+invariant_of-self-2 g c = kept_more _ _ c.args.by.now c.args.now c.args.name (Configure c.args.settings.now c.args.version) c.add.result c.self.invariant (search rules)

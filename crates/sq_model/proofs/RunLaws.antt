@@ -1,0 +1,122 @@
+-- What holds of each part of the system alone holds of the run.
+use Rattle.std.proofs.Common.{◌≡◌, ◌≢◌, ℕ, zero, suc, ◌≤◌, true, false, cond, List, [], ◌∷◌, refl, ap, ◌∙◌, subst, inl, inr, arith, Option, Some, None, slice_get, slice_set}
+use Rattle.std.specs.Prelude.{nat_eq, ◌==◌}
+use Rattle.std.specs.List.{AllByRecursion}
+use Rattle.std.proofs.lemmas.Grind.{common_steps}
+use Rattle.std.proofs.lemmas.Bool.Decides.{eqb_tells}
+use Rattle.sq_model.specs.declared.place.Component.TheVariants as part
+use Rattle.sq_model.specs.declared.place.Site.{Site}
+use Rattle.sq_model.specs.Replays.{HomeEvent, Replays}
+use Rattle.sq_model.specs.Homes.{Home, HomeStep}
+use Rattle.sq_model.specs.Directories.{Directory, DirectoryStep}
+use Rattle.sq_model.specs.Systems.{HomeAt, System, Tag, DirectoryEvent, OfDirectory, OfHome, stamp_of, RunFrom, MomentsRise, is_alone, AreDirectory, HomeGoes, opening, IsRun}
+use Rattle.sq_model.specs.Merges.{of_directory, of_home, is_before, InOrder, IsMerged, history_at}
+
+one_number : (n : ℕ) → nat_eq n n ≡ true
+one_number n = grind (arith, common_steps)
+
+get_same : {X : Type 0} (xs : List X) (i : ℕ) (old new : X) → slice_get xs i ≡ Some old → slice_get (slice_set xs i new) i ≡ Some new
+get_same [] i old new h = absurd cc
+get_same (x ∷ xs) zero old new h = refl
+get_same (x ∷ xs) (suc i) old new h = get_same xs i old new h
+
+get_other : {X : Type 0} (xs : List X) (i j : ℕ) (new : X) → i ≢ j → slice_get (slice_set xs i new) j ≡ slice_get xs j
+get_other [] i j new ne = refl
+get_other (x ∷ xs) zero zero new ne = absurd (ne refl)
+get_other (x ∷ xs) zero (suc j) new ne = refl
+get_other (x ∷ xs) (suc i) zero new ne = refl
+get_other (x ∷ xs) (suc i) (suc j) new ne = get_other xs i j new (λ e. ne (ap suc e))
+
+same_at : (a b : HomeAt) → a.site ≡ b.site → a.home ≡ b.home → a ≡ b
+same_at a b s h = ap (λ (x : Site). record { site = x; home = a.home }) s ∙ ap (λ (x : Home). record { site = b.site; home = x }) h
+
+-- what does nothing at a place leaves what is there
+stays : (old new : Option HomeAt) → HomeGoes old [] new → new ≡ old
+stays (Some old) (Some new) h = ap Some (same_at new old h.0 h.2)
+stays None None h = refl
+stays (Some old) None h = absurd h
+stays None (Some new) h = absurd h
+
+all_stay : (olds news : List HomeAt) → ((i : ℕ) → HomeGoes (slice_get olds i) [] (slice_get news i)) → news ≡ olds
+all_stay [] [] h = refl
+all_stay [] (new ∷ news) h = absurd (h 0)
+all_stay (old ∷ olds) [] h = absurd (h 0)
+all_stay (old ∷ olds) (new ∷ news) h =
+    let first : Some new ≡ Some old = stays (Some old) (Some new) (h 0) in
+    let rest : news ≡ olds = all_stay olds news (λ i. h (suc i)) in cc
+
+same_system : (a b : System) → a.directory ≡ b.directory → a.homes ≡ b.homes → a ≡ b
+same_system a b d h = ap (λ (x : Directory). record { directory = x; homes = a.homes }) d ∙ ap (λ (x : List HomeAt). record { directory = b.directory; homes = x }) h
+
+-- what is left of each home after an event of the home at i
+left_each : (olds news : List HomeAt) (i : ℕ) (es : ℕ → List HomeEvent) (e : HomeEvent) (old : HomeAt) (mid : Home) → slice_get olds i ≡ Some old
+    → ((j : ℕ) → HomeGoes (slice_get olds j) (cond (i == j) (e ∷ es j) (es j)) (slice_get news j))
+    → HomeGoes (Some (record { site = old.site; home = mid })) (es i) (slice_get news i)
+    → (j : ℕ) → HomeGoes (slice_get (slice_set olds i (record { site = old.site; home = mid })) j) (es j) (slice_get news j)
+left_each olds news i es e old mid there each rest j =
+    elim (eqb_tells i j) as (λ _. HomeGoes (slice_get (slice_set olds i (record { site = old.site; home = mid })) j) (es j) (slice_get news j)) [
+      | inl p ↦ subst (λ (k : ℕ). HomeGoes (slice_get (slice_set olds i (record { site = old.site; home = mid })) k) (es k) (slice_get news k)) p.1
+          (rw (get_same olds i old (record { site = old.site; home = mid }) there) rest)
+      | inr p ↦ rw (get_other olds i j (record { site = old.site; home = mid }) p.1) (rw p.0 at (each j))
+    ]
+
+-- the first event of a home's part is a step of it, and the others go on from there
+record HeadSteps (o : Option HomeAt) (e : HomeEvent) (es : List HomeEvent) (n : Option HomeAt) : Type 0 where
+  old : HomeAt
+  mid : Home
+  there : o ≡ Some old
+  component : e.component ≡ part.Home old.site.home
+  alone : is_alone e.call ≡ true
+  step : HomeStep old.site old.home e.stamp.moment e.call e.reply mid
+  rest : HomeGoes (Some (record { site = old.site; home = mid })) es n
+
+head_steps : (o : Option HomeAt) (e : HomeEvent) (es : List HomeEvent) (n : Option HomeAt) → HomeGoes o (e ∷ es) n → HeadSteps o e es n
+head_steps (Some old) e es (Some new) h =
+    record { old = old; mid = h.2.0; there = refl; component = h.1.0; alone = h.1.1; step = h.2.1; rest = (h.0, h.1.2, h.2.2) }
+head_steps None e es None h = absurd cc
+head_steps (Some old) e es None h = absurd h
+head_steps None e es (Some new) h = absurd h
+
+-- where the events of each part lead to its value, the whole list is a run
+pub run_from : (before after : System) (ts : List Tag)
+    → ((i : ℕ) → HomeGoes (slice_get before.homes i) (of_home i ts) (slice_get after.homes i))
+    → AreDirectory (of_directory ts) → Replays DirectoryStep before.directory (of_directory ts) after.directory
+    → RunFrom before ts after
+run_from before after [] each own directory = same_system after before directory (all_stay before.homes after.homes each)
+run_from before after (OfDirectory e ∷ ts) each own directory =
+    let mid : System = record { directory = directory.0; homes = before.homes } in
+    (mid, record { component = own.0; step = directory.1; homes = refl }, run_from mid after ts each own.1 directory.2)
+run_from before after (OfHome i e ∷ ts) each own directory =
+    let h = head_steps (slice_get before.homes i) e (of_home i ts) (slice_get after.homes i) (rw (one_number i) at (each i)) in
+    let mid : System = record { directory = before.directory; homes = slice_set before.homes i (record { site = h.old.site; home = h.mid }) } in (
+      mid,
+      record { old = h.old; new = h.mid; there = h.there; component = h.component; alone = h.alone; step = h.step; homes = refl; directory = refl },
+      run_from mid after ts (left_each before.homes after.homes i (λ j. of_home j ts) e h.old h.mid h.there each h.rest) own directory,
+    )
+
+-- what is sorted by stamp has moments that never fall
+not_less : (t u : Tag) → is_before u t ≡ false → (stamp_of t).moment ≤ (stamp_of u).moment
+not_less t u h = grind (arith, common_steps)
+
+all_not_less : (t : Tag) (ts : List Tag) → AllByRecursion (λ u. is_before u t ≡ false) ts → AllByRecursion (λ u. (stamp_of t).moment ≤ (stamp_of u).moment) ts
+all_not_less t [] h = tt
+all_not_less t (u ∷ ts) h = (not_less t u h.0, all_not_less t ts h.1)
+
+pub rises_all : (low : ℕ) (ts : List Tag) → AllByRecursion (λ u. low ≤ (stamp_of u).moment) ts → InOrder is_before ts → MomentsRise low ts
+rises_all low [] all order = tt
+rises_all low (t ∷ ts) all order = (all.0, rises_all (stamp_of t).moment ts (all_not_less t ts order.0) order.1)
+
+none_below_zero : (ts : List Tag) → AllByRecursion (λ u. 0 ≤ (stamp_of u).moment) ts
+none_below_zero [] = tt
+none_below_zero (t ∷ ts) = (omega arith, none_below_zero ts)
+
+-- histories that are merged are one run
+pub merged_run : (places : ℕ) (sites : List Site) (directory : List DirectoryEvent) (homes : List (List HomeEvent)) (run : List Tag) (after : System)
+    → IsMerged directory homes run
+    → ((i : ℕ) → HomeGoes (slice_get (opening places sites).homes i) (history_at homes i) (slice_get after.homes i))
+    → AreDirectory directory → Replays DirectoryStep (opening places sites).directory directory after.directory
+    → IsRun places sites run after
+merged_run places sites directory homes run after merged each own goes = record {
+  steps = run_from (opening places sites) after run (λ i. rw (merged.of_each_home i) (each i)) (rw merged.of_the_directory own) (rw merged.of_the_directory goes);
+  moments = rises_all 0 run (none_below_zero run) merged.in_order;
+}

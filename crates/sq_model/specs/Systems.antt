@@ -1,0 +1,110 @@
+-- The whole system: the queues and all their homes, and how it goes on from event to event.
+use Rattle.std.specs.Prelude.{◌≡◌, ℕ, ◌≤◌, Bool, true, false, ◌&&◌, ◌==◌, List, [], ◌∷◌, map, count_by, slice_get, slice_set, Option, Some, None}
+use Rattle.sq_base.specs.StampValue.{StampValue}
+use Rattle.sq_base.specs.declared.ids.HomeId.{HomeId}
+use Rattle.sq_model.specs.declared.place.Site.{Site}
+use Rattle.sq_model.specs.declared.place.Component.TheVariants as part
+use Rattle.sq_model.specs.declared.calls.HomeCall.{HomeCall}
+use Rattle.sq_model.specs.declared.calls.HomeCall.TheVariants.{Configure, Close, Send, Look, Delete, Change, Purge, Count}
+use Rattle.sq_model.specs.declared.event.Event.{Event}
+use Rattle.sq_model.specs.declared.directory.DirectoryCall.{DirectoryCall}
+use Rattle.sq_model.specs.declared.directory.DirectoryReply.{DirectoryReply}
+use Rattle.sq_model.specs.Replays.{HomeEvent, Replays}
+use Rattle.sq_model.specs.Homes.{Home, Unopened, HomeStep}
+use Rattle.sq_model.specs.Directories.{Directory, DirectoryStep}
+
+-- a home and where it stands
+pub record HomeAt : Type 0 where
+  pub site : Site
+  pub home : Home
+
+pub record System : Type 0 where
+  pub directory : Directory
+  pub homes : List HomeAt
+
+abbrev pub DirectoryEvent : Type 0
+DirectoryEvent = Event DirectoryCall DirectoryReply
+
+-- an event, and the part of the system that it is of: the directory, or the home at a place in the list of all homes
+pub data Tag : Type 0 where
+  OfDirectory : DirectoryEvent → Tag
+  OfHome : ℕ → HomeEvent → Tag
+
+abbrev pub stamp_of : Tag → StampValue
+stamp_of (OfDirectory e) = e.stamp
+stamp_of (OfHome i e) = e.stamp
+
+-- a call that is a home's alone; the others are shared with the ledger
+abbrev pub is_alone : HomeCall → Bool
+is_alone (Configure t w) = true
+is_alone Close = true
+is_alone (Send body delay) = true
+is_alone (Look max timeout) = true
+is_alone (Delete receipt) = true
+is_alone (Change receipt timeout) = true
+is_alone Purge = true
+is_alone Count = true
+is_alone call = false
+
+-- the event is a step of the directory, and the homes stay
+pub record DirectorySteps (before : System) (e : DirectoryEvent) (after : System) : Type 0 where
+  pub component : e.component ≡ part.Directory
+  pub step : DirectoryStep before.directory e.stamp.moment e.call e.reply after.directory
+  pub homes : after.homes ≡ before.homes
+
+-- the event is a step of the home at this place, and all else stays
+pub record HomeSteps (before : System) (i : ℕ) (e : HomeEvent) (after : System) : Type 0 where
+  pub old : HomeAt
+  pub new : Home
+  pub there : slice_get before.homes i ≡ Some old
+  pub component : e.component ≡ part.Home old.site.home
+  pub alone : is_alone e.call ≡ true
+  pub step : HomeStep old.site old.home e.stamp.moment e.call e.reply new
+  pub homes : after.homes ≡ slice_set before.homes i (record { site = old.site; home = new })
+  pub directory : after.directory ≡ before.directory
+
+abbrev pub IsStep : System → Tag → System → Type 0
+IsStep before (OfDirectory e) after = DirectorySteps before e after
+IsStep before (OfHome i e) after = HomeSteps before i e after
+
+-- from a system, by these events in order, to another
+abbrev pub RunFrom : System → List Tag → System → Type 0
+RunFrom before [] after = after ≡ before
+RunFrom before (t ∷ ts) after = (mid : System) × IsStep before t mid × RunFrom mid ts after
+
+-- moments never fall
+abbrev pub MomentsRise : ℕ → List Tag → Type 0
+MomentsRise low [] = Unit {0}
+MomentsRise low (t ∷ ts) = (low ≤ (stamp_of t).moment) × MomentsRise (stamp_of t).moment ts
+
+-- no queue, and homes that were never opened
+abbrev pub opening : ℕ → List Site → System
+opening places sites = record { directory = record { queues = []; places = places }; homes = map (λ site. record { site = site; home = Unopened }) sites }
+
+abbrev pub same_home : HomeId → HomeId → Bool
+same_home x y = (y.queue == x.queue) && (y.home == x.home)
+
+-- each home stands at one place
+abbrev pub IsOnePlace : List Site → Type 0
+IsOnePlace sites = (x : HomeId) → count_by (λ site. same_home x site.home) sites ≤ 1
+
+-- a run of the whole system from its opening
+pub record IsRun (places : ℕ) (sites : List Site) (run : List Tag) (after : System) : Type 0 where
+  pub steps : RunFrom (opening places sites) run after
+  pub moments : MomentsRise 0 run
+
+-- these are events of this home alone
+abbrev pub AreOwn : HomeId → List HomeEvent → Type 0
+AreOwn home [] = Unit {0}
+AreOwn home (e ∷ es) = (e.component ≡ part.Home home) × (is_alone e.call ≡ true) × AreOwn home es
+
+-- these are events of the directory
+abbrev pub AreDirectory : List DirectoryEvent → Type 0
+AreDirectory [] = Unit {0}
+AreDirectory (e ∷ es) = (e.component ≡ part.Directory) × AreDirectory es
+
+-- the home of a place goes by these events from one value to another
+abbrev pub HomeGoes : Option HomeAt → List HomeEvent → Option HomeAt → Type 0
+HomeGoes (Some old) es (Some new) = (new.site ≡ old.site) × AreOwn old.site.home es × Replays (HomeStep old.site) old.home es new.home
+HomeGoes None es None = es ≡ []
+HomeGoes old es new = ⊥

@@ -1,0 +1,52 @@
+-- Rows stay as few as they may be.
+use Rattle.std.proofs.Common.{◌≡◌, ℕ, ◌+◌, ◌<◌, ◌≤◌, List, [], ◌∷◌, ◌++◌, length, map, Option, Some, Bool, true, false, not, cond, arith, refl, subst}
+use Rattle.std.specs.Prelude.{filter, count_by, nat_le}
+use Rattle.std.proofs.lemmas.Grind.{common_steps}
+use Rattle.std.proofs.lemmas.List.{length-map}
+use Rattle.std.proofs.lemmas.List.Sums.{length-filter}
+use Rattle.sq_base.specs.declared.refusal.Refusal.{Refusal}
+use Rattle.sq_base.specs.declared.refusal.Refusal.TheVariants.{OverLimit}
+use Rattle.sq_base.specs.declared.row.Row.{Row}
+use Rattle.sq_base.specs.declared.settings.Settings.{Settings}
+use Rattle.sq_model.specs.declared.calls.Receipt.{Receipt}
+use Rattle.sq_model.specs.declared.place.Limits.{Limits}
+use Rattle.sq_model.specs.Homes.{place_refusal, last_serial, slots}
+use Rattle.sq_model.specs.Rows.{trimmed, is_expired, without, is_named}
+
+few_filtered : (p : Row → Bool) (rows : List Row) (most : ℕ) → length rows ≤ most → length (filter p rows) ≤ most
+few_filtered p [] most le = le
+few_filtered p (row ∷ rows) most le =
+    elim (p row) as (λ b. length (cond b (row ∷ filter p rows) (filter p rows)) ≤ most)
+    [ true ↦ (let rest = few_filtered p rows (length rows) (omega arith) in omega (arith, le, rest)) | false ↦ few_filtered p rows most (omega (arith, le)) ]
+
+pub few_trimmed : (s : Settings) (m : ℕ) (rows : List Row) (most : ℕ) → length rows ≤ most → length (trimmed s m rows) ≤ most
+few_trimmed s m rows most le = few_filtered (λ row. not (is_expired s m row)) rows most le
+
+pub few_without : (receipt : Receipt) (rows : List Row) (most : ℕ) → length rows ≤ most → length (without receipt rows) ≤ most
+few_without receipt rows most le = few_filtered (λ row. not (is_named receipt row)) rows most le
+
+pub few_mapped : (f : Row → Row) (rows : List Row) (most : ℕ) → length rows ≤ most → length (map f rows) ≤ most
+few_mapped f rows most le = rw length-map le
+
+pub few_pushed : (rows : List Row) (row : Row) (most : ℕ) → length rows < most → length (rows ++ row ∷ []) ≤ most
+few_pushed [] row most lt = omega (arith, lt)
+few_pushed (x ∷ rows) row most lt = let rest = few_pushed rows row (length rows + 1) (omega arith) in omega (arith, lt, rest)
+
+pub few_counted : (p : Row → Bool) (s : Settings) (m : ℕ) (rows : List Row) (end : ℕ) → length rows < end → count_by p (trimmed s m rows) < end
+few_counted p s m rows end lt =
+    let kept = few_trimmed s m rows (length rows) (omega arith) in
+    let counted = few_filtered p (trimmed s m rows) (length (trimmed s m rows)) (omega arith) in
+    subst (λ n. n < end) (length-filter p (trimmed s m rows)) (omega (arith, lt, kept, counted))
+
+above : (a b : ℕ) → a < b → nat_le b a ≡ false
+above a b h = grind (arith, common_steps)
+
+upto : (a b : ℕ) → a ≤ b → nat_le a b ≡ true
+upto a b h = grind (arith, common_steps)
+
+-- a home that is full has a slot left, as it may hold fewer rows than there are slots
+pub full_refused : (l : Limits) (next : ℕ) (s : Settings) (m : ℕ) (rows : List Row) (later : Option Refusal)
+    → next < last_serial → l.rows < slots → length rows ≤ l.rows → l.rows ≤ length (trimmed s m rows) → place_refusal l next (trimmed s m rows) later ≡ Some OverLimit
+full_refused l next s m rows later low fits within full =
+    let kept = few_trimmed s m rows l.rows within in
+    rw (above next last_serial low, above (length (trimmed s m rows)) slots (omega (arith, fits, kept)), upto l.rows (length (trimmed s m rows)) full) refl

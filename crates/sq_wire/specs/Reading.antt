@@ -1,0 +1,20 @@
+-- Results of reading.
+use Rattle.std.specs.Prelude.{◌≡◌, Result, Ok, Err}
+use Rattle.sq_base.specs.declared.refusal.Refusal.{Refusal}
+use Rattle.sq_base.specs.declared.refusal.Refusal.TheVariants.{NoMemory}
+
+infixl 10 ◌>>=◌
+abbrev pub ◌>>=◌ : {A B : Type 0} → Result A Refusal → (A → Result B Refusal) → Result B Refusal
+(Ok x) >>= f = f x
+(Err e) >>= f = Err e
+
+-- a result seen by its value
+abbrev pub shown : {X Y E : Type 0} → (X → Y) → Result X E → Result Y E
+shown f (Ok x) = Ok (f x)
+shown f (Err e) = Err e
+
+-- what was read is what reading gives, unless memory ran out
+abbrev pub Reads : {A : Type 0} → Result A Refusal → Result A Refusal → Type 0
+Reads {A} (Ok r) read = read ≡ Ok r
+Reads {A} (Err NoMemory) read = Unit {0}
+Reads {A} (Err e) read = read ≡ Err e
