@@ -1,0 +1,6 @@
+//! Which homes of a queue a call goes to.
+#![tactic(auto)]
+
+pub mod sampler;
+#[cfg(test)]
+mod tests;
