@@ -20,4 +20,6 @@ pub mod script;
 #[cfg(test)]
 mod tests;
 pub mod text;
+#[cfg(test)]
+mod worked;
 pub mod world;
