@@ -1,11 +1,11 @@
 -- The first line of what was read is the first line of all.
 use Rattle.std.proofs.Common.{◌≡◌, ℕ, zero, suc, ◌+◌, ◌<◌, ◌≤◌, Bool, true, false, List, [], ◌∷◌, ◌++◌, length, take, drop, get_or, Option, Some, None, refl, sym, ap, subst, ◌∙◌, append_assoc, arith, add-one}
-use Rattle.std.specs.Prelude.{◌==◌, ◌||◌, IfSome, MatchOption, option_map}
+use Rattle.std.specs.Prelude.{◌==◌, ◌||◌, if◌then◌else◌, IfSome, MatchOption, option_map}
 use Rattle.std.specs.Io.KnownBytes.{Consumes, Keeps, IsAtEnd}
 use Rattle.std.proofs.lemmas.Bool.{eqb-true}
 use Rattle.std.proofs.lemmas.List.{append-nil}
 use Rattle.memchr.specs.Find.{Nowhere, Passes, is_byte, IsFirstByte}
-use Rattle.sq_wire.specs.Lines.{longer, lines_of, lines_left, has_feed, FirstIsOver}
+use Rattle.sq_wire.specs.Lines.{longer, lines_of, lines_left, has_feed, FirstIsOver, FirstIsWithin}
 
 -- one with none before and none in the rest
 no_feed_with : (b : ℕ) (bs : List ℕ) → (b == 10) ≡ false → has_feed bs ≡ false → has_feed (b ∷ bs) ≡ false
@@ -226,6 +226,45 @@ pub line_end : {T : Type 0} (items : T → List ℕ) (begun : List ℕ) (old new
 line_end items begun old new got left None d none l h = line_none begun old new got d h
 line_end items begun old new got left (Some line) d none l h = rw l (line_last begun (items line) old new got d h.1 none h.0)
 
+-- a line that ends near enough to its begin
+pub within_cut : (n : ℕ) (begun ahead : List ℕ) (at : ℕ) → has_feed begun ≡ false → IsCut ahead at → length begun + at ≤ n → FirstIsWithin n (lines_of (begun ++ ahead))
+within_cut n begun ahead at none c le =
+    let front = begun ++ take at ahead in
+    let rest = drop (at + 1) ahead in
+    let all : begun ++ ahead ≡ front ++ (10 ∷ rest) = ap (λ (x : List ℕ). begun ++ x) c.parts ∙ sym (append_assoc begun (take at ahead) (10 ∷ rest)) in
+    let cut : lines_of (begun ++ ahead) ≡ front ∷ lines_of rest = ap lines_of all ∙ cut_lines front rest (no_feed_more begun (take at ahead) none c.front) in
+    subst (λ (l : List (List ℕ)). FirstIsWithin n l) (sym cut) (let e = length_both begun (take at ahead) in let f = length_front ahead at (omega (arith, c.within)) in omega (arith, e, f))
+
+within_whole : (n : ℕ) (xs : List ℕ) → has_feed xs ≡ false → 0 < length xs → length xs ≤ n → FirstIsWithin n (lines_of xs)
+within_whole n [] none lt le = absurd (omega arith)
+within_whole n (b ∷ xs) none lt le = subst (λ (l : List (List ℕ)). FirstIsWithin n l) (sym (whole_line b xs none)) le
+
+-- a line that has no end yet and is within n so far
+pub within_all : (n : ℕ) (begun ahead : List ℕ) → has_feed begun ≡ false → has_feed ahead ≡ false → 0 < length ahead → length begun + length ahead ≤ n → FirstIsWithin n (lines_of (begun ++ ahead))
+within_all n begun ahead none free lt le = let e = length_both begun ahead in within_whole n (begun ++ ahead) (no_feed_more begun ahead none free) (omega (arith, e)) (omega (arith, e))
+
+longer_some : (b : ℕ) (lines : List (List ℕ)) → 0 < length (longer b lines)
+longer_some b [] = omega arith
+longer_some b (l ∷ ls) = omega arith
+
+some_by : (t : Bool) (a b : List (List ℕ)) → 0 < length a → 0 < length b → 0 < length (if t then a else b)
+some_by true a b p q = p
+some_by false a b p q = q
+
+-- a line is there where a byte is
+lines_some : (xs : List ℕ) → 0 < length xs → 0 < length (lines_of xs)
+unfolding lines_of
+lines_some [] lt = absurd (omega arith)
+lines_some (b ∷ xs) lt = some_by (b == 10) ([] ∷ lines_of xs) (longer b (lines_of xs)) (omega arith) (longer_some b (lines_of xs))
+
+-- the same of the lines that are left, where they are known
+pub lines_left_some : (begun ahead : List ℕ) (known : Option (List ℕ)) → 0 < length ahead → IfSome (lines_left (begun ++ ahead) known) (λ lines. 0 < length lines)
+lines_left_some begun ahead None lt = tt
+lines_left_some begun ahead (Some xs) lt = let e = length_both begun ahead in let f = length_both (begun ++ ahead) xs in lines_some ((begun ++ ahead) ++ xs) (omega (arith, e, f))
+
 -- the same bytes, in parts that are equal
+pub within_same : (n : ℕ) (a b c d : List ℕ) → (a ≡ c) × (b ≡ d) → FirstIsWithin n (lines_of (c ++ d)) → FirstIsWithin n (lines_of (a ++ b))
+within_same n a b c d e h = rw (e.0, e.1) h
+
 pub over_same : (n : ℕ) (a b c d : List ℕ) → (a ≡ c) × (b ≡ d) → FirstIsOver n (lines_of (c ++ d)) → FirstIsOver n (lines_of (a ++ b))
 over_same n a b c d e h = rw (e.0, e.1) h

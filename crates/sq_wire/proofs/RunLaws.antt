@@ -104,14 +104,27 @@ so_far_part (Some lines) left rest old new newer world now after n line text par
     }
 
 -- what was written so far
-pub so_far_stops : (all left : Option (List (List ℕ))) (old new : Option (List ℕ)) (world now : ScriptValue) (n m : ℕ) → IsSoFar all left old new world now n → n ≡ m → IfSome all (λ lines. Writes old new world (take m lines) now)
+pub so_far_stops : (all left : Option (List (List ℕ))) (old new : Option (List ℕ)) (world now : ScriptValue) (n m : ℕ) → IsSoFar all left old new world now n → n ≡ m → IfSome all (λ lines. Writes old new world (take m lines) now × (m ≤ length lines))
 so_far_stops None left old new world now n m h e = tt
-so_far_stops (Some lines) left old new world now n m h e = subst (λ (k : ℕ). Writes old new world (take k lines) now) e h.writes
+so_far_stops (Some lines) left old new world now n m h e = (subst (λ (k : ℕ). Writes old new world (take k lines) now) e h.writes, omega (arith, e, h.within))
+
+some_left : (lines : List (List ℕ)) (n : ℕ) → 0 < length (drop n lines) → n < length lines
+some_left [] zero lt = absurd (omega arith)
+some_left [] (suc n) lt = absurd (omega arith)
+some_left (l ∷ ls) zero lt = omega arith
+some_left (l ∷ ls) (suc n) lt = let r = some_left ls n lt in omega (arith, r)
 
 -- there was no memory for the next line
-pub so_far_lost : (all left : Option (List (List ℕ))) (old new : Option (List ℕ)) (world now : ScriptValue) (n : ℕ) → IsSoFar all left old new world now n → IfSome all (λ lines. WritesNoMore old new world lines n now)
-so_far_lost None left old new world now n h = tt
-so_far_lost (Some lines) left old new world now n h = record { mid = now; writes = h.writes; last = inl refl }
+pub so_far_lost : (all left : Option (List (List ℕ))) (old new : Option (List ℕ)) (world now : ScriptValue) (n : ℕ) → IsSoFar all left old new world now n → IfSome left (λ lines. 0 < length lines) → IfSome all (λ lines. WritesNoMore old new world lines n now)
+so_far_lost None left old new world now n h e = tt
+so_far_lost (Some lines) left old new world now n h e =
+    let some : 0 < length (drop n lines) = subst (λ (o : Option (List (List ℕ))). IfSome o (λ l. 0 < length l)) h.left_is e in
+    record { mid = now; writes = h.writes; there = inl (some_left lines n some); last = inl refl }
+
+-- there was none before the first line
+pub so_far_lost_first : (all : Option (List (List ℕ))) (old : Option (List ℕ)) (world : ScriptValue) → IfSome all (λ lines. WritesNoMore old old world lines 0 world)
+so_far_lost_first None old world = tt
+so_far_lost_first (Some lines) old world = record { mid = world; writes = record { out = []; answers = (refl, refl); appends = appends_none old; within = tt }; there = inr refl; last = inl refl }
 
 -- there was none for the answer to the next line
 pub so_far_loses : (all left rest : Option (List (List ℕ))) (old new : Option (List ℕ)) (world now after : ScriptValue) (n : ℕ) (line : List ℕ) → IsSoFar all left old new world now n
@@ -120,7 +133,7 @@ so_far_loses None left rest old new world now after n line h e g = tt
 so_far_loses (Some lines) left rest old new world now after n line h e g =
     let first : option_map (λ more. line ∷ more) rest ≡ Some (drop n lines) = subst (λ (o : Option (List (List ℕ))). IfSome o (λ l. option_map (λ more. line ∷ more) rest ≡ Some l)) h.left_is e in
     let r = next_left lines n line rest first in
-    record { mid = now; writes = h.writes; last = inr (record { line = line; next = r.2.found; loses = g }) }
+    record { mid = now; writes = h.writes; there = inl r.2.within; last = inr (record { line = line; next = r.2.found; loses = g }) }
 
 -- the next line is too long
 pub so_far_over : (all left : Option (List (List ℕ))) (old new : Option (List ℕ)) (world now : ScriptValue) (n : ℕ) → IsSoFar all left old new world now n → IfSome left (λ lines. FirstIsOver 4194304 lines)

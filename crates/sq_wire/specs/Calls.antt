@@ -36,7 +36,7 @@ SendAt w now queue c (Ok told) after =
     (note : HomeNote) × (sent : SentMessage) × Steps w after now c.queue queue (Send c.body c.delay) note
     × (note.reply ≡ reply.Sent sent) × (told ≡ answer.Sent sent.id (encode_lower (md5 c.body)))
 SendAt w now queue c (Err e) after =
-    (after ≡ w) × ((e ≡ NoMemory) ⊎ (body_check c.body 262144 ≡ Err e) ⊎ StepRefused w now queue (Send c.body c.delay) e)
+    (after ≡ w) × ((e ≡ NoMemory) ⊎ (body_check c.body 262144 ≡ Err e) ⊎ ((body_check c.body 262144 ≡ Ok tt) × StepRefused w now queue (Send c.body c.delay) e))
 
 -- ReceiveMessage at a queue: its home is asked; where too many messages are in flight, the call is refused after that
 abbrev pub ReceiveAt : WorldValue → ℕ → ℕ → ReceiveMessage → Result Answer Refusal → WorldValue → Type 0

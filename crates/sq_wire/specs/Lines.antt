@@ -1,5 +1,5 @@
 -- Lines of an input.
-use Rattle.std.specs.Prelude.{ℕ, List, [], ◌∷◌, ◌++◌, ◌==◌, ◌||◌, Bool, false, if◌then◌else◌, Option, option_map, ◌<◌, ◌≡◌, ◌⊎◌, length}
+use Rattle.std.specs.Prelude.{ℕ, List, [], ◌∷◌, ◌++◌, ◌==◌, ◌||◌, Bool, false, if◌then◌else◌, Option, option_map, ◌<◌, ◌≤◌, ◌≡◌, ◌+◌, min, length}
 
 -- a byte before the first of the lines
 abbrev pub longer : ℕ → List (List ℕ) → List (List ℕ)
@@ -25,6 +25,11 @@ abbrev pub FirstIsOver : ℕ → List (List ℕ) → Type 0
 FirstIsOver n [] = ⊥
 FirstIsOver n (line ∷ lines) = n < length line
 
--- a count of failures rose, or stands at its end
-abbrev pub Rose : ℕ → ℕ → Type 0
-Rose before after = (before < after) ⊎ (after ≡ 18446744073709551615)
+-- the first of the lines is there, and no longer than n
+abbrev pub FirstIsWithin : ℕ → List (List ℕ) → Type 0
+FirstIsWithin n [] = ⊥
+FirstIsWithin n (line ∷ lines) = length line ≤ n
+
+-- a count of failed calls is one more, or stands at its end
+abbrev pub OneMore : ℕ → ℕ → Type 0
+OneMore before after = after ≡ min (before + 1) 18446744073709551615

@@ -1,8 +1,8 @@
 -- A world that is asked line after line.
-use Rattle.std.specs.Prelude.{ℕ, List, [], ◌∷◌, ◌++◌, ◌≡◌, ◌≤◌, ◌⊎◌, length, take, drop, Option, slice_get, Some}
+use Rattle.std.specs.Prelude.{ℕ, List, [], ◌∷◌, ◌++◌, ◌≡◌, ◌<◌, ◌≤◌, ◌⊎◌, length, take, drop, Option, slice_get, Some}
 use Rattle.std.specs.Io.KnownBytes.{Appends}
 use Rattle.sq_wire.specs.Scripts.{ScriptValue, Gives, Loses}
-use Rattle.sq_wire.specs.Lines.{Rose, FirstIsOver}
+use Rattle.sq_wire.specs.Lines.{OneMore, FirstIsOver}
 use Rattle.sq_wire.specs.declared.run.ServeFault.{ServeFault}
 use Rattle.sq_wire.specs.declared.run.ServeFault.TheVariants.{Read, Write, NoMemory, TooLong}
 
@@ -42,22 +42,23 @@ pub record LosesNext (world : ScriptValue) (lines : List (List ℕ)) (n : ℕ) (
   pub next : slice_get lines n ≡ Some line
   pub loses : Loses world line after
 
--- the answers to the first n lines were written, and of the next one nothing
+-- the answers to the first n lines were written, and of the next one nothing; it is there, or no line was asked for
 pub record WritesNoMore (old new : Option (List ℕ)) (world : ScriptValue) (lines : List (List ℕ)) (n : ℕ) (after : ScriptValue) : Type 0 where
   pub mid : ScriptValue
   pub writes : Writes old new world (take n lines) mid
+  pub there : (n < length lines) ⊎ (n ≡ 0)
   pub last : (after ≡ mid) ⊎ LosesNext mid lines n after
 
 -- what a fault says of what was written
 abbrev pub StopsAt : ServeFault → List (List ℕ) → Option (List ℕ) → Option (List ℕ) → ScriptValue → ScriptValue → Type 0
-StopsAt (Read n) lines old new world after = Writes old new world (take n lines) after
+StopsAt (Read n) lines old new world after = Writes old new world (take n lines) after × (n ≤ length lines)
 StopsAt (TooLong n) lines old new world after = Writes old new world (take n lines) after × FirstIsOver 4194304 (drop n lines)
 StopsAt (NoMemory n) lines old new world after = WritesNoMore old new world lines n after
 StopsAt (Write n) lines old new world after = WritesPart old new world lines n after
 
--- a fault of reading or writing is one of a call, but for one of reading after 2^40 lines
+-- a fault of reading or writing is one failed call, but for one of reading after 2^40 lines; no other call failed
 abbrev pub IsOfCall : ServeFault → ℕ → ℕ → ℕ → ℕ → Type 0
-IsOfCall (Read n) r r2 w w2 = Rose r r2 ⊎ (n ≡ 1099511627776)
-IsOfCall (Write n) r r2 w w2 = Rose w w2
-IsOfCall (NoMemory n) r r2 w w2 = Unit {0}
-IsOfCall (TooLong n) r r2 w w2 = Unit {0}
+IsOfCall (Read n) r r2 w w2 = (OneMore r r2 ⊎ ((n ≡ 1099511627776) × (r2 ≡ r))) × (w2 ≡ w)
+IsOfCall (Write n) r r2 w w2 = (r2 ≡ r) × OneMore w w2
+IsOfCall (NoMemory n) r r2 w w2 = (r2 ≡ r) × (w2 ≡ w)
+IsOfCall (TooLong n) r r2 w w2 = (r2 ≡ r) × (w2 ≡ w)

@@ -1,7 +1,7 @@
 //! Bytes that were read ahead of what is asked for.
 ghost use Rattle.std.specs.Prelude.{◌≡◌, ◌+◌, ◌≤◌, ◌<◌, [], take, drop, length, vec_len, IfOk, OnOk, OnErr, MatchResult};
 ghost use Rattle.std.specs.Io.KnownBytes.{Consumes, Keeps, IsAtEnd};
-ghost use Rattle.sq_wire.specs.Lines.{Rose};
+ghost use Rattle.sq_wire.specs.Lines.{OneMore};
 
 use crate::counted::Counted;
 use std::alloc::{AllocError, Global};
@@ -65,9 +65,8 @@ impl Buffer {
         ensures bound { length self.new ≤ 65536 }
         ensures end { IfOk result (λ n. n ≡ 0 → IsAtEnd (R.remaining reader.new.inner)) }
         ensures fault { OnErr result (self.new ≡ []) }
-        ensures rises { reader.old.failed ≤ reader.new.failed }
         ensures same { OnOk result (reader.new.failed ≡ reader.old.failed) }
-        ensures failed { OnErr result (Rose reader.old.failed reader.new.failed) }
+        ensures failed { OnErr result (OneMore reader.old.failed reader.new.failed) }
     {
         self.at = 0;
         self.end = 0;

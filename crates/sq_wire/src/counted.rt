@@ -1,8 +1,8 @@
 //! A reader or writer that counts its failed calls.
-ghost use Rattle.std.specs.Prelude.{◌≡◌, ◌+◌, ◌<◌, ◌≤◌, ◌⊎◌, min, OnOk, OnErr, IfOk, Ok, length};
-ghost use Rattle.sq_wire.specs.Lines.{Rose};
+ghost use Rattle.std.specs.Prelude.{◌≡◌, ◌<◌, OnOk, OnErr, IfOk, length};
+ghost use Rattle.sq_wire.specs.Lines.{OneMore};
 ghost use Rattle.std.specs.Io.{ReadsAtMost, WritesAtMost};
-ghost use Rattle.std.specs.Io.KnownBytes.{ReadConsumes, WriteAppends, Appends, Keeps};
+ghost use Rattle.std.specs.Io.KnownBytes.{ReadConsumes, WriteAppends, Keeps};
 
 use std::io::{Read, Result, Write};
 
@@ -41,8 +41,7 @@ impl<T: Read> Read for Counted<T> {
         ensures bound { ReadsAtMost result buf.new }
         ensures bytes { ReadConsumes (T.remaining self.old.inner) (T.remaining self.new.inner) result buf.new }
         ensures ok { OnOk result (self.new.failed ≡ self.old.failed) }
-        ensures err { OnErr result (Rose self.old.failed self.new.failed) }
-        ensures rises { self.old.failed ≤ self.new.failed }
+        ensures err { OnErr result (OneMore self.old.failed self.new.failed) }
     {
         match self.inner.read(buf) {
             Ok(n) => Ok(n),
@@ -61,9 +60,10 @@ impl<T: Write> Write for Counted<T> {
     fn write(&mut self, buf: &[u8]) -> Result<usize>
         ensures bound { WritesAtMost result buf.now }
         ensures bytes { WriteAppends (T.contents self.old.inner) (T.contents self.new.inner) result buf.now }
-        ensures rises { self.old.failed ≤ self.new.failed }
-        ensures none { IfOk result (λ n. n ≡ 0 → 0 < length buf.now → Rose self.old.failed self.new.failed) }
-        ensures err { OnErr result (Rose self.old.failed self.new.failed) }
+        ensures some { IfOk result (λ n. 0 < n → self.new.failed ≡ self.old.failed) }
+        ensures empty { length buf.now ≡ 0 → OnOk result (self.new.failed ≡ self.old.failed) }
+        ensures none { IfOk result (λ n. n ≡ 0 → 0 < length buf.now → OneMore self.old.failed self.new.failed) }
+        ensures err { OnErr result (OneMore self.old.failed self.new.failed) }
     {
         match self.inner.write(buf) {
             Ok(n) => {
@@ -80,10 +80,9 @@ impl<T: Write> Write for Counted<T> {
     }
 
     fn flush(&mut self) -> Result<()>
-        ensures rises { self.old.failed ≤ self.new.failed }
         ensures bytes { Keeps (T.contents self.old.inner) (T.contents self.new.inner) }
         ensures ok { OnOk result (self.new.failed ≡ self.old.failed) }
-        ensures err { OnErr result (Rose self.old.failed self.new.failed) }
+        ensures err { OnErr result (OneMore self.old.failed self.new.failed) }
     {
         match self.inner.flush() {
             Ok(()) => Ok(()),

@@ -1,7 +1,7 @@
 //! Reading a line.
-ghost use Rattle.std.specs.Prelude.{◌≡◌, ◌∷◌, ◌++◌, [], IfOk, IfErr, IfSome, MatchOption, option_map, Some, OnOk, OnErr, ◌<◌, ◌≤◌, ◌+◌, take, drop, length, false};
-ghost use Rattle.sq_wire.specs.Lines.{lines_left, lines_of, FirstIsOver, Rose};
-ghost use Rattle.sq_wire.specs.declared.lines.LineFault.TheVariants.{TooLong, Read};
+ghost use Rattle.std.specs.Prelude.{◌≡◌, ◌≢◌, ◌∷◌, ◌++◌, [], IfOk, IfErr, IfSome, MatchOption, option_map, Some, OnOk, OnErr, ◌<◌, ◌≤◌, ◌+◌, take, drop, length, vec_len, vec_capacity};
+ghost use Rattle.sq_wire.specs.Lines.{lines_left, lines_of, FirstIsOver, FirstIsWithin, OneMore};
+ghost use Rattle.sq_wire.specs.declared.lines.LineFault.TheVariants.{TooLong, Read, NoMemory};
 
 use crate::buffer::Buffer;
 use crate::counted::Counted;
@@ -68,6 +68,9 @@ fn end_line(
     ensures none { OnOk result (begun.new.items ≡ []) }
     ensures kept { OnErr result ((begun.new.items ≡ begun.old.items) × (ahead.new ≡ ahead.old)) }
     ensures long { IfErr result (λ e. e ≡ TooLong → 4194304 < length begun.old.items + at) }
+    // It tells want of memory only of a line that is within the limit and does not fit where it begins.
+    ensures fits { IfErr result (λ e. e ≡ NoMemory → length begun.old.items + at ≤ 4194304) }
+    ensures room { IfErr result (λ e. e ≡ NoMemory → vec_capacity begun.old < vec_len begun.old + at) }
     ensures other { IfErr result (λ e. e ≡ Read → ⊥) }
 {
     if at > LIMIT - begun.len() {
@@ -86,6 +89,10 @@ fn add_ahead(begun: &mut Vec<u8>, ahead: &mut Buffer) -> Result<(), LineFault>
     ensures rest { OnOk result (ahead.new ≡ []) }
     ensures kept { OnErr result ((begun.new.items ≡ begun.old.items) × (ahead.new ≡ ahead.old)) }
     ensures long { IfErr result (λ e. e ≡ TooLong → 4194304 < length begun.old.items + length ahead.old) }
+    // It tells want of memory only of bytes that are within the limit and do not fit.
+    ensures some { IfErr result (λ e. e ≡ NoMemory → 0 < length ahead.old) }
+    ensures fits { IfErr result (λ e. e ≡ NoMemory → length begun.old.items + length ahead.old ≤ 4194304) }
+    ensures room { IfErr result (λ e. e ≡ NoMemory → vec_capacity begun.old < vec_len begun.old + length ahead.old) }
     ensures other { IfErr result (λ e. e ≡ Read → ⊥) }
 {
     let count = ahead.bytes().len();
@@ -132,8 +139,12 @@ impl Lines {
         ensures kept { OnErr result (IfSome (lines_left self.old (R.remaining reader.old.inner)) (λ lines. lines_left self.new (R.remaining reader.new.inner) ≡ Some lines)) }
         ensures long { IfErr result (λ e. e ≡ TooLong → FirstIsOver 4194304 (lines_of self.new)) }
         ensures long_line { IfErr result (λ e. e ≡ TooLong → IfSome (lines_left self.old (R.remaining reader.old.inner)) (λ lines. FirstIsOver 4194304 lines)) }
-        ensures rises { reader.old.failed ≤ reader.new.failed }
-        ensures count { IfErr result (λ e. e ≡ Read → Rose reader.old.failed reader.new.failed) }
+        // It tells want of memory only of a line that is there, and of which no more than the limit is read.
+        ensures memory { IfErr result (λ e. e ≡ NoMemory → FirstIsWithin 4194304 (lines_of self.new)) }
+        ensures memory_line { IfErr result (λ e. e ≡ NoMemory → IfSome (lines_left self.old (R.remaining reader.old.inner)) (λ lines. 0 < length lines)) }
+        ensures same { OnOk result (reader.new.failed ≡ reader.old.failed) }
+        ensures count { IfErr result (λ e. e ≡ Read → OneMore reader.old.failed reader.new.failed) }
+        ensures other { IfErr result (λ e. e ≢ Read → reader.new.failed ≡ reader.old.failed) }
     {
         loop {
             if let Some(at) = memchr(b'\n', self.ahead.bytes()) {

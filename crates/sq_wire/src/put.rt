@@ -1,7 +1,7 @@
 //! Writing all of a text.
 ghost use Rattle.std.specs.Prelude.{◌≡◌, ◌<◌, ◌≤◌, ◌++◌, ◌∷◌, [], take, OnOk, IfErr, length};
 ghost use Rattle.std.specs.Io.KnownBytes.{Appends};
-ghost use Rattle.sq_wire.specs.Lines.{Rose};
+ghost use Rattle.sq_wire.specs.Lines.{OneMore};
 
 use crate::counted::Counted;
 use std::io::Write;
@@ -11,8 +11,8 @@ pub fn put<W: Write>(writer: &mut Counted<W>, text: &[u8]) -> Result<(), usize>
     ensures ok { OnOk result (Appends (W.contents writer.old.inner) (W.contents writer.new.inner) text.now) }
     ensures err { IfErr result (λ n. Appends (W.contents writer.old.inner) (W.contents writer.new.inner) (take n text.now)) }
     ensures within { IfErr result (λ n. n < length text.now) }
-    ensures rises { writer.old.failed ≤ writer.new.failed }
-    ensures count { IfErr result (λ _. Rose writer.old.failed writer.new.failed) }
+    ensures same { OnOk result (writer.new.failed ≡ writer.old.failed) }
+    ensures count { IfErr result (λ _. OneMore writer.old.failed writer.new.failed) }
 {
     let mut at = 0;
     while at < text.len() {
@@ -30,8 +30,8 @@ pub fn put_line<W: Write>(writer: &mut Counted<W>, text: &[u8]) -> Result<(), us
     ensures ok { OnOk result (Appends (W.contents writer.old.inner) (W.contents writer.new.inner) (text.now ++ 10 ∷ [])) }
     ensures err { IfErr result (λ n. Appends (W.contents writer.old.inner) (W.contents writer.new.inner) (take n (text.now ++ 10 ∷ []))) }
     ensures within { IfErr result (λ n. n ≤ length text.now) }
-    ensures rises { writer.old.failed ≤ writer.new.failed }
-    ensures count { IfErr result (λ _. Rose writer.old.failed writer.new.failed) }
+    ensures same { OnOk result (writer.new.failed ≡ writer.old.failed) }
+    ensures count { IfErr result (λ _. OneMore writer.old.failed writer.new.failed) }
 {
     put(writer, text)?;
     match put(writer, b"\n") {

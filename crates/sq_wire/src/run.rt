@@ -1,5 +1,5 @@
 //! A reply for each line.
-ghost use Rattle.std.specs.Prelude.{◌≡◌, ◌≤◌, ℕ, [], IfOk, IfErr, IfSome, length};
+ghost use Rattle.std.specs.Prelude.{◌≡◌, ℕ, [], OnOk, IfOk, IfErr, IfSome, length};
 ghost use Rattle.sq_wire.specs.Lines.{lines_left};
 ghost use Rattle.sq_wire.specs.Scripts.{script_at};
 ghost use Rattle.sq_wire.specs.Runs.{Writes, StopsAt, IsOfCall};
@@ -42,7 +42,9 @@ pub fn run_script<R: Read, W: Write>(
     // Up to a fault.
     ensures err { IfErr result (λ f. IfSome (lines_left [] (R.remaining reader.old.inner)) (λ lines.
         (clock : ℕ) × StopsAt f lines (W.contents writer.old.inner) (W.contents writer.new.inner) (script_at world.old 0) (script_at world.new clock))) }
-    // A fault of reading or writing is one of a call.
+    // No failed call goes unnoticed.
+    ensures same { OnOk result ((reader.new.failed ≡ reader.old.failed) × (writer.new.failed ≡ writer.old.failed)) }
+    // A fault of reading or writing is one failed call.
     ensures count { IfErr result (λ f. IsOfCall f reader.old.failed reader.new.failed writer.old.failed writer.new.failed) }
 {
     let Ok(mut lines) = Lines::new(alloc) else {

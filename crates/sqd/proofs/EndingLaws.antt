@@ -1,5 +1,5 @@
 -- A run that ends before its first line.
-use Rattle.std.proofs.Common.{ℕ, List, [], Option, Some, None, refl, sym, inl}
+use Rattle.std.proofs.Common.{ℕ, List, [], Option, Some, None, refl, sym, inl, inr}
 use Rattle.std.specs.Io.KnownBytes.{Appends}
 use Rattle.std.proofs.lemmas.List.{append-nil}
 use Rattle.sq_wire.specs.Scripts.{script_at}
@@ -21,6 +21,7 @@ stopped_first options (Some lines) held = (
   record {
     mid = script_at (new_world options) 0;
     writes = record { out = []; answers = (refl, refl); appends = appends_none held; within = tt };
+    there = inr refl;
     last = inl refl;
   },
 )

@@ -1,4 +1,4 @@
-use Rattle.std.proofs.Common.{arith, ◌≡◌, ◌++◌, ◌∷◌, [], length}
+use Rattle.std.proofs.Common.{arith, rules, ◌≡◌, ◌++◌, ◌∷◌, [], length}
 use Rattle.sq_wire.specs.Lines.{lines_left}
 use Rattle.std.specs.Io.KnownBytes.{Appends}
 use Rattle.sq_wire.proofs.RunLaws.{done_at, stops_at, so_far_done, so_far_more, so_far_part, so_far_stops, so_far_lost, so_far_loses}
@@ -69,8 +69,8 @@ loop-answered-preserved g c =
       so_far = so_far_more _ left rest old now last (script_at c.args.world.now 0) (script_at c.loop-answered.world c.loop-answered.clock) (script_at c.answer.new.world c.answer.new.clock) c.loop-answered.answered line c.in-Ok-answer.text
           c.loop-answered.invariant.so_far (rw c.in-Ok-Some.field-0-is at c.in-Ok-Some.ensures.taken) (rw c.in-Ok-Some.field-0-is at c.in-Ok-Some.ensures.within) (rw c.deref.ensures.value at c.in-Ok-answer.ensures.ok)
           (appends_keeps now newer last sent wrote c.flush.ensures.bytes);
-      reads = omega (arith, c.loop-answered.invariant.reads, c.next_line.ensures.rises);
-      writes = omega (arith, c.loop-answered.invariant.writes, c.put_line.ensures.rises, c.flush.ensures.rises);
+      reads = search rules;
+      writes = search rules;
     }
 
 pub returns-in-Err-NoMemory-clause-err : goal.returns-in-Err-NoMemory-clause-err
@@ -79,4 +79,4 @@ returns-in-Err-NoMemory-clause-err g c =
     let now = g.W.Write.contents c.loop-answered.writer.inner in
     let left = lines_left c.loop-answered.lines (g.R.Read.remaining c.loop-answered.reader.inner) in
     stops_at _ (fault.NoMemory c.loop-answered.answered) old now (script_at c.args.world.now 0) c.loop-answered.world c.loop-answered.clock
-    (so_far_lost _ left old now (script_at c.args.world.now 0) (script_at c.loop-answered.world c.loop-answered.clock) c.loop-answered.answered c.loop-answered.invariant.so_far)
+    (so_far_lost _ left old now (script_at c.args.world.now 0) (script_at c.loop-answered.world c.loop-answered.clock) c.loop-answered.answered c.loop-answered.invariant.so_far (c.in-Err-NoMemory.ensures.memory_line c.in-Err-NoMemory.field-0-is))

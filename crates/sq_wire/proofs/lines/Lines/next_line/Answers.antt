@@ -1,8 +1,8 @@
-use Rattle.std.proofs.Common.{◌≡◌, ◌∷◌, ◌++◌, Some, None, option_map, rules, arith, refl, sym, subst, [], List, ℕ, false, IfSome, MatchOption}
+use Rattle.std.proofs.Common.{◌≡◌, ◌<◌, ◌∷◌, ◌++◌, length, Some, None, option_map, rules, arith, refl, sym, subst, [], List, ℕ, false, IfSome, MatchOption}
 use Rattle.sq_wire.specs.Lines.{lines_left, has_feed, FirstIsOver}
 use Rattle.std.proofs.lemmas.List.{nil_from_length}
 use Rattle.memchr.specs.Find.{IsFirstByte, is_byte}
-use Rattle.sq_wire.proofs.LineLaws.{IsDone, no_feed_none, no_feed_found, no_feed_more, cut_found, line_cut, line_end, lines_kept, lines_on, over_cut, over_all, over_here, over_left, over_same}
+use Rattle.sq_wire.proofs.LineLaws.{IsDone, no_feed_none, no_feed_found, no_feed_more, cut_found, line_cut, line_end, lines_kept, lines_on, lines_left_some, over_cut, over_all, over_here, over_left, over_same, within_cut, within_all, within_same}
 use Rattle.sq_wire.proofs.lines.Lines.next_line.Goals as goal
 
 pub invariant_of-self : goal.invariant_of-self
@@ -109,3 +109,34 @@ loop-at-preserved g c =
       within = search rules;
       failed = search rules;
     }
+
+pub returns-in-Err-clause-memory_line : goal.returns-in-Err-clause-memory_line
+returns-in-Err-clause-memory_line g c e =
+    let known = g.R.Read.remaining c.loop-at.reader.inner in
+    let begun = c.loop-at.self-inside.begun.items in
+    let ahead = c.loop-at.self-inside.ahead in
+    let found : IsFirstByte (is_byte 10) ahead (Some c.in-Some.at) = rw c.bytes.ensures at c.in-Some.ensures in
+    let cut = cut_found ahead c.in-Some.at found in
+    lines_kept (λ lines. 0 < length lines) _ _ c.loop-at.invariant.lines (lines_left_some begun ahead known (omega (arith, cut.within)))
+
+pub returns-in-Err-add_ahead-clause-memory_line : goal.returns-in-Err-add_ahead-clause-memory_line
+returns-in-Err-add_ahead-clause-memory_line g c e =
+    let known = g.R.Read.remaining c.loop-at.reader.inner in
+    lines_kept (λ lines. 0 < length lines) _ _ c.loop-at.invariant.lines (lines_left_some c.loop-at.self-inside.begun.items c.loop-at.self-inside.ahead known (c.in-Err-add_ahead.ensures.some e))
+
+pub returns-in-Err-clause-memory : goal.returns-in-Err-clause-memory
+returns-in-Err-clause-memory g c e =
+    let begun = c.loop-at.self-inside.begun.items in
+    let ahead = c.loop-at.self-inside.ahead in
+    let found : IsFirstByte (is_byte 10) ahead (Some c.in-Some.at) = rw c.bytes.ensures at c.in-Some.ensures in
+    within_same 4194304 c.end_line.new.begun.items c.end_line.new.ahead begun ahead c.in-Err.ensures.kept
+    (within_cut 4194304 begun ahead c.in-Some.at c.loop-at.invariant.plain (cut_found ahead c.in-Some.at found) (c.in-Err.ensures.fits e))
+
+pub returns-in-Err-add_ahead-clause-memory : goal.returns-in-Err-add_ahead-clause-memory
+returns-in-Err-add_ahead-clause-memory g c e =
+    let begun = c.loop-at.self-inside.begun.items in
+    let ahead = c.loop-at.self-inside.ahead in
+    let none : c.memchr.result ≡ None = search rules in
+    let free : IsFirstByte (is_byte 10) ahead None = rw (none, c.bytes.ensures) at c.memchr.ensures in
+    within_same 4194304 c.add_ahead.new.begun.items c.add_ahead.new.ahead begun ahead c.in-Err-add_ahead.ensures.kept
+    (within_all 4194304 begun ahead c.loop-at.invariant.plain (no_feed_found ahead free) (c.in-Err-add_ahead.ensures.some e) (c.in-Err-add_ahead.ensures.fits e))
