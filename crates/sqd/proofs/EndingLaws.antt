@@ -6,7 +6,7 @@ use Rattle.sq_wire.specs.Scripts.{script_at}
 use Rattle.sq_wire.specs.Served.{new_world}
 use Rattle.sq_wire.specs.declared.options.Options.{Options}
 use Rattle.sq_wire.specs.declared.run.ServeFault.TheVariants.{NoMemory}
-use Rattle.sqd.specs.Endings.{Stopped}
+use Rattle.sqd.specs.Endings.{Shown, Stopped}
 
 appends_none : (held : Option (List ℕ)) → Appends held held []
 appends_none None = tt
@@ -21,7 +21,10 @@ stopped_first options (Some lines) held = (
   record {
     mid = script_at (new_world options) 0;
     writes = record { out = []; answers = (refl, refl); appends = appends_none held; within = tt };
-    there = inr refl;
     last = inl refl;
+    there = inr refl;
   },
 )
+
+pub nothing_shown : (held : Option (List ℕ)) → Shown held held
+nothing_shown held = ([], appends_none held)

@@ -1,6 +1,6 @@
 -- The flags that were found, and the words.
-use Rattle.std.proofs.Common.{◌≡◌, ℕ, Option, true, refl, subst}
-use Rattle.clap.specs.Words.{Text, is_simple}
+use Rattle.std.proofs.Common.{◌≡◌, ◌∙◌, ℕ, Option, Some, None, Result, Ok, Err, IfErr, true, refl, sym, subst, ap, min, codes}
+use Rattle.clap.specs.Words.{Text, is_simple, is_simple_and_free}
 use Rattle.clap.proofs.OnLiterals.{clap_on_literals}
 use Rattle.sq_wire.specs.declared.options.Options.{Options}
 use Rattle.sqd.specs.CommandLine.{program_app}
@@ -9,6 +9,10 @@ use Rattle.sqd.specs.Flags.{IsNumberOf, AreOptionsOf}
 pub program_is_simple : is_simple program_app ≡ true
 unfolding clap_on_literals
 program_is_simple = refl
+
+pub program_is_free : is_simple_and_free program_app ≡ true
+unfolding clap_on_literals
+program_is_free = refl
 
 same_number : (a b : Option Text) (least greatest default n : ℕ) → a ≡ b → IsNumberOf a least greatest default n → IsNumberOf b least greatest default n
 same_number a b least greatest default n e h = subst (λ (g : Option Text). IsNumberOf g least greatest default n) e h
@@ -24,3 +28,34 @@ same_options f g o e h = record {
   transit = same_number _ _ _ _ _ _ (e _) h.transit;
   seed = same_number _ _ _ _ _ _ (e _) h.seed;
 }
+
+-- a text gives one number at most
+pub one_number : (given : Option Text) (least greatest default n m : ℕ) → IsNumberOf given least greatest default n → IsNumberOf given least greatest default m → n ≡ m
+one_number None least greatest default n m a b = a.absent refl ∙ sym (b.absent refl)
+one_number (Some text) least greatest default n m a b = (a.there text refl).value ∙ sym ((b.there text refl).value)
+
+-- the sample has its default from the homes that are asked for
+pub no_sample : (given : Text → Option Text) (homes default : ℕ) → IsNumberOf (given (codes "homes")) 1 16 4 homes → default ≡ min homes 2
+    → ((n : ℕ) → ¬ IsNumberOf (given (codes "sample")) 1 16 default n) → (o : Options) → ¬ AreOptionsOf given o
+no_sample given homes default found is refused o h =
+    let same : min o.homes 2 ≡ default = ap (λ x. min x 2) (one_number _ _ _ _ _ _ h.homes found) ∙ sym is in
+    refused o.sample (subst (λ (d : ℕ). IsNumberOf (given (codes "sample")) 1 16 d o.sample) same h.sample)
+
+-- and the flags give one set of options
+pub one_set : (given : Text → Option Text) (a b : Options) → AreOptionsOf given a → AreOptionsOf given b → a ≡ b
+one_set given a b x y =
+    let homes : a.homes ≡ b.homes = one_number _ _ _ _ _ _ x.homes y.homes in
+    let sample_of : IsNumberOf (given (codes "sample")) 1 16 (min a.homes 2) b.sample =
+    subst (λ (h : ℕ). IsNumberOf (given (codes "sample")) 1 16 (min h 2) b.sample) (sym homes) y.sample in
+    let sample : a.sample ≡ b.sample = one_number _ _ _ _ _ _ x.sample sample_of in
+    let queues : a.queues ≡ b.queues = one_number _ _ _ _ _ _ x.queues y.queues in
+    let rows : a.rows ≡ b.rows = one_number _ _ _ _ _ _ x.rows y.rows in
+    let flights : a.flights ≡ b.flights = one_number _ _ _ _ _ _ x.flights y.flights in
+    let transit : a.transit ≡ b.transit = one_number _ _ _ _ _ _ x.transit y.transit in
+    let seed : a.seed ≡ b.seed = one_number _ _ _ _ _ _ x.seed y.seed in
+    λ i. record { homes = homes i; sample = sample i; queues = queues i; rows = rows i; flights = flights i; transit = transit i; seed = seed i }
+
+-- no options at all are those of the flags
+pub no_options : {T E : Type 0} (given : Text → Option Text) → ((o : Options) → ¬ AreOptionsOf given o) → (r : Result T E) → IfErr r (λ _. (o : Options) → ¬ AreOptionsOf given o)
+no_options given none (Ok x) = tt
+no_options given none (Err e) = none

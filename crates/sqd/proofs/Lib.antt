@@ -1,2 +1,3 @@
 pub mod EndingLaws
 pub mod FlagLaws
+pub mod ModeLaws

@@ -1,11 +1,16 @@
 -- The numbers of flags, their bounds and their defaults.
-use Rattle.std.specs.Prelude.{ℕ, ◌≡◌, ◌≤◌, List, Option, Some, None, min, codes, option_map}
+use Rattle.std.specs.Prelude.{ℕ, ◌≡◌, ◌≢◌, ◌≤◌, ◌⊎◌, ⊤, List, [], ◌∷◌, Option, Some, None, min, codes}
 use Rattle.std.specs.Str.Parse.{IsNumeral, digits_value, without_leading_plus}
-use Rattle.clap.specs.Words.{Row, Text, first_of, subcommand_of}
+use Rattle.clap.specs.Words.{IsAmong, Kinds, Row, Text, fault_of, first_of, kind_of, subcommand_of}
+use Rattle.clap.specs.declared.error.kind.ErrorKind.{ErrorKind}
+use Rattle.clap.specs.declared.error.kind.ErrorKind.TheVariants.{DisplayHelp, DisplayVersion, OutOfMemory}
+use Rattle.clap.specs.declared.error.Error.{Error}
 use Rattle.sq_wire.specs.declared.options.Options.{Options}
 use Rattle.sqd.specs.CommandLine.{program_app}
 use Rattle.sqd.specs.declared.flags.Mode.{Mode}
 use Rattle.sqd.specs.declared.flags.Mode.TheVariants.{Script}
+use Rattle.sqd.specs.declared.flags.Refused.{Refused}
+use Rattle.sqd.specs.declared.flags.Refused.TheVariants.{NoMemory, Usage}
 
 -- a text is decimal digits, perhaps behind a plus, and n is their value
 pub record IsWhole (text : List ℕ) (n : ℕ) : Type 0 where
@@ -29,6 +34,33 @@ pub record AreOptionsOf (given : Text → Option Text) (o : Options) : Type 0 wh
   pub transit : IsNumberOf (given (codes "transit")) 1 100000 10000 o.transit
   pub seed : IsNumberOf (given (codes "seed")) 0 18446744073709551615 0 o.seed
 
--- what the words ask for: a subcommand, with the options that its flags give
+-- the words ask for a run with these options: clap has no fault in them, they name the subcommand, and its flags give
+-- the options
+pub record AsksForScript (words : List Text) (options : Options) : Type 0 where
+  pub rows : List Row
+  pub taken : fault_of program_app words ≡ []
+  pub named : subcommand_of program_app words ≡ Some (codes "script", rows)
+  pub given : AreOptionsOf (λ name. first_of name rows) options
+
+-- what the words ask for
 abbrev pub IsModeOf : List Text → Mode → Type 0
-IsModeOf words (Script options) = (found : List Row) × (option_map (λ p. p.1) (subcommand_of program_app words) ≡ Some found) × AreOptionsOf (λ name. first_of name found) options
+IsModeOf words (Script options) = AsksForScript words options
+
+-- the words ask for a text, help or the version as clap means them
+abbrev pub AsksForText : List Text → Type 0
+AsksForText words = IsAmong DisplayHelp (fault_of program_app words) ⊎ IsAmong DisplayVersion (fault_of program_app words)
+
+-- an error has a kind that clap finds in the words, or is the program's own where clap finds none
+abbrev pub IsKindFor : Kinds → ErrorKind → Type 0
+IsKindFor [] kind = (kind ≢ DisplayHelp) × (kind ≢ DisplayVersion)
+IsKindFor (k ∷ ks) kind = IsAmong kind (k ∷ ks)
+
+-- why the words ask for no run, or that there was no memory
+abbrev pub Refuses : List Text → Refused → Type 0
+Refuses words NoMemory = ⊤
+Refuses words (Usage error) = ((options : Options) → ¬ AsksForScript words options) × IsKindFor (fault_of program_app words) (kind_of error)
+
+-- an error of clap as a refusal
+abbrev pub IsRefusalOf : Error → Refused → Type 0
+IsRefusalOf error NoMemory = kind_of error ≡ OutOfMemory
+IsRefusalOf error (Usage e) = (e ≡ error) × (kind_of error ≢ OutOfMemory)

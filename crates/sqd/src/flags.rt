@@ -1,9 +1,12 @@
 //! The words of a command line.
-ghost use Rattle.std.specs.Prelude.{◌≡◌, ◌≤◌, IfOk, IfSome, IfNone, None, Ok, ℕ, map, false};
-ghost use Rattle.clap.specs.Words.{app_of, first_value, found_of, rule_of};
+ghost use Rattle.std.specs.Prelude.{◌≡◌, ◌≤◌, IfOk, IfErr, IfSome, IfNone, None, Ok, ℕ, map, false};
+ghost use Rattle.clap.specs.Words.{app_of, first_value, found_of, rule_of, kind_of};
+ghost use Rattle.clap.specs.declared.error.kind.ErrorKind.TheVariants.{ValueValidation};
 ghost use Rattle.clap.specs.declared.Command.TheViews.{out-Command as fields_of};
 ghost use Rattle.sqd.specs.CommandLine.{number_rule, program_app, script_app, with_number};
-ghost use Rattle.sqd.specs.Flags.{IsWhole, IsNumberOf, AreOptionsOf, IsModeOf};
+ghost use Rattle.sq_wire.specs.declared.options.Options.{Options as OptionsValue};
+ghost use Rattle.sqd.specs.declared.flags.Refused.TheVariants.{NoMemory as RefusedNoMemory};
+ghost use Rattle.sqd.specs.Flags.{IsWhole, IsNumberOf, AreOptionsOf, IsModeOf, IsRefusalOf, Refuses};
 
 use clap::builder::ValueParser;
 use clap::error::ErrorKind;
@@ -27,12 +30,16 @@ pub enum Refused {
 }
 
 impl From<AllocError> for Refused {
+    ghost from_gives = { λ _ e. e ≡ RefusedNoMemory };
+
     fn from(_: AllocError) -> Refused {
         Refused::NoMemory
     }
 }
 
 impl From<Error> for Refused {
+    ghost from_gives = { λ error e. IsRefusalOf error e };
+
     fn from(error: Error) -> Refused {
         if error.kind() == ErrorKind::OutOfMemory {
             Refused::NoMemory
@@ -151,6 +158,7 @@ fn number<'a>(
     requires { (least ≤ default) × (default ≤ greatest) }
     ensures there { IfOk result (λ n. IsNumberOf (first_value (found_of matches.now) name.entry.now) least greatest default n) }
     ensures absent { first_value (found_of matches.now) name.entry.now ≡ None → result ≡ Ok default }
+    ensures refused { IfErr result (λ e. (e ≡ name.entry) × ((n : ℕ) → ¬ IsNumberOf (first_value (found_of matches.now) name.entry.now) least greatest default n)) }
 {
     match matches.get_str(name) {
         None => Ok(default),
@@ -163,7 +171,8 @@ fn number<'a>(
 
 /// The options of matched flags, or the name of one whose text is no number in its bounds.
 pub fn options_of(matches: &ArgMatches<'_>) -> Result<Options, &'static str>
-    ensures { IfOk result (λ o. AreOptionsOf (first_value (found_of matches.now)) o) }
+    ensures ok { IfOk result (λ o. AreOptionsOf (first_value (found_of matches.now)) o) }
+    ensures err { IfErr result (λ _. (o : OptionsValue) → ¬ AreOptionsOf (first_value (found_of matches.now)) o) }
 {
     let homes = number(matches, "homes", 1, 16, 4)? as u32;
     let sample = number(matches, "sample", 1, 16, (homes as u64).min(2))? as u32;
@@ -179,14 +188,17 @@ pub fn options_of(matches: &ArgMatches<'_>) -> Result<Options, &'static str>
 }
 
 // An error of the form that clap gives its own.
-fn usage(alloc: Global, command: &mut Command<'_>, name: &str) -> Result<Error, AllocError> {
+fn usage(alloc: Global, command: &mut Command<'_>, name: &str) -> Result<Error, AllocError>
+    ensures kind { IfOk result (λ e. kind_of e ≡ ValueValidation) }
+{
     let message = format!(in alloc; "invalid value for '--{name} <N>'")?;
     command.error(ErrorKind::ValueValidation, message.as_str())
 }
 
 /// What words ask for. The first of them is the program's own name.
 pub fn flags<'a>(alloc: Global, words: &'a [&'a str]) -> Result<Mode, Refused>
-    ensures { IfOk result (λ mode. IsModeOf (map (λ word. word.now) words.entry.now) mode) }
+    ensures ok { IfOk result (λ mode. IsModeOf (map (λ word. word.now) words.entry.now) mode) }
+    ensures err { IfErr result (λ e. Refuses (map (λ word. word.now) words.entry.now) e) }
 {
     let mut command = program_command(alloc)?;
     let matches = command.try_get_matches_from_mut(words)?;

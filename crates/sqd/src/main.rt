@@ -6,30 +6,40 @@ mod program;
 #[cfg(test)]
 mod tests;
 
-use crate::program::run;
+use crate::program::{no_memory, run};
 use sq_wire::counted::Counted;
 use std::env;
-use std::io::{self, BufWriter};
+use std::io::{self, BufWriter, ErrorKind};
 use std::process::ExitCode;
 
 /// How many bytes of replies are kept until a flush.
 const KEPT: usize = 65_536;
 
-fn main(rt: HostRuntime) -> io::Result<ExitCode> {
+// Runs over the words and the streams of the process.
+fn run_process(rt: &HostRuntime) -> io::Result<u8> {
     let alloc = rt.alloc();
-    let arguments: Vec<String> = env::args(&rt)?.collect(alloc)?;
+    let arguments: Vec<String> = env::args(rt)?.collect(alloc)?;
     let mut words = Vec::with_capacity(alloc, arguments.len())?;
     for argument in &arguments {
         words.push(argument.as_str())?;
     }
     let mut input = Counted::new(rt.stdin());
     let mut output = Counted::new(BufWriter::with_capacity(alloc, KEPT, rt.stdout())?);
-    let status = run(
+    Ok(run(
         alloc,
         words.as_slice(),
         &mut input,
         &mut output,
         &mut rt.stderr(),
-    );
+    ))
+}
+
+fn main(rt: HostRuntime) -> io::Result<ExitCode> {
+    let status = match run_process(&rt) {
+        Ok(status) => status,
+        // The words or a buffer were too much, before any request.
+        Err(error) if error.kind() == ErrorKind::OutOfMemory => no_memory(&mut rt.stderr()),
+        Err(error) => return Err(error),
+    };
     Ok(ExitCode::from(status))
 }

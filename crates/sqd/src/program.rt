@@ -1,13 +1,14 @@
 //! The program as a function of its words, its input and its outputs.
-ghost use Rattle.std.specs.Prelude.{◌≡◌, ◌≤◌, ◌⊎◌, [], ◌≢◌, map};
-ghost use Rattle.clap.specs.Words.{kind_of};
+ghost use Rattle.std.specs.Prelude.{◌≡◌, ◌≤◌, ◌⊎◌, [], ◌∷◌, ◌≢◌, map};
+ghost use Rattle.clap.specs.Words.{fault_of, kind_of};
 ghost use Rattle.clap.specs.declared.error.kind.ErrorKind.{ErrorKind};
 ghost use Rattle.clap.specs.declared.error.kind.ErrorKind.TheVariants.{DisplayHelp, DisplayVersion};
 ghost use Rattle.sq_wire.specs.Lines.{lines_left};
 ghost use Rattle.sq_wire.specs.Served.{IsServed};
 ghost use Rattle.sq_wire.specs.declared.options.Options.{Options};
+ghost use Rattle.sqd.specs.CommandLine.{program_app};
 ghost use Rattle.sqd.specs.Endings.{Answered, Stopped, Shown};
-ghost use Rattle.sqd.specs.Flags.{IsModeOf};
+ghost use Rattle.sqd.specs.Flags.{IsModeOf, AsksForText};
 ghost use Rattle.sqd.specs.declared.flags.Mode.TheVariants.{Script as ByScript};
 
 use crate::flags::{Mode, Refused, flags};
@@ -33,6 +34,14 @@ fn report<E: Write>(errors: &mut E, fault: ServeFault) {
     let _ = errors.flush();
 }
 
+/// Tells that there was no memory before the first request.
+pub fn no_memory<E: Write>(errors: &mut E) -> u8
+    ensures { result ≡ 1 }
+{
+    report(errors, ServeFault::NoMemory(0));
+    1
+}
+
 // Shows a text that was asked for.
 fn show<W: Write, E: Write>(output: &mut Counted<W>, errors: &mut E, text: &str) -> u8
     ensures bound { result ≤ 1 }
@@ -54,19 +63,18 @@ fn explain<W: Write, E: Write>(
 ) -> u8
     ensures bound { result ≤ 2 }
     ensures help { kind_of error.now ≡ DisplayHelp → result ≤ 1 }
-    ensures mistake { kind_of error.now ≢ DisplayHelp → kind_of error.now ≢ DisplayVersion → 1 ≤ result }
+    ensures version { kind_of error.now ≡ DisplayVersion → result ≤ 1 }
+    ensures mistake { kind_of error.now ≢ DisplayHelp → kind_of error.now ≢ DisplayVersion → (result ≡ 2) × (output.new ≡ output.old) }
     ensures shown { Shown (W.contents output.old.inner) (W.contents output.new.inner) }
-    ensures kept { result ≡ 2 → output.new ≡ output.old }
 {
-    let Ok(text) = format!(in alloc; "{error}") else {
-        report(errors, ServeFault::NoMemory(0));
-        return 1;
-    };
     if error.use_stderr() {
-        let _ = errors.write_all(text.as_bytes());
+        let _ = write!(errors, "{error}");
         let _ = errors.flush();
         return 2;
     }
+    let Ok(text) = format!(in alloc; "{error}") else {
+        return no_memory(errors);
+    };
     show(output, errors, text.as_str())
 }
 
@@ -91,10 +99,7 @@ fn script<R: Read, W: Write, E: Write>(
             let _ = errors.flush();
             return 2;
         }
-        Err(_) => {
-            report(errors, ServeFault::NoMemory(0));
-            return 1;
-        }
+        Err(_) => return no_memory(errors),
     };
     match run_script(alloc, input, output, &mut world) {
         Ok(_) => 0,
@@ -114,19 +119,20 @@ pub fn run<R: Read, W: Write, E: Write>(
     errors: &mut E,
 ) -> u8
     ensures bound { result ≤ 2 }
-    // Each line is answered, or none is read and a text is shown.
-    ensures done { result ≡ 0 → ((options : Options) × IsModeOf (map (λ word. word.now) words.now) (ByScript options) × Answered options (lines_left [] (R.remaining input.old.inner)) (W.contents output.old.inner) (W.contents output.new.inner))
-        ⊎ ((input.new ≡ input.old) × Shown (W.contents output.old.inner) (W.contents output.new.inner)) }
-    ensures fault { result ≡ 1 → ((options : Options) × IsModeOf (map (λ word. word.now) words.now) (ByScript options) × Stopped options (lines_left [] (R.remaining input.old.inner)) (W.contents output.old.inner) (W.contents output.new.inner))
-        ⊎ ((input.new ≡ input.old) × Shown (W.contents output.old.inner) (W.contents output.new.inner)) }
-    ensures bad { result ≡ 2 → (input.new ≡ input.old) × (output.new ≡ output.old) }
+    // Where a run was asked for.
+    ensures done { (options : Options) → IsModeOf (map (λ word. word.now) words.now) (ByScript options) → result ≡ 0 → Answered options (lines_left [] (R.remaining input.old.inner)) (W.contents output.old.inner) (W.contents output.new.inner) }
+    ensures fault { (options : Options) → IsModeOf (map (λ word. word.now) words.now) (ByScript options) → result ≡ 1 → Stopped options (lines_left [] (R.remaining input.old.inner)) (W.contents output.old.inner) (W.contents output.new.inner) }
+    ensures bad { (options : Options) → IsModeOf (map (λ word. word.now) words.now) (ByScript options) → result ≡ 2 → ¬ IsServed options }
+    // Where none was: a text that was asked for, or a mistake.
+    ensures shown { result ≡ 0 → ((options : Options) × IsModeOf (map (λ word. word.now) words.now) (ByScript options)) ⊎ (AsksForText (map (λ word. word.now) words.now) × (input.new ≡ input.old) × Shown (W.contents output.old.inner) (W.contents output.new.inner)) }
+    ensures told { result ≡ 1 → ((options : Options) × IsModeOf (map (λ word. word.now) words.now) (ByScript options)) ⊎ ((input.new ≡ input.old) × Shown (W.contents output.old.inner) (W.contents output.new.inner)) }
+    ensures help { fault_of program_app (map (λ word. word.now) words.now) ≡ DisplayHelp ∷ [] → result ≤ 1 }
+    ensures mistake { ((options : Options) → ¬ IsModeOf (map (λ word. word.now) words.now) (ByScript options)) → ¬ AsksForText (map (λ word. word.now) words.now) → (1 ≤ result) × (input.new ≡ input.old) × (output.new ≡ output.old) }
+    ensures kept { result ≡ 2 → (input.new ≡ input.old) × (output.new ≡ output.old) }
 {
     match flags(alloc, words) {
         Ok(Mode::Script(options)) => script(alloc, options, input, output, errors),
         Err(Refused::Usage(error)) => explain(alloc, &error, output, errors),
-        Err(Refused::NoMemory) => {
-            report(errors, ServeFault::NoMemory(0));
-            1
-        }
+        Err(Refused::NoMemory) => no_memory(errors),
     }
 }

@@ -1,6 +1,6 @@
 //! The program over memory.
 use crate::flags::{Mode, Refused, flags};
-use crate::program::run;
+use crate::program::{no_memory, run};
 use sq_wire::counted::Counted;
 use sq_wire::options::Options;
 use std::alloc::Global;
@@ -161,6 +161,14 @@ fn tells_a_fault(rt: HostRuntime) -> Result<(), Fail> {
     );
     assert!(rt; status == 1);
     assert!(rt; errors.as_slice() == b"sqd: line too long after 0 requests\n".as_slice());
+    Ok(())
+}
+
+#[test]
+fn tells_of_no_memory(rt: HostRuntime) -> Result<(), Fail> {
+    let mut errors = Vec::new(rt.alloc());
+    assert!(rt; no_memory(&mut errors) == 1);
+    assert!(rt; errors.as_slice() == b"sqd: no memory after 0 requests\n".as_slice());
     Ok(())
 }
 
