@@ -1,0 +1,3 @@
+pub mod DirectoryHistory
+pub mod DirectoryNote
+pub mod DirectoryHistories

@@ -1,0 +1,162 @@
+//! The queues of a service.
+ghost use Rattle.std.specs.Prelude.{◌≡◌, ◌⊎◌, ◌<◌, ◌≤◌, ◌++◌, ◌∷◌, ℕ, [], length, true, false, IfOk, IfErr, OnErr, IfSome, Some};
+ghost use Rattle.sq_model.specs.Directories.{place_of, number_of, settings_of, is_or_none, agrees, new_queue, settings_at, DirectoryStep, directory_refusal};
+ghost use Rattle.sq_model.specs.declared.directory.DirectoryCall.TheVariants.{Create};
+ghost use Rattle.sq_model.specs.declared.directory.DirectoryReply.TheVariants.{Made};
+
+use sq_base::ids::QueueNo;
+use sq_base::name::QueueName;
+use sq_base::ranges::{Delay, Retention, Timeout, WaitTime, Within};
+use sq_base::refusal::Refusal;
+use sq_base::settings::Settings;
+use sq_model::directory::{Attributes, Queue, QueueSettings};
+use std::alloc::Global;
+use std::marker::Model;
+
+/// The queues in order of creation. The n-th has number n; its place is never used again.
+#[derive(Drop)]
+pub struct Queues {
+    made: Vec<Queue>,
+    places: u32,
+}
+
+impl Model for Queues {
+    ghost use Rattle.std.specs.Prelude.{◌≤◌, ◌<◌, length};
+    ghost use Rattle.sq_model.specs.Directories.{Directory};
+
+    ghost Value = { Directory };
+
+    ghost view = { λ q. record { queues = q.made.items; places = q.places } };
+
+    ghost invariant = { λ q. record { within : length q.made.items ≤ q.places; few : length q.made.items < 4294967296 } };
+}
+
+impl Queues {
+    /// No queue, and room for so many.
+    pub fn new(alloc: Global, places: u32) -> Queues
+        ensures { result ≡ record { queues = []; places = places } }
+    {
+        Queues {
+            made: Vec::new(alloc),
+            places,
+        }
+    }
+
+    /// The number of the queue of this name.
+    pub fn find(&self, name: &QueueName) -> Option<QueueNo>
+        ensures { result ≡ number_of name.now self.now.queues }
+    {
+        match place_of(&self.made, name) {
+            Some(at) => Some(QueueNo::following(at as u32)),
+            None => None,
+        }
+    }
+
+    /// Makes a queue of this name with these attributes, where there is none yet; else it must have them.
+    /// Refused as NoMemory, QueueNameExists, TableFull.
+    #[tactic(auto, unfolding(sq_model::specs::Directories::DirectoryStep, sq_model::specs::Directories::directory_refusal))]
+    pub fn create(&mut self, name: &QueueName, given: &Attributes) -> Result<QueueSettings, Refusal>
+        ensures step { (m : ℕ) → IfOk result (λ made. DirectoryStep self.old m (Create name.now given.now) (Made made) self.new) }
+        ensures refusal { (m : ℕ) → IfErr result (λ e. (e ≡ Refusal.NoMemory) ⊎ (directory_refusal self.old m (Create name.now given.now) ≡ Some e)) }
+        ensures err { OnErr result (self.new ≡ self.old) }
+    {
+        match place_of(&self.made, name) {
+            Some(at) => found(at, &self.made[at], given),
+            None => self.add(name, given),
+        }
+    }
+
+    // Puts a new queue last.
+    fn add(&mut self, name: &QueueName, given: &Attributes) -> Result<QueueSettings, Refusal>
+        ensures made { IfOk result (λ made. (length self.old.queues < self.old.places) × (made ≡ settings_at (length self.old.queues) (new_queue name.now given.now)) × (self.new ≡ record self.old { queues = self.old.queues ++ new_queue name.now given.now ∷ [] })) }
+        ensures refusal { IfErr result (λ e. (e ≡ Refusal.NoMemory) ⊎ ((self.old.places ≤ length self.old.queues) × (e ≡ Refusal.TableFull))) }
+        ensures err { OnErr result (self.new ≡ self.old) }
+    {
+        if self.made.len() >= self.places as usize {
+            return Err(Refusal::TableFull);
+        }
+        self.made.try_reserve(1)?;
+        let queue = new_queue(name, given);
+        let made = settings_at(self.made.len(), &queue);
+        let _ = self.made.push(queue);
+        Ok(made)
+    }
+}
+
+// A queue that is there, where each attribute that is given is its own.
+fn found(at: usize, queue: &Queue, given: &Attributes) -> Result<QueueSettings, Refusal>
+    requires { at < 4294967296 }
+    ensures found { IfOk result (λ made. (agrees given.now queue.now.settings ≡ true) × (made ≡ settings_at at queue.now)) }
+    ensures refusal { IfErr result (λ e. (agrees given.now queue.now.settings ≡ false) × (e ≡ Refusal.QueueNameExists)) }
+{
+    if agrees(given, &queue.settings) {
+        Ok(settings_at(at, queue))
+    } else {
+        Err(Refusal::QueueNameExists)
+    }
+}
+
+// Where the queue of a name stands.
+fn place_of(made: &[Queue], name: &QueueName) -> Option<usize>
+    ensures place { result ≡ place_of name.now made.now }
+    ensures within { IfSome result (λ at. at < length made.now) }
+{
+    made.iter()
+        .position(|queue| queue.name.as_bytes() == name.as_bytes())
+}
+
+fn settings_at(at: usize, queue: &Queue) -> QueueSettings
+    requires { at < 4294967296 }
+    ensures { result ≡ settings_at at queue.now }
+{
+    QueueSettings {
+        queue: QueueNo::following(at as u32),
+        settings: queue.settings,
+        version: queue.version,
+    }
+}
+
+fn new_queue(name: &QueueName, given: &Attributes) -> Queue
+    ensures { result ≡ new_queue name.now given.now }
+{
+    Queue {
+        name: *name,
+        settings: settings_of(given),
+        version: 1,
+    }
+}
+
+// The settings of a queue with these attributes.
+fn settings_of(given: &Attributes) -> Settings
+    ensures { result ≡ settings_of given.now }
+{
+    Settings {
+        delay: given.delay.unwrap_or(Delay::of(0)),
+        retention: given.retention.unwrap_or(Retention::of(345_600)),
+        wait_time: given.wait_time.unwrap_or(WaitTime::of(0)),
+        timeout: given.timeout.unwrap_or(Timeout::of(30)),
+        redrive: None,
+    }
+}
+
+fn is_or_none<const LEAST: u32, const GREATEST: u32>(
+    given: Option<Within<LEAST, GREATEST>>,
+    number: Within<LEAST, GREATEST>,
+) -> bool
+    ensures { result ≡ is_or_none given.entry number.entry }
+{
+    match given {
+        Some(given) => given == number,
+        None => true,
+    }
+}
+
+// Whether each attribute that is given is that of the settings.
+fn agrees(given: &Attributes, settings: &Settings) -> bool
+    ensures { result ≡ agrees given.now settings.now }
+{
+    is_or_none(given.delay, settings.delay)
+        && is_or_none(given.retention, settings.retention)
+        && is_or_none(given.wait_time, settings.wait_time)
+        && is_or_none(given.timeout, settings.timeout)
+}
