@@ -1,5 +1,5 @@
 //! Work on a list of rows.
-ghost use Rattle.std.specs.Prelude.{◌≡◌, ◌+◌, ℕ, ◌<◌, ◌≤◌, List, length, count_by, filter, map, not, true, IfOk, take, vec_len, vec_capacity, IfErr, ◌==◌, ◌&&◌};
+ghost use Rattle.std.specs.Prelude.{◌≡◌, ◌+◌, ℕ, ◌<◌, ◌≤◌, List, length, count_by, filter, map, not, true, false, IfOk, take, vec_len, vec_capacity, IfErr, ◌==◌, ◌&&◌};
 ghost use Rattle.std.specs.List.{list_any};
 ghost use Rattle.sq_model.specs.Rows as model;
 ghost use Rattle.sq_model.specs.Homes as homes;
@@ -291,7 +291,9 @@ fn has_slot(rows: &[Row], slot: u32) -> bool
 /// A slot that no row has: the number of the rows, or else the least.
 pub fn free_slot(rows: &[Row]) -> u32
     requires { length rows.now < 4294967296 }
-    ensures { model.is_free result rows.now ≡ true }
+    ensures free { model.is_free result rows.now ≡ true }
+    ensures number { model.is_free (length rows.now) rows.now ≡ true → result ≡ length rows.now }
+    ensures least { model.is_free (length rows.now) rows.now ≡ false → (k : ℕ) → k < result → model.is_free k rows.now ≡ false }
 {
     let count = rows.len() as u32;
     if !has_slot(rows, count) {

@@ -21,9 +21,6 @@ use sq_model::rows::Rows;
 use std::alloc::Global;
 use std::marker::Model;
 
-/// The last serial; a home whose next one it is takes no row more.
-const LAST_SERIAL: u64 = 4_611_686_018_427_387_903;
-
 // So many seconds after a moment.
 fn after_seconds(moment: u64, seconds: u32) -> u64
     requires { moment < 4611686018427387904 }
@@ -61,9 +58,9 @@ impl<S: Store> Model for Shard<S> {
 
     ghost view = { λ a. record { site = a.site; home = home_of a.status a.settings a.version a.next (S.rows a.store) } };
 
-    ghost use Rattle.sq_shard.specs.declared.shard.Status.TheVariants.{Unopened};
+    ghost use Rattle.sq_shard.specs.declared.shard.Status.TheVariants.{Unopened, Closed};
 
-    ghost invariant = { λ a. record { rising : RisesFrom 0 (S.rows a.store) a.next; empty : a.status ≡ Unopened → S.rows a.store ≡ []; within : length (S.rows a.store) ≤ a.site.limits.rows } };
+    ghost invariant = { λ a. record { rising : RisesFrom 0 (S.rows a.store) a.next; empty : a.status ≡ Unopened → S.rows a.store ≡ []; left : a.status ≡ Closed → S.rows a.store ≡ []; within : length (S.rows a.store) ≤ a.site.limits.rows } };
 }
 
 impl<S: Store> Shard<S> {

@@ -1,5 +1,5 @@
 //! What a home keeps its rows in.
-ghost use Rattle.std.specs.Prelude.{◌≡◌, ◌+◌, ◌++◌, ◌∷◌, [], ℕ, ◌<◌, ◌≤◌, ◌&&◌, List, length, count_by, map, true, IfOk, IfErr, OnOk};
+ghost use Rattle.std.specs.Prelude.{◌≡◌, ◌+◌, ◌++◌, ◌∷◌, [], ℕ, ◌<◌, ◌≤◌, ◌&&◌, List, length, count_by, map, true, IfOk, IfErr, OnOk, OnErr};
 ghost use Rattle.std.specs.List.{list_any};
 ghost use Rattle.sq_base.specs.declared.row.Row.{Row};
 ghost use Rattle.sq_model.specs.Homes.{counts_of};
@@ -67,10 +67,11 @@ pub trait Store: Drop {
         ensures look { IfOk result (λ given. IsLook settings.now moment until max (trimmed settings.now moment (rows self.now)) given) }
         ensures err { IfErr result (λ e. e ≡ Refusal.NoMemory) };
 
-    /// Makes room for one more row.
+    /// Makes room for one more row; refused only where there is none.
     fn reserve(&mut self) -> Result<(), Refusal>
         ensures rows { rows self.new ≡ rows self.old }
         ensures reserved { OnOk result (0 < reserved self.new) }
+        ensures full { OnErr result (reserved self.old ≡ 0) }
         ensures err { IfErr result (λ e. e ≡ Refusal.NoMemory) };
 
     /// Leaves out the rows past their retention.
