@@ -1,5 +1,5 @@
 -- What a recorded call does, and what is true of every recorded home.
-use Rattle.std.specs.Prelude.{◌≡◌, ◌⊎◌, ℕ, List, [], ◌∷◌, ◌++◌, length, Option, Some, Ok, Err}
+use Rattle.std.specs.Prelude.{◌≡◌, ◌⊎◌, ℕ, true, List, [], ◌∷◌, ◌++◌, length, Option, Some, Ok, Err}
 use Rattle.std.specs.List.{All}
 use Rattle.sq_base.specs.StampValue.{StampValue}
 use Rattle.sq_base.specs.Stamps.{start, after}
@@ -12,8 +12,9 @@ use Rattle.sq_model.specs.declared.replies.HomeReply.{HomeReply}
 use Rattle.sq_model.specs.declared.event.Actor.{Actor}
 use Rattle.sq_model.specs.Homes.{Unopened, HomeStep, home_refusal}
 use Rattle.sq_model.specs.Replays.{HomeEvent, Replays, StampsRise}
+use Rattle.sq_model.specs.Systems.{is_alone}
 use Rattle.sq_history.specs.HistoryValue.{HistoryValue}
-use Rattle.sq_history.specs.HomeNote.{HomeNote}
+use Rattle.sq_model.specs.Notes.{HomeNote}
 
 abbrev pub event_of : StampValue → Actor → HomeId → HomeCall → HomeReply → HomeEvent
 event_of stamp by home call reply =
@@ -39,8 +40,8 @@ IsRefused old by now call e =
     ⊎ (after old.last by.seen now ≡ Err e)
     ⊎ ((stamp : StampValue) × (after old.last by.seen now ≡ Ok stamp) × (home_refusal old.site old.home stamp.moment call ≡ Some e))
 
--- True of every recorded home: it is the replay of its events, whose stamps rise, and each event is its own.
+-- True of every recorded home: it is the replay of its events, whose stamps rise, and each event is its own alone.
 pub record IsKept (h : HistoryValue) : Type 0 where
   pub replays : Replays (HomeStep h.site) Unopened h.events h.home
   pub rising : StampsRise start h.events h.last
-  pub own : All (λ e. e.component ≡ part.Home h.site.home) h.events
+  pub own : All (λ e. (e.component ≡ part.Home h.site.home) × (is_alone e.call ≡ true)) h.events

@@ -1,3 +1,2 @@
 pub mod HistoryValue
-pub mod HomeNote
 pub mod Histories

@@ -31,13 +31,13 @@ pub struct Doing<'a> {
 
 impl Log {
     /// Makes room for one event more, and gives its stamp: above the last one, and above what the actor saw.
-    /// Refused as NoMemory, ClockRange, Worn.
+    /// Refused as NoMemory (the list is full), ClockRange, Worn.
     pub fn begin(&mut self, by: &Actor, now: u64) -> Result<Stamp, Refusal>
         ensures last { self.new.last ≡ self.old.last }
         ensures items { self.new.events.items ≡ self.old.events.items }
         ensures room { OnOk result (vec_len self.new.events < vec_capacity self.new.events) }
         ensures stamped { IfOk result (λ stamp. after self.old.last by.now.seen now ≡ Ok stamp) }
-        ensures refused { IfErr result (λ e. (e ≡ Refusal.NoMemory) ⊎ (after self.old.last by.now.seen now ≡ Err e)) }
+        ensures refused { IfErr result (λ e. ((e ≡ Refusal.NoMemory) × (vec_len self.old.events ≡ vec_capacity self.old.events)) ⊎ (after self.old.last by.now.seen now ≡ Err e)) }
     {
         self.events.try_reserve(1)?;
         Stamp::after(self.last, by.seen, now)

@@ -1,6 +1,6 @@
 //! What an actor keeps of a step of a home.
 ghost use Rattle.std.specs.Prelude.{◌≡◌};
-ghost use Rattle.sq_history.specs.HomeNote.{HomeNote};
+ghost use Rattle.sq_model.specs.Notes.{HomeNote};
 ghost use Rattle.sq_history.specs.Histories.{note_of};
 
 use sq_base::ids::HomeId;
@@ -24,7 +24,7 @@ pub struct HomeRecord {
 }
 
 impl Model for HomeRecord {
-    ghost use Rattle.sq_history.specs.HomeNote.{HomeNote};
+    ghost use Rattle.sq_model.specs.Notes.{HomeNote};
 
     ghost Value = { HomeNote };
 

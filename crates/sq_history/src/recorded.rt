@@ -3,7 +3,7 @@ ghost use Rattle.std.specs.Prelude.{◌≡◌, ◌↔◌, true, [], IfOk, IfErr,
 ghost use Rattle.sq_base.specs.Stamps.{start};
 ghost use Rattle.sq_model.specs.Homes.{Unopened as Never, Closed as Gone};
 ghost use Rattle.sq_model.specs.declared.calls.HomeCall.TheVariants.{Configure, Close, Send, Look, Delete, Change, Purge, Count};
-ghost use Rattle.sq_model.specs.declared.replies.HomeReply.TheVariants.{Sent, Counted};
+ghost use Rattle.sq_model.specs.declared.replies.HomeReply.TheVariants.{Done, Sent, Counted};
 ghost use Rattle.sq_shard.specs.Looks.{look_reply};
 
 use crate::log::{Doing, Log};
@@ -91,6 +91,7 @@ impl<S: Store> Recorded<S> {
         version: u64,
     ) -> Result<HomeRecord, Refusal>
         ensures recorded { IfOk result (λ r. Records self.old self.new by.now now name (Configure settings.now version) r) }
+        ensures done { IfOk result (λ r. r.reply ≡ Done) }
         ensures refusal { IfErr result (IsRefused self.old by.now now (Configure settings.now version)) }
         ensures err { OnErr result (self.new ≡ self.old) }
     {
@@ -149,8 +150,8 @@ impl<S: Store> Recorded<S> {
         Ok((sent, self.log.add(doing, kept, told)))
     }
 
-    /// Receives up to `max` messages; without a timeout the home's is taken. The record's reply has the rows, as they
-    /// stand after it, or says that too many are in flight.
+    /// Receives up to `max` messages; without a timeout the home's is taken. Answers the rows, as they stand after it,
+    /// or none at all where messages are live and too many are in flight.
     /// Refused as NoMemory, ClockRange, Worn, QueueDoesNotExist (not serving).
     pub fn look(
         &mut self,
@@ -160,8 +161,9 @@ impl<S: Store> Recorded<S> {
         name: Option<QueueName>,
         max: MaxMessages,
         timeout: Option<Timeout>,
-    ) -> Result<HomeRecord, Refusal>
-        ensures recorded { IfOk result (λ r. Records self.old self.new by.now now name (Look max timeout) r) }
+    ) -> Result<(Option<Rows>, HomeRecord), Refusal>
+        ensures recorded { IfOk result (λ r. Records self.old self.new by.now now name (Look max timeout) r.1) }
+        ensures looked { IfOk result (λ r. r.1.reply ≡ look_reply r.0) }
         ensures refusal { IfErr result (IsRefused self.old by.now now (Look max timeout)) }
         ensures err { OnErr result (self.new ≡ self.old) }
     {
@@ -172,18 +174,25 @@ impl<S: Store> Recorded<S> {
         let kept_max = max;
         let told_max = max;
         let given = self.shard.choose(alloc, stamp.moment, max, chosen_for)?;
-        let copy = copy_given(alloc, &given)?;
+        let kept_rows = copy_given(alloc, &given)?;
+        let told_rows = copy_given(alloc, &given)?;
         self.shard.give(stamp.moment, timeout, &given);
         let home = self.shard.site().home;
-        let kept = (HomeCall::Look(kept_max, kept_timeout), reply_of_look(given));
-        let told = (HomeCall::Look(told_max, told_timeout), reply_of_look(copy));
+        let kept = (
+            HomeCall::Look(kept_max, kept_timeout),
+            reply_of_look(kept_rows),
+        );
+        let told = (
+            HomeCall::Look(told_max, told_timeout),
+            reply_of_look(told_rows),
+        );
         let doing = Doing {
             by,
             stamp,
             home,
             name,
         };
-        Ok(self.log.add(doing, kept, told))
+        Ok((given, self.log.add(doing, kept, told)))
     }
 
     /// Takes out the row on which slot, serial and receive number agree; where there is none it is done too.
@@ -197,6 +206,7 @@ impl<S: Store> Recorded<S> {
         receipt: &Receipt,
     ) -> Result<HomeRecord, Refusal>
         ensures recorded { IfOk result (λ r. Records self.old self.new by.now now name (Delete receipt.now) r) }
+        ensures done { IfOk result (λ r. r.reply ≡ Done) }
         ensures refusal { IfErr result (IsRefused self.old by.now now (Delete receipt.now)) }
         ensures err { OnErr result (self.new ≡ self.old) }
     {
@@ -228,6 +238,7 @@ impl<S: Store> Recorded<S> {
         timeout: Timeout,
     ) -> Result<HomeRecord, Refusal>
         ensures recorded { IfOk result (λ r. Records self.old self.new by.now now name (Change receipt.now timeout) r) }
+        ensures done { IfOk result (λ r. r.reply ≡ Done) }
         ensures refusal { IfErr result (IsRefused self.old by.now now (Change receipt.now timeout)) }
         ensures err { OnErr result (self.new ≡ self.old) }
     {
@@ -256,6 +267,7 @@ impl<S: Store> Recorded<S> {
         name: Option<QueueName>,
     ) -> Result<HomeRecord, Refusal>
         ensures recorded { IfOk result (λ r. Records self.old self.new by.now now name Purge r) }
+        ensures done { IfOk result (λ r. r.reply ≡ Done) }
         ensures refusal { IfErr result (IsRefused self.old by.now now Purge) }
         ensures err { OnErr result (self.new ≡ self.old) }
     {
@@ -309,6 +321,7 @@ impl<S: Store> Recorded<S> {
         name: Option<QueueName>,
     ) -> Result<HomeRecord, Refusal>
         ensures recorded { IfOk result (λ r. Records self.old self.new by.now now name Close r) }
+        ensures done { IfOk result (λ r. r.reply ≡ Done) }
         ensures refusal { IfErr result (IsRefused self.old by.now now Close) }
         ensures err { OnErr result (self.new ≡ self.old) }
     {
@@ -344,7 +357,8 @@ fn copy_given(alloc: Global, given: &Option<Rows>) -> Result<Option<Rows>, Refus
     }
 }
 
-fn reply_of_look(given: Option<Rows>) -> HomeReply
+/// What a look that gave these rows tells, or gave none since too many messages are in flight.
+pub fn reply_of_look(given: Option<Rows>) -> HomeReply
     ensures { result ≡ look_reply given }
 {
     match given {

@@ -98,7 +98,7 @@ fn call(
     match act {
         Act::Configure(settings, version) => home.configure(by, now, None, &settings, version),
         Act::Send(delay) => send(home, alloc, by, now, delay),
-        Act::Look(timeout) => home.look(alloc, by, now, None, MaxMessages::of(10), timeout),
+        Act::Look(timeout) => look(home, alloc, by, now, timeout),
         Act::Delete(serial, receive) => home.delete(by, now, None, &receipt(serial, receive)),
         Act::Change(serial, receive, timeout) => {
             home.change(by, now, None, &receipt(serial, receive), timeout)
@@ -119,6 +119,26 @@ fn send(
     let body = Body::new(alloc, "hello", BODY_LIMIT)?;
     let (_, record) = home.send(by, now, None, body, delay)?;
     Ok(record)
+}
+
+fn look(
+    home: &mut Home,
+    alloc: Global,
+    by: &Actor,
+    now: u64,
+    timeout: Option<Timeout>,
+) -> Result<HomeRecord, Refusal> {
+    let (given, record) = home.look(alloc, by, now, None, MaxMessages::of(10), timeout)?;
+    let same = match (&given, record.reply()) {
+        (Some(given), HomeReply::Looked(rows)) => given.len() == rows.len(),
+        (None, HomeReply::Over) => true,
+        _ => false,
+    };
+    if same {
+        Ok(record)
+    } else {
+        Err(Refusal::UnsupportedOperation)
+    }
 }
 
 fn count(home: &mut Home, by: &Actor, now: u64) -> Result<HomeRecord, Refusal> {

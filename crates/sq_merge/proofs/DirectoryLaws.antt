@@ -15,7 +15,7 @@ use Rattle.sq_model.specs.Replays.{Replays}
 use Rattle.sq_model.specs.Systems.{DirectoryEvent, AreDirectory}
 use Rattle.sq_model.proofs.ReplayLaws.{replays_push, rise_push}
 use Rattle.sq_merge.specs.DirectoryHistory.{DirectoryHistory}
-use Rattle.sq_merge.specs.DirectoryNote.{DirectoryNote}
+use Rattle.sq_model.specs.Notes.{DirectoryNote}
 use Rattle.sq_merge.specs.DirectoryHistories.{DirectoryRecords, IsDirectoryKept, directory_event}
 
 creates_places : (d : Directory) (name : List ℕ) (given : Attributes) (at : Option ℕ) (made : QueueSettings) (after : Directory) → Creates d name given at made after → after.places ≡ d.places

@@ -12,13 +12,10 @@ use Rattle.sq_model.specs.Directories.{DirectoryStep, directory_refusal}
 use Rattle.sq_model.specs.Replays.{Replays, StampsRise}
 use Rattle.sq_model.specs.Systems.{DirectoryEvent, AreDirectory}
 use Rattle.sq_merge.specs.DirectoryHistory.{DirectoryHistory}
-use Rattle.sq_merge.specs.DirectoryNote.{DirectoryNote}
+use Rattle.sq_model.specs.Notes.{DirectoryNote, directory_note}
 
 abbrev pub directory_event : StampValue → Actor → DirectoryCall → DirectoryReply → DirectoryEvent
 directory_event stamp by call reply = record { stamp = stamp; actor = by.number; place = by.place; component = part.Directory; call = call; reply = reply }
-
-abbrev pub directory_note : StampValue → Actor → ℕ → DirectoryCall → DirectoryReply → DirectoryNote
-directory_note stamp by index call reply = record { place = by.place; stamp = stamp; index = index; call = call; reply = reply }
 
 -- Exactly one event was added: a step of the directory at a new stamp, above its last and above what the actor had seen. The note is its own.
 pub record DirectoryRecords (old new : DirectoryHistory) (by : Actor) (now : ℕ) (call : DirectoryCall) (note : DirectoryNote) : Type 0 where
@@ -26,7 +23,7 @@ pub record DirectoryRecords (old new : DirectoryHistory) (by : Actor) (now : ℕ
   pub step : DirectoryStep old.directory note.stamp.moment call note.reply new.directory
   pub last : new.last ≡ note.stamp
   pub events : new.events ≡ old.events ++ directory_event note.stamp by call note.reply ∷ []
-  pub noted : note ≡ directory_note note.stamp by (length old.events) call note.reply
+  pub noted : note ≡ directory_note (length old.events) (directory_event note.stamp by call note.reply)
 
 -- No memory was found, or the first check in order that fails: the clock's, the counts', the directory's.
 abbrev pub IsDirectoryRefused : DirectoryHistory → Actor → ℕ → DirectoryCall → Refusal → Type 0

@@ -3,6 +3,7 @@ ghost use Rattle.std.specs.Prelude.{◌≡◌, ◌++◌, ◌∷◌, [], IfOk, If
 ghost use Rattle.sq_base.specs.Stamps.{start};
 ghost use Rattle.sq_model.specs.Directories.{number_of};
 ghost use Rattle.sq_model.specs.declared.directory.DirectoryCall.TheVariants.{Create};
+ghost use Rattle.sq_model.specs.declared.directory.DirectoryReply.TheVariants.{Made};
 
 use crate::queues::Queues;
 use crate::record::DirectoryRecord;
@@ -10,7 +11,7 @@ use sq_base::ids::QueueNo;
 use sq_base::name::QueueName;
 use sq_base::refusal::Refusal;
 use sq_base::stamp::Stamp;
-use sq_model::directory::{Attributes, DirectoryCall, DirectoryReply};
+use sq_model::directory::{Attributes, DirectoryCall, DirectoryReply, QueueSettings};
 use sq_model::event::{Actor, Event};
 use sq_model::place::Component;
 use std::alloc::Global;
@@ -71,7 +72,8 @@ impl Directory {
         self.queues.find(name)
     }
 
-    /// Makes a queue of this name with these attributes, where there is none yet; else it must have them.
+    /// Makes a queue of this name with these attributes, where there is none yet; else it must have them. Answers the
+    /// queue, and the record of the step.
     /// Refused as NoMemory, ClockRange, Worn, QueueNameExists, TableFull.
     pub fn create(
         &mut self,
@@ -79,14 +81,16 @@ impl Directory {
         now: u64,
         name: &QueueName,
         given: &Attributes,
-    ) -> Result<DirectoryRecord, Refusal>
-        ensures recorded { IfOk result (λ r. DirectoryRecords self.old self.new by.now now (Create name.now given.now) r) }
+    ) -> Result<(QueueSettings, DirectoryRecord), Refusal>
+        ensures recorded { IfOk result (λ r. DirectoryRecords self.old self.new by.now now (Create name.now given.now) r.1) }
+        ensures made { IfOk result (λ r. r.1.reply ≡ Made r.0) }
         ensures refusal { IfErr result (IsDirectoryRefused self.old by.now now (Create name.now given.now)) }
         ensures err { OnErr result (self.new ≡ self.old) }
     {
         self.events.try_reserve(1)?;
         let stamp = Stamp::after(self.last, by.seen, now)?;
         let made = self.queues.create(name, given)?;
+        let told = made;
         let call = DirectoryCall::Create(*name, *given);
         let reply = DirectoryReply::Made(made);
         let index = self.events.len() as u64;
@@ -101,6 +105,6 @@ impl Directory {
         };
         let _ = self.events.push(event);
         self.last = record.stamp();
-        Ok(record)
+        Ok((told, record))
     }
 }

@@ -1,8 +1,28 @@
-//! The whole system from its parts: the directory of the queues with its history.
+//! The whole system from its parts: what actors do, what they keep of it, and the one run of it all.
 #![tactic(auto)]
 
+pub mod act;
+pub mod book;
+pub mod books;
+pub mod check;
 pub mod directory;
+mod home_states;
+pub mod homes;
+pub mod merge;
+pub mod options;
+pub mod parts;
+#[cfg(test)]
+mod place_tests;
+pub mod places;
 pub mod queues;
 pub mod record;
+mod room;
+pub mod sorted;
+mod state;
+pub mod tagged;
 #[cfg(test)]
 mod tests;
+pub mod track;
+pub mod world;
+#[cfg(test)]
+mod world_tests;

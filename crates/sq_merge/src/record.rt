@@ -1,9 +1,11 @@
-//! What an actor keeps of a step of the directory.
+//! What an actor keeps of its steps.
 ghost use Rattle.std.specs.Prelude.{◌≡◌};
-ghost use Rattle.sq_merge.specs.DirectoryNote.{DirectoryNote};
-ghost use Rattle.sq_merge.specs.DirectoryHistories.{directory_note};
+ghost use Rattle.sq_model.specs.Notes.{DirectoryNote, place_of, stamp_of, directory_note};
+ghost use Rattle.sq_merge.specs.DirectoryHistories.{directory_event};
+ghost use Rattle.sq_merge.specs.Records.{note_of};
 
 use sq_base::stamp::Stamp;
+use sq_history::record::HomeRecord;
 use sq_model::directory::{DirectoryCall, DirectoryReply};
 use sq_model::event::Actor;
 use std::marker::Model;
@@ -19,7 +21,7 @@ pub struct DirectoryRecord {
 }
 
 impl Model for DirectoryRecord {
-    ghost use Rattle.sq_merge.specs.DirectoryNote.{DirectoryNote};
+    ghost use Rattle.sq_model.specs.Notes.{DirectoryNote};
 
     ghost Value = { DirectoryNote };
 
@@ -34,7 +36,7 @@ impl DirectoryRecord {
         call: &DirectoryCall,
         reply: &DirectoryReply,
     ) -> DirectoryRecord
-        ensures { result ≡ directory_note stamp.now by.now index call.now reply.now }
+        ensures { result ≡ directory_note index (directory_event stamp.now by.now call.now reply.now) }
     {
         DirectoryRecord {
             place: by.place,
@@ -75,5 +77,33 @@ impl DirectoryRecord {
         ensures { result.now ≡ self.now.reply }
     {
         &self.reply
+    }
+}
+
+/// An actor's record of one step.
+#[derive(Drop)]
+pub enum Record {
+    Directory(DirectoryRecord),
+    Home(HomeRecord),
+}
+
+impl Record {
+    /// The number of the step among its actor's, from 0 upwards.
+    pub fn place(&self) -> u64
+        ensures { result ≡ place_of (note_of self.now) }
+    {
+        match self {
+            Record::Directory(record) => record.place(),
+            Record::Home(record) => record.place(),
+        }
+    }
+
+    pub fn stamp(&self) -> Stamp
+        ensures { result ≡ stamp_of (note_of self.now) }
+    {
+        match self {
+            Record::Directory(record) => record.stamp(),
+            Record::Home(record) => record.stamp(),
+        }
     }
 }

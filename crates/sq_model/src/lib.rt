@@ -9,4 +9,5 @@ pub mod laws;
 pub mod place;
 pub mod replies;
 pub mod rows;
+pub mod same;
 pub mod worked;

@@ -11,7 +11,7 @@ use Rattle.sq_model.specs.declared.calls.Receipt.{Receipt}
 use Rattle.sq_model.specs.declared.calls.HomeCall.TheVariants.{Configure, Send, Look, Delete, Change}
 use Rattle.sq_model.specs.declared.replies.SentMessage.{SentMessage}
 use Rattle.sq_model.specs.declared.replies.HomeReply.TheVariants as reply
-use Rattle.sq_history.specs.HomeNote.{HomeNote}
+use Rattle.sq_model.specs.Notes.{HomeNote}
 use Rattle.sq_wire.specs.WorldValue.{WorldValue}
 use Rattle.sq_wire.specs.Created.{number_of, Creates, CreateRefused}
 use Rattle.sq_wire.specs.Worlds.{acted, looked, Steps, StepRefused}

@@ -8,7 +8,7 @@ use Rattle.sq_base.specs.declared.refusal.Refusal.TheVariants.{Worn, QueueDoesNo
 use Rattle.sq_model.specs.declared.calls.HomeCall.{HomeCall}
 use Rattle.sq_model.specs.declared.event.Actor.{Actor}
 use Rattle.sq_history.specs.HistoryValue.{HistoryValue}
-use Rattle.sq_history.specs.HomeNote.{HomeNote}
+use Rattle.sq_model.specs.Notes.{HomeNote}
 use Rattle.sq_history.specs.Histories.{Records, IsRefused}
 use Rattle.sq_wire.specs.WorldValue.{WorldValue}
 

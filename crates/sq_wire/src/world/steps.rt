@@ -109,7 +109,7 @@ impl World {
     {
         let at = self.ready(queue)?;
         let home = &mut self.homes[at];
-        let record = home.look(alloc, &self.actor, now, Some(*name), max, timeout)?;
+        let (_, record) = home.look(alloc, &self.actor, now, Some(*name), max, timeout)?;
         self.actor = acted(&self.actor, record.stamp());
         Ok(record)
     }

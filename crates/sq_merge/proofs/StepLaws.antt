@@ -1,0 +1,207 @@
+-- A step of a world, from what was done to its parts.
+use Rattle.std.proofs.Common.{◌≡◌, ◌≢◌, ◌⊎◌, ℕ, zero, suc, ◌+◌, ◌-◌, ◌*◌, ◌/◌, ◌%◌, ◌<◌, ◌≤◌, Bool, true, false, List, [], ◌∷◌, ◌++◌, length, refl, ap, sym, ◌∙◌, subst, inl, inr, arith, Option, Some, None, slice_get, slice_set}
+use Rattle.std.specs.Prelude.{nat_lt, ◌&&◌, ◌==◌, if◌then◌else◌, position}
+use Rattle.std.specs.List.{slice_index_or}
+use Rattle.std.proofs.lemmas.Nat.{div-mul-add, mod-mul-add}
+use Rattle.std.proofs.Math.Nat.{mod-add-div, mod-lt, mul_comm, mul-le-mul_right}
+use Rattle.std.proofs.lemmas.Option.{slice_get_read, slice_get_within}
+use Rattle.std.proofs.lemmas.List.{length-append}
+use Rattle.std.proofs.lemmas.Grind.{common_steps}
+use Rattle.sq_base.specs.StampValue.{StampValue}
+use Rattle.sq_base.specs.declared.ids.HomeId.{HomeId}
+use Rattle.sq_base.specs.declared.refusal.Refusal.{Refusal}
+use Rattle.sq_model.specs.declared.place.Limits.{Limits}
+use Rattle.sq_model.specs.declared.calls.HomeCall.{HomeCall}
+use Rattle.sq_model.specs.declared.replies.HomeReply.{HomeReply}
+use Rattle.sq_model.specs.declared.directory.Attributes.{Attributes}
+use Rattle.sq_model.specs.declared.directory.QueueSettings.{QueueSettings}
+use Rattle.sq_model.specs.declared.directory.DirectoryCall.TheVariants.{Create}
+use Rattle.sq_model.specs.declared.directory.DirectoryReply.TheVariants.{Made}
+use Rattle.sq_model.specs.Replays.{HomeEvent}
+use Rattle.sq_model.specs.Notes.{Book}
+use Rattle.sq_model.specs.Matches.{HomeHistory, IsHomeEvent, IsNoted, IsOfHome}
+use Rattle.sq_history.specs.HistoryValue.{HistoryValue}
+use Rattle.sq_merge.specs.DirectoryHistory.{DirectoryHistory}
+use Rattle.sq_merge.specs.Books.{is_of, new_book, book_of, put_book, with_note, having_seen, HomeMoves, DirectoryMoves, IsHomeRefused}
+use Rattle.sq_merge.specs.WorldValue.{WorldValue}
+use Rattle.sq_merge.specs.Worlds.{history_of, histories_of, home_id, IsNumbered, IsHomeOf, IsKeptWorld, HomeStepped, HomeRefused, Created, having_read}
+use Rattle.sq_merge.specs.declared.options.Options.{Options}
+use Rattle.sq_merge.specs.Openings.{home_place, never_opened, never_opened_homes, limits_of, IsServed, new_world}
+use Rattle.sq_merge.proofs.ElementLaws.{some_same, get_cases, get_mapped}
+use Rattle.sq_merge.proofs.BookListLaws.{book_own, found_there, found_put, lost_there, lost_put}
+
+pub same_id : (x y : HomeId) → x.queue ≡ y.queue → x.home ≡ y.home → x ≡ y
+same_id x y q h = ap (λ (n : ℕ). record { queue = n; home = x.home }) q ∙ ap (λ (n : ℕ). record { queue = y.queue; home = n }) h
+
+place_is : (per_queue count : ℕ) (id : HomeId) → 1 ≤ id.queue → id.home < per_queue → (id.queue - 1) * per_queue + id.home < count
+    → ((id.queue - 1) * per_queue + id.home < count) × (home_id per_queue ((id.queue - 1) * per_queue + id.home) ≡ id)
+place_is per_queue count id least below within =
+    (within, same_id (home_id per_queue ((id.queue - 1) * per_queue + id.home)) id (omega (arith, div-mul-add (id.queue - 1) per_queue id.home below, least)) (mod-mul-add (id.queue - 1) per_queue id.home below))
+
+-- a place that is found has the home
+pub place_found : (per_queue count : ℕ) (id : HomeId) (place : ℕ) → 1 ≤ id.queue → home_place per_queue count id ≡ Some place → (place < count) × (home_id per_queue place ≡ id)
+place_found per_queue count id place least h =
+    let at = (id.queue - 1) * per_queue + id.home in
+    elim (nat_lt id.home per_queue) as (λ v. nat_lt id.home per_queue ≡ v → (if v && nat_lt at count then Some at else None) ≡ Some place → (place < count) × (home_id per_queue place ≡ id)) [
+      | true ↦ (λ e. elim (nat_lt at count) as (λ w. nat_lt at count ≡ w → (if w then Some at else None) ≡ Some place → (place < count) × (home_id per_queue place ≡ id)) [
+        | true ↦ (λ f k. subst (λ (n : ℕ). (n < count) × (home_id per_queue n ≡ id)) (some_same k) (place_is per_queue count id least (grind (arith, common_steps, e)) (grind (arith, common_steps, f))))
+        | false ↦ (λ f k. absurd cc)
+      ] refl)
+      | false ↦ (λ e k. absurd cc)
+    ] refl h
+
+mul-order : (a b c d : ℕ) → c + b * a ≡ d → a * b + c ≡ d
+mul-order a b c d h = let e = mul_comm a b in omega (arith, h, e)
+
+pub place_back : (per_queue count at : ℕ) → 1 ≤ per_queue → at < count → home_place per_queue count (home_id per_queue at) ≡ Some at
+place_back per_queue count at some within =
+    let less : nat_lt (at % per_queue) per_queue ≡ true = (let lt = mod-lt at some in grind (arith, common_steps, lt)) in
+    let is : (at / per_queue + 1 - 1) * per_queue + at % per_queue ≡ at = (let e : at / per_queue + 1 - 1 ≡ at / per_queue = omega arith in rw e (mul-order (at / per_queue) per_queue (at % per_queue) at (mod-add-div at per_queue))) in
+    let inside : nat_lt at count ≡ true = grind (arith, common_steps) in
+    rw (less, is, inside) refl
+
+within : (homes : List HistoryValue) (at : ℕ) (h : HistoryValue) → slice_get homes at ≡ Some h → at < length homes
+within homes at h there = slice_get_within homes at h there
+
+-- and no other place is
+pub place_none : (per_queue : ℕ) (homes : List HistoryValue) (id : HomeId) → 1 ≤ per_queue → IsNumbered per_queue homes → home_place per_queue (length homes) id ≡ None → (at : ℕ) (h : HistoryValue) → slice_get homes at ≡ Some h → h.site.home ≡ id → ⊥
+place_none per_queue homes id some numbered none at h there is =
+    let place : home_place per_queue (length homes) id ≡ Some at = subst (λ (x : HomeId). home_place per_queue (length homes) x ≡ Some at) (sym (numbered at h there) ∙ is) (place_back per_queue (length homes) at some (within homes at h there)) in
+    cc
+
+-- the home at its place
+home_is : (old : WorldValue) (id : HomeId) (place : ℕ) (before : HistoryValue) → IsNumbered old.per_queue old.homes → 1 ≤ id.queue → home_place old.per_queue (length old.homes) id ≡ Some place → before ≡ slice_index_or old.homes place before → IsHomeOf old id place before
+home_is old id place before numbered least found is =
+    let t = place_found old.per_queue (length old.homes) id place least found in
+    let there : slice_get old.homes place ≡ Some before = slice_get_read old.homes (length old.homes) place before refl t.0 is in
+    record { there = there; is = numbered place before there ∙ t.1 }
+
+pub found_is : (books : List Book) (actor at : ℕ) (mine : Book) → position (is_of actor) books ≡ Some at → at < length books → mine ≡ slice_index_or books at mine → mine ≡ book_of actor books
+found_is books actor at mine pos lt own = some_same (sym (slice_get_read books (length books) at mine refl lt own) ∙ found_there actor books at pos)
+
+pub stepped_found : (old : WorldValue) (actor now : ℕ) (name : Option (List ℕ)) (id : HomeId) (call : HomeCall) (reply : HomeReply) (place at : ℕ) (before after : HistoryValue) (mine noted : Book)
+    → IsNumbered old.per_queue old.homes → 1 ≤ id.queue → home_place old.per_queue (length old.homes) id ≡ Some place → before ≡ slice_index_or old.homes place before
+    → position (is_of actor) old.books ≡ Some at → at < length old.books → mine ≡ slice_index_or old.books at mine
+    → HomeMoves before after mine noted now name call reply
+    → HomeStepped old (record old { homes = slice_set old.homes place after; books = slice_set old.books at noted }) actor now name id call reply
+stepped_found old actor now name id call reply place at before after mine noted numbered least found there pos lt own moves =
+    let is = found_is old.books actor at mine pos lt own in
+    let noted_own : noted.actor ≡ actor = ap (λ (b : Book). b.actor) moves.noted_as ∙ ap (λ (b : Book). b.actor) is ∙ book_own actor old.books in
+    let books = found_put noted old.books at (subst (λ (n : ℕ). position (is_of n) old.books ≡ Some at) (sym noted_own) pos) in
+    record {
+      at = place;
+      before = before;
+      after = after;
+      noted = noted;
+      home = home_is old id place before numbered least found there;
+      moves = subst (λ (b : Book). HomeMoves before after b noted now name call reply) is moves;
+      changed = ap (λ (bs : List Book). record old { homes = slice_set old.homes place after; books = bs }) books;
+    }
+
+pub stepped_new : (old : WorldValue) (actor now : ℕ) (name : Option (List ℕ)) (id : HomeId) (call : HomeCall) (reply : HomeReply) (place : ℕ) (before after : HistoryValue) (noted : Book)
+    → IsNumbered old.per_queue old.homes → 1 ≤ id.queue → home_place old.per_queue (length old.homes) id ≡ Some place → before ≡ slice_index_or old.homes place before
+    → position (is_of actor) old.books ≡ None
+    → HomeMoves before after (new_book actor) noted now name call reply
+    → HomeStepped old (record old { homes = slice_set old.homes place after; books = old.books ++ noted ∷ [] }) actor now name id call reply
+stepped_new old actor now name id call reply place before after noted numbered least found there pos moves =
+    let noted_own : noted.actor ≡ actor = ap (λ (b : Book). b.actor) moves.noted_as in
+    let books = lost_put noted old.books (subst (λ (n : ℕ). position (is_of n) old.books ≡ None) (sym noted_own) pos) in
+    record {
+      at = place;
+      before = before;
+      after = after;
+      noted = noted;
+      home = home_is old id place before numbered least found there;
+      moves = subst (λ (b : Book). HomeMoves before after b noted now name call reply) (sym (lost_there actor old.books pos)) moves;
+      changed = ap (λ (bs : List Book). record old { homes = slice_set old.homes place after; books = bs }) (sym books);
+    }
+
+pub refused_found : (old : WorldValue) (actor now : ℕ) (id : HomeId) (call : HomeCall) (e : Refusal) (place at : ℕ) (before : HistoryValue) (mine : Book)
+    → IsNumbered old.per_queue old.homes → 1 ≤ id.queue → home_place old.per_queue (length old.homes) id ≡ Some place → before ≡ slice_index_or old.homes place before
+    → position (is_of actor) old.books ≡ Some at → at < length old.books → mine ≡ slice_index_or old.books at mine
+    → IsHomeRefused before mine now call e → HomeRefused old actor now id call e
+refused_found old actor now id call e place at before mine numbered least found there pos lt own refused =
+    inr (inr (place, before, home_is old id place before numbered least found there, subst (λ (b : Book). IsHomeRefused before b now call e) (found_is old.books actor at mine pos lt own) refused))
+
+pub refused_new : (old : WorldValue) (actor now : ℕ) (id : HomeId) (call : HomeCall) (e : Refusal) (place : ℕ) (before : HistoryValue)
+    → IsNumbered old.per_queue old.homes → 1 ≤ id.queue → home_place old.per_queue (length old.homes) id ≡ Some place → before ≡ slice_index_or old.homes place before
+    → position (is_of actor) old.books ≡ None
+    → IsHomeRefused before (new_book actor) now call e → HomeRefused old actor now id call e
+refused_new old actor now id call e place before numbered least found there pos refused =
+    inr (inr (place, before, home_is old id place before numbered least found there, subst (λ (b : Book). IsHomeRefused before b now call e) (sym (lost_there actor old.books pos)) refused))
+
+pub created_found : (old : WorldValue) (actor now : ℕ) (name : List ℕ) (given : Attributes) (made : QueueSettings) (at : ℕ) (after : DirectoryHistory) (mine noted : Book)
+    → position (is_of actor) old.books ≡ Some at → at < length old.books → mine ≡ slice_index_or old.books at mine
+    → DirectoryMoves old.directory after mine noted now (Create name given) (Made made)
+    → Created old (record old { directory = after; books = slice_set old.books at noted }) actor now name given made
+created_found old actor now name given made at after mine noted pos lt own moves =
+    let is = found_is old.books actor at mine pos lt own in
+    let noted_own : noted.actor ≡ actor = ap (λ (b : Book). b.actor) moves.noted_as ∙ ap (λ (b : Book). b.actor) is ∙ book_own actor old.books in
+    let books = found_put noted old.books at (subst (λ (n : ℕ). position (is_of n) old.books ≡ Some at) (sym noted_own) pos) in
+    record {
+      after = after;
+      noted = noted;
+      moves = subst (λ (b : Book). DirectoryMoves old.directory after b noted now (Create name given) (Made made)) is moves;
+      changed = ap (λ (bs : List Book). record old { directory = after; books = bs }) books;
+    }
+
+pub created_new : (old : WorldValue) (actor now : ℕ) (name : List ℕ) (given : Attributes) (made : QueueSettings) (after : DirectoryHistory) (noted : Book)
+    → position (is_of actor) old.books ≡ None
+    → DirectoryMoves old.directory after (new_book actor) noted now (Create name given) (Made made)
+    → Created old (record old { directory = after; books = old.books ++ noted ∷ [] }) actor now name given made
+created_new old actor now name given made after noted pos moves =
+    let noted_own : noted.actor ≡ actor = ap (λ (b : Book). b.actor) moves.noted_as in
+    let books = lost_put noted old.books (subst (λ (n : ℕ). position (is_of n) old.books ≡ None) (sym noted_own) pos) in
+    record {
+      after = after;
+      noted = noted;
+      moves = subst (λ (b : Book). DirectoryMoves old.directory after b noted now (Create name given) (Made made)) (sym (lost_there actor old.books pos)) moves;
+      changed = ap (λ (bs : List Book). record old { directory = after; books = bs }) (sym books);
+    }
+
+pub read_found : (old : WorldValue) (actor at : ℕ) (mine : Book) → position (is_of actor) old.books ≡ Some at → at < length old.books → mine ≡ slice_index_or old.books at mine
+    → record old { books = slice_set old.books at (having_seen mine old.directory.last) } ≡ having_read old actor
+read_found old actor at mine pos lt own =
+    let is = found_is old.books actor at mine pos lt own in
+    let noted = having_seen (book_of actor old.books) old.directory.last in
+    rw is (ap (λ (bs : List Book). record old { books = bs }) (found_put noted old.books at (subst (λ (n : ℕ). position (is_of n) old.books ≡ Some at) (sym (book_own actor old.books)) pos)))
+
+pub read_new : (old : WorldValue) (actor : ℕ) → position (is_of actor) old.books ≡ None
+    → record old { books = old.books ++ having_seen (new_book actor) old.directory.last ∷ [] } ≡ having_read old actor
+read_new old actor pos =
+    rw (lost_there actor old.books pos) (ap (λ (bs : List Book). record old { books = bs }) (sym (lost_put (having_seen (new_book actor) old.directory.last) old.books pos)))
+
+length_opened : (per_queue : ℕ) (limits : Limits) (n : ℕ) → length (never_opened_homes per_queue limits n) ≡ n
+length_opened per_queue limits zero = refl
+length_opened per_queue limits (suc n) = omega (arith, length-append (never_opened_homes per_queue limits n) (never_opened per_queue limits n ∷ []), length_opened per_queue limits n)
+
+opened_at : (per_queue : ℕ) (limits : Limits) (n at : ℕ) (h : HistoryValue) → slice_get (never_opened_homes per_queue limits n) at ≡ Some h → h ≡ never_opened per_queue limits at
+opened_at per_queue limits zero at h there = absurd cc
+opened_at per_queue limits (suc n) at h there = elim (get_cases (never_opened_homes per_queue limits n) (never_opened per_queue limits n) h at there) [
+  | inl g ↦ opened_at per_queue limits n at h g
+  | inr g ↦ g.1 ∙ ap (never_opened per_queue limits) (sym (length_opened per_queue limits n) ∙ sym g.0)
+]
+
+opening_empty : (per_queue : ℕ) (limits : Limits) (n j k : ℕ) (h : HomeHistory) (e : HomeEvent) → IsHomeEvent (histories_of (never_opened_homes per_queue limits n)) j k h e → ⊥
+opening_empty per_queue limits n j k h e at =
+    let t = get_mapped history_of (never_opened_homes per_queue limits n) j h at.in_homes in
+    let none : h.events ≡ [] = ap (λ (x : HomeHistory). x.events) t.2 ∙ ap (λ (x : HistoryValue). x.events) (opened_at per_queue limits n j t.0 t.1) in
+    let k2 = rw none at at.in_events in cc
+
+pub few_new : (o : Options) → IsServed o → length (never_opened_homes o.homes (limits_of o) (o.queues * o.homes)) ≤ 16384
+few_new o served =
+    let most : o.queues * o.homes ≤ 1024 * o.homes = mul-le-mul_right o.homes served.queues.1 in
+    omega (arith, length_opened o.homes (limits_of o) (o.queues * o.homes), most, served.homes.1)
+
+-- a world that begins
+pub kept_new : (o : Options) → IsKeptWorld (new_world o)
+unfolding new_world
+kept_new o = record {
+  numbered = λ at h there. ap (λ (x : HistoryValue). x.site.home) (opened_at o.homes (limits_of o) (o.queues * o.homes) at h there);
+  happened = λ b i book n h. let k = h.in_books in absurd cc;
+  directory_noted = λ k e h. absurd cc;
+  homes_noted = λ j k h e at. absurd (opening_empty o.homes (limits_of o) (o.queues * o.homes) j k h e at);
+  exact = λ b i book n h. let k = h.in_books in absurd cc;
+  counted = λ b book h. absurd cc;
+  distinct = tt;
+}

@@ -1,0 +1,6 @@
+use Rattle.std.proofs.Common.{◌≡◌}
+use Rattle.sq_merge.specs.Openings.{never_opened_homes}
+use Rattle.sq_merge.proofs.homes.never_opened_homes.Given as goal
+
+abbrev pub invariant-loop-place : goal.invariant-loop-place
+invariant-loop-place l = l.homes.items ≡ never_opened_homes l.per_queue l.limits l.place

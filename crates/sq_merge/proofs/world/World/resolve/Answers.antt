@@ -1,0 +1,45 @@
+use Rattle.std.proofs.Common.{rules, ◌≡◌, ◌<◌, length, Some, None, subst, sym}
+use Rattle.std.specs.Prelude.{position}
+use Rattle.sq_model.specs.Directories.{number_of}
+use Rattle.sq_merge.specs.Books.{is_of}
+use Rattle.sq_merge.specs.WorldValue.{WorldValue}
+use Rattle.sq_merge.specs.Worlds.{IsKeptWorld}
+use Rattle.sq_merge.proofs.StepLaws.{read_found, read_new}
+use Rattle.sq_merge.proofs.WorldLaws.{kept_read}
+use Rattle.sq_merge.proofs.world.World.resolve.Goals as goal
+
+pub invariant_of-self : goal.invariant_of-self
+invariant_of-self c =
+    let old : WorldValue = record { directory = c.self.inside.directory; per_queue = c.self.inside.per_queue; sample = c.self.inside.sample; homes = c.self.inside.homes.items; books = c.self.inside.books.items } in
+    let pos : position (is_of c.args.actor) old.books ≡ Some c.in-Some-book_at.at = sym (rw (← c.self.view_is) at c.in-Some-book_at.ensures.place) in
+    let lt : c.in-Some-book_at.at < length old.books = search rules in
+    record {
+      kept = rw (c.see.ensures, c.last-last.ensures) (subst IsKeptWorld (sym (read_found old c.args.actor c.in-Some-book_at.at c.index_mut-book.result.now pos lt c.index_mut-book.ensures.value)) (kept_read old c.args.actor c.self.invariant.kept));
+      sample = c.self.invariant.sample;
+      few = c.self.invariant.few;
+    }
+
+pub invariant_of-self-in-None : goal.invariant_of-self-in-None
+invariant_of-self-in-None c =
+    let old : WorldValue = record { directory = c.self.inside.directory; per_queue = c.self.inside.per_queue; sample = c.self.inside.sample; homes = c.self.inside.homes.items; books = c.self.inside.books.items } in
+    let pos : position (is_of c.args.actor) old.books ≡ None = sym (rw (← c.self.view_is) at c.in-None.ensures.place) in
+    record {
+      kept = rw (c.put.ensures, c.try_reserve.ensures.items, c.see-in-None.ensures, c.new-book.ensures, c.last-last.ensures) (subst IsKeptWorld (sym (read_new old c.args.actor pos)) (kept_read old c.args.actor c.self.invariant.kept));
+      sample = c.self.invariant.sample;
+      few = c.self.invariant.few;
+    }
+
+pub returns-in-Some-book_at-clause-found : goal.returns-in-Some-book_at-clause-found
+returns-in-Some-book_at-clause-found c =
+    let old : WorldValue = record { directory = c.self.inside.directory; per_queue = c.self.inside.per_queue; sample = c.self.inside.sample; homes = c.self.inside.homes.items; books = c.self.inside.books.items } in
+    let pos : position (is_of c.args.actor) old.books ≡ Some c.in-Some-book_at.at = sym (rw (← c.self.view_is) at c.in-Some-book_at.ensures.place) in
+    let lt : c.in-Some-book_at.at < length old.books = search rules in
+    let queue : number_of c.args.name.now old.directory.directory.queues ≡ Some c.in-Some.queue = search rules in
+    rw (← c.self.view_is, c.see.ensures, c.last-last.ensures) (queue, read_found old c.args.actor c.in-Some-book_at.at c.index_mut-book.result.now pos lt c.index_mut-book.ensures.value)
+
+pub returns-in_ok-try_reserve-in-None-clause-found : goal.returns-in_ok-try_reserve-in-None-clause-found
+returns-in_ok-try_reserve-in-None-clause-found c =
+    let old : WorldValue = record { directory = c.self.inside.directory; per_queue = c.self.inside.per_queue; sample = c.self.inside.sample; homes = c.self.inside.homes.items; books = c.self.inside.books.items } in
+    let pos : position (is_of c.args.actor) old.books ≡ None = sym (rw (← c.self.view_is) at c.in-None.ensures.place) in
+    let queue : number_of c.args.name.now old.directory.directory.queues ≡ Some c.in-Some.queue = search rules in
+    rw (← c.self.view_is, c.put.ensures, c.try_reserve.ensures.items, c.see-in-None.ensures, c.new-book.ensures, c.last-last.ensures) (queue, read_new old c.args.actor pos)

@@ -1,0 +1,40 @@
+-- The places of all messages of a run, as a list.
+use Rattle.std.specs.Prelude.{◌≡◌, List, if◌then◌else◌, Option, Some, None}
+use Rattle.std.specs.List.{fold}
+use Rattle.std.specs.List.Sorted.{IsStrictlySortedBy}
+use Rattle.std.specs.Map.{lookup, keys_of}
+use Rattle.std.specs.Ordering.{nat_cmp, ordering_then}
+use Rattle.std.specs.declared.cmp.Ordering.{Ordering}
+use Rattle.sq_base.specs.declared.message_id.MessageId.{MessageId}
+use Rattle.sq_model.specs.declared.place.Place.{Place}
+use Rattle.sq_model.specs.declared.place.Place.TheVariants as at
+use Rattle.sq_model.specs.Lineages.{Ending, same_id}
+use Rattle.sq_model.specs.Places.{place_in}
+
+-- by queue, then by home, then by serial
+abbrev pub id_cmp : MessageId → MessageId → Ordering
+id_cmp a b = ordering_then (nat_cmp a.queue b.queue) (ordering_then (nat_cmp a.home b.home) (nat_cmp a.serial b.serial))
+
+-- each message that was sent stands once, in rising order of id, with its place; no other stands there
+pub record ArePlaces (sends : List MessageId) (ends : List Ending) (told : List (MessageId × Place)) : Type 0 where
+  pub rising : IsStrictlySortedBy id_cmp (keys_of told)
+  pub each : (x : MessageId) → lookup (same_id x) told ≡ place_in x sends ends
+
+-- what is told of a message once it is sent
+abbrev pub after_send : MessageId → Option Place → MessageId → Option Place
+after_send x place id = if same_id x id then Some at.InHome else place
+
+-- and once it left the system
+abbrev pub after_end : MessageId → Option Place → MessageId × Place → Option Place
+after_end x place e = if same_id x e.0 then Some e.1 else place
+
+abbrev pub sent_place : MessageId → List MessageId → Option Place
+sent_place x sends = fold (after_send x) None sends
+
+abbrev pub told_place : MessageId → List MessageId → List (MessageId × Place) → Option Place
+told_place x sends ends = fold (after_end x) (sent_place x sends) ends
+
+-- what is told of each message after these sends and ends
+pub record AreTold (sends : List MessageId) (ends : List (MessageId × Place)) (told : List (MessageId × Place)) : Type 0 where
+  pub rising : IsStrictlySortedBy id_cmp (keys_of told)
+  pub each : (x : MessageId) → lookup (same_id x) told ≡ told_place x sends ends

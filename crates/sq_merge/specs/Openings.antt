@@ -1,0 +1,47 @@
+-- The options that a world takes, and the world that it begins as.
+use Rattle.std.specs.Prelude.{ℕ, zero, suc, ◌+◌, ◌-◌, ◌*◌, ◌/◌, ◌≤◌, ◌&&◌, nat_lt, if◌then◌else◌, List, [], ◌∷◌, ◌++◌, Option, Some, None}
+use Rattle.sq_base.specs.Stamps.{start}
+use Rattle.sq_base.specs.declared.ids.HomeId.{HomeId}
+use Rattle.sq_model.specs.Homes.{Unopened}
+use Rattle.sq_model.specs.declared.place.Limits.{Limits}
+use Rattle.sq_history.specs.HistoryValue.{HistoryValue}
+use Rattle.sq_merge.specs.WorldValue.{WorldValue}
+use Rattle.sq_merge.specs.Worlds.{home_id}
+use Rattle.sq_merge.specs.declared.options.Options.{Options}
+
+-- all are in their ranges
+pub record IsServed (o : Options) : Type 0 where
+  pub homes : (1 ≤ o.homes) × (o.homes ≤ 16)
+  pub sample : (1 ≤ o.sample) × (o.sample ≤ o.homes)
+  pub queues : (1 ≤ o.queues) × (o.queues ≤ 1024)
+  pub rows : (1 ≤ o.rows) × (o.rows ≤ 1048576)
+  pub flights : (o.homes ≤ o.flights) × (o.flights ≤ 120000)
+  pub transit : (1 ≤ o.transit) × (o.transit ≤ 100000)
+
+-- where a home stands among so many of all queues
+abbrev pub home_place : ℕ → ℕ → HomeId → Option ℕ
+home_place per_queue count id =
+    if nat_lt id.home per_queue && nat_lt ((id.queue - 1) * per_queue + id.home) count then Some ((id.queue - 1) * per_queue + id.home) else None
+
+-- a home that was never opened
+abbrev pub never_opened : ℕ → Limits → ℕ → HistoryValue
+never_opened per_queue limits at = record { site = record { home = home_id per_queue at; limits = limits }; home = Unopened; last = start; events = [] }
+
+-- so many of them
+abbrev pub never_opened_homes : ℕ → Limits → ℕ → List HistoryValue
+never_opened_homes per_queue limits zero = []
+never_opened_homes per_queue limits (suc n) = never_opened_homes per_queue limits n ++ never_opened per_queue limits n ∷ []
+
+-- a home takes its share of the rows in flight
+abbrev pub limits_of : Options → Limits
+limits_of o = record { rows = o.rows; flights = o.flights / o.homes }
+
+-- no queue is made yet, and nothing was done
+unfoldable pub new_world : Options → WorldValue
+new_world o = record {
+  directory = record { directory = record { queues = []; places = o.queues }; last = start; events = [] };
+  per_queue = o.homes;
+  sample = o.sample;
+  homes = never_opened_homes o.homes (limits_of o) (o.queues * o.homes);
+  books = [];
+}

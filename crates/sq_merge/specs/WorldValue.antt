@@ -1,0 +1,13 @@
+-- What contracts see of a world.
+use Rattle.std.specs.Prelude.{ℕ, List}
+use Rattle.sq_model.specs.Notes.{Book}
+use Rattle.sq_history.specs.HistoryValue.{HistoryValue}
+use Rattle.sq_merge.specs.DirectoryHistory.{DirectoryHistory}
+
+-- the directory, how many homes a queue has and how many of them a receive asks, all homes, the first queue's first, and the actors in order of their first act
+pub record WorldValue : Type 0 where
+  pub directory : DirectoryHistory
+  pub per_queue : ℕ
+  pub sample : ℕ
+  pub homes : List HistoryValue
+  pub books : List Book

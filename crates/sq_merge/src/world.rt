@@ -1,0 +1,251 @@
+//! All queues of a service with all that was done to them, for one thread.
+ghost use Rattle.std.specs.Prelude.{◌≡◌, ◌⊎◌, ◌↔◌, ◌<◌, true, None, Some, length, position, IfOk, IfErr, IfSome, OnErr};
+ghost use Rattle.sq_model.specs.Directories.{number_of};
+ghost use Rattle.sq_merge.specs.Acts.{call_of};
+ghost use Rattle.sq_merge.specs.Books.{is_of, book_of};
+ghost use Rattle.sq_merge.specs.Worlds.{HomeStepped, HomeRefused, Created, CreateRefused, having_read, StepTold, StepRefused, Schedule, IsKnown, IsKeptWorld, histories_of};
+ghost use Rattle.sq_merge.specs.Openings.{IsServed, new_world};
+ghost use Rattle.sq_merge.specs.PartsValue.{parts_of};
+ghost use Rattle.sq_model.specs.Matches.{IsMatched};
+
+use crate::act::{Act, HomeAct, Outcome, Step};
+use crate::book::{Book, create_step, home_step};
+use crate::books::Books;
+use crate::directory::Directory;
+use crate::homes::{Homes, absent, home_place, never_opened_homes};
+use crate::options::Options;
+use crate::parts::Parts;
+use crate::room::put;
+use sq_base::ids::{HomeId, QueueNo};
+use sq_base::name::QueueName;
+use sq_base::refusal::Refusal;
+use sq_history::recorded::Home;
+use sq_model::directory::{Attributes, QueueSettings};
+use sq_model::place::Limits;
+use sq_model::replies::HomeReply;
+use sq_sample::sampler::{HomeCount, Sampler};
+use std::alloc::Global;
+use std::marker::Model;
+
+/// The queues and their homes, and what each actor has seen and noted. Records and events are of each other at all times.
+#[derive(Drop)]
+pub struct World {
+    directory: Directory,
+    per_queue: HomeCount,
+    sample: HomeCount,
+    homes: Vec<Home>,
+    books: Vec<Book>,
+    sampler: Sampler,
+}
+
+impl Model for World {
+    ghost use Rattle.std.specs.Prelude.{◌≤◌, length};
+    ghost use Rattle.sq_merge.specs.WorldValue.{WorldValue};
+    ghost use Rattle.sq_merge.specs.Worlds.{IsKeptWorld};
+
+    ghost Value = { WorldValue };
+
+    ghost view = { λ w. record { directory = w.directory; per_queue = w.per_queue; sample = w.sample; homes = w.homes.items; books = w.books.items } };
+
+    ghost invariant = { λ w. record {
+      kept : IsKeptWorld (record { directory = w.directory; per_queue = w.per_queue; sample = w.sample; homes = w.homes.items; books = w.books.items });
+      sample : w.sample ≤ w.per_queue;
+      few : length w.homes.items ≤ 16384;
+    } };
+}
+
+impl World {
+    /// A world without queues. Refused as InvalidParameterValue where an option is out of its range; NoMemory.
+    #[tactic(auto, unfolding(crate::specs::Openings::new_world))]
+    pub fn new(alloc: Global, options: Options) -> Result<World, Refusal>
+        ensures ok { IfOk result (λ world. world ≡ new_world options) }
+        ensures served { IfOk result (λ _. IsServed options) }
+        ensures refused { IfErr result (λ e. (e ≡ Refusal.NoMemory) ⊎ ((e ≡ Refusal.InvalidParameterValue) × (¬ IsServed options))) }
+    {
+        if !is_served(&options) {
+            return Err(Refusal::InvalidParameterValue);
+        }
+        let per_queue = HomeCount::of(options.homes);
+        let limits = Limits {
+            rows: options.rows,
+            flights: options.flights / options.homes,
+        };
+        Ok(World {
+            directory: Directory::new(alloc, options.queues),
+            per_queue,
+            sample: HomeCount::of(options.sample),
+            homes: never_opened_homes(alloc, options.queues, per_queue, &limits)?,
+            books: Vec::new(alloc),
+            sampler: Sampler::new(options.seed),
+        })
+    }
+
+    /// One step. What is refused changes nothing.
+    pub fn step(&mut self, alloc: Global, step: &Step) -> Result<Outcome, Refusal>
+        ensures told { IfOk result (StepTold self.old self.new step.now.actor step.now.clock step.now.act) }
+        ensures refusal { IfErr result (StepRefused self.old step.now.actor step.now.clock step.now.act) }
+        ensures err { OnErr result (self.new ≡ self.old) }
+    {
+        match &step.act {
+            Act::Create(name, given) => {
+                let made = self.create(alloc, step.actor, step.clock, name, given)?;
+                Ok(Outcome::Made(made))
+            }
+            Act::Resolve(name) => {
+                let queue = self.resolve(alloc, step.actor, name)?;
+                Ok(Outcome::Resolved(queue))
+            }
+            Act::Home(id, act) => {
+                let act = act.copy()?;
+                let reply = self.at_home(alloc, step.actor, step.clock, None, id, act)?;
+                Ok(Outcome::Home(reply))
+            }
+        }
+    }
+
+    /// One step after another, and how many were not refused. What is refused changes nothing.
+    pub fn run(&mut self, alloc: Global, steps: &[Step]) -> u64
+        ensures schedule { Schedule self.old steps.now result self.new }
+        ensures kept { IsKeptWorld self.new }
+    {
+        let mut done = 0;
+        for step in steps {
+            match self.step(alloc, step) {
+                Ok(_) => done += 1,
+                Err(_) => {}
+            }
+        }
+        let _ = &self.homes;
+        done
+    }
+
+    /// Its parts with their histories, and the records of its actors: each record is of an event, each event has one.
+    pub fn parts(self) -> Parts
+        ensures parts { result ≡ parts_of self }
+        ensures matched { IsMatched result.directory.events (histories_of result.homes.homes) result.records }
+    {
+        let World {
+            directory,
+            per_queue,
+            homes,
+            books,
+            ..
+        } = self;
+        Parts {
+            directory,
+            homes: Homes::of(per_queue, homes),
+            records: Books::of(books),
+        }
+    }
+
+    // Where what an actor has stands.
+    fn book_at(&self, actor: u32) -> Option<usize>
+        ensures place { result ≡ position (is_of actor) self.now.books }
+        ensures within { IfSome result (λ at. at < length self.now.books) }
+    {
+        self.books.iter().position(|book| book.actor() == actor)
+    }
+
+    // Makes a queue or finds it.
+    fn create(
+        &mut self,
+        alloc: Global,
+        actor: u32,
+        now: u64,
+        name: &QueueName,
+        given: &Attributes,
+    ) -> Result<QueueSettings, Refusal>
+        ensures created { IfOk result (Created self.old self.new actor now name.now given.now) }
+        ensures refusal { IfErr result (CreateRefused self.old actor now name.now given.now) }
+        ensures err { OnErr result (self.new ≡ self.old) }
+    {
+        match self.book_at(actor) {
+            Some(at) => {
+                let book = &mut self.books[at];
+                let made = create_step(&mut self.directory, book, now, name, given)?;
+                Ok(made)
+            }
+            None => {
+                self.books.try_reserve(1)?;
+                let mut book = Book::new(alloc, actor);
+                let made = create_step(&mut self.directory, &mut book, now, name, given)?;
+                put(&mut self.books, book);
+                Ok(made)
+            }
+        }
+    }
+
+    // Reads the number of a queue.
+    fn resolve(&mut self, alloc: Global, actor: u32, name: &QueueName) -> Result<QueueNo, Refusal>
+        ensures found { IfOk result (λ queue. (number_of name.now self.old.directory.directory.queues ≡ Some queue) × (self.new ≡ having_read self.old actor)) }
+        ensures refusal { IfErr result (λ e. (e ≡ Refusal.NoMemory) ⊎ ((number_of name.now self.old.directory.directory.queues ≡ None) × (e ≡ Refusal.QueueDoesNotExist))) }
+        ensures err { OnErr result (self.new ≡ self.old) }
+    {
+        let Some(queue) = self.directory.find(name) else {
+            return Err(Refusal::QueueDoesNotExist);
+        };
+        let last = self.directory.last();
+        match self.book_at(actor) {
+            Some(at) => {
+                let book = &mut self.books[at];
+                book.see(last);
+                Ok(queue)
+            }
+            None => {
+                self.books.try_reserve(1)?;
+                let mut book = Book::new(alloc, actor);
+                book.see(last);
+                put(&mut self.books, book);
+                Ok(queue)
+            }
+        }
+    }
+
+    // A step of a home by an actor that used this name.
+    fn at_home(
+        &mut self,
+        alloc: Global,
+        actor: u32,
+        now: u64,
+        name: Option<QueueName>,
+        id: &HomeId,
+        act: HomeAct,
+    ) -> Result<HomeReply, Refusal>
+        requires known { IsKnown self.old.directory.events (book_of actor self.old.books) name id.now.queue }
+        ensures stepped { IfOk result (HomeStepped self.old self.new actor now name id.now (call_of act)) }
+        ensures refusal { IfErr result (HomeRefused self.old actor now id.now (call_of act)) }
+        ensures err { OnErr result (self.new ≡ self.old) }
+    {
+        let Some(place) = home_place(self.per_queue, self.homes.len(), id) else {
+            return Err(absent(now));
+        };
+        match self.book_at(actor) {
+            Some(at) => {
+                let home = &mut self.homes[place];
+                let book = &mut self.books[at];
+                let reply = home_step(alloc, home, book, now, name, act)?;
+                Ok(reply)
+            }
+            None => {
+                self.books.try_reserve(1)?;
+                let mut book = Book::new(alloc, actor);
+                let home = &mut self.homes[place];
+                let reply = home_step(alloc, home, &mut book, now, name, act)?;
+                put(&mut self.books, book);
+                Ok(reply)
+            }
+        }
+    }
+}
+
+// Whether all options are in their ranges.
+fn is_served(o: &Options) -> bool
+    ensures { result ≡ true ↔ IsServed o.now }
+{
+    (1 <= o.homes && o.homes <= 16)
+        && (1 <= o.sample && o.sample <= o.homes)
+        && (1 <= o.queues && o.queues <= 1024)
+        && (1 <= o.rows && o.rows <= 1_048_576)
+        && (o.homes <= o.flights && o.flights <= 120_000)
+        && (1 <= o.transit && o.transit <= 100_000)
+}
