@@ -4,7 +4,7 @@ use Rattle.std.specs.List.{AllByRecursion}
 use Rattle.std.specs.Ordering.{ordering_then, is_lt, nat_cmp}
 use Rattle.std.specs.declared.cmp.Ordering.{Ordering}
 use Rattle.std.specs.declared.cmp.Ordering.TheVariants.{Less, Equal, Greater}
-use Rattle.std.proofs.Common.{zero, suc, ap, arith, subst, inl, inr}
+use Rattle.std.proofs.Common.{zero, suc, ap, arith, subst, sym, inl, inr}
 use Rattle.std.proofs.lemmas.Bool.{cases_lt}
 use Rattle.std.proofs.lemmas.Bool.Decides.{eqb_tells}
 use Rattle.std.proofs.lemmas.Grind.{common_steps}
@@ -19,12 +19,7 @@ use Rattle.sq_model.specs.Merges.{of_directory, of_home, history_at, rank_of, is
 use Rattle.sq_history.specs.HistoryValue.{HistoryValue}
 use Rattle.sq_history.specs.Histories.{IsKept}
 use Rattle.sq_merge.specs.SystemNow.{events_of}
-use Rattle.sq_merge.specs.Actors.{event_actor, event_place, ActorsRise, PlacesAgree, PlacesApart, Rises}
-
--- what stands later and is of the same part has a higher stamp
-abbrev PartsRise : List Tag → Type 0
-PartsRise [] = Unit {0}
-PartsRise (t ∷ ts) = AllByRecursion (λ u. rank_of u ≡ rank_of t → Below (stamp_of t) (stamp_of u)) ts × PartsRise ts
+use Rattle.sq_merge.specs.Actors.{event_actor, event_place, ActorsRise, PartsRise, PlacesAgree, PlacesApart, Rises}
 
 all_above : {K R : Type 0} (s low : StampValue) (es : List (Event K R)) (last : StampValue) → StampsRise low es last → ((x : StampValue) → Below low x → Below s x) → AllByRecursion (λ e. Below s e.stamp) es
 all_above s low [] last r over = tt
@@ -86,25 +81,30 @@ pair_rises t u order part agree apart =
 head_rises : (t : Tag) (us : List Tag) → AllByRecursion (λ u. is_before u t ≡ false) us → AllByRecursion (λ u. rank_of u ≡ rank_of t → Below (stamp_of t) (stamp_of u)) us
     → ((k : ℕ) (u : Tag) → slice_get us k ≡ Some u → event_actor u ≡ event_actor t → event_place u < event_place t → Below (stamp_of u) (stamp_of t))
     → ((k : ℕ) (u : Tag) → slice_get us k ≡ Some u → event_actor u ≡ event_actor t → event_place u ≡ event_place t → (rank_of u ≡ rank_of t) × (stamp_of u ≡ stamp_of t))
-    → AllByRecursion (λ u. event_actor u ≡ event_actor t → event_place t < event_place u) us
-head_rises t [] order parts agree apart = tt
-head_rises t (u ∷ us) order parts agree apart = (
-  λ same. pair_rises t u order.0 parts.0 (agree 0 u refl same) (apart 0 u refl same),
-  head_rises t us order.1 parts.1 (λ k. agree (suc k)) (λ k. apart (suc k)),
+    → ((k : ℕ) (u : Tag) → slice_get us k ≡ Some u → event_actor u ≡ event_actor t → event_place t < event_place u → Below (stamp_of t) (stamp_of u))
+    → AllByRecursion (λ u. event_actor u ≡ event_actor t → (event_place t < event_place u) × Below (stamp_of t) (stamp_of u)) us
+head_rises t [] order parts agree apart up = tt
+head_rises t (u ∷ us) order parts agree apart up = (
+  λ same. (let less = pair_rises t u order.0 parts.0 (agree 0 u refl same) (apart 0 u refl same) in (less, up 0 u refl same less)),
+  head_rises t us order.1 parts.1 (λ k. agree (suc k)) (λ k. apart (suc k)) (λ k. up (suc k)),
 )
 
 all_rise : (ts : List Tag) → InOrder is_before ts → PartsRise ts → PlacesAgree ts → PlacesApart ts → ActorsRise ts
 all_rise [] order parts agree apart = tt
 all_rise (t ∷ ts) order parts agree apart = (
-  head_rises t ts order.0 parts.0 (λ k u is. agree (suc k) 0 u t is refl) (λ k u is. apart (suc k) 0 u t is refl),
+  head_rises t ts order.0 parts.0 (λ k u is. agree (suc k) 0 u t is refl) (λ k u is. apart (suc k) 0 u t is refl) (λ k u is same. agree 0 (suc k) t u refl is (sym same)),
   all_rise ts order.1 parts.1 (λ i j. agree (suc i) (suc j)) (λ i j. apart (suc i) (suc j)),
 )
+
+-- in the list of all events of histories whose stamps rise, those of each part stand in their order
+pub merged_parts_rise : (directory : List DirectoryEvent) (homes : List (List HomeEvent)) (run : List Tag) → IsMerged directory homes run → Rises directory → ((i : ℕ) → Rises (history_at homes i)) → PartsRise run
+merged_parts_rise directory homes run merged own each = parts_rise run (rw merged.of_the_directory own) (λ i. rw (merged.of_each_home i) (each i))
 
 -- in the list of all events of histories whose stamps rise, each actor's events stand in its order
 pub actors_rise : (directory : List DirectoryEvent) (homes : List (List HomeEvent)) (run : List Tag) → IsMerged directory homes run
     → Rises directory → ((i : ℕ) → Rises (history_at homes i)) → PlacesAgree run → PlacesApart run → ActorsRise run
 actors_rise directory homes run merged own each agree apart =
-    all_rise run merged.in_order (parts_rise run (rw merged.of_the_directory own) (λ i. rw (merged.of_each_home i) (each i))) agree apart
+    all_rise run merged.in_order (merged_parts_rise directory homes run merged own each) agree apart
 
 -- the stamps of each home rise
 pub homes_rise : (hs : List HistoryValue) (i : ℕ) → All IsKept hs → Rises (history_at (events_of hs) i)

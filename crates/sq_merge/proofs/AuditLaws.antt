@@ -142,9 +142,9 @@ told_law x sends ends fewer once =
     ] refl)
 
 -- the pass tells where each message is
-pub audit_places : (x : MessageId) (places : ℕ) (sites : List Site) (ts : List Tagged) (after : System) (r : RunFrom (opening places sites) (tags_of ts) after) (a : AuditValue) → IsOnePlace sites
-    → a ≡ fold (λ (b : AuditValue) (t : Tagged). audit_step b (tag_of t)) no_audit ts → told_place x a.sends a.ends ≡ place_in x (run_sends (tags_of ts)) (run_ends (opening places sites) (tags_of ts) after r)
-audit_places x places sites ts after r a one is =
-    let once = one_place x places sites (tags_of ts) after r one in
-    let found = audit_law (opening places sites) (tags_of ts) after r no_audit (λ i h e. rw (opened sites i h e) (tt, refl, refl)) in
-    rw (is, sym (fold_tags no_audit ts), found.all_sends, found.all_ends) (told_law x (run_sends (tags_of ts)) (run_ends (opening places sites) (tags_of ts) after r) (omega (arith, once.0)) once.1)
+pub audit_places : (x : MessageId) (places : ℕ) (sites : List Site) (ts : List Tagged) (run : List Tag) → tags_of ts ≡ run → (after : System) (r : RunFrom (opening places sites) run after) (a : AuditValue) → IsOnePlace sites
+    → a ≡ fold (λ (b : AuditValue) (t : Tagged). audit_step b (tag_of t)) no_audit ts → told_place x a.sends a.ends ≡ place_in x (run_sends run) (run_ends (opening places sites) run after r)
+audit_places x places sites ts run same after r a one is =
+    let once = one_place x places sites run after r one in
+    let found = audit_law (opening places sites) run after r no_audit (λ i h e. rw (opened sites i h e) (tt, refl, refl)) in
+    rw (is, sym (fold_tags no_audit ts), same, found.all_sends, found.all_ends) (told_law x (run_sends run) (run_ends (opening places sites) run after r) (omega (arith, once.0)) once.1)

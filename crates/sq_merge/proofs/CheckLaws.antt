@@ -1,6 +1,6 @@
 -- Where all records and events fit, all is matched; and what is wrong excludes that.
-use Rattle.std.proofs.Common.{◌≡◌, ◌≢◌, ◌⊎◌, ℕ, zero, suc, ◌+◌, ◌*◌, ◌/◌, ◌%◌, ◌<◌, ◌≤◌, List, [], ◌∷◌, length, map, refl, ap, sym, ◌∙◌, subst, inl, inr, arith, Option, Some, None, slice_get}
-use Rattle.std.proofs.Common.{Bool, true, false}
+use Rattle.std.proofs.Common.{◌≡◌, ◌≢◌, ◌⊎◌, ℕ, zero, suc, ◌+◌, ◌*◌, ◌/◌, ◌%◌, ◌<◌, ◌≤◌, List, [], ◌∷◌, length, refl, ap, sym, ◌∙◌, subst, inl, inr, arith, Option, Some, None, slice_get}
+use Rattle.std.proofs.Common.{true, false}
 use Rattle.std.specs.Prelude.{nat_eq, ◌==◌, if◌then◌else◌, position}
 use Rattle.std.specs.List.{AllByRecursion, slice_index_or}
 use Rattle.std.proofs.lemmas.Bool.{eqb-true}
@@ -8,10 +8,11 @@ use Rattle.std.proofs.lemmas.Grind.{common_steps}
 use Rattle.std.proofs.Math.Nat.{mod-add-div}
 use Rattle.std.proofs.lemmas.Bool.Decides.{eqb_tells, leb_tells}
 use Rattle.std.proofs.lemmas.Option.{slice_get_within, slice_get_read}
+use Rattle.sq_base.specs.Stamps.{Below}
 use Rattle.sq_base.specs.declared.ids.HomeId.{HomeId}
 use Rattle.sq_model.specs.Replays.{HomeEvent}
 use Rattle.sq_model.specs.Systems.{DirectoryEvent}
-use Rattle.sq_model.specs.Notes.{HomeNote, DirectoryNote, Note, OfDirectory, OfHome, place_of, Book, NotesRise, directory_note, home_note}
+use Rattle.sq_model.specs.Notes.{HomeNote, DirectoryNote, Note, OfDirectory, OfHome, place_of, stamp_of, Book, NotesRise, directory_note, home_note}
 use Rattle.sq_model.specs.Matches.{HomeHistory, IsHomeEvent, IsNote, IsNamed, Happened, IsNoted, IsOfDirectory, IsOfHome, IsMatched}
 use Rattle.sq_history.specs.HistoryValue.{HistoryValue}
 use Rattle.sq_merge.specs.WorldValue.{WorldValue}
@@ -19,10 +20,10 @@ use Rattle.sq_merge.specs.Worlds.{history_of, histories_of, home_id, IsNumbered,
 use Rattle.sq_merge.specs.Openings.{home_place}
 use Rattle.sq_merge.specs.declared.check.AuditFault.{AuditFault}
 use Rattle.sq_merge.specs.declared.check.AuditFault.TheVariants.{NoMemory, RecordMissing, RecordTwice}
-use Rattle.sq_merge.specs.Faults.{Spot, InDirectory, InHome, IsBy, IsAlone, EventAlone, NoteAlone, Gap, TwoEvents, FaultHolds, IsWrong, NoteFits, DirectoryFits, HomeFits, HasHomeEvent, IsRecordFault, IsAt, IsNotedAt, IsEventFault}
+use Rattle.sq_merge.specs.Faults.{Spot, InDirectory, InHome, IsBy, IsAlone, Gap, TwoEvents, FaultHolds, IsWrong, NoteFits, DirectoryFits, HomeFits, HasHomeEvent, IsRecordFault, IsAt, IsNotedAt, IsEventFault}
 use Rattle.sq_merge.specs.declared.record.Record.{Record}
 use Rattle.sq_merge.specs.Records.{note_of, notes_of}
-use Rattle.sq_merge.specs.Books.{is_of, new_book, book_of}
+use Rattle.sq_merge.specs.Books.{NotesRiseAt, is_of, new_book, book_of}
 use Rattle.sq_merge.proofs.ElementLaws.{some_same, get_map, get_mapped}
 use Rattle.sq_merge.proofs.BookListLaws.{book_own, lost_there, differ}
 use Rattle.sq_merge.proofs.StepLaws.{place_found, place_back, place_none, found_is}
@@ -37,10 +38,10 @@ below_more P i before here j lt = elim (at_or_below i j lt) as (λ _. P j) [ inl
 differing : (j i : ℕ) → j ≢ i → (j < i) ⊎ (j ≡ i) ⊎ (i < j)
 differing j i ne = elim (leb_tells i j) as (λ _. (j < i) ⊎ (j ≡ i) ⊎ (i < j)) [ inl p ↦ inr (inr (let le : i ≤ j = p.1 in omega (arith, le, ne))) | inr p ↦ inl (omega (arith, p.1)) ]
 
-nat_compare : (j i : ℕ) → (j < i) ⊎ (j ≡ i) ⊎ (i < j)
+pub nat_compare : (j i : ℕ) → (j < i) ⊎ (j ≡ i) ⊎ (i < j)
 nat_compare j i = elim (eqb_tells j i) as (λ _. (j < i) ⊎ (j ≡ i) ⊎ (i < j)) [ inl p ↦ inr (inl p.1) | inr p ↦ differing j i p.1 ]
 
-all_get : {X : Type 0} (P : X → Type 0) (xs : List X) → AllByRecursion P xs → (k : ℕ) (x : X) → slice_get xs k ≡ Some x → P x
+pub all_get : {X : Type 0} (P : X → Type 0) (xs : List X) → AllByRecursion P xs → (k : ℕ) (x : X) → slice_get xs k ≡ Some x → P x
 all_get P [] all k x h = absurd cc
 all_get P (z ∷ zs) all zero x h = subst P (some_same h) all.0
 all_get P (z ∷ zs) all (suc k) x h = all_get P zs all.1 k x h
@@ -51,15 +52,15 @@ get_below (z ∷ zs) k zero x h le = (z, refl)
 get_below (z ∷ zs) zero (suc j) x h le = absurd (omega (arith, le))
 get_below (z ∷ zs) (suc k) (suc j) x h le = get_below zs k j x h (omega (arith, le))
 
--- a later note has the higher number
-places_rise : (ns : List Note) → NotesRise ns → (i j : ℕ) (n m : Note) → i < j → slice_get ns i ≡ Some n → slice_get ns j ≡ Some m → place_of n < place_of m
-places_rise [] rise i j n m lt h g = absurd cc
-places_rise (z ∷ zs) rise i zero n m lt h g = absurd (omega (arith, lt))
-places_rise (z ∷ zs) rise zero (suc j) n m lt h g = subst (λ (x : Note). place_of x < place_of m) (some_same h) (all_get _ zs rise.0 j m g).0
-places_rise (z ∷ zs) rise (suc i) (suc j) n m lt h g = places_rise zs rise.1 i j n m (omega (arith, lt)) h g
+-- a later note has the higher number and the higher stamp
+pub notes_rise : (ns : List Note) → NotesRise ns → (i j : ℕ) (n m : Note) → i < j → slice_get ns i ≡ Some n → slice_get ns j ≡ Some m → (place_of n < place_of m) × Below (stamp_of n) (stamp_of m)
+notes_rise [] rise i j n m lt h g = absurd cc
+notes_rise (z ∷ zs) rise i zero n m lt h g = absurd (omega (arith, lt))
+notes_rise (z ∷ zs) rise zero (suc j) n m lt h g = subst (λ (x : Note). (place_of x < place_of m) × Below (stamp_of x) (stamp_of m)) (some_same h) (all_get _ zs rise.0 j m g)
+notes_rise (z ∷ zs) rise (suc i) (suc j) n m lt h g = notes_rise zs rise.1 i j n m (omega (arith, lt)) h g
 
 -- an actor is there once
-book_once : (books : List Book) → AreDistinct books → (b c : ℕ) (x y : Book) → slice_get books b ≡ Some x → slice_get books c ≡ Some y → x.actor ≡ y.actor → b ≡ c
+pub book_once : (books : List Book) → AreDistinct books → (b c : ℕ) (x y : Book) → slice_get books b ≡ Some x → slice_get books c ≡ Some y → x.actor ≡ y.actor → b ≡ c
 book_once [] d b c x y h g e = absurd cc
 book_once (z ∷ zs) d zero zero x y h g e = refl
 book_once (z ∷ zs) d zero (suc c) x y h g e = absurd (all_get _ zs d.0 c y g (sym e ∙ sym (ap (λ (w : Book). w.actor) (some_same h))))
@@ -80,7 +81,7 @@ numbered_home per_queue homes numbered j h there =
     ap (λ (x : HomeHistory). x.home) t.2 ∙ numbered j t.0 t.1
 
 -- and is there once
-home_once : (per_queue : ℕ) (homes : List HistoryValue) → IsNumbered per_queue homes → (j i : ℕ) (h g : HomeHistory) → slice_get (histories_of homes) j ≡ Some h → slice_get (histories_of homes) i ≡ Some g → h.home ≡ g.home → j ≡ i
+pub home_once : (per_queue : ℕ) (homes : List HistoryValue) → IsNumbered per_queue homes → (j i : ℕ) (h g : HomeHistory) → slice_get (histories_of homes) j ≡ Some h → slice_get (histories_of homes) i ≡ Some g → h.home ≡ g.home → j ≡ i
 home_once per_queue homes numbered j i h g there too same =
     home_id_once per_queue j i (sym (numbered_home per_queue homes numbered j h there) ∙ same ∙ numbered_home per_queue homes numbered i g too)
 
@@ -91,7 +92,7 @@ home_at per_queue count id place least h = sym (place_found per_queue count id p
 home_back : (per_queue count : ℕ) (id : HomeId) (place : ℕ) → 1 ≤ per_queue → place < count → id ≡ home_id per_queue place → home_place per_queue count id ≡ Some place
 home_back per_queue count id place some within is = rw is (place_back per_queue count place some within)
 
-same_place : (x y : ℕ) → x ≡ y → nat_eq x y ≡ true
+pub same_place : (x y : ℕ) → x ≡ y → nat_eq x y ≡ true
 same_place x y e = subst (λ (z : ℕ). nat_eq x z ≡ true) e (grind (arith, common_steps))
 
 pub home_test : (per_queue count : ℕ) (id : HomeId) (at place : ℕ) → 1 ≤ id.queue → 1 ≤ per_queue → place < count → home_place per_queue count id ≡ Some at
@@ -157,7 +158,7 @@ place_gap d hs books b i book n distinct rise before there ne =
       | inl less ↦ (
           let t = get_below book.notes i (place_of n) n there.in_notes (omega (arith, less)) in
           let own : place_of t.0 ≡ place_of n = (before (place_of n) less book t.0 (record { in_books = there.in_books; in_notes = t.1 })).0 in
-          let up : place_of t.0 < place_of n = places_rise book.notes rise (place_of n) i t.0 n less t.1 there.in_notes in
+          let up : place_of t.0 < place_of n = (notes_rise book.notes rise (place_of n) i t.0 n less t.1 there.in_notes).0 in
           absurd (omega (arith, own, up)))
       | inr rest ↦ (elim rest [ inl same ↦ absurd (ne same) | inr more ↦ more ])
     ] in
@@ -176,7 +177,7 @@ place_gap d hs books b i book n distinct rise before there ne =
             | inl less ↦ (let own : place_of m.note ≡ m.index = (before m.index less book m.note (record { in_books = there.in_books; in_notes = get })).0 in let e : place_of m.note ≡ i = m.of_event in omega (arith, own, e, less))
             | inr rest ↦ (elim rest [
               | inl at ↦ (let k : m.note ≡ n = some_same (sym get ∙ ap (slice_get book.notes) at ∙ there.in_notes) in ne (sym (ap place_of k) ∙ m.of_event))
-              | inr more ↦ (let up : place_of n < place_of m.note = places_rise book.notes rise i m.index n m.note more there.in_notes get in let e : place_of m.note ≡ i = m.of_event in omega (arith, up, e, above))
+              | inr more ↦ (let up : place_of n < place_of m.note = (notes_rise book.notes rise i m.index n m.note more there.in_notes get).0 in let e : place_of m.note ≡ i = m.of_event in omega (arith, up, e, above))
             ])
           ]);
     }
@@ -202,6 +203,13 @@ all_notes d hs books b book there each i x m too =
 
 pub all_books : (d : List DirectoryEvent) (hs : List HomeHistory) (books : List Book) → ((b : ℕ) → b < length books → (i : ℕ) → NoteFits d hs books b i) → (b i : ℕ) → NoteFits d hs books b i
 all_books d hs books each b i x m there = each b (slice_get_within books b x there.in_books) i x m there
+
+-- an actor whose notes rise
+pub rise_at : (books : List Book) (b : ℕ) (book : Book) → slice_get books b ≡ Some book → NotesRise book.notes → NotesRiseAt books b
+rise_at books b book there rise x too = subst (λ (y : Book). NotesRise y.notes) (some_same (sym there ∙ too)) rise
+
+pub all_rise_at : (books : List Book) → ((b : ℕ) → b < length books → NotesRiseAt books b) → (b : ℕ) → NotesRiseAt books b
+all_rise_at books each b x there = each b (slice_get_within books b x there) x there
 
 pub wrong_holds : (d : List DirectoryEvent) (hs : List HomeHistory) (books : List Book) (f : AuditFault) → IsWrong d hs books f → FaultHolds d hs books f
 wrong_holds d hs books NoMemory w = absurd w

@@ -201,9 +201,10 @@ fits_opening x true = (tt, refl, refl)
 fits_opening x false = refl
 
 -- the pass gives the place
-pub place_law : (x : MessageId) (places : ℕ) (sites : List Site) (ts : List Tagged) (after : System) (r : RunFrom (opening places sites) (tags_of ts) after) → IsOnePlace sites
-    → place_in x (run_sends (tags_of ts)) (run_ends (opening places sites) (tags_of ts) after r) ≡ answer (fold (λ (k : Track) (t : Tagged). track_step x k (tag_of t)) start ts).spot
-place_law x places sites ts after r one =
-    let once = one_place x places sites (tags_of ts) after r one in
-    follow_law x (opening places sites) (tags_of ts) after r start (rw (sites_opening sites) one) (λ i h e. rw (opened sites i h e) (fits_opening x (same_home (home_of x) h.site.home))) (omega (arith, once.1))
+pub place_law : (x : MessageId) (places : ℕ) (sites : List Site) (ts : List Tagged) (run : List Tag) → tags_of ts ≡ run → (after : System) (r : RunFrom (opening places sites) run after) → IsOnePlace sites
+    → place_in x (run_sends run) (run_ends (opening places sites) run after r) ≡ answer (fold (λ (k : Track) (t : Tagged). track_step x k (tag_of t)) start ts).spot
+place_law x places sites ts run is after r one =
+    let once = one_place x places sites run after r one in
+    follow_law x (opening places sites) run after r start (rw (sites_opening sites) one) (λ i h e. rw (opened sites i h e) (fits_opening x (same_home (home_of x) h.site.home))) (omega (arith, once.1))
+    ∙ ap (λ (us : List Tag). answer (fold (track_step x) start us).spot) (sym is)
     ∙ ap (λ (k : Track). answer k.spot) (fold_tags x start ts)

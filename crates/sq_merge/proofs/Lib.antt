@@ -14,6 +14,14 @@ pub mod SpotLaws
 pub mod FollowLaws
 pub mod ListLaws
 pub mod IdOrder
+pub mod RunLaws
 pub mod AuditLaws
 pub mod CheckLaws
 pub mod OnePlaceLaws
+pub mod DigestLaws
+pub mod GivenLaws
+pub mod KnownLaws
+pub mod CallLaws
+pub mod NoteOrderLaws
+pub mod DropLaws
+pub mod FitLaws

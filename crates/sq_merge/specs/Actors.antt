@@ -17,10 +17,15 @@ abbrev pub event_place : Tag → ℕ
 event_place (OfDirectory e) = e.place
 event_place (OfHome i e) = e.place
 
--- what stands later and is of the same actor has a higher place
+-- what stands later and is of the same actor has a higher place and a higher stamp
 abbrev pub ActorsRise : List Tag → Type 0
 ActorsRise [] = Unit {0}
-ActorsRise (t ∷ ts) = AllByRecursion (λ u. event_actor u ≡ event_actor t → event_place t < event_place u) ts × ActorsRise ts
+ActorsRise (t ∷ ts) = AllByRecursion (λ u. event_actor u ≡ event_actor t → (event_place t < event_place u) × Below (stamp_of t) (stamp_of u)) ts × ActorsRise ts
+
+-- what stands later and is of the same part has a higher stamp
+abbrev pub PartsRise : List Tag → Type 0
+PartsRise [] = Unit {0}
+PartsRise (t ∷ ts) = AllByRecursion (λ u. rank_of u ≡ rank_of t → Below (stamp_of t) (stamp_of u)) ts × PartsRise ts
 
 -- of two events of one actor, the one with the lower place has the lower stamp
 abbrev pub PlacesAgree : List Tag → Type 0

@@ -1,5 +1,5 @@
 -- The places of all messages of a run, as a list.
-use Rattle.std.specs.Prelude.{◌≡◌, List, if◌then◌else◌, Option, Some, None}
+use Rattle.std.specs.Prelude.{◌≡◌, ◌↔◌, List, if◌then◌else◌, Contains, Option, Some, None}
 use Rattle.std.specs.List.{fold}
 use Rattle.std.specs.List.Sorted.{IsStrictlySortedBy}
 use Rattle.std.specs.Map.{lookup, keys_of}
@@ -9,7 +9,8 @@ use Rattle.sq_base.specs.declared.message_id.MessageId.{MessageId}
 use Rattle.sq_model.specs.declared.place.Place.{Place}
 use Rattle.sq_model.specs.declared.place.Place.TheVariants as at
 use Rattle.sq_model.specs.Lineages.{Ending, same_id}
-use Rattle.sq_model.specs.Places.{place_in}
+use Rattle.sq_model.specs.Places.{place_in, run_sends}
+use Rattle.sq_model.specs.Systems.{Tag}
 
 -- by queue, then by home, then by serial
 abbrev pub id_cmp : MessageId → MessageId → Ordering
@@ -19,6 +20,11 @@ id_cmp a b = ordering_then (nat_cmp a.queue b.queue) (ordering_then (nat_cmp a.h
 pub record ArePlaces (sends : List MessageId) (ends : List Ending) (told : List (MessageId × Place)) : Type 0 where
   pub rising : IsStrictlySortedBy id_cmp (keys_of told)
   pub each : (x : MessageId) → lookup (same_id x) told ≡ place_in x sends ends
+
+-- each message that was sent in a run stands once, in rising order of id; no other stands there
+pub record AreLineages (run : List Tag) (ids : List MessageId) : Type 0 where
+  pub rising : IsStrictlySortedBy id_cmp ids
+  pub each : (x : MessageId) → Contains ids x ↔ Contains (run_sends run) x
 
 -- what is told of a message once it is sent
 abbrev pub after_send : MessageId → Option Place → MessageId → Option Place

@@ -1,5 +1,5 @@
 -- What an actor has seen and noted, and how that goes on.
-use Rattle.std.specs.Prelude.{◌≡◌, ◌⊎◌, ◌==◌, Bool, ℕ, ◌+◌, ◌<◌, nat_le, if◌then◌else◌, List, [], ◌∷◌, ◌++◌, Option}
+use Rattle.std.specs.Prelude.{◌≡◌, ◌≢◌, ◌⊎◌, ◌==◌, Bool, not, ℕ, ◌+◌, ◌<◌, nat_le, if◌then◌else◌, List, [], ◌∷◌, ◌++◌, map, filter, slice_get, Option, Some}
 use Rattle.std.specs.List.{AllByRecursion}
 use Rattle.std.specs.Ordering.{is_lt}
 use Rattle.sq_base.specs.StampValue.{StampValue}
@@ -34,6 +34,10 @@ pub record IsBook (book : Book) : Type 0 where
   pub below : AllByRecursion (λ n. place_of n < book.next) book.notes
   pub saw : AllByRecursion (λ n. IsSeen (stamp_of n) book.seen) book.notes
 
+-- the notes of the actor at a place rise
+abbrev pub NotesRiseAt : List Book → ℕ → Type 0
+NotesRiseAt books b = (book : Book) → slice_get books b ≡ Some book → NotesRise book.notes
+
 -- one step more, with its note
 abbrev pub with_note : Book → Note → Book
 with_note book n = record { actor = book.actor; next = book.next + 1; seen = stamp_of n; notes = book.notes ++ n ∷ [] }
@@ -66,11 +70,11 @@ worn_at now = if nat_le stamp_end now then ClockRange else Worn
 
 -- why an actor's step of a home is refused
 abbrev pub IsHomeRefused : HistoryValue → Book → ℕ → HomeCall → Refusal → Type 0
-IsHomeRefused old book now call e = ((book.next ≡ last_place) × (e ≡ worn_at now)) ⊎ home.IsRefused old (actor_of book) now call e
+IsHomeRefused old book now call e = ((book.next ≡ last_place) × (e ≡ worn_at now)) ⊎ ((book.next ≢ last_place) × home.IsRefused old (actor_of book) now call e)
 
 -- why an actor's step of the directory is refused
 abbrev pub IsCreateRefused : DirectoryHistory → Book → ℕ → DirectoryCall → Refusal → Type 0
-IsCreateRefused old book now call e = ((book.next ≡ last_place) × (e ≡ worn_at now)) ⊎ directory.IsDirectoryRefused old (actor_of book) now call e
+IsCreateRefused old book now call e = ((book.next ≡ last_place) × (e ≡ worn_at now)) ⊎ ((book.next ≢ last_place) × directory.IsDirectoryRefused old (actor_of book) now call e)
 
 -- this is the actor's of this number
 abbrev pub is_of : ℕ → Book → Bool
@@ -85,3 +89,11 @@ book_of actor (book ∷ books) = if book.actor == actor then book else book_of a
 abbrev pub put_book : Book → List Book → List Book
 put_book book [] = book ∷ []
 put_book book (x ∷ books) = if x.actor == book.actor then book ∷ books else x ∷ put_book book books
+
+-- what an actor has without the note of this number
+abbrev pub without_note : ℕ → Book → Book
+without_note place book = record book { notes = filter (λ n. not (place_of n == place)) book.notes }
+
+-- the same actors in the same order, where this one has no note of this number
+abbrev pub without : ℕ → ℕ → List Book → List Book
+without actor place books = map (λ b. if b.actor == actor then without_note place b else b) books

@@ -17,3 +17,6 @@ pub mod AllPlaces
 pub mod HomesValue
 pub mod PartsValue
 pub mod Faults
+pub mod GivenValue
+pub mod Calls
+pub mod Fits

@@ -1,6 +1,7 @@
 -- Steps of the whole system by actors, and what is true of it at all times.
 use Rattle.std.specs.Prelude.{◌≡◌, ◌≢◌, ◌⊎◌, ◌+◌, ◌/◌, ◌%◌, ℕ, List, [], ◌∷◌, length, map, nat_le, if◌then◌else◌, slice_get, slice_set, Option, Some, None, Result, Ok, Err}
 use Rattle.std.specs.List.{AllByRecursion}
+use Rattle.sq_base.specs.StampValue.{StampValue}
 use Rattle.sq_base.specs.Stamps.{stamp_end}
 use Rattle.sq_base.specs.declared.ids.HomeId.{HomeId}
 use Rattle.sq_base.specs.declared.refusal.Refusal.{Refusal}
@@ -112,7 +113,11 @@ pub record IsKeptWorld (w : WorldValue) : Type 0 where
   pub counted : (b : ℕ) (book : Book) → slice_get w.books b ≡ Some book → book.next ≡ length book.notes
   pub distinct : AreDistinct w.books
 
+-- a queue of this number was made by this name, or found, and not after this stamp
+abbrev pub IsMadeBy : List DirectoryEvent → StampValue → List ℕ → ℕ → Type 0
+IsMadeBy directory stamp name queue = (k : ℕ) × (e : DirectoryEvent) × (slice_get directory k ≡ Some e) × IsSeen e.stamp stamp × IsCreate e name queue
+
 -- an actor knows a queue by a name: it was made by it before what the actor has seen
 abbrev pub IsKnown : List DirectoryEvent → Book → Option (List ℕ) → ℕ → Type 0
 IsKnown directory book None queue = Unit {0}
-IsKnown directory book (Some name) queue = (k : ℕ) × (e : DirectoryEvent) × (slice_get directory k ≡ Some e) × IsSeen e.stamp book.seen × IsCreate e name queue
+IsKnown directory book (Some name) queue = IsMadeBy directory book.seen name queue

@@ -1,11 +1,12 @@
 //! What an actor has seen, and the records of its steps; a step with its record.
-ghost use Rattle.std.specs.Prelude.{◌≡◌, IfOk, IfErr, OnErr};
-ghost use Rattle.sq_model.specs.Notes.{NotesRise, actor_of};
+ghost use Rattle.std.specs.Prelude.{◌≡◌, ◌==◌, IfOk, IfErr, OnErr};
+ghost use Rattle.std.specs.List.{list_any};
+ghost use Rattle.sq_model.specs.Notes.{NotesRise, actor_of, place_of};
 ghost use Rattle.sq_model.specs.declared.directory.DirectoryCall.TheVariants.{Create};
 ghost use Rattle.sq_model.specs.declared.directory.DirectoryReply.TheVariants.{Made};
 ghost use Rattle.sq_merge.specs.Acts.{call_of};
-ghost use Rattle.sq_merge.specs.Records.{notes_of};
-ghost use Rattle.sq_merge.specs.Books.{new_book, having_seen, last_place, worn_at, HomeMoves, DirectoryMoves, IsHomeRefused, IsCreateRefused};
+ghost use Rattle.sq_merge.specs.Records.{note_of, notes_of};
+ghost use Rattle.sq_merge.specs.Books.{new_book, having_seen, without_note, last_place, worn_at, HomeMoves, DirectoryMoves, IsHomeRefused, IsCreateRefused};
 
 use crate::act::HomeAct;
 use crate::directory::Directory;
@@ -35,7 +36,7 @@ pub struct Book {
 
 impl Model for Book {
     ghost use Rattle.sq_model.specs.Notes.{Book};
-    ghost use Rattle.sq_merge.specs.Records.{notes_of};
+    ghost use Rattle.sq_merge.specs.Records.{note_of, notes_of};
     ghost use Rattle.sq_merge.specs.Books.{IsBook};
 
     ghost Value = { Book };
@@ -92,6 +93,23 @@ impl Book {
             self.seen = stamp;
         }
     }
+
+    // Takes out the record of the step of this number, and tells whether it was there.
+    pub(crate) fn drop_record(&mut self, place: u64) -> bool
+        ensures told { result ≡ list_any (λ n. place_of n == place) self.old.notes }
+        ensures dropped { self.new ≡ without_note place self.old }
+    {
+        let found = has_place(&self.records, place);
+        self.records.retain(|record| record.place() != place);
+        found
+    }
+}
+
+// Whether a record of the step of this number is there.
+fn has_place(records: &[Record], place: u64) -> bool
+    ensures { result ≡ list_any (λ r. place_of (note_of r) == place) records.now }
+{
+    records.iter().any(|record| record.place() == place)
 }
 
 // Where the count of an actor's steps is at its end.

@@ -1,5 +1,8 @@
 //! What all actors have seen and noted.
-ghost use Rattle.std.specs.Prelude.{◌≡◌};
+ghost use Rattle.std.specs.Prelude.{◌≡◌, ◌↔◌, ◌<◌, true, length, position, IfSome};
+ghost use Rattle.sq_model.specs.Notes.{place_of};
+ghost use Rattle.sq_model.specs.Matches.{IsNoted};
+ghost use Rattle.sq_merge.specs.Books.{is_of, without};
 ghost use Rattle.sq_merge.specs.Worlds.{AreDistinct};
 
 use crate::book::Book;
@@ -38,4 +41,23 @@ impl Books {
     {
         self.books.as_slice()
     }
+
+    // Takes out the record of this actor's step of this number, and tells whether it was there.
+    pub(crate) fn drop_record(&mut self, actor: u32, place: u64) -> bool
+        ensures told { result ≡ true ↔ IsNoted self.old actor (λ n. place_of n ≡ place) }
+        ensures dropped { self.new ≡ without actor place self.old }
+    {
+        match book_at(&self.books, actor) {
+            Some(at) => self.books[at].drop_record(place),
+            None => false,
+        }
+    }
+}
+
+// Where what an actor has stands.
+pub(crate) fn book_at(books: &[Book], actor: u32) -> Option<usize>
+    ensures place { result ≡ position (is_of actor) books.now }
+    ensures within { IfSome result (λ at. at < length books.now) }
+{
+    books.iter().position(|book| book.actor() == actor)
 }

@@ -1,13 +1,14 @@
 //! Whether the records of all actors and the histories of all parts are of each other.
-ghost use Rattle.std.specs.Prelude.{◌≡◌, ◌≢◌, ◌↔◌, ◌<◌, ◌≤◌, ℕ, true, length, position, Some, OnOk, IfErr, IfSome, IsOk};
+ghost use Rattle.std.specs.Prelude.{◌≡◌, ◌≢◌, ◌↔◌, ◌<◌, ◌≤◌, ℕ, true, length, Some, OnOk, IfErr, IfSome, IsOk};
 ghost use Rattle.sq_model.specs.Notes.{OfDirectory, OfHome, place_of, directory_note, home_note};
 ghost use Rattle.sq_model.specs.Matches.{Happened, IsNamed, IsCreate, IsMatched};
 ghost use Rattle.sq_merge.specs.Records.{note_of};
-ghost use Rattle.sq_merge.specs.Books.{is_of};
+ghost use Rattle.sq_merge.specs.Books.{NotesRiseAt};
 ghost use Rattle.sq_merge.specs.Worlds.{AreDistinct, histories_of, home_id, IsNumbered};
 ghost use Rattle.sq_merge.specs.Faults.{FaultHolds, IsWrong, NoteFits, DirectoryFits, HomeFits, HasDirectoryEvent, HasHomeEvent, IsRecordFault, IsAt, IsNotedAt, IsEventFault};
 
 use crate::book::Book;
+use crate::books::book_at;
 use crate::directory::Directory;
 use crate::homes::home_place;
 use crate::record::{DirectoryRecord, Record};
@@ -43,6 +44,7 @@ pub(crate) fn check(
     requires numbered { IsNumbered per_queue homes.now }
     requires distinct { AreDistinct books.now }
     ensures ok { OnOk result (IsMatched directory.now.events (histories_of homes.now) books.now) }
+    ensures rise { OnOk result ((b : ℕ) → NotesRiseAt books.now b) }
     ensures fault { IfErr result (λ f. FaultHolds directory.now.events (histories_of homes.now) books.now f) }
     ensures never { IfErr result (λ f. f ≢ AuditFault.NoMemory) }
     ensures honest { IsMatched directory.now.events (histories_of homes.now) books.now → IsOk result }
@@ -63,6 +65,7 @@ fn check_books(
     requires numbered { IsNumbered per_queue homes.now }
     requires distinct { AreDistinct books.now }
     ensures ok { OnOk result ((b i : ℕ) → NoteFits directory.now.events (histories_of homes.now) books.now b i) }
+    ensures rise { OnOk result ((b : ℕ) → NotesRiseAt books.now b) }
     ensures fault { IfErr result (λ f. IsWrong directory.now.events (histories_of homes.now) books.now f) }
 {
     for at in 0..books.len() {
@@ -83,6 +86,7 @@ fn check_book(
     requires distinct { AreDistinct books.now }
     requires within { at < length books.now }
     ensures ok { OnOk result ((i : ℕ) → NoteFits directory.now.events (histories_of homes.now) books.now at i) }
+    ensures rise { OnOk result (NotesRiseAt books.now at) }
     ensures fault { IfErr result (λ f. IsWrong directory.now.events (histories_of homes.now) books.now f) }
 {
     let book = &books[at];
@@ -348,14 +352,6 @@ fn check_event(
     } else {
         Err(AuditFault::RecordTwice(actor, place))
     }
-}
-
-// Where what an actor has stands.
-fn book_at(books: &[Book], actor: u32) -> Option<usize>
-    ensures place { result ≡ position (is_of actor) books.now }
-    ensures within { IfSome result (λ at. at < length books.now) }
-{
-    books.iter().position(|book| book.actor() == actor)
 }
 
 // Whether a record names this event of the directory, or of the home at a place.

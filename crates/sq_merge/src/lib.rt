@@ -2,10 +2,17 @@
 #![tactic(auto)]
 
 pub mod act;
+#[cfg(test)]
+mod audit_tests;
 pub mod book;
 pub mod books;
+#[cfg(test)]
+mod call_tests;
+pub mod calls;
 pub mod check;
+pub mod digest;
 pub mod directory;
+pub mod given;
 mod home_states;
 pub mod homes;
 pub mod merge;
@@ -17,6 +24,7 @@ pub mod places;
 pub mod queues;
 pub mod record;
 mod room;
+pub mod run;
 pub mod sorted;
 mod state;
 pub mod tagged;

@@ -3,25 +3,29 @@ ghost use Rattle.std.specs.Prelude.{◌≡◌, length, map, IfOk, IfErr, OnOk};
 ghost use Rattle.sq_model.specs.Systems.{IsRun, IsOnePlace};
 ghost use Rattle.sq_model.specs.Merges.{IsMerged};
 ghost use Rattle.sq_model.specs.Matches.{IsMatched};
+ghost use Rattle.sq_merge.specs.Actors.{ActorsRise, PartsRise};
 ghost use Rattle.sq_merge.specs.Faults.{FaultHolds};
 ghost use Rattle.sq_merge.specs.SystemNow.{events_of, system_now};
-ghost use Rattle.sq_merge.specs.Tags.{tags_of};
-ghost use Rattle.sq_merge.specs.Worlds.{histories_of};
+ghost use Rattle.sq_merge.specs.Worlds.{histories_of, IsNumbered};
 
 use crate::check::{AuditFault, check};
 use crate::parts::Parts;
+use crate::run::Run;
 use crate::sorted::sorted;
-use crate::tagged::Tagged;
 use std::alloc::Global;
 
 /// All that was done to the parts of a service, sorted by stamp; at equal stamps the directory comes first, and then the
 /// homes in their order. It is one run of the whole system, from its opening to what the parts are now, and each event
-/// has its record, and each record its event. No two homes have one id, as the law of one place asks.
+/// has its record, and each record its event. The events of each actor stand in its order, and so do those of each part:
+/// two of one actor or of one part never have one stamp. No two homes have one id, as the law of one place asks.
 /// Refused as NoMemory, or for what is wrong with the records and the histories; those that a world leaves are right.
-pub fn merge<'a>(alloc: Global, parts: &'a Parts) -> Result<Vec<Tagged<'a>>, AuditFault>
+pub fn merge<'a>(alloc: Global, parts: &'a Parts) -> Result<Run<'a>, AuditFault>
     ensures matched { OnOk result (IsMatched parts.now.directory.events (histories_of parts.now.homes.homes) parts.now.records) }
-    ensures merged { IfOk result (λ run. IsMerged parts.now.directory.events (events_of parts.now.homes.homes) (tags_of run.items)) }
-    ensures run { IfOk result (λ run. IsRun parts.now.directory.directory.places (map (λ h. h.site) parts.now.homes.homes) (tags_of run.items) (system_now parts.now.directory parts.now.homes.homes)) }
+    ensures merged { IfOk result (λ run. IsMerged parts.now.directory.events (events_of parts.now.homes.homes) run) }
+    ensures run { IfOk result (λ run. IsRun parts.now.directory.directory.places (map (λ h. h.site) parts.now.homes.homes) run (system_now parts.now.directory parts.now.homes.homes)) }
+    ensures actors { IfOk result (λ run. ActorsRise run) }
+    ensures parts { IfOk result (λ run. PartsRise run) }
+    ensures numbered { OnOk result (IsNumbered parts.now.homes.per_queue parts.now.homes.homes) }
     ensures apart { OnOk result (IsOnePlace (map (λ h. h.site) parts.now.homes.homes)) }
     ensures fault { IfErr result (FaultHolds parts.now.directory.events (histories_of parts.now.homes.homes) parts.now.records) }
     ensures honest { IsMatched parts.now.directory.events (histories_of parts.now.homes.homes) parts.now.records → IfErr result (λ f. f ≡ AuditFault.NoMemory) }
@@ -34,7 +38,7 @@ pub fn merge<'a>(alloc: Global, parts: &'a Parts) -> Result<Vec<Tagged<'a>>, Aud
         parts.records.as_slice(),
     )?;
     match sorted(alloc, &parts.directory, homes) {
-        Ok(run) => Ok(run),
+        Ok(events) => Ok(Run::of(events)),
         Err(_) => Err(AuditFault::NoMemory),
     }
 }

@@ -1,6 +1,6 @@
 //! How large a service is, and how it chooses.
 
-/// The options of a service; each is within the bounds named here where it comes from flags.
+/// The options of a service; each is within its fixed bounds where it comes from flags.
 #[derive(Clone, Copy, PartialEq, Eq, Debug)]
 pub struct Options {
     /// Homes of a queue: 1 to 16.

@@ -2,6 +2,7 @@
 ghost use Rattle.std.specs.Prelude.{◌<◌, ◌≤◌};
 
 use crate::places::places_of;
+use crate::run::Run;
 use crate::tagged::Tagged;
 use crate::track::place_of;
 use sq_base::body::{BODY_LIMIT, Body};
@@ -123,7 +124,7 @@ fn place(alloc: Global, count: usize, serial: u32) -> Result<Option<Place>, Refu
     for event in events.iter().take(count) {
         run.push(Tagged::Home(0, event))?;
     }
-    Ok(place_of(&run, &id(serial)))
+    Ok(place_of(&Run::of(run), &id(serial)))
 }
 
 // The serial of each message that was sent, and where it is after all events.
@@ -134,7 +135,7 @@ fn all_places(alloc: Global) -> Result<Vec<(u64, Place)>, Refusal> {
         run.push(Tagged::Home(2, event))?;
     }
     let mut all = Vec::new(alloc);
-    for (id, place) in &places_of(alloc, &run)? {
+    for (id, place) in &places_of(alloc, &Run::of(run))? {
         all.push((id.serial.get(), *place))?;
     }
     Ok(all)

@@ -9,9 +9,10 @@ ghost use Rattle.sq_model.specs.Places.{run_ends, run_sends};
 ghost use Rattle.sq_model.specs.Systems.{System, OfHome, RunFrom, opening, IsOnePlace};
 ghost use Rattle.sq_merge.specs.AllPlaces.{ArePlaces, AreTold, id_cmp, after_end, sent_place};
 ghost use Rattle.sq_merge.specs.Audits as audits;
-ghost use Rattle.sq_merge.specs.Tags.{tag_of, tags_of};
+ghost use Rattle.sq_merge.specs.Tags.{tag_of};
 
 use crate::home_states::HomeStates;
+use crate::run::Run;
 use crate::tagged::Tagged;
 use sq_base::message_id::MessageId;
 use sq_base::refusal::Refusal;
@@ -40,21 +41,21 @@ impl Model for Audit {
 }
 
 /// Where the messages of a run are: each that was sent in it, once, in rising order of id. Refused for want of memory alone.
-pub fn places_of(alloc: Global, run: &[Tagged<'_>]) -> Result<Vec<(MessageId, Place)>, Refusal>
-    ensures places { (places : ℕ) (sites : List Site) (after : System) (r : RunFrom (opening places sites) (tags_of run.now) after) → IsOnePlace sites
-        → IfOk result (λ told. ArePlaces (run_sends (tags_of run.now)) (run_ends (opening places sites) (tags_of run.now) after r) told.items) }
+pub fn places_of(alloc: Global, run: &Run<'_>) -> Result<Vec<(MessageId, Place)>, Refusal>
+    ensures places { (places : ℕ) (sites : List Site) (after : System) (r : RunFrom (opening places sites) run.now after) → IsOnePlace sites
+        → IfOk result (λ told. ArePlaces (run_sends run.now) (run_ends (opening places sites) run.now after r) told.items) }
     ensures err { IfErr result (λ e. e ≡ Refusal.NoMemory) }
 {
-    let audit = collect(alloc, run)?;
+    let audit = collect(alloc, run.events())?;
     told(alloc, &audit.sends, &audit.ends)
 }
 
-fn collect(alloc: Global, run: &[Tagged<'_>]) -> Result<Audit, Refusal>
-    ensures audit { IfOk result (λ a. a ≡ fold (λ a t. audits.audit_step a (tag_of t)) audits.no_audit run.now) }
+fn collect(alloc: Global, events: &[Tagged<'_>]) -> Result<Audit, Refusal>
+    ensures audit { IfOk result (λ a. a ≡ fold (λ a t. audits.audit_step a (tag_of t)) audits.no_audit events.now) }
     ensures err { IfErr result (λ e. e ≡ Refusal.NoMemory) }
 {
     let mut audit = Audit::new(alloc);
-    for tagged in run {
+    for tagged in events {
         audit.step(alloc, tagged)?;
     }
     Ok(audit)

@@ -22,6 +22,8 @@ pub fn sorted<'a>(
     requires { length homes.now ≤ 4294967296 }
     ensures merged { IfOk result (λ run. IsMerged directory.now.events (map (λ h. h.events) homes.now) (tags_of run.items)) }
     ensures run { IfOk result (λ run. IsRun directory.now.directory.places (map (λ h. h.site) homes.now) (tags_of run.items) (system_now directory.now homes.now)) }
+    ensures directory { OnOk result (IsDirectoryKept directory.now) }
+    ensures homes { OnOk result (All IsKept homes.now) }
 {
     let mut all = collect(alloc, directory, homes)?;
     // The sort is stable, so what has one stamp stays in the order of its parts.

@@ -5,9 +5,10 @@ ghost use Rattle.sq_model.specs.Systems.{System, RunFrom, opening, IsOnePlace};
 ghost use Rattle.sq_model.specs.Places.{run_ends, run_sends, place_in};
 ghost use Rattle.sq_model.specs.declared.place.Place.TheVariants as at;
 ghost use Rattle.sq_merge.specs.RowStates.{effect_of, is_named};
-ghost use Rattle.sq_merge.specs.Tags.{tag_of, tags_of};
+ghost use Rattle.sq_merge.specs.Tags.{tag_of};
 ghost use Rattle.sq_merge.specs.Tracks as tracks;
 
+use crate::run::Run;
 use crate::state::{Policy, RowState, is_named, is_past, looked, next_policy, sent};
 use crate::tagged::Tagged;
 use sq_base::message_id::MessageId;
@@ -33,15 +34,16 @@ struct Track {
 }
 
 /// Where a message of a run is: some place exactly for those that were sent in it. It takes no memory.
-pub fn place_of(run: &[Tagged<'_>], x: &MessageId) -> Option<Place>
-    ensures place { (places : ℕ) (sites : List Site) (after : System) (r : RunFrom (opening places sites) (tags_of run.now) after) → IsOnePlace sites
-        → result ≡ place_in x.now (run_sends (tags_of run.now)) (run_ends (opening places sites) (tags_of run.now) after r) }
+pub fn place_of(run: &Run<'_>, x: &MessageId) -> Option<Place>
+    ensures place { (places : ℕ) (sites : List Site) (after : System) (r : RunFrom (opening places sites) run.now after) → IsOnePlace sites
+        → result ≡ place_in x.now (run_sends run.now) (run_ends (opening places sites) run.now after r) }
 {
     let mut track = Track {
         policy: None,
         spot: Spot::Unsent,
     };
-    for tagged in run {
+    let events = run.events();
+    for tagged in events {
         track = next(x, track, tagged);
     }
     answer(track.spot)

@@ -4,6 +4,8 @@ ghost use Rattle.sq_model.specs.Directories.{number_of};
 ghost use Rattle.sq_merge.specs.Acts.{call_of};
 ghost use Rattle.sq_merge.specs.Books.{is_of, book_of};
 ghost use Rattle.sq_merge.specs.Worlds.{HomeStepped, HomeRefused, Created, CreateRefused, having_read, StepTold, StepRefused, Schedule, IsKnown, IsKeptWorld, histories_of};
+ghost use Rattle.sq_merge.specs.Calls.{CallTold};
+ghost use Rattle.sq_merge.specs.Fits.{LeavesNotes};
 ghost use Rattle.sq_merge.specs.Openings.{IsServed, new_world};
 ghost use Rattle.sq_merge.specs.PartsValue.{parts_of};
 ghost use Rattle.sq_model.specs.Matches.{IsMatched};
@@ -11,6 +13,7 @@ ghost use Rattle.sq_model.specs.Matches.{IsMatched};
 use crate::act::{Act, HomeAct, Outcome, Step};
 use crate::book::{Book, create_step, home_step};
 use crate::books::Books;
+use crate::calls::{Answer, Call};
 use crate::directory::Directory;
 use crate::homes::{Homes, absent, home_place, never_opened_homes};
 use crate::options::Options;
@@ -26,6 +29,8 @@ use sq_model::replies::HomeReply;
 use sq_sample::sampler::{HomeCount, Sampler};
 use std::alloc::Global;
 use std::marker::Model;
+
+mod calls;
 
 /// The queues and their homes, and what each actor has seen and noted. Records and events are of each other at all times.
 #[derive(Drop)]
@@ -99,6 +104,34 @@ impl World {
                 let act = act.copy()?;
                 let reply = self.at_home(alloc, step.actor, step.clock, None, id, act)?;
                 Ok(Outcome::Home(reply))
+            }
+        }
+    }
+
+    /// What a client asks, done by an actor at a clock reading in ms, step by step. A call on a queue looks it up by its
+    /// name first. Refused as its first check in order that fails; steps that were done before that stand:
+    /// QueueDoesNotExist; InvalidParameterValue and InvalidMessageContents of a body; ReceiptHandleIsInvalid of what is no
+    /// handle of the queue and of one of its homes; NoMemory; ClockRange; Worn; and then as the home's call. CreateQueue is
+    /// refused as QueueNameExists and TableFull too, and ReceiveMessage as OverLimit where no home that was asked gave a
+    /// message and one of them has too many in flight.
+    #[tactic(auto, unfolding(crate::specs::Calls::CallTold))]
+    pub fn call(
+        &mut self,
+        alloc: Global,
+        actor: u32,
+        now: u64,
+        call: &Call,
+    ) -> Result<Answer, Refusal>
+        ensures told { CallTold self.old actor now call.now result self.new }
+        ensures fits { LeavesNotes self.old self.new actor call.now result }
+    {
+        match call {
+            Call::CreateQueue(call) => self.create_queue(alloc, actor, now, call),
+            Call::SendMessage(call) => self.send_message(alloc, actor, now, call),
+            Call::ReceiveMessage(call) => self.receive_message(alloc, actor, now, call),
+            Call::DeleteMessage(call) => self.delete_message(alloc, actor, now, call),
+            Call::ChangeMessageVisibility(call) => {
+                self.change_message_visibility(alloc, actor, now, call)
             }
         }
     }
@@ -178,6 +211,7 @@ impl World {
     // Reads the number of a queue.
     fn resolve(&mut self, alloc: Global, actor: u32, name: &QueueName) -> Result<QueueNo, Refusal>
         ensures found { IfOk result (λ queue. (number_of name.now self.old.directory.directory.queues ≡ Some queue) × (self.new ≡ having_read self.old actor)) }
+        ensures known { IfOk result (IsKnown self.new.directory.events (book_of actor self.new.books) (Some name.now)) }
         ensures refusal { IfErr result (λ e. (e ≡ Refusal.NoMemory) ⊎ ((number_of name.now self.old.directory.directory.queues ≡ None) × (e ≡ Refusal.QueueDoesNotExist))) }
         ensures err { OnErr result (self.new ≡ self.old) }
     {

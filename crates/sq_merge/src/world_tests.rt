@@ -87,7 +87,7 @@ fn stamps(alloc: Global, world: World) -> Result<Vec<(u64, u64)>, Refusal> {
     let Ok(run) = merge(alloc, &parts) else {
         return Err(Refusal::UnsupportedOperation);
     };
-    for event in run {
+    for event in run.events() {
         let stamp = event.stamp();
         stamps.push((stamp.moment, stamp.count))?;
     }

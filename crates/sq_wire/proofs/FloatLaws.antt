@@ -4,9 +4,9 @@ use Rattle.serde_json.specs.View.{items_of}
 use Rattle.serde_json.specs.Written.{has_float, items_have_float}
 use Rattle.sq_base.specs.declared.ids.HomeId.{HomeId}
 use Rattle.sq_base.specs.declared.row.Row.{Row}
-use Rattle.sq_wire.specs.declared.calls.AskedAttributes.{AskedAttributes}
-use Rattle.sq_wire.specs.declared.calls.Answer.{Answer}
-use Rattle.sq_wire.specs.declared.calls.Answer.TheVariants.{Queue, Sent, Received, Done}
+use Rattle.sq_merge.specs.declared.calls.AskedAttributes.{AskedAttributes}
+use Rattle.sq_merge.specs.declared.calls.Answer.{Answer}
+use Rattle.sq_merge.specs.declared.calls.Answer.TheVariants.{Queue, Sent, Received, Done}
 use Rattle.sq_wire.specs.Replies.{attributes_data, told_data, message_data, received_data, answer_data}
 
 -- the attributes, where each test has a value

@@ -1,10 +1,9 @@
 pub mod RequestLaws
 pub mod DigitLaws
 pub mod AttributeLaws
-pub mod AgreeLaws
 pub mod AsciiLaws
+pub mod AuditLaws
 pub mod FloatLaws
-pub mod GivenLaws
 pub mod LineLaws
 pub mod RunLaws
 pub mod WriteLaws

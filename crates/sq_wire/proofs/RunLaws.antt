@@ -4,7 +4,7 @@ use Rattle.std.specs.Prelude.{IfSome, option_map, slice_get}
 use Rattle.std.specs.Io.KnownBytes.{Appends}
 use Rattle.sq_wire.specs.Scripts.{ScriptValue, Gives, Loses}
 use Rattle.sq_wire.specs.Lines.{FirstIsOver}
-use Rattle.sq_wire.specs.WorldValue.{WorldValue}
+use Rattle.sq_merge.specs.WorldValue.{WorldValue}
 use Rattle.sq_wire.specs.Scripts.{script_at}
 use Rattle.sq_wire.specs.declared.run.ServeFault.{ServeFault}
 use Rattle.sq_wire.specs.Runs.{StopsAt, Answers, AllWithin, Writes, WritesPart, WritesNoMore}

@@ -10,8 +10,8 @@ use Rattle.sq_wire.specs.Attributes.{amounts_at, has_other_attribute, attributes
 use Rattle.sq_wire.specs.declared.actions.SendMembers.{SendMembers}
 use Rattle.sq_wire.specs.declared.actions.ReceiveMembers.{ReceiveMembers}
 use Rattle.sq_wire.specs.declared.actions.Addressee.{Addressee}
-use Rattle.sq_wire.specs.declared.calls.Call.{Call}
-use Rattle.sq_wire.specs.declared.calls.Call.TheVariants as call
+use Rattle.sq_merge.specs.declared.calls.Call.{Call}
+use Rattle.sq_merge.specs.declared.calls.Call.TheVariants as call
 
 unfoldable pub create_of : Data → Result Call Refusal
 create_of d = do

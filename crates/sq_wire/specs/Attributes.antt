@@ -11,8 +11,8 @@ use Rattle.sq_base.specs.declared.refusal.Refusal.TheVariants.{InvalidRequest, I
 use Rattle.sq_wire.specs.Reading.{◌>>=◌}
 use Rattle.sq_wire.specs.Members.{amount_of, given, in_range_if}
 use Rattle.sq_wire.specs.declared.attributes.Amounts.{Amounts}
-use Rattle.sq_wire.specs.declared.calls.AskedAttributes.{AskedAttributes}
-use Rattle.sq_wire.specs.declared.calls.QueueAttributes.{QueueAttributes}
+use Rattle.sq_merge.specs.declared.calls.AskedAttributes.{AskedAttributes}
+use Rattle.sq_model.specs.declared.directory.Attributes.{Attributes}
 use Rattle.sq_wire.specs.declared.members.Amount.{Amount}
 use Rattle.sq_wire.specs.declared.members.Amount.TheVariants.{Natural, Other}
 
@@ -75,7 +75,7 @@ amounts_at d = do
   Ok (record { delay = delay; retention = retention; wait_time = wait_time; timeout = timeout })
 
 -- the ranges of SQS API Reference, CreateQueue
-unfoldable pub attributes_of : Amounts → Result QueueAttributes Refusal
+unfoldable pub attributes_of : Amounts → Result Attributes Refusal
 attributes_of amounts = do
   delay ← in_range_if 0 900 InvalidAttributeValue amounts.delay
   retention ← in_range_if 60 1209600 InvalidAttributeValue amounts.retention

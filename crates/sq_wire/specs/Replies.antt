@@ -16,9 +16,9 @@ use Rattle.sq_base.specs.declared.row.Row.{Row}
 use Rattle.sq_base.specs.Handles.{handle_text}
 use Rattle.sq_base.specs.MessageIds.{id_number}
 use Rattle.sq_base.specs.Refusals.{name_of}
-use Rattle.sq_wire.specs.declared.calls.AskedAttributes.{AskedAttributes}
-use Rattle.sq_wire.specs.declared.calls.Answer.{Answer}
-use Rattle.sq_wire.specs.declared.calls.Answer.TheVariants.{Queue, Sent, Received, Done}
+use Rattle.sq_merge.specs.declared.calls.AskedAttributes.{AskedAttributes}
+use Rattle.sq_merge.specs.declared.calls.Answer.{Answer}
+use Rattle.sq_merge.specs.declared.calls.Answer.TheVariants.{Queue, Sent, Received, Done}
 
 -- the number of a refusal in decimal digits
 abbrev pub digits_of : Refusal → List ℕ

@@ -1,5 +1,5 @@
 -- What a line asks.
-use Rattle.std.specs.Prelude.{ℕ, List, if◌then◌else◌, Option, Some, None, Result, Ok, Err, codes, is_some}
+use Rattle.std.specs.Prelude.{ℕ, List, if◌then◌else◌, Option, Some, None, Result, Ok, Err, codes, is_some, nat_lt}
 use Rattle.std.specs.Str.{bytes_eq, is_utf8}
 use Rattle.serde_json.specs.Data.{Data, Num, unsigned, negative, float}
 use Rattle.serde_json.specs.Find.{get, as_number, as_object}
@@ -9,8 +9,8 @@ use Rattle.sq_base.specs.declared.refusal.Refusal.TheVariants.{InvalidRequest, U
 use Rattle.sq_wire.specs.Reading.{◌>>=◌}
 use Rattle.sq_wire.specs.Members.{text_at}
 use Rattle.sq_wire.specs.Actions.{create_of, send_of, receive_of, delete_of, change_of}
-use Rattle.sq_wire.specs.declared.calls.Call.{Call}
-use Rattle.sq_wire.specs.declared.calls.Request.{Request}
+use Rattle.sq_merge.specs.declared.calls.Call.{Call}
+use Rattle.sq_wire.specs.declared.request.Request.{Request}
 
 -- the clock reading of a line, a whole number from 0 upwards
 abbrev pub as_reading : Option Num → Result (Option ℕ) Refusal
@@ -26,6 +26,18 @@ reading (Some d) = as_reading (as_number d)
 unfoldable pub clock_at : Data → Result (Option ℕ) Refusal
 clock_at d = reading (get (codes "Now") d)
 
+-- the number of the actor of a line, 0 to 63; 0 where none is named
+abbrev pub as_actor : Option Num → Result ℕ Refusal
+as_actor (Some (unsigned n)) = if nat_lt n 64 then Ok n else Err InvalidRequest
+as_actor number = Err InvalidRequest
+
+abbrev pub acting : Option Data → Result ℕ Refusal
+acting None = Ok 0
+acting (Some d) = as_actor (as_number d)
+
+unfoldable pub actor_at : Data → Result ℕ Refusal
+actor_at d = acting (get (codes "Actor") d)
+
 unfoldable pub call_of : List ℕ → Data → Result Call Refusal
 call_of action d =
     if bytes_eq action (codes "CreateQueue") then create_of d
@@ -39,8 +51,9 @@ abbrev pub request_in : Data → Result Request Refusal
 request_in d = do
   action ← text_at (codes "Action") d
   clock ← clock_at d
+  actor ← actor_at d
   call ← call_of action d
-  Ok (record { clock = clock; call = call })
+  Ok (record { clock = clock; actor = actor; call = call })
 
 -- a request is an object
 unfoldable pub request_of : Data → Result Request Refusal

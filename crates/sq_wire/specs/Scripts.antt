@@ -2,12 +2,12 @@
 use Rattle.std.specs.Prelude.{◌≡◌, ◌⊎◌, ℕ, List, Result, Ok, Err, unwrap_or}
 use Rattle.sq_base.specs.declared.refusal.Refusal.{Refusal}
 use Rattle.sq_base.specs.declared.refusal.Refusal.TheVariants.{NoMemory}
-use Rattle.sq_wire.specs.WorldValue.{WorldValue}
+use Rattle.sq_merge.specs.WorldValue.{WorldValue}
 use Rattle.sq_wire.specs.Requests.{line_request}
-use Rattle.sq_wire.specs.Calls.{CallTold}
+use Rattle.sq_merge.specs.Calls.{CallTold}
 use Rattle.sq_wire.specs.Replies.{reply_text_of}
-use Rattle.sq_wire.specs.declared.calls.Answer.{Answer}
-use Rattle.sq_wire.specs.declared.calls.Request.{Request}
+use Rattle.sq_merge.specs.declared.calls.Answer.{Answer}
+use Rattle.sq_wire.specs.declared.request.Request.{Request}
 
 -- a world, and the clock reading of the last line that was read as a request
 pub record ScriptValue : Type 0 where
@@ -17,12 +17,12 @@ pub record ScriptValue : Type 0 where
 abbrev pub script_at : WorldValue → ℕ → ScriptValue
 script_at world clock = record { world = world; clock = clock }
 
--- A line that is no request is refused, and one that is has its call done at its reading, or at the last one. Where no memory was found to read it, it is refused as well.
+-- A line that is no request is refused, and one that is has its call done by its actor at its reading, or at the last one. Where no memory was found to read it, it is refused as well.
 abbrev pub LineTold : ScriptValue → List ℕ → Result Answer Refusal → ScriptValue → Type 0
 LineTold s line told after =
     ((after ≡ s) × ((told ≡ Err NoMemory) ⊎ ((e : Refusal) × (line_request line ≡ Err e) × (told ≡ Err e))))
     ⊎ ((request : Request) × (line_request line ≡ Ok request) × (after.clock ≡ unwrap_or request.clock s.clock)
-    × CallTold s.world (unwrap_or request.clock s.clock) request.call told after.world)
+    × CallTold s.world request.actor (unwrap_or request.clock s.clock) request.call told after.world)
 
 -- a line may have this text for its reply, and leave this
 unfoldable pub Gives : ScriptValue → List ℕ → List ℕ → ScriptValue → Type 0

@@ -5,10 +5,6 @@ ghost use Rattle.sq_wire.specs.Reading.{Reads};
 ghost use Rattle.sq_wire.specs.Actions.{create_of, send_members, is_too_small_or_large, addressed, send_of, receive_members, receive_of, delete_of, change_of};
 
 use crate::attributes::{amounts_at, asked_at, attributes_of, has_other_attribute};
-use crate::calls::{
-    AskedAttributes, BodyText, Call, ChangeMessageVisibility, CreateQueue, DeleteMessage,
-    ReceiveMessage, SendMessage,
-};
 use crate::members::{
     Amount, amount_at, amount_if_at, has_members_at, in_range, in_range_if, receipt_handle_at,
     text_at, url_at,
@@ -18,6 +14,10 @@ use sq_base::body::BODY_LIMIT;
 use sq_base::name::QueueName;
 use sq_base::ranges::{Delay, MaxMessages};
 use sq_base::refusal::Refusal;
+use sq_merge::calls::{
+    AskedAttributes, BodyText, Call, ChangeMessageVisibility, CreateQueue, DeleteMessage,
+    ReceiveMessage, SendMessage,
+};
 use std::alloc::Global;
 
 /// CreateQueue.

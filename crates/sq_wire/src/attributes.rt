@@ -3,10 +3,11 @@ ghost use Rattle.std.specs.Prelude.{◌≡◌};
 ghost use Rattle.serde_json.specs.View.{view, items_view, members_view};
 ghost use Rattle.sq_wire.specs.Attributes.{is_digits, amount_of_text, attribute_of, attribute_at, is_numeric, has_other, has_other_attribute, amounts_at, attributes_of, any_item, all_items, is_text, asks, asked_of, asked_in_list, either, asked_at};
 
-use crate::calls::{AskedAttributes, QueueAttributes};
 use crate::members::{Amount, amount_of, in_range_if};
 use serde_json::{Map, Value};
 use sq_base::refusal::Refusal;
+use sq_merge::calls::AskedAttributes;
+use sq_model::directory::Attributes;
 
 /// The numeric attributes that a request gives, their ranges not checked yet.
 #[derive(Drop)]
@@ -78,10 +79,10 @@ pub fn amounts_at(value: &Value) -> Result<Amounts, Refusal>
 
 /// The attributes, where each is in its range.
 #[tactic(auto, unfolding(crate::specs::Attributes::attributes_of))]
-pub fn attributes_of(amounts: &Amounts) -> Result<QueueAttributes, Refusal>
+pub fn attributes_of(amounts: &Amounts) -> Result<Attributes, Refusal>
     ensures { result ≡ attributes_of amounts.now }
 {
-    Ok(QueueAttributes {
+    Ok(Attributes {
         delay: in_range_if(amounts.delay, Refusal::InvalidAttributeValue)?,
         retention: in_range_if(amounts.retention, Refusal::InvalidAttributeValue)?,
         wait_time: in_range_if(amounts.wait_time, Refusal::InvalidAttributeValue)?,

@@ -3,15 +3,11 @@
 
 pub mod actions;
 pub mod attributes;
+pub mod audit;
 pub mod buffer;
-pub mod calls;
 pub mod counted;
-pub mod digest;
-pub mod given;
 pub mod lines;
 pub mod members;
-pub mod names;
-pub mod options;
 pub mod put;
 pub mod reply;
 pub mod request;
@@ -22,4 +18,3 @@ mod tests;
 pub mod text;
 #[cfg(test)]
 mod worked;
-pub mod world;

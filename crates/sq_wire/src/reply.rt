@@ -4,9 +4,6 @@ ghost use Rattle.serde_json.specs.View.{view};
 ghost use Rattle.serde_json.specs.Written.{compact_text};
 ghost use Rattle.sq_wire.specs.Replies.{error_text, handle_of, queue_data, sent_data, attributes_data, told_data, message_data, id_text, received_data, answer_data, reply_text_of};
 
-use crate::calls::{Answer, AskedAttributes};
-use crate::digest::Digest;
-use crate::given::Given;
 use crate::text::{Text, ascii_text};
 use serde_json::{Value, json};
 use sq_base::handle::{Handle, write_handle};
@@ -16,6 +13,9 @@ use sq_base::name::QueueName;
 use sq_base::ranges::Receives;
 use sq_base::refusal::Refusal;
 use sq_base::row::Row;
+use sq_merge::calls::{Answer, AskedAttributes};
+use sq_merge::digest::Digest;
+use sq_merge::given::Given;
 use std::alloc::{AllocError, Global};
 use uuid::Uuid;
 
@@ -92,7 +92,7 @@ fn answer_value(alloc: Global, answer: &Answer) -> Result<Value, AllocError>
         Answer::Queue(name) => queue_value(alloc, name),
         Answer::Sent(id, digest) => {
             let mut uuid = Uuid::encode_buffer();
-            sent_value(alloc, digest.as_str(), id_text(id, &mut uuid))
+            sent_value(alloc, ascii_text(digest.digits()), id_text(id, &mut uuid))
         }
         Answer::Received(given) => received_value(alloc, given),
         Answer::Done => json!(in alloc; {}),
@@ -142,7 +142,14 @@ fn message_value(
     let attributes = attributes_value(alloc, asked, row)?;
     let body = row.body.as_str();
     let handle = ascii_text(&handle);
-    told_value(alloc, attributes, body, digest.as_str(), id, handle)
+    told_value(
+        alloc,
+        attributes,
+        body,
+        ascii_text(digest.digits()),
+        id,
+        handle,
+    )
 }
 
 // The attributes of a message that are asked for, where one is.
@@ -196,7 +203,7 @@ fn told_value(
 
 /// The UUID of an id in lower case, written into a buffer.
 #[tactic(auto, unfolding(crate::specs::Replies::id_text))]
-fn id_text<'b>(id: &MessageId, buffer: &'b mut [u8; 45]) -> &'b str
+pub(crate) fn id_text<'b>(id: &MessageId, buffer: &'b mut [u8; 45]) -> &'b str
     ensures { result.now ≡ id_text id.now }
 {
     id.to_uuid().hyphenated().encode_lower(buffer)

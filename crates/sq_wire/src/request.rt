@@ -2,17 +2,25 @@
 ghost use Rattle.std.specs.Prelude.{◌≡◌};
 ghost use Rattle.serde_json.specs.View.{view};
 ghost use Rattle.sq_wire.specs.Reading.{Reads};
-ghost use Rattle.sq_wire.specs.Requests.{clock_at, call_of, request_of, line_request};
+ghost use Rattle.sq_wire.specs.Requests.{clock_at, actor_at, call_of, request_of, line_request};
 
 use crate::actions::{change_of, create_of, delete_of, receive_of, send_of};
-use crate::calls::{Call, Request};
 use crate::members::text_at;
 use serde_json::Value;
 use sq_base::refusal::Refusal;
+use sq_merge::calls::Call;
 use std::alloc::Global;
 
 #[cfg(test)]
 mod tests;
+
+/// A request, who makes it (0 to 63), and the clock reading of its line in ms, where it has one.
+#[derive(Drop)]
+pub struct Request {
+    pub clock: Option<u64>,
+    pub actor: u32,
+    pub call: Call,
+}
 
 // The clock reading of a line.
 #[tactic(auto, unfolding(crate::specs::Requests::clock_at))]
@@ -24,6 +32,20 @@ fn clock_at(value: &Value) -> Result<Option<u64>, Refusal>
         Some(member) => match member.as_u64() {
             Some(reading) => Ok(Some(reading)),
             None => Err(Refusal::InvalidRequest),
+        },
+    }
+}
+
+// The number of the actor of a line.
+#[tactic(auto, unfolding(crate::specs::Requests::actor_at))]
+fn actor_at(value: &Value) -> Result<u32, Refusal>
+    ensures { result ≡ actor_at (view value.now) }
+{
+    match value.get("Actor") {
+        None => Ok(0),
+        Some(member) => match member.as_u64() {
+            Some(actor) if actor < 64 => Ok(actor as u32),
+            _ => Err(Refusal::InvalidRequest),
         },
     }
 }
@@ -51,8 +73,9 @@ fn request_of(alloc: Global, value: &Value) -> Result<Request, Refusal>
     }
     let action = text_at(value, "Action")?;
     let clock = clock_at(value)?;
+    let actor = actor_at(value)?;
     let call = call_of(alloc, value, action)?;
-    Ok(Request { clock, call })
+    Ok(Request { clock, actor, call })
 }
 
 /// What a line asks, or the first reason in order why it is refused: InvalidRequest (not an object, a member of a

@@ -8,7 +8,7 @@ use crate::counted::Counted;
 use crate::lines::{LineFault, Lines};
 use crate::put::put_line;
 use crate::script::answer;
-use crate::world::World;
+use sq_merge::world::World;
 use std::alloc::Global;
 use std::io::{Read, Write};
 

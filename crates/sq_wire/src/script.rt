@@ -2,12 +2,12 @@
 ghost use Rattle.std.specs.Prelude.{IfOk, OnErr};
 ghost use Rattle.sq_wire.specs.Scripts.{script_at, LineTold, Gives, Loses};
 
-use crate::calls::Answer;
 use crate::reply::reply_text;
 use crate::request::read_request;
 use crate::text::Text;
-use crate::world::World;
 use sq_base::refusal::Refusal;
+use sq_merge::calls::Answer;
+use sq_merge::world::World;
 use std::alloc::{AllocError, Global};
 
 // Does what a line asks; its clock reading stands for the lines after it that have none.
@@ -18,7 +18,7 @@ fn tell(alloc: Global, world: &mut World, clock: &mut u64, line: &[u8]) -> Resul
     if let Some(reading) = request.clock {
         *clock = reading;
     }
-    world.call(alloc, *clock, &request.call)
+    world.call(alloc, request.actor, *clock, &request.call)
 }
 
 /// Does what a line asks, and gives the text of its reply, without its line feed. Where there is no memory for

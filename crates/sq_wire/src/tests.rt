@@ -1,10 +1,10 @@
 //! Runs over memory, and over a reader and a writer that fail. The texts are those of the worked runs in `rows/`.
 use crate::counted::Counted;
 use crate::lines::{LIMIT, LineFault, Lines};
-use crate::options::Options;
 use crate::run::{ServeFault, run_script};
-use crate::world::World;
 use sq_base::refusal::Refusal;
+use sq_merge::options::Options;
+use sq_merge::world::World;
 use std::alloc::Global;
 use std::io::{self, ErrorKind, Read, Write};
 use std::test::Fail;

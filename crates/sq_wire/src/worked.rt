@@ -1,8 +1,8 @@
 //! Worked scripts of time at one home, over memory. The same are in `rows/`, for the built program.
 use crate::counted::Counted;
-use crate::options::Options;
 use crate::run::run_script;
-use crate::world::World;
+use sq_merge::options::Options;
+use sq_merge::world::World;
 use std::alloc::Global;
 use std::test::Fail;
 

@@ -1,10 +1,10 @@
 -- The flags that were found, and the words.
-use Rattle.std.proofs.Common.{◌≡◌, ◌∙◌, ℕ, Option, Some, None, Result, Ok, Err, IfErr, true, refl, sym, subst, ap, min, codes}
+use Rattle.std.proofs.Common.{◌≡◌, ◌∙◌, ℕ, Bool, Option, Some, None, Result, Ok, Err, IfErr, true, false, refl, sym, subst, ap, min, codes}
 use Rattle.clap.specs.Words.{Text, is_simple, is_simple_and_free}
 use Rattle.clap.proofs.OnLiterals.{clap_on_literals}
-use Rattle.sq_wire.specs.declared.options.Options.{Options}
+use Rattle.sq_merge.specs.declared.options.Options.{Options}
 use Rattle.sqd.specs.CommandLine.{program_app}
-use Rattle.sqd.specs.Flags.{IsNumberOf, AreOptionsOf}
+use Rattle.sqd.specs.Flags.{IsNumberOf, IsFlagOf, AreOptionsOf}
 
 pub program_is_simple : is_simple program_app ≡ true
 unfolding clap_on_literals
@@ -54,6 +54,17 @@ one_set given a b x y =
     let transit : a.transit ≡ b.transit = one_number _ _ _ _ _ _ x.transit y.transit in
     let seed : a.seed ≡ b.seed = one_number _ _ _ _ _ _ x.seed y.seed in
     λ i. record { homes = homes i; sample = sample i; queues = queues i; rows = rows i; flights = flights i; transit = transit i; seed = seed i }
+
+-- two ways to tell the text of a flag without a value
+pub same_flag : (a b : Option Text) (there : Bool) → a ≡ b → IsFlagOf a there → IsFlagOf b there
+same_flag a b there e h = subst (λ (g : Option Text). IsFlagOf g there) e h
+
+-- and it is there or not
+pub one_flag : (given : Option Text) (a b : Bool) → IsFlagOf given a → IsFlagOf given b → a ≡ b
+one_flag given true true x y = refl
+one_flag given false false x y = refl
+one_flag given true false x y = sym (y.1 (x.0 refl))
+one_flag given false true x y = x.1 (y.0 refl)
 
 -- no options at all are those of the flags
 pub no_options : {T E : Type 0} (given : Text → Option Text) → ((o : Options) → ¬ AreOptionsOf given o) → (r : Result T E) → IfErr r (λ _. (o : Options) → ¬ AreOptionsOf given o)

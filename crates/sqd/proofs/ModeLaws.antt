@@ -12,14 +12,15 @@ use Rattle.clap.specs.declared.parser.matches.SubCommand.{SubCommand}
 use Rattle.std.specs.Box.{box_value}
 use Rattle.std.specs.Prelude.{Box}
 use Rattle.clap.proofs.WalkLemmas.{first_value-rows}
-use Rattle.sq_wire.specs.declared.options.Options.{Options}
+use Rattle.sq_merge.specs.declared.options.Options.{Options}
 use Rattle.sqd.specs.CommandLine.{program_app}
-use Rattle.sqd.specs.Flags.{AreOptionsOf, AsksForScript, AsksForText, IsKindFor, IsModeOf, IsRefusalOf, Refuses}
+use Rattle.sqd.specs.Flags.{AreOptionsOf, AsksForScript, AsksForText, IsFlagOf, IsKindFor, IsModeOf, IsRefusalOf, Refuses}
+use Rattle.sqd.specs.declared.flags.ScriptMode.{ScriptMode}
 use Rattle.sqd.specs.declared.flags.Mode.{Mode}
 use Rattle.sqd.specs.declared.flags.Mode.TheVariants.{Script}
 use Rattle.sqd.specs.declared.flags.Refused.{Refused}
 use Rattle.sqd.specs.declared.flags.Refused.TheVariants.{NoMemory, Usage}
-use Rattle.sqd.proofs.FlagLaws.{program_is_free, one_set, program_is_simple, same_options}
+use Rattle.sqd.proofs.FlagLaws.{program_is_free, one_flag, one_set, program_is_simple, same_flag, same_options}
 
 -- ---- what clap says of the program's command
 
@@ -55,36 +56,42 @@ module _ {Z : Type 0} where
   unnamed (Some b) name rows e = ap (option_map (λ p. p.0)) e
 
 -- clap found the subcommand with its flags
-pub asks : (words : List Text) (m found : ArgMatches) (o : Options) → fault_of program_app words ≡ [] → subcommand_rows_of m ≡ subcommand_of program_app words
+pub asks : (words : List Text) (m found : ArgMatches) (mode : ScriptMode) → fault_of program_app words ≡ [] → subcommand_rows_of m ≡ subcommand_of program_app words
     → subcommand_name_of m ≡ Some (codes "script") → option_map (λ p. p.1) (subcommand_rows_of m) ≡ Some (rows_of (found_of found))
-    → AreOptionsOf (first_value (found_of found)) o → AsksForScript words o
-asks words m found o taken walked name rows given = record {
+    → AreOptionsOf (first_value (found_of found)) mode.options → IsFlagOf (first_value (found_of found) (codes "audit")) mode.audit
+    → AsksForScript words mode
+asks words m found mode taken walked name rows given audit = record {
   rows = rows_of (found_of found);
   taken = taken;
   named = sym walked ∙ named (out-ArgMatches m).subcommand (codes "script") (rows_of (found_of found)) name rows;
-  given = same_options (first_value (found_of found)) (λ id. first_of id (rows_of (found_of found))) o (first_value-rows (found_of found)) given;
+  given = same_options (first_value (found_of found)) (λ id. first_of id (rows_of (found_of found))) mode.options (first_value-rows (found_of found)) given;
+  audit = same_flag _ _ mode.audit (first_value-rows (found_of found) (codes "audit")) audit;
 }
 
 -- clap found no such subcommand
 pub asks_for_no_script : (words : List Text) (m : ArgMatches) → subcommand_rows_of m ≡ subcommand_of program_app words
-    → (subcommand_name_of m ≡ Some (codes "script") → ⊥) → (o : Options) → ¬ AsksForScript words o
-asks_for_no_script words m walked other o h = other (unnamed (out-ArgMatches m).subcommand (codes "script") h.rows (walked ∙ h.named))
+    → (subcommand_name_of m ≡ Some (codes "script") → ⊥) → (mode : ScriptMode) → ¬ AsksForScript words mode
+asks_for_no_script words m walked other mode h = other (unnamed (out-ArgMatches m).subcommand (codes "script") h.rows (walked ∙ h.named))
 
 -- its flags give no options
 pub asks_for_no_options : (words : List Text) (m found : ArgMatches) → subcommand_rows_of m ≡ subcommand_of program_app words
     → option_map (λ p. p.1) (subcommand_rows_of m) ≡ Some (rows_of (found_of found))
-    → ((o : Options) → ¬ AreOptionsOf (first_value (found_of found)) o) → (o : Options) → ¬ AsksForScript words o
-asks_for_no_options words m found walked rows none o h =
+    → ((o : Options) → ¬ AreOptionsOf (first_value (found_of found)) o) → (mode : ScriptMode) → ¬ AsksForScript words mode
+asks_for_no_options words m found walked rows none mode h =
     let same : h.rows ≡ rows_of (found_of found) = some_same _ _ (sym (ap (option_map (λ p. p.1)) (walked ∙ h.named)) ∙ rows) in
+    let o = mode.options in
     let given : AreOptionsOf (λ id. first_of id (rows_of (found_of found))) o = subst (λ (r : List Row). AreOptionsOf (λ id. first_of id r) o) same h.given in
     none o (same_options (λ id. first_of id (rows_of (found_of found))) (first_value (found_of found)) o (λ id. sym (first_value-rows (found_of found) id)) given)
 
 -- words ask for one mode at most
-pub asks_for_one : (words : List Text) (mode : Mode) (o : Options) → IsModeOf words mode → AsksForScript words o → mode ≡ Script o
+pub asks_for_one : (words : List Text) (mode : Mode) (asked : ScriptMode) → IsModeOf words mode → AsksForScript words asked → mode ≡ Script asked
 asks_for_one words (Script a) b x y =
     let same : x.rows ≡ y.rows = ap (λ p. p.1) (some_same _ _ (sym x.named ∙ y.named)) in
-    let given : AreOptionsOf (λ id. first_of id y.rows) a = subst (λ (r : List Row). AreOptionsOf (λ id. first_of id r) a) same x.given in
-    ap Script (one_set (λ id. first_of id y.rows) a b given y.given)
+    let given : AreOptionsOf (λ id. first_of id y.rows) a.options = subst (λ (r : List Row). AreOptionsOf (λ id. first_of id r) a.options) same x.given in
+    let flag : IsFlagOf (first_of (codes "audit") y.rows) a.audit = subst (λ (r : List Row). IsFlagOf (first_of (codes "audit") r) a.audit) same x.audit in
+    let options : a.options ≡ b.options = one_set (λ id. first_of id y.rows) a.options b.options given y.given in
+    let audit : a.audit ≡ b.audit = one_flag _ _ _ flag y.audit in
+    ap Script (λ i. record { options = options i; audit = audit i })
 
 -- ---- refusals
 
@@ -105,11 +112,11 @@ pub refuses_for_clap : (words : List Text) (error : Error) (e : Refused) → Has
 refuses_for_clap words error NoMemory h is = tt
 refuses_for_clap words error (Usage e) h is = elim h [
   | inl memory ↦ absurd (is.1 memory)
-  | inr kind ↦ subst (λ (x : Error). Refuses words (Usage x)) (sym is.0) (λ o asked. no_kind _ _ kind asked.taken, among _ _ kind)
+  | inr kind ↦ subst (λ (x : Error). Refuses words (Usage x)) (sym is.0) (λ mode asked. no_kind _ _ kind asked.taken, among _ _ kind)
 ]
 
 pub refuses_for_own : (words : List Text) (error : Error) (e : Refused) → fault_of program_app words ≡ [] → kind_of error ≢ DisplayHelp → kind_of error ≢ DisplayVersion
-    → ((o : Options) → ¬ AsksForScript words o) → IsRefusalOf error e → Refuses words e
+    → ((mode : ScriptMode) → ¬ AsksForScript words mode) → IsRefusalOf error e → Refuses words e
 refuses_for_own words error NoMemory taken help version none is = tt
 refuses_for_own words error (Usage e) taken help version none is =
     subst (λ (x : Error). Refuses words (Usage x)) (sym is.0) (none, own _ _ taken help version)

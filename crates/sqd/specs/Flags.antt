@@ -1,12 +1,13 @@
--- The numbers of flags, their bounds and their defaults.
-use Rattle.std.specs.Prelude.{ℕ, ◌≡◌, ◌≢◌, ◌≤◌, ◌⊎◌, ⊤, List, [], ◌∷◌, Option, Some, None, min, codes}
+-- The numbers of flags, their bounds and their defaults, and the flag without a value.
+use Rattle.std.specs.Prelude.{ℕ, Bool, IsTrue, ◌≡◌, ◌≢◌, ◌≤◌, ◌⊎◌, ◌↔◌, ⊤, List, [], ◌∷◌, Option, Some, None, min, codes}
 use Rattle.std.specs.Str.Parse.{IsNumeral, digits_value, without_leading_plus}
 use Rattle.clap.specs.Words.{IsAmong, Kinds, Row, Text, fault_of, first_of, kind_of, subcommand_of}
 use Rattle.clap.specs.declared.error.kind.ErrorKind.{ErrorKind}
 use Rattle.clap.specs.declared.error.kind.ErrorKind.TheVariants.{DisplayHelp, DisplayVersion, OutOfMemory}
 use Rattle.clap.specs.declared.error.Error.{Error}
-use Rattle.sq_wire.specs.declared.options.Options.{Options}
+use Rattle.sq_merge.specs.declared.options.Options.{Options}
 use Rattle.sqd.specs.CommandLine.{program_app}
+use Rattle.sqd.specs.declared.flags.ScriptMode.{ScriptMode}
 use Rattle.sqd.specs.declared.flags.Mode.{Mode}
 use Rattle.sqd.specs.declared.flags.Mode.TheVariants.{Script}
 use Rattle.sqd.specs.declared.flags.Refused.{Refused}
@@ -34,17 +35,22 @@ pub record AreOptionsOf (given : Text → Option Text) (o : Options) : Type 0 wh
   pub transit : IsNumberOf (given (codes "transit")) 1 100000 10000 o.transit
   pub seed : IsNumberOf (given (codes "seed")) 0 18446744073709551615 0 o.seed
 
--- the words ask for a run with these options: clap has no fault in them, they name the subcommand, and its flags give
--- the options
-pub record AsksForScript (words : List Text) (options : Options) : Type 0 where
+-- a flag without a value stands among the words: clap gives it this text
+abbrev pub IsFlagOf : Option Text → Bool → Type 0
+IsFlagOf given there = IsTrue there ↔ (given ≡ Some (codes "true"))
+
+-- the words ask for a run in this mode: clap has no fault in them, they name the subcommand, its flags give the options,
+-- and an audit is asked for where its flag is there
+pub record AsksForScript (words : List Text) (mode : ScriptMode) : Type 0 where
   pub rows : List Row
   pub taken : fault_of program_app words ≡ []
   pub named : subcommand_of program_app words ≡ Some (codes "script", rows)
-  pub given : AreOptionsOf (λ name. first_of name rows) options
+  pub given : AreOptionsOf (λ name. first_of name rows) mode.options
+  pub audit : IsFlagOf (first_of (codes "audit") rows) mode.audit
 
 -- what the words ask for
 abbrev pub IsModeOf : List Text → Mode → Type 0
-IsModeOf words (Script options) = AsksForScript words options
+IsModeOf words (Script mode) = AsksForScript words mode
 
 -- the words ask for a text, help or the version as clap means them
 abbrev pub AsksForText : List Text → Type 0
@@ -58,7 +64,7 @@ IsKindFor (k ∷ ks) kind = IsAmong kind (k ∷ ks)
 -- why the words ask for no run, or that there was no memory
 abbrev pub Refuses : List Text → Refused → Type 0
 Refuses words NoMemory = ⊤
-Refuses words (Usage error) = ((options : Options) → ¬ AsksForScript words options) × IsKindFor (fault_of program_app words) (kind_of error)
+Refuses words (Usage error) = ((mode : ScriptMode) → ¬ AsksForScript words mode) × IsKindFor (fault_of program_app words) (kind_of error)
 
 -- an error of clap as a refusal
 abbrev pub IsRefusalOf : Error → Refused → Type 0

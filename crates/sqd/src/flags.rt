@@ -1,24 +1,32 @@
 //! The words of a command line.
-ghost use Rattle.std.specs.Prelude.{◌≡◌, ◌≤◌, IfOk, IfErr, IfSome, IfNone, None, Ok, ℕ, map, false};
+ghost use Rattle.std.specs.Prelude.{◌≡◌, ◌≤◌, IfOk, IfErr, IfSome, IfNone, None, Ok, ℕ, codes, map, false};
 ghost use Rattle.clap.specs.Words.{app_of, first_value, found_of, rule_of, kind_of};
 ghost use Rattle.clap.specs.declared.error.kind.ErrorKind.TheVariants.{ValueValidation};
 ghost use Rattle.clap.specs.declared.Command.TheViews.{out-Command as fields_of};
-ghost use Rattle.sqd.specs.CommandLine.{number_rule, program_app, script_app, with_number};
-ghost use Rattle.sq_wire.specs.declared.options.Options.{Options as OptionsValue};
+ghost use Rattle.sqd.specs.CommandLine.{audit_rule, number_rule, numbers_app, program_app, script_app, with_audit, with_number};
+ghost use Rattle.sq_merge.specs.declared.options.Options.{Options as OptionsValue};
 ghost use Rattle.sqd.specs.declared.flags.Refused.TheVariants.{NoMemory as RefusedNoMemory};
-ghost use Rattle.sqd.specs.Flags.{IsWhole, IsNumberOf, AreOptionsOf, IsModeOf, IsRefusalOf, Refuses};
+ghost use Rattle.sqd.specs.Flags.{IsWhole, IsNumberOf, IsFlagOf, AreOptionsOf, IsModeOf, IsRefusalOf, Refuses};
 
 use clap::builder::ValueParser;
 use clap::error::ErrorKind;
-use clap::{Arg, ArgMatches, Command, Error};
-use sq_wire::options::Options;
+use clap::{Arg, ArgAction, ArgMatches, Command, Error};
+use sq_merge::options::Options;
 use std::alloc::{AllocError, Global};
+
+/// How the lines of the standard input are answered.
+#[derive(Clone, Copy, PartialEq, Eq, Debug)]
+pub struct ScriptMode {
+    pub options: Options,
+    /// Whether an audit is told after the last reply.
+    pub audit: bool,
+}
 
 /// What a command line asks for.
 #[derive(Clone, Copy, PartialEq, Eq, Debug)]
 pub enum Mode {
     /// Answer the lines of the standard input.
-    Script(Options),
+    Script(ScriptMode),
 }
 
 /// Why a command line asks for nothing.
@@ -67,7 +75,18 @@ fn number_flag<'a>(
         .help(help)
 }
 
-// Adds a flag to a command.
+// The flag that asks for an audit.
+fn audit_flag<'a>(alloc: Global) -> Arg<'a>
+    ensures rule { rule_of result ≡ audit_rule }
+    ensures local { result.global ≡ false }
+{
+    Arg::new(alloc, "audit")
+        .long("audit")
+        .action(ArgAction::SetTrue)
+        .help(AUDIT)
+}
+
+// Adds a flag that takes a number to a command.
 fn with_number<'a>(
     alloc: Global,
     command: Command<'a>,
@@ -81,6 +100,15 @@ fn with_number<'a>(
     ensures local { IfOk result (λ c. (fields_of c).has_globals ≡ false) }
 {
     command.arg(number_flag(alloc, name, least, greatest, help))
+}
+
+// Adds the flag that asks for an audit to a command.
+fn with_audit<'a>(alloc: Global, command: Command<'a>) -> Result<Command<'a>, AllocError>
+    requires { (fields_of command).has_globals ≡ false }
+    ensures app { IfOk result (λ c. app_of c ≡ with_audit (app_of command.entry)) }
+    ensures local { IfOk result (λ c. (fields_of c).has_globals ≡ false) }
+{
+    command.arg(audit_flag(alloc))
 }
 
 const HOMES: &str = "Homes of a queue: 1 to 16 [default: 4]";
@@ -97,6 +125,9 @@ const TRANSIT: &str = "Messages between queues: 1 to 100000 [default: 10000]";
 
 const SEED: &str = "What the choices of homes begin from: any u64 [default: 0]";
 
+const AUDIT: &str =
+    "After the last reply, tell the run of all that was done and where each message is";
+
 const SCRIPT_FLAGS: &str = "Flags of script, each with a whole number N:
       --homes    1 to 16, homes of a queue [default: 4]
       --sample   1 to N of --homes, homes that a receive looks at [default: 2, or 1 of 1]
@@ -104,10 +135,13 @@ const SCRIPT_FLAGS: &str = "Flags of script, each with a whole number N:
       --rows     1 to 1048576, messages of a home [default: 1048576]
       --flights  N of --homes to 120000, messages of a queue in flight [default: 120000]
       --transit  1 to 100000, messages between queues [default: 10000]
-      --seed     any u64, what the choices of homes begin from [default: 0]";
+      --seed     any u64, what the choices of homes begin from [default: 0]
+and one without a value:
+      --audit    after the last reply, tell the run of all that was done and where each message is";
 
-fn script_command<'a>(alloc: Global) -> Result<Command<'a>, AllocError>
-    ensures app { IfOk result (λ c. app_of c ≡ script_app) }
+// The subcommand and its flags that take numbers.
+fn numbers_command<'a>(alloc: Global) -> Result<Command<'a>, AllocError>
+    ensures app { IfOk result (λ c. app_of c ≡ numbers_app) }
     ensures local { IfOk result (λ c. (fields_of c).has_globals ≡ false) }
 {
     let command = Command::new(alloc, "script");
@@ -118,6 +152,14 @@ fn script_command<'a>(alloc: Global) -> Result<Command<'a>, AllocError>
     let command = with_number(alloc, command, "flights", 1, 120_000, FLIGHTS)?;
     let command = with_number(alloc, command, "transit", 1, 100_000, TRANSIT)?;
     with_number(alloc, command, "seed", 0, u64::MAX, SEED)
+}
+
+fn script_command<'a>(alloc: Global) -> Result<Command<'a>, AllocError>
+    ensures app { IfOk result (λ c. app_of c ≡ script_app) }
+    ensures local { IfOk result (λ c. (fields_of c).has_globals ≡ false) }
+{
+    let command = numbers_command(alloc)?;
+    with_audit(alloc, command)
 }
 
 fn program_command<'a>(alloc: Global) -> Result<Command<'a>, AllocError>
@@ -187,6 +229,16 @@ pub fn options_of(matches: &ArgMatches<'_>) -> Result<Options, &'static str>
     })
 }
 
+// Whether the flag that asks for an audit is there.
+fn asks_for_audit(matches: &ArgMatches<'_>) -> bool
+    ensures { IsFlagOf (first_value (found_of matches.now) (codes "audit")) result }
+{
+    match matches.get_str("audit") {
+        Some(text) => text == "true",
+        None => false,
+    }
+}
+
 // An error of the form that clap gives its own.
 fn usage(alloc: Global, command: &mut Command<'_>, name: &str) -> Result<Error, AllocError>
     ensures kind { IfOk result (λ e. kind_of e ≡ ValueValidation) }
@@ -207,7 +259,10 @@ pub fn flags<'a>(alloc: Global, words: &'a [&'a str]) -> Result<Mode, Refused>
         return Err(Refused::from(error));
     };
     match options_of(found) {
-        Ok(options) => Ok(Mode::Script(options)),
+        Ok(options) => Ok(Mode::Script(ScriptMode {
+            options,
+            audit: asks_for_audit(found),
+        })),
         Err(name) => Err(Refused::from(usage(alloc, &mut command, name)?)),
     }
 }

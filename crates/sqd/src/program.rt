@@ -1,24 +1,25 @@
 //! The program as a function of its words, its input and its outputs.
-ghost use Rattle.std.specs.Prelude.{◌≡◌, ◌≤◌, ◌⊎◌, [], ◌∷◌, ◌≢◌, map};
+ghost use Rattle.std.specs.Prelude.{◌≡◌, ◌≤◌, ◌⊎◌, [], ◌∷◌, ◌≢◌, map, true, false};
 ghost use Rattle.clap.specs.Words.{fault_of, kind_of};
 ghost use Rattle.clap.specs.declared.error.kind.ErrorKind.{ErrorKind};
 ghost use Rattle.clap.specs.declared.error.kind.ErrorKind.TheVariants.{DisplayHelp, DisplayVersion};
 ghost use Rattle.sq_wire.specs.Lines.{lines_left};
-ghost use Rattle.sq_wire.specs.Served.{IsServed};
-ghost use Rattle.sq_wire.specs.declared.options.Options.{Options};
+ghost use Rattle.sq_merge.specs.Openings.{IsServed};
 ghost use Rattle.sqd.specs.CommandLine.{program_app};
-ghost use Rattle.sqd.specs.Endings.{Answered, Stopped, Shown};
+ghost use Rattle.sqd.specs.Endings.{Answered, Audited, AuditedInPart, Stopped, Shown, TellsAudit, TellsAuditInPart};
 ghost use Rattle.sqd.specs.Flags.{IsModeOf, AsksForText};
+ghost use Rattle.sqd.specs.declared.flags.ScriptMode.{ScriptMode};
 ghost use Rattle.sqd.specs.declared.flags.Mode.TheVariants.{Script as ByScript};
 
-use crate::flags::{Mode, Refused, flags};
+use crate::flags::{Mode, Refused, ScriptMode, flags};
 use clap::Error;
 use sq_base::refusal::Refusal;
+use sq_merge::check::AuditFault;
+use sq_merge::world::World;
+use sq_wire::audit::audit_world;
 use sq_wire::counted::Counted;
-use sq_wire::options::Options;
-use sq_wire::put::put;
+use sq_wire::put::{put, put_line};
 use sq_wire::run::{ServeFault, run_script};
-use sq_wire::world::World;
 use std::alloc::Global;
 use std::io::{Read, Write};
 
@@ -78,21 +79,61 @@ fn explain<W: Write, E: Write>(
     show(output, errors, text.as_str())
 }
 
-// Answers each line of the input over a world of its own.
+/// Tells why there is no audit.
+pub fn audit_fault<E: Write>(errors: &mut E, fault: AuditFault) -> u8
+    ensures memory { fault ≡ AuditFault.NoMemory → result ≡ 1 }
+    ensures wrong { fault ≢ AuditFault.NoMemory → result ≡ 3 }
+{
+    let (text, status) = match fault {
+        AuditFault::NoMemory => ("no memory in audit", 1),
+        AuditFault::RecordMissing(_, _) => ("audit: RecordMissing", 3),
+        AuditFault::RecordTwice(_, _) => ("audit: RecordTwice", 3),
+    };
+    let _ = writeln!(errors, "sqd: {text}");
+    let _ = errors.flush();
+    status
+}
+
+// Writes the audit of a world that answered so many requests.
+fn tell_audit<W: Write, E: Write>(
+    alloc: Global,
+    world: World,
+    answered: u64,
+    output: &mut Counted<W>,
+    errors: &mut E,
+) -> u8
+    ensures bound { result ≤ 1 }
+    ensures done { result ≡ 0 → TellsAudit world (W.contents output.old.inner) (W.contents output.new.inner) }
+    ensures fault { result ≡ 1 → TellsAuditInPart world (W.contents output.old.inner) (W.contents output.new.inner) }
+{
+    let text = match audit_world(alloc, world) {
+        Ok(text) => text,
+        Err(fault) => return audit_fault(errors, fault),
+    };
+    if put_line(output, text.as_bytes()).is_err() || output.flush().is_err() {
+        report(errors, ServeFault::Write(answered));
+        return 1;
+    }
+    0
+}
+
+// Answers each line of the input over a world of its own, and tells its audit where one is asked for.
 fn script<R: Read, W: Write, E: Write>(
     alloc: Global,
-    options: Options,
+    mode: ScriptMode,
     input: &mut Counted<R>,
     output: &mut Counted<W>,
     errors: &mut E,
 ) -> u8
     ensures bound { result ≤ 2 }
-    ensures done { result ≡ 0 → Answered options (lines_left [] (R.remaining input.old.inner)) (W.contents output.old.inner) (W.contents output.new.inner) }
-    ensures fault { result ≡ 1 → Stopped options (lines_left [] (R.remaining input.old.inner)) (W.contents output.old.inner) (W.contents output.new.inner) }
-    ensures bad { result ≡ 2 → ¬ IsServed options }
+    ensures done { result ≡ 0 → mode.audit ≡ false → Answered mode.options (lines_left [] (R.remaining input.old.inner)) (W.contents output.old.inner) (W.contents output.new.inner) }
+    ensures audited { result ≡ 0 → mode.audit ≡ true → Audited mode.options (lines_left [] (R.remaining input.old.inner)) (W.contents output.old.inner) (W.contents output.new.inner) }
+    ensures fault { result ≡ 1 → mode.audit ≡ false → Stopped mode.options (lines_left [] (R.remaining input.old.inner)) (W.contents output.old.inner) (W.contents output.new.inner) }
+    ensures cut { result ≡ 1 → mode.audit ≡ true → Stopped mode.options (lines_left [] (R.remaining input.old.inner)) (W.contents output.old.inner) (W.contents output.new.inner) ⊎ AuditedInPart mode.options (lines_left [] (R.remaining input.old.inner)) (W.contents output.old.inner) (W.contents output.new.inner) }
+    ensures bad { result ≡ 2 → ¬ IsServed mode.options }
     ensures kept { result ≡ 2 → (input.new ≡ input.old) × (output.new ≡ output.old) }
 {
-    let mut world = match World::new(alloc, options) {
+    let mut world = match World::new(alloc, mode.options) {
         Ok(world) => world,
         Err(Refusal::InvalidParameterValue) => {
             let _ = errors.write_all(b"sqd: bad options\n");
@@ -102,7 +143,8 @@ fn script<R: Read, W: Write, E: Write>(
         Err(_) => return no_memory(errors),
     };
     match run_script(alloc, input, output, &mut world) {
-        Ok(_) => 0,
+        Ok(_) if !mode.audit => 0,
+        Ok(answered) => tell_audit(alloc, world, answered, output, errors),
         Err(fault) => {
             report(errors, fault);
             1
@@ -120,18 +162,20 @@ pub fn run<R: Read, W: Write, E: Write>(
 ) -> u8
     ensures bound { result ≤ 2 }
     // Where a run was asked for.
-    ensures done { (options : Options) → IsModeOf (map (λ word. word.now) words.now) (ByScript options) → result ≡ 0 → Answered options (lines_left [] (R.remaining input.old.inner)) (W.contents output.old.inner) (W.contents output.new.inner) }
-    ensures fault { (options : Options) → IsModeOf (map (λ word. word.now) words.now) (ByScript options) → result ≡ 1 → Stopped options (lines_left [] (R.remaining input.old.inner)) (W.contents output.old.inner) (W.contents output.new.inner) }
-    ensures bad { (options : Options) → IsModeOf (map (λ word. word.now) words.now) (ByScript options) → result ≡ 2 → ¬ IsServed options }
+    ensures done { (mode : ScriptMode) → IsModeOf (map (λ word. word.now) words.now) (ByScript mode) → result ≡ 0 → mode.audit ≡ false → Answered mode.options (lines_left [] (R.remaining input.old.inner)) (W.contents output.old.inner) (W.contents output.new.inner) }
+    ensures audited { (mode : ScriptMode) → IsModeOf (map (λ word. word.now) words.now) (ByScript mode) → result ≡ 0 → mode.audit ≡ true → Audited mode.options (lines_left [] (R.remaining input.old.inner)) (W.contents output.old.inner) (W.contents output.new.inner) }
+    ensures fault { (mode : ScriptMode) → IsModeOf (map (λ word. word.now) words.now) (ByScript mode) → result ≡ 1 → mode.audit ≡ false → Stopped mode.options (lines_left [] (R.remaining input.old.inner)) (W.contents output.old.inner) (W.contents output.new.inner) }
+    ensures cut { (mode : ScriptMode) → IsModeOf (map (λ word. word.now) words.now) (ByScript mode) → result ≡ 1 → mode.audit ≡ true → Stopped mode.options (lines_left [] (R.remaining input.old.inner)) (W.contents output.old.inner) (W.contents output.new.inner) ⊎ AuditedInPart mode.options (lines_left [] (R.remaining input.old.inner)) (W.contents output.old.inner) (W.contents output.new.inner) }
+    ensures bad { (mode : ScriptMode) → IsModeOf (map (λ word. word.now) words.now) (ByScript mode) → result ≡ 2 → ¬ IsServed mode.options }
     // Where none was: a text that was asked for, or a mistake.
-    ensures shown { result ≡ 0 → ((options : Options) × IsModeOf (map (λ word. word.now) words.now) (ByScript options)) ⊎ (AsksForText (map (λ word. word.now) words.now) × (input.new ≡ input.old) × Shown (W.contents output.old.inner) (W.contents output.new.inner)) }
-    ensures told { result ≡ 1 → ((options : Options) × IsModeOf (map (λ word. word.now) words.now) (ByScript options)) ⊎ ((input.new ≡ input.old) × Shown (W.contents output.old.inner) (W.contents output.new.inner)) }
+    ensures shown { result ≡ 0 → ((mode : ScriptMode) × IsModeOf (map (λ word. word.now) words.now) (ByScript mode)) ⊎ (AsksForText (map (λ word. word.now) words.now) × (input.new ≡ input.old) × Shown (W.contents output.old.inner) (W.contents output.new.inner)) }
+    ensures told { result ≡ 1 → ((mode : ScriptMode) × IsModeOf (map (λ word. word.now) words.now) (ByScript mode)) ⊎ ((input.new ≡ input.old) × Shown (W.contents output.old.inner) (W.contents output.new.inner)) }
     ensures help { fault_of program_app (map (λ word. word.now) words.now) ≡ DisplayHelp ∷ [] → result ≤ 1 }
-    ensures mistake { ((options : Options) → ¬ IsModeOf (map (λ word. word.now) words.now) (ByScript options)) → ¬ AsksForText (map (λ word. word.now) words.now) → (1 ≤ result) × (input.new ≡ input.old) × (output.new ≡ output.old) }
+    ensures mistake { ((mode : ScriptMode) → ¬ IsModeOf (map (λ word. word.now) words.now) (ByScript mode)) → ¬ AsksForText (map (λ word. word.now) words.now) → (1 ≤ result) × (input.new ≡ input.old) × (output.new ≡ output.old) }
     ensures kept { result ≡ 2 → (input.new ≡ input.old) × (output.new ≡ output.old) }
 {
     match flags(alloc, words) {
-        Ok(Mode::Script(options)) => script(alloc, options, input, output, errors),
+        Ok(Mode::Script(mode)) => script(alloc, mode, input, output, errors),
         Err(Refused::Usage(error)) => explain(alloc, &error, output, errors),
         Err(Refused::NoMemory) => no_memory(errors),
     }

@@ -1,9 +1,6 @@
 //! The texts of the replies about queue 1, home 0, serial 0 and the body `hello`.
 ghost use Rattle.std.specs.Prelude.{◌≡◌};
 
-use crate::calls::{Answer, AskedAttributes};
-use crate::digest::Digest;
-use crate::given::Given;
 use crate::reply::reply_text;
 use sq_base::body::Body;
 use sq_base::ids::{HomeId, HomeNo, QueueNo, Serial};
@@ -11,6 +8,9 @@ use sq_base::message_id::MessageId;
 use sq_base::name::QueueName;
 use sq_base::refusal::Refusal;
 use sq_base::row::Row;
+use sq_merge::calls::{Answer, AskedAttributes};
+use sq_merge::digest::Digest;
+use sq_merge::given::Given;
 use sq_model::rows::Rows;
 use std::alloc::Global;
 use std::test::Fail;

@@ -1,13 +1,13 @@
-use Rattle.std.proofs.Common.{rules, ◌≡◌, ◌<◌, length, Some, Err, slice_get, subst}
-use Rattle.sq_model.specs.Notes.{Note, NotesRise}
+use Rattle.std.proofs.Common.{rules, ◌≡◌, ◌<◌, length, Err, subst}
+use Rattle.sq_model.specs.Notes.{NotesRise}
 use Rattle.sq_model.specs.Matches.{IsNote, Happened}
 use Rattle.sq_merge.specs.Records.{note_of, notes_of}
 use Rattle.sq_merge.specs.Worlds.{histories_of}
 use Rattle.sq_merge.specs.Faults.{NoteFits, IsRecordFault}
-use Rattle.sq_merge.proofs.CheckLaws.{below_more, read_note, record_wrong, note_fits, all_notes}
+use Rattle.sq_merge.proofs.CheckLaws.{below_more, read_note, record_wrong, note_fits, all_notes, rise_at}
 use Rattle.std.proofs.lemmas.Option.{slice_get_read}
 use Rattle.std.proofs.lemmas.List.{length-map}
-use Rattle.std.proofs.Common.{refl, List, ℕ}
+use Rattle.std.proofs.Common.{refl}
 use Rattle.sq_merge.proofs.check.check_book.Goals as goal
 
 pub returns-in_err-check_record-clause-fault : goal.returns-in_err-check_record-clause-fault
@@ -37,3 +37,8 @@ returns-clause-ok c =
     let count : length (notes_of c.records-records.result.now) ≡ length c.records-records.result.now = length-map c.records-records.result.now note_of in
     all_notes c.args.directory.now.events (histories_of c.args.homes.now) c.args.books.now c.args.at book (slice_get_read c.args.books.now (length c.args.books.now) c.args.at book refl c.requires.within c.index-books-at.is)
     (λ i lt. c.loop-index.invariant i (let l : i < length c.records-records.result.now = (let g : i < length book.notes = lt in rw (← count, c.records-records.ensures.notes) g) in search rules))
+
+pub returns-clause-rise : goal.returns-clause-rise
+returns-clause-rise c =
+    let book = c.index-books-at.result in
+    rise_at c.args.books.now c.args.at book (slice_get_read c.args.books.now (length c.args.books.now) c.args.at book refl c.requires.within c.index-books-at.is) (subst NotesRise c.records-records.ensures.notes c.records-records.ensures.rise)

@@ -5,4 +5,4 @@ use Rattle.sq_merge.specs.Tags.{tag_of}
 use Rattle.sq_merge.proofs.places.collect.Given as goal
 
 abbrev pub invariant-loop-tagged : goal.invariant-loop-tagged
-invariant-loop-tagged l = l.audit ≡ fold (λ a t. audit_step a (tag_of t)) no_audit (take l.tagged-index l.run)
+invariant-loop-tagged l = l.audit ≡ fold (λ a t. audit_step a (tag_of t)) no_audit (take l.tagged-index l.events)

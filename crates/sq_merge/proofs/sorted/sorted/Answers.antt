@@ -11,4 +11,4 @@ returns c =
     (c.in_ok-sort_by_key.ensures.sorted (λ t. stamp_of (tag_of t)) (answers_always _ _ _ (λ f a r g h. search rules)))
     (c.sort_by_key.ensures.stable (λ t. stamp_of (tag_of t)) (answers_always _ _ _ (λ f a r g h. search rules)))
     c.args.directory.now c.args.homes.now c.in_ok-all.ensures.directory c.in_ok-all.ensures.homes c.in_ok-all.ensures.tags in
-    record { merged = merged; run = merged_is_run c.args.directory.now c.args.homes.now _ c.in_ok-all.ensures.directory c.in_ok-all.ensures.homes merged }
+    record { merged = merged; run = merged_is_run c.args.directory.now c.args.homes.now _ c.in_ok-all.ensures.directory c.in_ok-all.ensures.homes merged; directory = c.in_ok-all.ensures.directory; homes = c.in_ok-all.ensures.homes }

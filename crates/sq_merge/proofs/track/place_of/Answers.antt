@@ -9,7 +9,8 @@ use Rattle.sq_merge.proofs.track.place_of.Goals as goal
 pub returns : goal.returns
 returns c = record {
   place = λ places sites after r one.
-      let all : take c.loop-tagged.tagged-index c.args.run.now ≡ c.args.run.now = take_all c.loop-tagged.tagged-index c.args.run.now (search rules) in
-      let pass : c.loop-tagged.track ≡ fold (λ k t. track_step c.args.x.now k (tag_of t)) start c.args.run.now = rw all at c.loop-tagged.invariant in
-      c.answer.ensures ∙ ap (λ k. answer k.spot) pass ∙ sym (place_law c.args.x.now places sites c.args.run.now after r one);
+      let events = c.events-events.result.now in
+      let all : take c.loop-tagged.tagged-index events ≡ events = take_all c.loop-tagged.tagged-index events (search rules) in
+      let pass : c.loop-tagged.track ≡ fold (λ k t. track_step c.args.x.now k (tag_of t)) start events = rw all at c.loop-tagged.invariant in
+      c.answer.ensures ∙ ap (λ k. answer k.spot) pass ∙ sym (place_law c.args.x.now places sites events c.args.run.now c.events-events.ensures after r one);
 }

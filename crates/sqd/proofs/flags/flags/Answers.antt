@@ -39,7 +39,7 @@ returns-in-Ok-clause-ok c =
     let command = c.in_ok-command.command in
     let taken : fault_of program_app words ≡ [] = no_fault command words c.in_ok-command.ensures.app c.in_ok-matches.ensures.kinds in
     let walked = entered command words m c.in_ok-command.ensures.app c.in_ok-matches.ensures.ok.2 in
-    asks words m c.in-Some.found.now c.in-Ok.options taken walked (c.in-Some.ensures.found.0 refl) c.in-Some.ensures.rows c.in-Ok.ensures.ok
+    asks words m c.in-Some.found.now (record { options = c.in-Ok.options; audit = c.asks_for_audit.result }) taken walked (c.in-Some.ensures.found.0 refl) c.in-Some.ensures.rows c.in-Ok.ensures.ok c.asks_for_audit.ensures
 
 pub returns-in_err-usage-in-Err-clause-err : goal.returns-in_err-usage-in-Err-clause-err
 returns-in_err-usage-in-Err-clause-err c =

@@ -1,25 +1,33 @@
-use Rattle.std.proofs.Common.{map, refl, inr, arith}
+use Rattle.std.proofs.Common.{map, refl, inl, inr, arith}
 use Rattle.clap.specs.Words.{kind_of}
 use Rattle.sqd.proofs.EndingLaws.{stopped_first}
 use Rattle.sqd.proofs.ModeLaws.{asks_for_one, mistaken, shown_for}
 use Rattle.sqd.proofs.program.run.Goals as goal
 
 pub returns-in-Ok-Script-clause-done : goal.returns-in-Ok-Script-clause-done
-returns-in-Ok-Script-clause-done g c options asked zero =
-    rw (asks_for_one _ c.in-Ok-Script.field-0 options c.in-Ok-Script.ensures.ok asked) at (c.script.ensures.done zero)
+returns-in-Ok-Script-clause-done g c mode asked zero =
+    rw (asks_for_one _ c.in-Ok-Script.field-0 mode c.in-Ok-Script.ensures.ok asked) at (c.script.ensures.done zero)
+
+pub returns-in-Ok-Script-clause-audited : goal.returns-in-Ok-Script-clause-audited
+returns-in-Ok-Script-clause-audited g c mode asked zero =
+    rw (asks_for_one _ c.in-Ok-Script.field-0 mode c.in-Ok-Script.ensures.ok asked) at (c.script.ensures.audited zero)
 
 pub returns-in-Ok-Script-clause-fault : goal.returns-in-Ok-Script-clause-fault
-returns-in-Ok-Script-clause-fault g c options asked one =
-    rw (asks_for_one _ c.in-Ok-Script.field-0 options c.in-Ok-Script.ensures.ok asked) at (c.script.ensures.fault one)
+returns-in-Ok-Script-clause-fault g c mode asked one =
+    rw (asks_for_one _ c.in-Ok-Script.field-0 mode c.in-Ok-Script.ensures.ok asked) at (c.script.ensures.fault one)
+
+pub returns-in-Ok-Script-clause-cut : goal.returns-in-Ok-Script-clause-cut
+returns-in-Ok-Script-clause-cut g c mode asked one =
+    rw (asks_for_one _ c.in-Ok-Script.field-0 mode c.in-Ok-Script.ensures.ok asked) at (c.script.ensures.cut one)
 
 pub returns-in-Ok-Script-clause-bad : goal.returns-in-Ok-Script-clause-bad
-returns-in-Ok-Script-clause-bad g c options asked two =
-    rw (asks_for_one _ c.in-Ok-Script.field-0 options c.in-Ok-Script.ensures.ok asked) at (c.script.ensures.bad two)
+returns-in-Ok-Script-clause-bad g c mode asked two =
+    rw (asks_for_one _ c.in-Ok-Script.field-0 mode c.in-Ok-Script.ensures.ok asked) at (c.script.ensures.bad two)
 
 pub returns-in-Err-Usage-clause-bad : goal.returns-in-Err-Usage-clause-bad
-returns-in-Err-Usage-clause-bad g c options asked two =
+returns-in-Err-Usage-clause-bad g c mode asked two =
     let refused = rw c.in-Err-Usage.field-0-is at c.in-Err-Usage.ensures.err in
-    absurd (refused.0 options asked)
+    absurd (refused.0 mode asked)
 
 pub returns-in-Err-Usage-clause-shown : goal.returns-in-Err-Usage-clause-shown
 returns-in-Err-Usage-clause-shown g c zero =
@@ -38,4 +46,7 @@ returns-in-Err-Usage-clause-mistake g c none other =
     (rw told.0 (omega arith), refl {a = c.args.input.now}, told.1)
 
 pub returns-in-Err-NoMemory-clause-fault : goal.returns-in-Err-NoMemory-clause-fault
-returns-in-Err-NoMemory-clause-fault g c options asked one = stopped_first _ _ _
+returns-in-Err-NoMemory-clause-fault g c mode asked one no_audit = stopped_first _ _ _
+
+pub returns-in-Err-NoMemory-clause-cut : goal.returns-in-Err-NoMemory-clause-cut
+returns-in-Err-NoMemory-clause-cut g c mode asked one audit = inl (stopped_first _ _ _)

@@ -1,0 +1,212 @@
+//! A long run of steps chosen at random, what the audit says of it, and of a record that is taken out.
+ghost use Rattle.std.specs.Prelude.{◌<◌};
+
+use crate::act::{Act, HomeAct, Outcome, Step};
+use crate::check::AuditFault;
+use crate::merge::merge;
+use crate::options::Options;
+use crate::parts::Parts;
+use crate::places::places_of;
+use crate::world::World;
+use sq_base::body::{BODY_LIMIT, Body};
+use sq_base::ids::{HomeId, HomeNo, QueueNo, Serial};
+use sq_base::name::QueueName;
+use sq_base::ranges::{MaxMessages, Receives, Retention, Timeout};
+use sq_base::refusal::Refusal;
+use sq_base::row::Row;
+use sq_base::settings::Settings;
+use sq_model::calls::Receipt;
+use sq_model::directory::Attributes;
+use sq_model::replies::HomeReply;
+use std::alloc::Global;
+use std::test::Fail;
+
+// Two queues of two homes each.
+const OPTIONS: Options = Options {
+    homes: 2,
+    sample: 1,
+    queues: 2,
+    rows: 40,
+    flights: 20,
+    transit: 1,
+    seed: 0,
+};
+
+const NONE_GIVEN: Attributes = Attributes {
+    delay: None,
+    retention: None,
+    wait_time: None,
+    timeout: None,
+};
+
+// Each choice follows from the one before.
+#[derive(Drop)]
+struct Choices {
+    state: u64,
+}
+
+impl Choices {
+    fn below(&mut self, count: u64) -> u64
+        requires { 0 < count }
+        ensures { result < count }
+    {
+        self.state = self
+            .state
+            .wrapping_mul(6_364_136_223_846_793_005)
+            .wrapping_add(1_442_695_040_888_963_407);
+        (self.state >> 33) % count
+    }
+
+    fn home(&mut self) -> HomeId {
+        HomeId {
+            queue: QueueNo::following(self.below(2) as u32),
+            home: HomeNo::of(self.below(2) as u8),
+        }
+    }
+
+    // A third name finds no room.
+    fn name(&mut self) -> Result<QueueName, Refusal> {
+        let names = ["a", "b", "c"];
+        let name = names[self.below(3) as usize];
+        QueueName::new(name.as_bytes()).ok_or(Refusal::InvalidParameterValue)
+    }
+
+    fn home_act(&mut self, alloc: Global, receipt: &Receipt) -> Result<HomeAct, Refusal> {
+        Ok(match self.below(100) {
+            0..=4 => HomeAct::Configure(short(), self.below(1000)),
+            5..=44 => HomeAct::Send(Body::new(alloc, "hello", BODY_LIMIT)?, None),
+            45..=69 => HomeAct::Look(MaxMessages::of(3), None),
+            70..=89 => HomeAct::Delete(*receipt),
+            90..=94 => HomeAct::Change(*receipt, Timeout::of(10)),
+            95 => HomeAct::Purge,
+            96 => self.close_or_count(),
+            _ => HomeAct::Count,
+        })
+    }
+
+    // Closes one time in 400.
+    fn close_or_count(&mut self) -> HomeAct {
+        if self.below(400) == 0 {
+            HomeAct::Close
+        } else {
+            HomeAct::Count
+        }
+    }
+
+    fn act(&mut self, alloc: Global, told: &Told) -> Result<Act, Refusal> {
+        Ok(match self.below(50) {
+            0 => Act::Create(self.name()?, NONE_GIVEN),
+            1 => Act::Resolve(self.name()?),
+            2..=25 => Act::Home(told.home, self.home_act(alloc, &told.receipt)?),
+            _ => Act::Home(self.home(), self.home_act(alloc, &told.receipt)?),
+        })
+    }
+
+    // The clock goes forward by 100 ms a step, and is up to five seconds ahead.
+    fn step(&mut self, alloc: Global, number: u64, told: &Told) -> Result<Step, Refusal>
+        requires { number < 100000 }
+    {
+        Ok(Step {
+            actor: self.below(8) as u32,
+            clock: number * 100 + self.below(5000),
+            act: self.act(alloc, told)?,
+        })
+    }
+}
+
+// A message is kept for a minute.
+fn short() -> Settings {
+    Settings {
+        retention: Retention::of(60),
+        ..Settings::standard()
+    }
+}
+
+// How many events and sends were told, and the last message that was received, with its home.
+#[derive(Drop)]
+struct Told {
+    events: usize,
+    sends: usize,
+    home: HomeId,
+    receipt: Receipt,
+}
+
+impl Told {
+    fn new() -> Told {
+        Told {
+            events: 0,
+            sends: 0,
+            home: HomeId {
+                queue: QueueNo::following(0),
+                home: HomeNo::first(),
+            },
+            receipt: Receipt {
+                slot: 0,
+                serial: Serial::first(),
+                receive: Receives::of(1),
+            },
+        }
+    }
+
+    fn note(&mut self, act: &Act, outcome: &Outcome) {
+        match (act, outcome) {
+            (Act::Resolve(_), _) => return,
+            (_, Outcome::Home(HomeReply::Sent(_))) => self.sends = self.sends.saturating_add(1),
+            (Act::Home(home, _), Outcome::Home(HomeReply::Looked(rows))) => {
+                self.hold(home, rows.as_slice());
+            }
+            _ => {}
+        }
+        self.events = self.events.saturating_add(1);
+    }
+
+    fn hold(&mut self, home: &HomeId, rows: &[Row]) {
+        if let Some(row) = rows.first() {
+            self.home = *home;
+            self.receipt = Receipt {
+                slot: row.slot,
+                serial: row.serial,
+                receive: Receives::new(row.receives as u64).unwrap_or(Receives::of(1)),
+            };
+        }
+    }
+}
+
+fn ran(alloc: Global) -> Result<(World, Told), Refusal> {
+    let mut world = World::new(alloc, OPTIONS)?;
+    let mut choices = Choices { state: 1 };
+    let mut told = Told::new();
+    for number in 0..100_000 {
+        let step = choices.step(alloc, number, &told)?;
+        if let Ok(outcome) = world.step(alloc, &step) {
+            told.note(&step.act, &outcome);
+        }
+    }
+    Ok((world, told))
+}
+
+// How many events the run has, how many messages were sent in it, and how many places are told.
+fn counts(alloc: Global, parts: &Parts) -> Result<(usize, usize, usize), Refusal> {
+    let Ok(run) = merge(alloc, parts) else {
+        return Err(Refusal::UnsupportedOperation);
+    };
+    let sent = run.lineages(alloc)?;
+    let places = places_of(alloc, &run)?;
+    Ok((run.len(), sent.len(), places.len()))
+}
+
+fn fault(alloc: Global, parts: &Parts) -> Option<AuditFault> {
+    merge(alloc, parts).err()
+}
+
+#[test]
+fn a_long_run_is_audited(rt: HostRuntime) -> Result<(), Fail> {
+    let (world, told) = ran(rt.alloc())?;
+    let mut parts = world.parts();
+    let wanted = (told.events, told.sends, told.sends);
+    assert!(rt; counts(rt.alloc(), &parts) == Ok(wanted));
+    assert!(rt; parts.drop_record(0, 0));
+    assert!(rt; fault(rt.alloc(), &parts) == Some(AuditFault::RecordMissing(0, 0)));
+    assert!(rt; !parts.drop_record(0, 0));
+    Ok(())
+}

@@ -1,0 +1,67 @@
+-- The text of an audit: all that was done in the order of the one run, each event by its stamp, and where each message is.
+use Rattle.std.specs.Prelude.{◌≡◌, ℕ, List, ◌++◌, map, codes, decimal}
+use Rattle.serde_json.specs.Data.{Data, object, array, string, item, no_items, member, no_members}
+use Rattle.serde_json.specs.View.{items_of}
+use Rattle.serde_json.specs.Written.{compact_text}
+use Rattle.sq_base.specs.StampValue.{StampValue}
+use Rattle.sq_base.specs.declared.message_id.MessageId.{MessageId}
+use Rattle.sq_model.specs.declared.place.Place.{Place}
+use Rattle.sq_model.specs.declared.place.Place.TheVariants.{InHome, InTransit, Deleted, Expired, Purged, ClosedAway, Dropped}
+use Rattle.sq_model.specs.Matches.{IsMatched}
+use Rattle.sq_model.specs.Merges.{IsMerged}
+use Rattle.sq_model.specs.Places.{run_ends, run_sends}
+use Rattle.sq_model.specs.Systems.{Tag, stamp_of, opening, IsRun, IsOnePlace}
+use Rattle.sq_merge.specs.Actors.{ActorsRise, PartsRise}
+use Rattle.sq_merge.specs.AllPlaces.{ArePlaces}
+use Rattle.sq_merge.specs.SystemNow.{events_of, system_now}
+use Rattle.sq_merge.specs.WorldValue.{WorldValue}
+use Rattle.sq_merge.specs.Worlds.{histories_of, IsNumbered}
+use Rattle.sq_wire.specs.Replies.{id_text}
+
+-- the moment in ms and the count, in decimal digits. Own.
+abbrev pub stamp_text : StampValue → List ℕ
+stamp_text s = decimal s.moment ++ (codes "." ++ decimal s.count)
+
+-- the word for where a message is. Own.
+abbrev pub place_name : Place → List ℕ
+place_name InHome = codes "home"
+place_name InTransit = codes "transit"
+place_name Deleted = codes "deleted"
+place_name Expired = codes "expired"
+place_name Purged = codes "purged"
+place_name ClosedAway = codes "closed"
+place_name Dropped = codes "dropped"
+
+abbrev pub event_data : Tag → Data
+event_data event = string (stamp_text (stamp_of event))
+
+-- the UUID of the message, and where it is
+abbrev pub placed_data : MessageId × Place → Data
+placed_data told = array (item (string (id_text told.0)) (item (string (place_name told.1)) no_items))
+
+abbrev pub events_data : List Tag → Data
+events_data run = array (items_of (map event_data run))
+
+abbrev pub places_data : List (MessageId × Place) → Data
+places_data places = array (items_of (map placed_data places))
+
+-- both lists in their order
+abbrev pub audit_data : List Tag → List (MessageId × Place) → Data
+audit_data run places = object (member (codes "Merged") (events_data run) (member (codes "Places") (places_data places) no_members))
+
+-- The text tells one run of the whole system. Its events are those of the directory and of all homes and no others, sorted by
+-- stamp; each is a step of the sequential system, from its opening to what the world is; those of each actor stand in its
+-- order, and so do those of each part. Homes stand by queue and number, each once, so that the law of one place is true of the
+-- run. Each event has its record, and each record its event. Each message that was sent is told once, with where it is.
+pub record IsAudit (w : WorldValue) (text : List ℕ) : Type 0 where
+  pub run : List Tag
+  pub told : List (MessageId × Place)
+  pub matched : IsMatched w.directory.events (histories_of w.homes) w.books
+  pub merged : IsMerged w.directory.events (events_of w.homes) run
+  pub is_run : IsRun w.directory.directory.places (map (λ h. h.site) w.homes) run (system_now w.directory w.homes)
+  pub actors : ActorsRise run
+  pub parts : PartsRise run
+  pub numbered : IsNumbered w.per_queue w.homes
+  pub apart : IsOnePlace (map (λ h. h.site) w.homes)
+  pub places : ArePlaces (run_sends run) (run_ends (opening w.directory.directory.places (map (λ h. h.site) w.homes)) run (system_now w.directory w.homes) is_run.steps) told
+  pub is_text : text ≡ compact_text (audit_data run told)
