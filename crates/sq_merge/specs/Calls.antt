@@ -30,7 +30,7 @@ use Rattle.sq_merge.specs.declared.calls.ReceiveMessage.{ReceiveMessage}
 use Rattle.sq_merge.specs.declared.calls.SendMessage.{SendMessage}
 use Rattle.sq_merge.specs.Books.{book_of}
 use Rattle.sq_merge.specs.WorldValue.{WorldValue}
-use Rattle.sq_merge.specs.Worlds.{HomeStepped, HomeRefused, Created, CreateRefused, having_read, IsKnown}
+use Rattle.sq_merge.specs.Worlds.{HomeStepped, HomeRefused, Created, CreateRefused, NameRefused, having_read, IsKnown}
 
 abbrev pub home_of : ℕ → ℕ → HomeId
 home_of queue home = record { queue = queue; home = home }
@@ -152,10 +152,6 @@ CreateTold w actor now c (Err e) after =
     ((after ≡ w) × CreateRefused w actor now c.name c.attributes e)
     ⊎ ((mid : WorldValue) × (made : QueueSettings) × Created w mid actor now c.name c.attributes made
     × ConfigureStops (asked actor now c.name made.queue) mid made.settings made.version e after)
-
--- why a name is not found
-abbrev pub NameRefused : WorldValue → List ℕ → Refusal → Type 0
-NameRefused w name e = (e ≡ NoMemory) ⊎ ((number_of name w.directory.directory.queues ≡ None) × (e ≡ QueueDoesNotExist))
 
 -- a call on a queue: it is looked up by its name, and what is left is done after that
 abbrev pub ByName : WorldValue → ℕ → ℕ → List ℕ → Result Answer Refusal → WorldValue → (Asked → WorldValue → Type 0) → Type 0

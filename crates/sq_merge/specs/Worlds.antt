@@ -75,10 +75,16 @@ StepTold old new actor now (act.Resolve name) (told.Resolved queue) = (number_of
 StepTold old new actor now (act.Home id what) (told.Home reply) = HomeStepped old new actor now None id (call_of what) reply
 StepTold old new actor now what outcome = ⊥
 
+-- why a name is not read: there is no such queue; or there is one, and no memory was found
+abbrev pub NameRefused : WorldValue → List ℕ → Refusal → Type 0
+NameRefused w name e =
+    ((number_of name w.directory.directory.queues ≡ None) × (e ≡ QueueDoesNotExist))
+    ⊎ (((queue : ℕ) × (number_of name w.directory.directory.queues ≡ Some queue)) × (e ≡ NoMemory))
+
 -- why a step is refused
 abbrev pub StepRefused : WorldValue → ℕ → ℕ → Act → Refusal → Type 0
 StepRefused w actor now (act.Create name given) e = CreateRefused w actor now name given e
-StepRefused w actor now (act.Resolve name) e = (e ≡ NoMemory) ⊎ ((number_of name w.directory.directory.queues ≡ None) × (e ≡ QueueDoesNotExist))
+StepRefused w actor now (act.Resolve name) e = NameRefused w name e
 StepRefused w actor now (act.Home id what) e = HomeRefused w actor now id (call_of what) e
 
 -- Of these steps so many were done, one after another, and the others changed nothing.

@@ -3,7 +3,7 @@ ghost use Rattle.std.specs.Prelude.{◌≡◌, ◌⊎◌, ◌↔◌, ◌<◌, tr
 ghost use Rattle.sq_model.specs.Directories.{number_of};
 ghost use Rattle.sq_merge.specs.Acts.{call_of};
 ghost use Rattle.sq_merge.specs.Books.{is_of, book_of};
-ghost use Rattle.sq_merge.specs.Worlds.{HomeStepped, HomeRefused, Created, CreateRefused, having_read, StepTold, StepRefused, Schedule, IsKnown, IsKeptWorld, histories_of};
+ghost use Rattle.sq_merge.specs.Worlds.{HomeStepped, HomeRefused, Created, CreateRefused, NameRefused, having_read, StepTold, StepRefused, Schedule, IsKnown, IsKeptWorld, histories_of};
 ghost use Rattle.sq_merge.specs.Calls.{CallTold};
 ghost use Rattle.sq_merge.specs.Fits.{LeavesNotes};
 ghost use Rattle.sq_merge.specs.Openings.{IsServed, new_world};
@@ -212,7 +212,7 @@ impl World {
     fn resolve(&mut self, alloc: Global, actor: u32, name: &QueueName) -> Result<QueueNo, Refusal>
         ensures found { IfOk result (λ queue. (number_of name.now self.old.directory.directory.queues ≡ Some queue) × (self.new ≡ having_read self.old actor)) }
         ensures known { IfOk result (IsKnown self.new.directory.events (book_of actor self.new.books) (Some name.now)) }
-        ensures refusal { IfErr result (λ e. (e ≡ Refusal.NoMemory) ⊎ ((number_of name.now self.old.directory.directory.queues ≡ None) × (e ≡ Refusal.QueueDoesNotExist))) }
+        ensures refusal { IfErr result (NameRefused self.old name.now) }
         ensures err { OnErr result (self.new ≡ self.old) }
     {
         let Some(queue) = self.directory.find(name) else {

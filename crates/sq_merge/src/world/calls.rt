@@ -3,8 +3,8 @@ ghost use Rattle.std.specs.Prelude.{◌≡◌, ◌≢◌, Some, IfOk, IfErr, IfS
 ghost use Rattle.sq_model.specs.Directories.{number_of};
 ghost use Rattle.sq_model.specs.declared.calls.HomeCall.TheVariants.{Configure, Look};
 ghost use Rattle.sq_merge.specs.Acts.{call_of};
-ghost use Rattle.sq_merge.specs.Worlds.{having_read};
-ghost use Rattle.sq_merge.specs.Calls.{IsKnownBy, Does, Refuses, Configures, Configured, Looks, ConfigureStops, SendAt, ReceiveAt, DeleteAt, ChangeAt, AtHandle, CreateTold, NameRefused, ByName, handle_at, asked, home_of, given_by};
+ghost use Rattle.sq_merge.specs.Worlds.{NameRefused, having_read};
+ghost use Rattle.sq_merge.specs.Calls.{IsKnownBy, Does, Refuses, Configures, Configured, Looks, ConfigureStops, SendAt, ReceiveAt, DeleteAt, ChangeAt, AtHandle, CreateTold, ByName, handle_at, asked, home_of, given_by};
 ghost use Rattle.sq_merge.specs.GivenValue.{AreReceived};
 
 use crate::act::HomeAct;
