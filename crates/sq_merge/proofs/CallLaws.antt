@@ -1,5 +1,5 @@
 -- What the steps of calls are told.
-use Rattle.std.proofs.Common.{◌≡◌, ◌∙◌, ◌⊎◌, ℕ, suc, ◌+◌, ◌<◌, Bool, true, List, [], ◌∷◌, length, slice_get, Option, Some, None, refl, arith, inl, subst, Result, Ok, Err}
+use Rattle.std.proofs.Common.{◌≡◌, ◌⊎◌, ℕ, suc, ◌+◌, ◌<◌, Bool, true, List, [], ◌∷◌, length, slice_get, Option, Some, None, refl, arith, inl, subst, Result, Ok, Err}
 use Rattle.std.specs.Prelude.{IfOk, OnOk}
 use Rattle.rand.specs.Sample.{IsSampleOf}
 use Rattle.sq_base.specs.declared.ids.HomeId.{HomeId}

@@ -1,13 +1,11 @@
 -- What a call does, as the notes that it leaves.
-use Rattle.std.proofs.Common.{◌≡◌, ◌⊎◌, ◌∙◌, ℕ, zero, suc, ◌<◌, Bool, List, [], ◌∷◌, ◌++◌, length, slice_get, Option, Some, None, refl, ap, sym, inl, inr, subst, Result, Ok, Err}
+use Rattle.std.proofs.Common.{◌≡◌, ◌∙◌, ℕ, zero, suc, ◌<◌, Bool, List, [], ◌∷◌, ◌++◌, length, Option, refl, ap, sym, inl, inr, subst, Result, Ok, Err}
 use Rattle.std.proofs.lemmas.List.{append-nil, append_assoc}
 use Rattle.sq_base.specs.declared.handle.Handle.{Handle}
-use Rattle.sq_base.specs.declared.ids.HomeId.{HomeId}
 use Rattle.sq_base.specs.declared.refusal.Refusal.{Refusal}
 use Rattle.sq_base.specs.declared.settings.Settings.{Settings}
 use Rattle.sq_model.specs.declared.calls.Receipt.{Receipt}
 use Rattle.sq_model.specs.declared.calls.HomeCall.{HomeCall}
-use Rattle.sq_model.specs.declared.calls.HomeCall.TheVariants.{Delete, Change}
 use Rattle.sq_model.specs.declared.directory.Attributes.{Attributes}
 use Rattle.sq_model.specs.declared.directory.QueueSettings.{QueueSettings}
 use Rattle.sq_model.specs.declared.replies.HomeReply.{HomeReply}
@@ -19,11 +17,11 @@ use Rattle.sq_merge.specs.declared.calls.Call.TheVariants as call
 use Rattle.sq_merge.specs.declared.calls.CreateQueue.{CreateQueue}
 use Rattle.sq_merge.specs.declared.calls.ReceiveMessage.{ReceiveMessage}
 use Rattle.sq_merge.specs.declared.calls.SendMessage.{SendMessage}
-use Rattle.sq_merge.specs.Books.{book_of, put_book, having_seen}
-use Rattle.sq_merge.specs.Calls.{home_of, Does, Configured, AskedInVain, SendAt, ReceiveAt, AtHandle, CreateTold, ByName, asked, CallTold}
-use Rattle.sq_merge.specs.Fits.{IsStepOf, IsMaking, ConfigureNotes, VainNotes, CreateFits, SendFits, ReceiveFits, HandleFits, ReplyFits, LeavesNotes}
+use Rattle.sq_merge.specs.Books.{book_of, having_seen}
+use Rattle.sq_merge.specs.Calls.{Does, Configured, AskedInVain, SendAt, ReceiveAt, AtHandle, CreateTold, ByName, asked}
+use Rattle.sq_merge.specs.Fits.{IsStepOf, IsMaking, ConfigureNotes, VainNotes, SendFits, ReceiveFits, HandleFits, ReplyFits, LeavesNotes}
 use Rattle.sq_merge.specs.WorldValue.{WorldValue}
-use Rattle.sq_merge.specs.Worlds.{HomeStepped, Created, having_read}
+use Rattle.sq_merge.specs.Worlds.{Created, having_read}
 use Rattle.sq_merge.proofs.BookListLaws.{book_own}
 use Rattle.sq_merge.proofs.KnownLaws.{book_put}
 

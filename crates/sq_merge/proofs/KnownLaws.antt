@@ -1,5 +1,5 @@
 -- Which queues an actor knows by their names.
-use Rattle.std.proofs.Common.{◌≡◌, ◌⊎◌, ℕ, zero, suc, ◌+◌, ◌<◌, Bool, true, false, not, cond, List, [], ◌∷◌, ◌++◌, length, refl, ap, sym, ◌∙◌, subst, inl, inr, arith, Option, Some, None, slice_get}
+use Rattle.std.proofs.Common.{◌≡◌, ◌⊎◌, ℕ, zero, suc, ◌+◌, ◌<◌, true, false, not, cond, List, [], ◌∷◌, ◌++◌, length, refl, ap, sym, ◌∙◌, subst, inl, inr, arith, Option, Some, None, slice_get}
 use Rattle.std.specs.Prelude.{nat_lt, ◌==◌, if◌then◌else◌, option_map, IfSome}
 use Rattle.std.specs.List.{position_or_len}
 use Rattle.std.specs.Ordering.{is_lt}
@@ -7,7 +7,7 @@ use Rattle.std.specs.Str.{bytes_eq}
 use Rattle.std.proofs.lemmas.Grind.{common_steps}
 use Rattle.std.proofs.lemmas.Slice.Eq.{bytes_eq-Decides}
 use Rattle.sq_base.specs.StampValue.{StampValue}
-use Rattle.sq_base.specs.Stamps.{start, Below, stamp_cmp}
+use Rattle.sq_base.specs.Stamps.{start, stamp_cmp}
 use Rattle.sq_base.proofs.StampLaws.{after_above_second, below_less, below_not_less, below_or}
 use Rattle.sq_model.specs.declared.event.Event.{Event}
 use Rattle.sq_model.specs.declared.calls.HomeCall.{HomeCall}
@@ -32,7 +32,7 @@ use Rattle.sq_merge.specs.WorldValue.{WorldValue}
 use Rattle.sq_merge.specs.Worlds.{HomeStepped, Created, having_read, IsMadeBy, IsKnown}
 use Rattle.sq_merge.proofs.BookLaws.{seen_below}
 use Rattle.sq_merge.proofs.BookListLaws.{book_own}
-use Rattle.sq_merge.proofs.ElementLaws.{get_cases, get_new, get_old, some_same}
+use Rattle.sq_merge.proofs.ElementLaws.{get_cases, get_new, some_same}
 
 seen_trans : (a b c : StampValue) → IsSeen a b → IsSeen b c → IsSeen a c
 seen_trans a b c ab bc = elim bc [ inl same ↦ subst (λ (s : StampValue). IsSeen a s) same ab | inr below ↦ inr (seen_below a b c ab below) ]

@@ -1,6 +1,6 @@
 -- No two homes of a service have one id.
-use Rattle.std.proofs.Common.{◌≡◌, ℕ, zero, suc, ◌+◌, ◌≤◌, Bool, true, false, cond, List, [], ◌∷◌, map, refl, ap, sym, ◌∙◌, arith, Some, slice_get}
-use Rattle.std.specs.Prelude.{nat_eq, ◌==◌, ◌&&◌, count_by}
+use Rattle.std.proofs.Common.{◌≡◌, ℕ, suc, ◌≤◌, Bool, true, false, cond, List, [], ◌∷◌, map, refl, ap, sym, ◌∙◌, arith, Some, slice_get}
+use Rattle.std.specs.Prelude.{nat_eq, ◌&&◌, count_by}
 use Rattle.std.proofs.lemmas.Bool.{eqb-true}
 use Rattle.std.proofs.lemmas.List.Sums.{sum_by-cons}
 use Rattle.sq_base.specs.declared.ids.HomeId.{HomeId}

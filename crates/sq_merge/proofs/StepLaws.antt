@@ -1,13 +1,12 @@
 -- A step of a world, from what was done to its parts.
-use Rattle.std.proofs.Common.{◌≡◌, ◌≢◌, ◌⊎◌, ℕ, zero, suc, ◌+◌, ◌-◌, ◌*◌, ◌/◌, ◌%◌, ◌<◌, ◌≤◌, Bool, true, false, List, [], ◌∷◌, ◌++◌, length, refl, ap, sym, ◌∙◌, subst, inl, inr, arith, Option, Some, None, slice_get, slice_set}
-use Rattle.std.specs.Prelude.{nat_lt, ◌&&◌, ◌==◌, if◌then◌else◌, position}
+use Rattle.std.proofs.Common.{◌≡◌, ℕ, zero, suc, ◌+◌, ◌-◌, ◌*◌, ◌/◌, ◌%◌, ◌<◌, ◌≤◌, true, false, List, [], ◌∷◌, ◌++◌, length, refl, ap, sym, ◌∙◌, subst, inl, inr, arith, Option, Some, None, slice_get, slice_set}
+use Rattle.std.specs.Prelude.{nat_lt, ◌&&◌, if◌then◌else◌, position}
 use Rattle.std.specs.List.{slice_index_or}
 use Rattle.std.proofs.lemmas.Nat.{div-mul-add, mod-mul-add}
 use Rattle.std.proofs.Math.Nat.{mod-add-div, mod-lt, mul_comm, mul-le-mul_right}
 use Rattle.std.proofs.lemmas.Option.{slice_get_read, slice_get_within}
 use Rattle.std.proofs.lemmas.List.{length-append}
 use Rattle.std.proofs.lemmas.Grind.{common_steps}
-use Rattle.sq_base.specs.StampValue.{StampValue}
 use Rattle.sq_base.specs.declared.ids.HomeId.{HomeId}
 use Rattle.sq_base.specs.declared.refusal.Refusal.{Refusal}
 use Rattle.sq_model.specs.declared.place.Limits.{Limits}
@@ -19,10 +18,10 @@ use Rattle.sq_model.specs.declared.directory.DirectoryCall.TheVariants.{Create}
 use Rattle.sq_model.specs.declared.directory.DirectoryReply.TheVariants.{Made}
 use Rattle.sq_model.specs.Replays.{HomeEvent}
 use Rattle.sq_model.specs.Notes.{Book}
-use Rattle.sq_model.specs.Matches.{HomeHistory, IsHomeEvent, IsNoted, IsOfHome}
+use Rattle.sq_model.specs.Matches.{HomeHistory, IsHomeEvent}
 use Rattle.sq_history.specs.HistoryValue.{HistoryValue}
 use Rattle.sq_merge.specs.DirectoryHistory.{DirectoryHistory}
-use Rattle.sq_merge.specs.Books.{is_of, new_book, book_of, put_book, with_note, having_seen, HomeMoves, DirectoryMoves, IsHomeRefused}
+use Rattle.sq_merge.specs.Books.{is_of, new_book, book_of, having_seen, HomeMoves, DirectoryMoves, IsHomeRefused}
 use Rattle.sq_merge.specs.WorldValue.{WorldValue}
 use Rattle.sq_merge.specs.Worlds.{history_of, histories_of, home_id, IsNumbered, IsHomeOf, IsKeptWorld, HomeStepped, HomeRefused, Created, having_read}
 use Rattle.sq_merge.specs.declared.options.Options.{Options}

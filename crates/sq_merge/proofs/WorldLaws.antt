@@ -1,5 +1,5 @@
 -- Notes and events stay of each other in each step.
-use Rattle.std.proofs.Common.{◌≡◌, ◌≢◌, ◌⊎◌, ℕ, ◌+◌, List, [], ◌∷◌, ◌++◌, length, map, refl, ap, sym, ◌∙◌, subst, inl, inr, arith, Option, Some, None, slice_get, slice_set}
+use Rattle.std.proofs.Common.{◌≡◌, ◌⊎◌, ℕ, List, [], ◌∷◌, ◌++◌, length, refl, ap, sym, ◌∙◌, subst, inl, inr, arith, Option, Some, None, slice_get, slice_set}
 use Rattle.std.proofs.lemmas.List.{length-append}
 use Rattle.sq_base.specs.StampValue.{StampValue}
 use Rattle.sq_base.specs.Stamps.{Below}
@@ -18,9 +18,8 @@ use Rattle.sq_model.specs.Notes.{HomeNote, DirectoryNote, Note, OfDirectory, OfH
 use Rattle.sq_model.specs.Matches.{HomeHistory, IsHomeEvent, IsNote, IsNamed, Happened, IsNoted, IsOfDirectory, IsOfHome}
 use Rattle.sq_history.specs.HistoryValue.{HistoryValue}
 use Rattle.sq_history.specs.Histories.{event_of, note_of}
-use Rattle.sq_merge.specs.DirectoryHistory.{DirectoryHistory}
 use Rattle.sq_merge.specs.DirectoryHistories.{directory_event}
-use Rattle.sq_merge.specs.Books.{IsSeen, new_book, book_of, put_book, with_note, having_seen}
+use Rattle.sq_merge.specs.Books.{new_book, book_of, put_book, with_note, having_seen}
 use Rattle.sq_merge.specs.WorldValue.{WorldValue}
 use Rattle.sq_merge.specs.Worlds.{history_of, histories_of, home_id, IsKnown, IsKeptWorld, HomeStepped, Created, having_read}
 use Rattle.sq_merge.proofs.BookLaws.{seen_below}

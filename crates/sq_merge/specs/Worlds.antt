@@ -1,11 +1,11 @@
 -- Steps of the whole system by actors, and what is true of it at all times.
-use Rattle.std.specs.Prelude.{◌≡◌, ◌≢◌, ◌⊎◌, ◌+◌, ◌/◌, ◌%◌, ℕ, List, [], ◌∷◌, length, map, nat_le, if◌then◌else◌, slice_get, slice_set, Option, Some, None, Result, Ok, Err}
+use Rattle.std.specs.Prelude.{◌≡◌, ◌≢◌, ◌⊎◌, ◌+◌, ◌/◌, ◌%◌, ℕ, List, [], ◌∷◌, length, map, nat_le, if◌then◌else◌, slice_get, slice_set, Option, Some, None}
 use Rattle.std.specs.List.{AllByRecursion}
 use Rattle.sq_base.specs.StampValue.{StampValue}
 use Rattle.sq_base.specs.Stamps.{stamp_end}
 use Rattle.sq_base.specs.declared.ids.HomeId.{HomeId}
 use Rattle.sq_base.specs.declared.refusal.Refusal.{Refusal}
-use Rattle.sq_base.specs.declared.refusal.Refusal.TheVariants.{NoMemory, ClockRange, Worn, QueueDoesNotExist}
+use Rattle.sq_base.specs.declared.refusal.Refusal.TheVariants.{NoMemory, ClockRange, QueueDoesNotExist}
 use Rattle.sq_model.specs.declared.directory.Attributes.{Attributes}
 use Rattle.sq_model.specs.declared.directory.QueueSettings.{QueueSettings}
 use Rattle.sq_model.specs.declared.directory.DirectoryCall.TheVariants as directory_call
@@ -24,7 +24,7 @@ use Rattle.sq_merge.specs.declared.act.Outcome.{Outcome}
 use Rattle.sq_merge.specs.declared.act.Outcome.TheVariants as told
 use Rattle.sq_merge.specs.declared.act.Step.{Step}
 use Rattle.sq_merge.specs.Acts.{call_of}
-use Rattle.sq_merge.specs.Books.{last_place, worn_at, IsSeen, book_of, put_book, having_seen, HomeMoves, DirectoryMoves, IsHomeRefused, IsCreateRefused}
+use Rattle.sq_merge.specs.Books.{IsSeen, book_of, put_book, having_seen, HomeMoves, DirectoryMoves, IsHomeRefused, IsCreateRefused}
 use Rattle.sq_merge.specs.DirectoryHistory.{DirectoryHistory}
 use Rattle.sq_merge.specs.WorldValue.{WorldValue}
 

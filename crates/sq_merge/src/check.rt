@@ -1,5 +1,6 @@
 //! Whether the records of all actors and the histories of all parts are of each other.
 ghost use Rattle.std.specs.Prelude.{◌≡◌, ◌≢◌, ◌↔◌, ◌<◌, ◌≤◌, ℕ, true, length, Some, OnOk, IfErr, IfSome, IsOk};
+ghost use Rattle.sq_base.specs.Stamps.{Below};
 ghost use Rattle.sq_model.specs.Notes.{OfDirectory, OfHome, place_of, directory_note, home_note};
 ghost use Rattle.sq_model.specs.Matches.{Happened, IsNamed, IsCreate, IsMatched};
 ghost use Rattle.sq_merge.specs.Records.{note_of};
@@ -34,9 +35,11 @@ pub enum AuditFault {
     RecordTwice(u32, u64),
 }
 
-/// Whether records and histories are of each other; else what is wrong. It takes no memory.
+/// Whether records and histories are of each other; else what is wrong. It takes no memory. The event that a queue's first
+/// place names is the first that is looked at for the queue's name.
 pub(crate) fn check(
     directory: &Directory,
+    firsts: &[usize],
     per_queue: HomeCount,
     homes: &[Home],
     books: &[Book],
@@ -49,7 +52,7 @@ pub(crate) fn check(
     ensures never { IfErr result (λ f. f ≢ AuditFault.NoMemory) }
     ensures honest { IsMatched directory.now.events (histories_of homes.now) books.now → IsOk result }
 {
-    check_books(directory, per_queue, homes, books)?;
+    check_books(directory, firsts, per_queue, homes, books)?;
     check_directory(directory, per_queue, homes, books)?;
     check_homes(directory, per_queue, homes, books)?;
     Ok(())
@@ -58,6 +61,7 @@ pub(crate) fn check(
 // All records of all actors.
 fn check_books(
     directory: &Directory,
+    firsts: &[usize],
     per_queue: HomeCount,
     homes: &[Home],
     books: &[Book],
@@ -69,7 +73,7 @@ fn check_books(
     ensures fault { IfErr result (λ f. IsWrong directory.now.events (histories_of homes.now) books.now f) }
 {
     for at in 0..books.len() {
-        check_book(directory, per_queue, homes, books, at)?;
+        check_book(directory, firsts, per_queue, homes, books, at)?;
     }
     Ok(())
 }
@@ -77,6 +81,7 @@ fn check_books(
 // All records of one actor.
 fn check_book(
     directory: &Directory,
+    firsts: &[usize],
     per_queue: HomeCount,
     homes: &[Home],
     books: &[Book],
@@ -94,7 +99,7 @@ fn check_book(
     let records = book.records();
     for index in 0..records.len() {
         let kept = &records[index];
-        check_record(directory, per_queue, homes, actor, index, kept)?;
+        check_record(directory, firsts, per_queue, homes, actor, index, kept)?;
     }
     Ok(())
 }
@@ -102,6 +107,7 @@ fn check_book(
 // One record: it stands at the number of its step, and the step was done.
 fn check_record(
     directory: &Directory,
+    firsts: &[usize],
     per_queue: HomeCount,
     homes: &[Home],
     actor: u32,
@@ -117,7 +123,7 @@ fn check_record(
     if place != index as u64 {
         return Err(AuditFault::RecordMissing(actor, index as u64));
     }
-    if happened(directory, per_queue, homes, actor, kept) {
+    if happened(directory, firsts, per_queue, homes, actor, kept) {
         Ok(())
     } else {
         Err(AuditFault::RecordMissing(actor, place))
@@ -127,6 +133,7 @@ fn check_record(
 // Whether a record is of an event of this actor.
 fn happened(
     directory: &Directory,
+    firsts: &[usize],
     per_queue: HomeCount,
     homes: &[Home],
     actor: u32,
@@ -137,7 +144,7 @@ fn happened(
 {
     match kept {
         Record::Directory(kept) => has_directory_event(directory, actor, kept),
-        Record::Home(kept) => home_happened(directory, per_queue, homes, actor, kept),
+        Record::Home(kept) => home_happened(directory, firsts, per_queue, homes, actor, kept),
     }
 }
 
@@ -184,6 +191,7 @@ fn is_same_answer(a: &DirectoryReply, b: &DirectoryReply) -> bool
 // Whether a home has the event of a record, and the name that the record bears was its queue's.
 fn home_happened(
     directory: &Directory,
+    firsts: &[usize],
     per_queue: HomeCount,
     homes: &[Home],
     actor: u32,
@@ -196,7 +204,7 @@ fn home_happened(
         return false;
     };
     let home = &homes[place];
-    has_home_event(home, actor, kept) && has_name(directory, kept)
+    has_home_event(home, actor, kept) && has_name(directory, firsts, kept)
 }
 
 fn has_home_event(home: &Home, actor: u32, kept: &HomeRecord) -> bool
@@ -220,27 +228,65 @@ fn is_home_event(event: &Event<HomeCall, HomeReply>, actor: u32, kept: &HomeReco
 }
 
 // Whether the name that a record bears, if any, was its queue's before the step.
-fn has_name(directory: &Directory, kept: &HomeRecord) -> bool
+fn has_name(directory: &Directory, firsts: &[usize], kept: &HomeRecord) -> bool
     ensures { result ≡ true ↔ IsNamed directory.now.events kept.now kept.now.name }
 {
     match kept.name() {
-        Some(name) => is_named(directory, kept, name),
+        Some(name) => is_named(directory, firsts, kept, name),
         None => true,
     }
 }
 
 // Whether a queue of this number was made by this name before the step of a record.
-fn is_named(directory: &Directory, kept: &HomeRecord, name: &QueueName) -> bool
+fn is_named(directory: &Directory, firsts: &[usize], kept: &HomeRecord, name: &QueueName) -> bool
+    ensures { result ≡ true ↔ IsNamed directory.now.events kept.now (Some name.now) }
+{
+    // The first event of a queue's number has its name wherever nothing is wrong: all events are walked for a fault alone.
+    is_named_at_first(directory, firsts, kept, name) || is_named_by_any(directory, kept, name)
+}
+
+// Whether the event at the first place of a record's queue made it by this name, before the step of the record.
+fn is_named_at_first(
+    directory: &Directory,
+    firsts: &[usize],
+    kept: &HomeRecord,
+    name: &QueueName,
+) -> bool
+    ensures { result ≡ true → IsNamed directory.now.events kept.now (Some name.now) }
+{
+    let number = kept.home().queue.get() - 1;
+    if number >= firsts.len() as u64 {
+        return false;
+    }
+    let first = firsts[number as usize];
+    let events = directory.events();
+    if first >= events.len() {
+        return false;
+    }
+    is_named_by(&events[first], name, kept)
+}
+
+fn is_named_by_any(directory: &Directory, kept: &HomeRecord, name: &QueueName) -> bool
     ensures { result ≡ true ↔ IsNamed directory.now.events kept.now (Some name.now) }
 {
     let events = directory.events();
     for index in 0..events.len() {
-        let event = &events[index];
-        if is_create(event, name, kept) && event.stamp.is_below(kept.stamp()) {
+        if is_named_by(&events[index], name, kept) {
             return true;
         }
     }
     false
+}
+
+// Whether an event made the queue of a record by this name, or found it, before the step of the record.
+fn is_named_by(
+    event: &Event<DirectoryCall, DirectoryReply>,
+    name: &QueueName,
+    kept: &HomeRecord,
+) -> bool
+    ensures { result ≡ true ↔ (Below event.now.stamp kept.now.stamp × IsCreate event.now name.now kept.now.home.queue) }
+{
+    event.stamp.is_below(kept.stamp()) && is_create(event, name, kept)
 }
 
 // Whether an event made the queue of a record by this name, or found it.

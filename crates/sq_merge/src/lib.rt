@@ -12,6 +12,7 @@ pub mod calls;
 pub mod check;
 pub mod digest;
 pub mod directory;
+mod firsts;
 pub mod given;
 mod home_states;
 pub mod homes;

@@ -9,6 +9,7 @@ ghost use Rattle.sq_merge.specs.SystemNow.{events_of, system_now};
 ghost use Rattle.sq_merge.specs.Worlds.{histories_of, IsNumbered};
 
 use crate::check::{AuditFault, check};
+use crate::firsts::firsts;
 use crate::parts::Parts;
 use crate::run::Run;
 use crate::sorted::sorted;
@@ -31,8 +32,10 @@ pub fn merge<'a>(alloc: Global, parts: &'a Parts) -> Result<Run<'a>, AuditFault>
     ensures honest { IsMatched parts.now.directory.events (histories_of parts.now.homes.homes) parts.now.records → IfErr result (λ f. f ≡ AuditFault.NoMemory) }
 {
     let homes = parts.homes.as_slice();
+    let firsts = firsts(alloc, &parts.directory);
     check(
         &parts.directory,
+        &firsts,
         parts.homes.per_queue(),
         homes,
         parts.records.as_slice(),

@@ -1,5 +1,5 @@
 //! All events of the system in one order.
-ghost use Rattle.std.specs.Prelude.{◌≡◌, ◌≤◌, ◌++◌, map, length, All, OnOk, IfOk};
+ghost use Rattle.std.specs.Prelude.{◌≡◌, ◌≤◌, ◌-◌, ◌^◌, ◌++◌, min, map, length, All, OnOk, IfOk};
 ghost use Rattle.sq_model.specs.Systems.{OfDirectory, OfHome, IsRun};
 ghost use Rattle.sq_model.specs.Merges.{IsMerged};
 ghost use Rattle.sq_history.specs.Histories.{IsKept};
@@ -42,12 +42,24 @@ fn collect<'a>(
     ensures directory { OnOk result (IsDirectoryKept directory.now) }
     ensures homes { OnOk result (All IsKept homes.now) }
 {
-    let mut all = Vec::new(alloc);
+    // Room for all is made at once.
+    let mut all = Vec::with_capacity(alloc, count(directory, homes))?;
     add_directory(&mut all, directory)?;
     for (place, home) in homes.iter().enumerate() {
         add_home(&mut all, place as u32, home)?;
     }
     Ok(all)
+}
+
+// The number of all events; of more than a number can say, the greatest, for which no memory is found.
+fn count(directory: &Directory, homes: &[Home]) -> usize
+    ensures { result ≡ min (length (by_part directory.now.events (events_of homes.now))) (2 ^ 64 - 1) }
+{
+    let mut count = directory.events().len();
+    for home in homes {
+        count = count.saturating_add(home.events().len());
+    }
+    count
 }
 
 fn add_directory<'a>(all: &mut Vec<Tagged<'a>>, directory: &'a Directory) -> Result<(), AllocError>

@@ -5,6 +5,7 @@ ghost use Rattle.sq_merge.specs.Worlds.{AreDistinct};
 use crate::book::{Book, create_step};
 use crate::check::{AuditFault, check};
 use crate::directory::Directory;
+use crate::firsts::firsts;
 use crate::sorted::sorted;
 use crate::tagged::Tagged;
 use sq_base::ids::{HomeId, HomeNo, QueueNo};
@@ -156,7 +157,13 @@ fn audited(alloc: Global, directory: &Directory, books: &[Book]) -> Result<(), A
     requires { AreDistinct books.now }
 {
     let homes: Vec<Home> = Vec::new(alloc);
-    check(directory, HomeCount::of(1), &homes, books)
+    check(
+        directory,
+        &firsts(alloc, directory),
+        HomeCount::of(1),
+        &homes,
+        books,
+    )
 }
 
 // A directory and its actor; another directory; no actor; and another actor of the same number.

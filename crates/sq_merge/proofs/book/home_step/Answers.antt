@@ -1,4 +1,3 @@
-use Rattle.std.proofs.Common.{rules}
 use Rattle.std.proofs.lemmas.List.{map-append}
 use Rattle.sq_merge.specs.Records.{note_of}
 use Rattle.sq_merge.proofs.BookLaws.{home_book_more}

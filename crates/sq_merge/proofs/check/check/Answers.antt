@@ -1,6 +1,5 @@
-use Rattle.std.proofs.Common.{rules}
 use Rattle.sq_merge.specs.Worlds.{histories_of}
-use Rattle.sq_merge.proofs.CheckLaws.{fits_match, wrong_refutes, wrong_holds, wrong_other}
+use Rattle.sq_merge.proofs.CheckLaws.{fits_match, wrong_refutes}
 use Rattle.sq_merge.proofs.check.check.Goals as goal
 
 pub returns-in_err-check_books-clause-honest : goal.returns-in_err-check_books-clause-honest

@@ -1,7 +1,6 @@
-use Rattle.std.proofs.Common.{rules, ◌≡◌, ◌<◌, ◌≤◌, length, None, Some, refl, inl, inr, sym}
+use Rattle.std.proofs.Common.{rules, ◌≡◌, ◌<◌, ◌≤◌, length, None, Some, refl, inl, inr}
 use Rattle.std.specs.Prelude.{position}
 use Rattle.sq_merge.specs.Books.{is_of}
-use Rattle.sq_merge.specs.Records.{note_of}
 use Rattle.sq_merge.specs.Faults.{IsAt}
 use Rattle.sq_merge.proofs.CheckLaws.{no_book, no_note, note_there}
 use Rattle.sq_merge.proofs.check.check_event.Goals as goal

@@ -1,4 +1,4 @@
-use Rattle.std.proofs.Common.{rules, ◌≡◌, ◌<◌, length, Some, Err, slice_get}
+use Rattle.std.proofs.Common.{rules, ◌≡◌, ◌<◌, length, Err}
 use Rattle.sq_model.specs.Matches.{IsHomeEvent}
 use Rattle.sq_merge.specs.Worlds.{history_of, histories_of}
 use Rattle.sq_merge.specs.Faults.{HomeFits}

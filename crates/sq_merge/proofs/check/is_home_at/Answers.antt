@@ -1,4 +1,4 @@
-use Rattle.std.proofs.Common.{rules, ◌≡◌, Some, length}
+use Rattle.std.proofs.Common.{rules, ◌≡◌, Some}
 use Rattle.sq_merge.specs.Openings.{home_place}
 use Rattle.sq_merge.proofs.CheckLaws.{home_test}
 use Rattle.sq_merge.proofs.check.is_home_at.Goals as goal

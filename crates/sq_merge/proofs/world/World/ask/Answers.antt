@@ -1,4 +1,3 @@
-use Rattle.std.proofs.Common.{inl}
 use Rattle.sq_merge.proofs.CallLaws.{still_known}
 use Rattle.sq_merge.proofs.world.World.ask.Goals as goal
 

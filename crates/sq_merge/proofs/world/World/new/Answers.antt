@@ -1,6 +1,4 @@
-use Rattle.std.proofs.Common.{rules, ◌≡◌}
-use Rattle.sq_merge.specs.WorldValue.{WorldValue}
-use Rattle.sq_merge.specs.Worlds.{IsKeptWorld}
+use Rattle.std.proofs.Common.{rules}
 use Rattle.sq_merge.specs.Openings.{IsServed, new_world}
 use Rattle.sq_merge.proofs.StepLaws.{kept_new, few_new}
 use Rattle.sq_merge.proofs.world.World.new.Goals as goal

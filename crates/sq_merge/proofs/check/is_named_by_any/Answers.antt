@@ -1,12 +1,11 @@
-use Rattle.std.proofs.Common.{rules, ◌≡◌, ◌<◌, ℕ, length, Some, slice_get, subst, sym, ◌∙◌}
+use Rattle.std.proofs.Common.{rules, ◌≡◌, ◌<◌, length, Some, slice_get, subst, sym, ◌∙◌}
 use Rattle.std.proofs.lemmas.Option.{slice_get_within}
 use Rattle.sq_base.specs.Stamps.{Below}
 use Rattle.sq_model.specs.Systems.{DirectoryEvent}
 use Rattle.sq_model.specs.Matches.{IsCreate}
 use Rattle.sq_merge.proofs.ElementLaws.{some_same}
 use Rattle.sq_merge.proofs.CheckLaws.{below_more, read_at}
-use Rattle.sq_merge.proofs.check.is_named.Goals as goal
-use Rattle.sq_merge.proofs.check.is_named.Goals.{else-is_create-via-then-is_create+else-is_below, else-is_create-via-else-is_create}
+use Rattle.sq_merge.proofs.check.is_named_by_any.Goals as goal
 
 pub loop-index-preserved : goal.loop-index-preserved
 loop-index-preserved c =
@@ -16,10 +15,7 @@ loop-index-preserved c =
     let event = c.index-events-index.result in
     let lt : c.loop-index.index < length c.events-events.result.now = search rules in
     let there : slice_get d c.loop-index.index ≡ Some event = read_at c.events-events.result.now d c.loop-index.index event c.events-events.ensures.items lt c.index-events-index.is in
-    let other : Below event.stamp stamp → IsCreate event c.args.name.now queue → ⊥ = elim c.else-is_create.branch as (λ _. Below event.stamp stamp → IsCreate event c.args.name.now queue → ⊥) [
-      | else-is_create-via-then-is_create+else-is_below w ↦ (λ b k. let t = w.is_below.ensures.1 (rw w.stamp.ensures b) in search rules)
-      | else-is_create-via-else-is_create w ↦ (λ b k. let t = c.is_create.ensures.1 k in search rules)
-    ] in
+    let other : Below event.stamp stamp → IsCreate event c.args.name.now queue → ⊥ = λ b k. let t = c.is_named_by.ensures.1 (b, k) in search rules in
     below_more (λ k. (e : DirectoryEvent) → slice_get d k ≡ Some e → Below e.stamp stamp → IsCreate e c.args.name.now queue → ⊥) c.loop-index.index c.loop-index.invariant
     (λ e too. subst (λ (x : DirectoryEvent). Below x.stamp stamp → IsCreate x c.args.name.now queue → ⊥) (some_same (sym there ∙ too)) other)
 
