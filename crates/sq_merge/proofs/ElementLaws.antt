@@ -1,5 +1,5 @@
 -- What stands where in a list.
-use Rattle.std.proofs.Common.{◌≡◌, ◌≢◌, ◌⊎◌, ℕ, zero, suc, List, [], ◌∷◌, ◌++◌, length, map, refl, ap, sym, ◌∙◌, inl, inr, Some, slice_get, slice_set}
+use Rattle.std.proofs.Common.{◌≡◌, ◌≢◌, ◌⊎◌, ℕ, zero, suc, ◌<◌, List, [], ◌∷◌, ◌++◌, length, map, refl, ap, sym, ◌∙◌, inl, inr, arith, Some, slice_get, slice_set}
 use Rattle.std.proofs.lemmas.Bool.Decides.{eqb_tells}
 
 pub get_old : {X : Type 0} (xs : List X) (x y : X) (k : ℕ) → slice_get xs k ≡ Some y → slice_get (xs ++ x ∷ []) k ≡ Some y
@@ -16,6 +16,11 @@ get_cases [] x y zero h = inr (refl, cc)
 get_cases [] x y (suc k) h = absurd cc
 get_cases (z ∷ zs) x y zero h = inl h
 get_cases (z ∷ zs) x y (suc k) h = elim (get_cases zs x y k h) [ inl g ↦ inl g | inr g ↦ inr (ap suc g.0, g.1) ]
+
+pub get_within : {X : Type 0} (xs : List X) (k : ℕ) → k < length xs → (x : X) × (slice_get xs k ≡ Some x)
+get_within [] k lt = absurd (omega (arith, lt))
+get_within (z ∷ zs) zero lt = (z, refl)
+get_within (z ∷ zs) (suc k) lt = get_within zs k (omega (arith, lt))
 
 pub get_map : {X Y : Type 0} (f : X → Y) (xs : List X) (k : ℕ) (x : X) → slice_get xs k ≡ Some x → slice_get (map f xs) k ≡ Some (f x)
 get_map f [] k x h = absurd cc

@@ -1,5 +1,5 @@
 -- A step of a world, from what was done to its parts.
-use Rattle.std.proofs.Common.{◌≡◌, ℕ, zero, suc, ◌+◌, ◌-◌, ◌*◌, ◌/◌, ◌%◌, ◌<◌, ◌≤◌, true, false, List, [], ◌∷◌, ◌++◌, length, refl, ap, sym, ◌∙◌, subst, inl, inr, arith, Option, Some, None, slice_get, slice_set}
+use Rattle.std.proofs.Common.{◌≡◌, ◌≢◌, ℕ, zero, suc, ◌+◌, ◌-◌, ◌*◌, ◌/◌, ◌%◌, ◌<◌, ◌≤◌, true, false, List, [], ◌∷◌, ◌++◌, length, refl, ap, sym, ◌∙◌, subst, inl, inr, arith, Option, Some, None, slice_get, slice_set}
 use Rattle.std.specs.Prelude.{nat_lt, ◌&&◌, if◌then◌else◌, position}
 use Rattle.std.specs.List.{slice_index_or}
 use Rattle.std.proofs.lemmas.Nat.{div-mul-add, mod-mul-add}
@@ -9,6 +9,7 @@ use Rattle.std.proofs.lemmas.List.{length-append}
 use Rattle.std.proofs.lemmas.Grind.{common_steps}
 use Rattle.sq_base.specs.declared.ids.HomeId.{HomeId}
 use Rattle.sq_base.specs.declared.refusal.Refusal.{Refusal}
+use Rattle.sq_base.specs.declared.refusal.Refusal.TheVariants.{NoMemory}
 use Rattle.sq_model.specs.declared.place.Limits.{Limits}
 use Rattle.sq_model.specs.declared.calls.HomeCall.{HomeCall}
 use Rattle.sq_model.specs.declared.replies.HomeReply.{HomeReply}
@@ -21,12 +22,12 @@ use Rattle.sq_model.specs.Notes.{Book}
 use Rattle.sq_model.specs.Matches.{HomeHistory, IsHomeEvent}
 use Rattle.sq_history.specs.HistoryValue.{HistoryValue}
 use Rattle.sq_merge.specs.DirectoryHistory.{DirectoryHistory}
-use Rattle.sq_merge.specs.Books.{is_of, new_book, book_of, having_seen, HomeMoves, DirectoryMoves, IsHomeRefused}
+use Rattle.sq_merge.specs.Books.{is_of, new_book, book_of, having_seen, last_place, HomeMoves, DirectoryMoves, IsHomeRefused, IsCreateRefused}
 use Rattle.sq_merge.specs.WorldValue.{WorldValue}
-use Rattle.sq_merge.specs.Worlds.{history_of, histories_of, home_id, IsNumbered, IsHomeOf, IsKeptWorld, HomeStepped, HomeRefused, Created, having_read}
+use Rattle.sq_merge.specs.Worlds.{history_of, histories_of, home_id, IsNumbered, IsHomeOf, IsKeptWorld, HomeStepped, HomeRefused, Created, CreateRefused, having_read}
 use Rattle.sq_merge.specs.declared.options.Options.{Options}
 use Rattle.sq_merge.specs.Openings.{home_place, never_opened, never_opened_homes, limits_of, IsServed, new_world}
-use Rattle.sq_merge.proofs.ElementLaws.{some_same, get_cases, get_mapped}
+use Rattle.sq_merge.proofs.ElementLaws.{some_same, get_cases, get_mapped, get_within}
 use Rattle.sq_merge.proofs.BookListLaws.{book_own, found_there, found_put, lost_there, lost_put}
 
 pub same_id : (x y : HomeId) → x.queue ≡ y.queue → x.home ≡ y.home → x ≡ y
@@ -120,14 +121,30 @@ pub refused_found : (old : WorldValue) (actor now : ℕ) (id : HomeId) (call : H
     → position (is_of actor) old.books ≡ Some at → at < length old.books → mine ≡ slice_index_or old.books at mine
     → IsHomeRefused before mine now call e → HomeRefused old actor now id call e
 refused_found old actor now id call e place at before mine numbered least found there pos lt own refused =
-    inr (inr (place, before, home_is old id place before numbered least found there, subst (λ (b : Book). IsHomeRefused before b now call e) (found_is old.books actor at mine pos lt own) refused))
+    inr (place, before, home_is old id place before numbered least found there, subst (λ (b : Book). IsHomeRefused before b now call e) (found_is old.books actor at mine pos lt own) refused)
 
 pub refused_new : (old : WorldValue) (actor now : ℕ) (id : HomeId) (call : HomeCall) (e : Refusal) (place : ℕ) (before : HistoryValue)
     → IsNumbered old.per_queue old.homes → 1 ≤ id.queue → home_place old.per_queue (length old.homes) id ≡ Some place → before ≡ slice_index_or old.homes place before
     → position (is_of actor) old.books ≡ None
     → IsHomeRefused before (new_book actor) now call e → HomeRefused old actor now id call e
 refused_new old actor now id call e place before numbered least found there pos refused =
-    inr (inr (place, before, home_is old id place before numbered least found there, subst (λ (b : Book). IsHomeRefused before b now call e) (sym (lost_there actor old.books pos)) refused))
+    inr (place, before, home_is old id place before numbered least found there, subst (λ (b : Book). IsHomeRefused before b now call e) (sym (lost_there actor old.books pos)) refused)
+
+new_is_not_worn : (actor : ℕ) → (new_book actor).next ≢ last_place
+new_is_not_worn actor e = omega (arith, e)
+
+-- no memory was found for a new actor
+pub refused_unmade : (old : WorldValue) (actor now : ℕ) (id : HomeId) (call : HomeCall) (place : ℕ)
+    → IsNumbered old.per_queue old.homes → 1 ≤ id.queue → home_place old.per_queue (length old.homes) id ≡ Some place → position (is_of actor) old.books ≡ None
+    → HomeRefused old actor now id call NoMemory
+refused_unmade old actor now id call place numbered least found pos =
+    let t = place_found old.per_queue (length old.homes) id place least found in
+    let home = get_within old.homes place t.0 in
+    inr (place, home.0, record { there = home.1; is = numbered place home.0 home.1 ∙ t.1 }, subst (λ (b : Book). IsHomeRefused home.0 b now call NoMemory) (sym (lost_there actor old.books pos)) (inr (new_is_not_worn actor, inl refl)))
+
+pub create_unmade : (old : WorldValue) (actor now : ℕ) (name : List ℕ) (given : Attributes) → position (is_of actor) old.books ≡ None → CreateRefused old actor now name given NoMemory
+create_unmade old actor now name given pos =
+    subst (λ (b : Book). IsCreateRefused old.directory b now (Create name given) NoMemory) (sym (lost_there actor old.books pos)) (inr (new_is_not_worn actor, inl refl))
 
 pub created_found : (old : WorldValue) (actor now : ℕ) (name : List ℕ) (given : Attributes) (made : QueueSettings) (at : ℕ) (after : DirectoryHistory) (mine noted : Book)
     → position (is_of actor) old.books ≡ Some at → at < length old.books → mine ≡ slice_index_or old.books at mine

@@ -73,8 +73,8 @@ SendAt by w c (Ok told) after =
     × ((home : ℕ) × (sent : SentMessage) × (home < w.per_queue) × Does by w home (Send c.body c.delay) (reply.Sent sent) after
     × (told ≡ answer.Sent sent.id (encode_lower (md5 c.body))))
 SendAt by w c (Err e) after =
-    (after ≡ w) × ((e ≡ NoMemory) ⊎ (body_check c.body 262144 ≡ Err e)
-    ⊎ ((body_check c.body 262144 ≡ Ok tt) × ((home : ℕ) × (home < w.per_queue) × Refuses by w home (Send c.body c.delay) e)))
+    (after ≡ w) × ((body_check c.body 262144 ≡ Err e)
+    ⊎ ((body_check c.body 262144 ≡ Ok tt) × ((e ≡ NoMemory) ⊎ ((home : ℕ) × (home < w.per_queue) × Refuses by w home (Send c.body c.delay) e))))
 
 -- a home is asked for messages and gives these; None where it has too many in flight
 abbrev pub Looks : Asked → WorldValue → ReceiveMessage → ℕ → Option (List Row) → WorldValue → Type 0
@@ -156,7 +156,7 @@ CreateTold w actor now c (Err e) after =
 -- a call on a queue: it is looked up by its name, and what is left is done after that
 abbrev pub ByName : WorldValue → ℕ → ℕ → List ℕ → Result Answer Refusal → WorldValue → (Asked → WorldValue → Type 0) → Type 0
 ByName w actor now name told after At =
-    ((e : Refusal) × NameRefused w name e × (told ≡ Err e) × (after ≡ w))
+    ((e : Refusal) × NameRefused w actor name e × (told ≡ Err e) × (after ≡ w))
     ⊎ ((queue : ℕ) × (number_of name w.directory.directory.queues ≡ Some queue) × At (asked actor now name queue) (having_read w actor))
 
 -- What a call by an actor at a clock reading may tell, and what world it leaves.

@@ -1,5 +1,5 @@
 -- Steps of the whole system by actors, and what is true of it at all times.
-use Rattle.std.specs.Prelude.{◌≡◌, ◌≢◌, ◌⊎◌, ◌+◌, ◌/◌, ◌%◌, ℕ, List, [], ◌∷◌, length, map, nat_le, if◌then◌else◌, slice_get, slice_set, Option, Some, None}
+use Rattle.std.specs.Prelude.{◌≡◌, ◌≢◌, ◌⊎◌, ◌+◌, ◌/◌, ◌%◌, ℕ, List, [], ◌∷◌, length, map, nat_le, if◌then◌else◌, position, slice_get, slice_set, Option, Some, None}
 use Rattle.std.specs.List.{AllByRecursion}
 use Rattle.sq_base.specs.StampValue.{StampValue}
 use Rattle.sq_base.specs.Stamps.{stamp_end}
@@ -24,7 +24,7 @@ use Rattle.sq_merge.specs.declared.act.Outcome.{Outcome}
 use Rattle.sq_merge.specs.declared.act.Outcome.TheVariants as told
 use Rattle.sq_merge.specs.declared.act.Step.{Step}
 use Rattle.sq_merge.specs.Acts.{call_of}
-use Rattle.sq_merge.specs.Books.{IsSeen, book_of, put_book, having_seen, HomeMoves, DirectoryMoves, IsHomeRefused, IsCreateRefused}
+use Rattle.sq_merge.specs.Books.{is_of, IsSeen, book_of, put_book, having_seen, HomeMoves, DirectoryMoves, IsHomeRefused, IsCreateRefused}
 use Rattle.sq_merge.specs.DirectoryHistory.{DirectoryHistory}
 use Rattle.sq_merge.specs.WorldValue.{WorldValue}
 
@@ -50,8 +50,7 @@ pub record HomeStepped (old new : WorldValue) (actor now : ℕ) (name : Option (
 -- why a step of a home is refused
 abbrev pub HomeRefused : WorldValue → ℕ → ℕ → HomeId → HomeCall → Refusal → Type 0
 HomeRefused w actor now id call e =
-    (e ≡ NoMemory)
-    ⊎ (((at : ℕ) (h : HistoryValue) → IsHomeOf w id at h → ⊥) × (e ≡ (if nat_le stamp_end now then ClockRange else QueueDoesNotExist)))
+    (((at : ℕ) (h : HistoryValue) → IsHomeOf w id at h → ⊥) × (e ≡ (if nat_le stamp_end now then ClockRange else QueueDoesNotExist)))
     ⊎ ((at : ℕ) × (h : HistoryValue) × IsHomeOf w id at h × IsHomeRefused h (book_of actor w.books) now call e)
 
 -- One step of the directory by an actor: it makes a queue or finds it.
@@ -62,7 +61,7 @@ pub record Created (old new : WorldValue) (actor now : ℕ) (name : List ℕ) (g
   pub changed : new ≡ record old { directory = after; books = put_book noted old.books }
 
 abbrev pub CreateRefused : WorldValue → ℕ → ℕ → List ℕ → Attributes → Refusal → Type 0
-CreateRefused w actor now name given e = (e ≡ NoMemory) ⊎ IsCreateRefused w.directory (book_of actor w.books) now (directory_call.Create name given) e
+CreateRefused w actor now name given e = IsCreateRefused w.directory (book_of actor w.books) now (directory_call.Create name given) e
 
 -- an actor has read the directory
 abbrev pub having_read : WorldValue → ℕ → WorldValue
@@ -75,17 +74,17 @@ StepTold old new actor now (act.Resolve name) (told.Resolved queue) = (number_of
 StepTold old new actor now (act.Home id what) (told.Home reply) = HomeStepped old new actor now None id (call_of what) reply
 StepTold old new actor now what outcome = ⊥
 
--- why a name is not read: there is no such queue; or there is one, and no memory was found
-abbrev pub NameRefused : WorldValue → List ℕ → Refusal → Type 0
-NameRefused w name e =
+-- why a name is not read: there is no such queue; or there is one, the actor is new, and no memory was found for it
+abbrev pub NameRefused : WorldValue → ℕ → List ℕ → Refusal → Type 0
+NameRefused w actor name e =
     ((number_of name w.directory.directory.queues ≡ None) × (e ≡ QueueDoesNotExist))
-    ⊎ (((queue : ℕ) × (number_of name w.directory.directory.queues ≡ Some queue)) × (e ≡ NoMemory))
+    ⊎ (((queue : ℕ) × (number_of name w.directory.directory.queues ≡ Some queue)) × (position (is_of actor) w.books ≡ None) × (e ≡ NoMemory))
 
--- why a step is refused
+-- why a step is refused; what is done at a home is copied first, which takes memory
 abbrev pub StepRefused : WorldValue → ℕ → ℕ → Act → Refusal → Type 0
 StepRefused w actor now (act.Create name given) e = CreateRefused w actor now name given e
-StepRefused w actor now (act.Resolve name) e = NameRefused w name e
-StepRefused w actor now (act.Home id what) e = HomeRefused w actor now id (call_of what) e
+StepRefused w actor now (act.Resolve name) e = NameRefused w actor name e
+StepRefused w actor now (act.Home id what) e = (e ≡ NoMemory) ⊎ HomeRefused w actor now id (call_of what) e
 
 -- Of these steps so many were done, one after another, and the others changed nothing.
 abbrev pub Schedule : WorldValue → List Step → ℕ → WorldValue → Type 0

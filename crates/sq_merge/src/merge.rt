@@ -19,7 +19,8 @@ use std::alloc::Global;
 /// homes in their order. It is one run of the whole system, from its opening to what the parts are now, and each event
 /// has its record, and each record its event. The events of each actor stand in its order, and so do those of each part:
 /// two of one actor or of one part never have one stamp. No two homes have one id, as the law of one place asks.
-/// Refused as NoMemory, or for what is wrong with the records and the histories; those that a world leaves are right.
+/// Refused for what is wrong with the records and the histories, and where nothing is, as NoMemory; those that a world
+/// leaves are right.
 pub fn merge<'a>(alloc: Global, parts: &'a Parts) -> Result<Run<'a>, AuditFault>
     ensures matched { OnOk result (IsMatched parts.now.directory.events (histories_of parts.now.homes.homes) parts.now.records) }
     ensures merged { IfOk result (λ run. IsMerged parts.now.directory.events (events_of parts.now.homes.homes) run) }
@@ -30,6 +31,7 @@ pub fn merge<'a>(alloc: Global, parts: &'a Parts) -> Result<Run<'a>, AuditFault>
     ensures apart { OnOk result (IsOnePlace (map (λ h. h.site) parts.now.homes.homes)) }
     ensures fault { IfErr result (FaultHolds parts.now.directory.events (histories_of parts.now.homes.homes) parts.now.records) }
     ensures honest { IsMatched parts.now.directory.events (histories_of parts.now.homes.homes) parts.now.records → IfErr result (λ f. f ≡ AuditFault.NoMemory) }
+    ensures wanting { IfErr result (λ f. f ≡ AuditFault.NoMemory → IsMatched parts.now.directory.events (histories_of parts.now.homes.homes) parts.now.records) }
 {
     let homes = parts.homes.as_slice();
     let firsts = firsts(alloc, &parts.directory);

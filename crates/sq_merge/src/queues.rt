@@ -1,5 +1,5 @@
 //! The queues of a service.
-ghost use Rattle.std.specs.Prelude.{◌≡◌, ◌⊎◌, ◌<◌, ◌≤◌, ◌++◌, ◌∷◌, ℕ, [], length, true, false, IfOk, IfErr, OnErr, IfSome, Some};
+ghost use Rattle.std.specs.Prelude.{◌≡◌, ◌⊎◌, ◌<◌, ◌≤◌, ◌++◌, ◌∷◌, ℕ, [], length, true, false, IfOk, IfErr, OnErr, IfSome, Some, None};
 ghost use Rattle.sq_model.specs.Directories.{place_of, number_of, settings_of, is_or_none, agrees, new_queue, settings_at, DirectoryStep, directory_refusal};
 ghost use Rattle.sq_model.specs.declared.directory.DirectoryCall.TheVariants.{Create};
 ghost use Rattle.sq_model.specs.declared.directory.DirectoryReply.TheVariants.{Made};
@@ -57,7 +57,7 @@ impl Queues {
     #[tactic(auto, unfolding(sq_model::specs::Directories::DirectoryStep, sq_model::specs::Directories::directory_refusal))]
     pub fn create(&mut self, name: &QueueName, given: &Attributes) -> Result<QueueSettings, Refusal>
         ensures step { (m : ℕ) → IfOk result (λ made. DirectoryStep self.old m (Create name.now given.now) (Made made) self.new) }
-        ensures refusal { (m : ℕ) → IfErr result (λ e. (e ≡ Refusal.NoMemory) ⊎ (directory_refusal self.old m (Create name.now given.now) ≡ Some e)) }
+        ensures refusal { (m : ℕ) → IfErr result (λ e. ((e ≡ Refusal.NoMemory) × (directory_refusal self.old m (Create name.now given.now) ≡ None)) ⊎ (directory_refusal self.old m (Create name.now given.now) ≡ Some e)) }
         ensures err { OnErr result (self.new ≡ self.old) }
     {
         match place_of(&self.made, name) {
@@ -69,7 +69,7 @@ impl Queues {
     // Puts a new queue last.
     fn add(&mut self, name: &QueueName, given: &Attributes) -> Result<QueueSettings, Refusal>
         ensures made { IfOk result (λ made. (length self.old.queues < self.old.places) × (made ≡ settings_at (length self.old.queues) (new_queue name.now given.now)) × (self.new ≡ record self.old { queues = self.old.queues ++ new_queue name.now given.now ∷ [] })) }
-        ensures refusal { IfErr result (λ e. (e ≡ Refusal.NoMemory) ⊎ ((self.old.places ≤ length self.old.queues) × (e ≡ Refusal.TableFull))) }
+        ensures refusal { IfErr result (λ e. ((length self.old.queues < self.old.places) × (e ≡ Refusal.NoMemory)) ⊎ ((self.old.places ≤ length self.old.queues) × (e ≡ Refusal.TableFull))) }
         ensures err { OnErr result (self.new ≡ self.old) }
     {
         if self.made.len() >= self.places as usize {

@@ -60,12 +60,12 @@ impl Model for World {
 }
 
 impl World {
-    /// A world without queues. Refused as InvalidParameterValue where an option is out of its range; NoMemory.
+    /// A world without queues. Refused as InvalidParameterValue exactly where an option is out of its range; NoMemory.
     #[tactic(auto, unfolding(crate::specs::Openings::new_world))]
     pub fn new(alloc: Global, options: Options) -> Result<World, Refusal>
         ensures ok { IfOk result (λ world. world ≡ new_world options) }
         ensures served { IfOk result (λ _. IsServed options) }
-        ensures refused { IfErr result (λ e. (e ≡ Refusal.NoMemory) ⊎ ((e ≡ Refusal.InvalidParameterValue) × (¬ IsServed options))) }
+        ensures refused { IfErr result (λ e. ((e ≡ Refusal.NoMemory) × IsServed options) ⊎ ((e ≡ Refusal.InvalidParameterValue) × (¬ IsServed options))) }
     {
         if !is_served(&options) {
             return Err(Refusal::InvalidParameterValue);
@@ -110,10 +110,10 @@ impl World {
 
     /// What a client asks, done by an actor at a clock reading in ms, step by step. A call on a queue looks it up by its
     /// name first. Refused as its first check in order that fails; steps that were done before that stand:
-    /// QueueDoesNotExist; InvalidParameterValue and InvalidMessageContents of a body; ReceiptHandleIsInvalid of what is no
-    /// handle of the queue and of one of its homes; NoMemory; ClockRange; Worn; and then as the home's call. CreateQueue is
-    /// refused as QueueNameExists and TableFull too, and ReceiveMessage as OverLimit where no home that was asked gave a
-    /// message and one of them has too many in flight.
+    /// QueueDoesNotExist; NoMemory of an actor that is new; InvalidParameterValue and InvalidMessageContents of a body;
+    /// ReceiptHandleIsInvalid of what is no handle of the queue and of one of its homes; NoMemory; ClockRange; Worn; and
+    /// then as the home's call. CreateQueue is refused as QueueNameExists and TableFull too, and ReceiveMessage as OverLimit
+    /// where no home that was asked gave a message and one of them has too many in flight.
     #[tactic(auto, unfolding(crate::specs::Calls::CallTold))]
     pub fn call(
         &mut self,
@@ -212,7 +212,7 @@ impl World {
     fn resolve(&mut self, alloc: Global, actor: u32, name: &QueueName) -> Result<QueueNo, Refusal>
         ensures found { IfOk result (λ queue. (number_of name.now self.old.directory.directory.queues ≡ Some queue) × (self.new ≡ having_read self.old actor)) }
         ensures known { IfOk result (IsKnown self.new.directory.events (book_of actor self.new.books) (Some name.now)) }
-        ensures refusal { IfErr result (NameRefused self.old name.now) }
+        ensures refusal { IfErr result (NameRefused self.old actor name.now) }
         ensures err { OnErr result (self.new ≡ self.old) }
     {
         let Some(queue) = self.directory.find(name) else {

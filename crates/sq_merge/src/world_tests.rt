@@ -87,9 +87,27 @@ fn stamps(alloc: Global, world: World) -> Result<Vec<(u64, u64)>, Refusal> {
     let Ok(run) = merge(alloc, &parts) else {
         return Err(Refusal::UnsupportedOperation);
     };
-    for event in run.events() {
+    for at in 0..run.len() {
+        let Some(event) = run.event(at) else {
+            return Err(Refusal::UnsupportedOperation);
+        };
         let stamp = event.stamp();
         stamps.push((stamp.moment, stamp.count))?;
+    }
+    Ok(stamps)
+}
+
+// The stamps that an actor noted, in the order of its steps.
+fn noted(alloc: Global, world: World, actor: u32) -> Result<Vec<(u64, u64)>, Refusal> {
+    let parts = world.parts();
+    let mut stamps = Vec::new(alloc);
+    for book in parts.records.as_slice() {
+        if book.actor() == actor {
+            for record in book.records() {
+                let stamp = record.stamp();
+                stamps.push((stamp.moment, stamp.count))?;
+            }
+        }
     }
     Ok(stamps)
 }
@@ -107,6 +125,20 @@ fn steps_of_three_actors_have_one_order(rt: HostRuntime) -> Result<(), Fail> {
     let stamps = stamps(rt.alloc(), world)?;
     let wanted = [(0, 1), (0, 2), (0, 3), (0, 3), (0, 4), (0, 5), (0, 5)];
     assert!(rt; stamps.as_slice() == wanted.as_slice());
+    Ok(())
+}
+
+#[test]
+fn an_actor_notes_the_stamps_of_its_steps(rt: HostRuntime) -> Result<(), Fail> {
+    let mut world = opened(rt.alloc())?;
+    let looks = [
+        at(1, 0, 0, look()),
+        at(2, 0, 1, look()),
+        at(1, 0, 1, look()),
+    ];
+    assert_eq!(rt; world.run(rt.alloc(), &looks), 3);
+    let noted = noted(rt.alloc(), world, 1)?;
+    assert!(rt; noted.as_slice() == [(0, 3), (0, 5)].as_slice());
     Ok(())
 }
 

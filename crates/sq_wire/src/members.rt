@@ -15,7 +15,7 @@ use sq_base::refusal::Refusal;
 #[derive(Clone, Copy)]
 pub enum Amount {
     Natural(u64),
-    /// Below 0, beyond 64 bits, or a text that is no number: in no range.
+    /// Below 0, or a text that is no number of 64 bits: in no range.
     Other,
 }
 

@@ -1,12 +1,15 @@
 //! A queue service over standard input and output.
 #![tactic(auto)]
 
+ghost use Rattle.std.specs.Prelude.{◌≤◌, IfOk};
+ghost use Rattle.std.specs.Process.{exit_status};
+
 mod flags;
 mod program;
 #[cfg(test)]
 mod tests;
 
-use crate::program::{no_memory, run};
+use crate::program::{no_memory, no_text, run};
 use sq_wire::counted::Counted;
 use std::env;
 use std::io::{self, BufWriter, ErrorKind};
@@ -16,7 +19,9 @@ use std::process::ExitCode;
 const KEPT: usize = 65_536;
 
 // Runs over the words and the streams of the process.
-fn run_process(rt: &HostRuntime) -> io::Result<u8> {
+fn run_process(rt: &HostRuntime) -> io::Result<u8>
+    ensures { IfOk result (λ status. status ≤ 2) }
+{
     let alloc = rt.alloc();
     let arguments: Vec<String> = env::args(rt)?.collect(alloc)?;
     let mut words = Vec::with_capacity(alloc, arguments.len())?;
@@ -34,12 +39,20 @@ fn run_process(rt: &HostRuntime) -> io::Result<u8> {
     ))
 }
 
-fn main(rt: HostRuntime) -> io::Result<ExitCode> {
-    let status = match run_process(&rt) {
+// Runs, and tells the status of the process.
+fn ending(rt: &HostRuntime) -> io::Result<ExitCode>
+    ensures { IfOk result (λ code. exit_status code ≤ 2) }
+{
+    let status = match run_process(rt) {
         Ok(status) => status,
         // The words or a buffer were too much, before any request.
         Err(error) if error.kind() == ErrorKind::OutOfMemory => no_memory(&mut rt.stderr()),
+        Err(error) if error.kind() == ErrorKind::InvalidData => no_text(&mut rt.stderr()),
         Err(error) => return Err(error),
     };
     Ok(ExitCode::from(status))
+}
+
+fn main(rt: HostRuntime) -> io::Result<ExitCode> {
+    ending(&rt)
 }

@@ -3,7 +3,8 @@ ghost use Rattle.std.specs.Prelude.{◌≡◌, ◌≤◌, ◌⊎◌, [], ◌∷�
 ghost use Rattle.clap.specs.Words.{fault_of, kind_of};
 ghost use Rattle.clap.specs.declared.error.kind.ErrorKind.{ErrorKind};
 ghost use Rattle.clap.specs.declared.error.kind.ErrorKind.TheVariants.{DisplayHelp, DisplayVersion};
-ghost use Rattle.sq_wire.specs.Lines.{lines_left};
+ghost use Rattle.std.specs.Io.KnownBytes.{Appends};
+ghost use Rattle.sq_wire.specs.Lines.{lines_left, OneMore};
 ghost use Rattle.sq_merge.specs.Openings.{IsServed};
 ghost use Rattle.sqd.specs.CommandLine.{program_app};
 ghost use Rattle.sqd.specs.Endings.{Answered, Audited, AuditedInPart, Stopped, Shown, TellsAudit, TellsAuditInPart};
@@ -43,9 +44,21 @@ pub fn no_memory<E: Write>(errors: &mut E) -> u8
     1
 }
 
+/// Tells that the words are no text.
+pub fn no_text<E: Write>(errors: &mut E) -> u8
+    ensures { result ≡ 2 }
+{
+    let _ = errors.write_all(b"error: invalid UTF-8 was detected in one or more arguments\n");
+    let _ = errors.flush();
+    2
+}
+
 // Shows a text that was asked for.
 fn show<W: Write, E: Write>(output: &mut Counted<W>, errors: &mut E, text: &str) -> u8
     ensures bound { result ≤ 1 }
+    ensures done { result ≡ 0 → Appends (W.contents output.old.inner) (W.contents output.new.inner) text.now }
+    ensures same { result ≡ 0 → output.new.failed ≡ output.old.failed }
+    ensures fault { result ≡ 1 → OneMore output.old.failed output.new.failed }
     ensures shown { Shown (W.contents output.old.inner) (W.contents output.new.inner) }
 {
     if put(output, text.as_bytes()).is_err() || output.flush().is_err() {
@@ -66,6 +79,8 @@ fn explain<W: Write, E: Write>(
     ensures help { kind_of error.now ≡ DisplayHelp → result ≤ 1 }
     ensures version { kind_of error.now ≡ DisplayVersion → result ≤ 1 }
     ensures mistake { kind_of error.now ≢ DisplayHelp → kind_of error.now ≢ DisplayVersion → (result ≡ 2) × (output.new ≡ output.old) }
+    ensures same { result ≡ 0 → output.new.failed ≡ output.old.failed }
+    ensures fault { result ≡ 1 → (output.new ≡ output.old) ⊎ OneMore output.old.failed output.new.failed }
     ensures shown { Shown (W.contents output.old.inner) (W.contents output.new.inner) }
 {
     if error.use_stderr() {
@@ -104,7 +119,8 @@ fn tell_audit<W: Write, E: Write>(
 ) -> u8
     ensures bound { result ≤ 1 }
     ensures done { result ≡ 0 → TellsAudit world (W.contents output.old.inner) (W.contents output.new.inner) }
-    ensures fault { result ≡ 1 → TellsAuditInPart world (W.contents output.old.inner) (W.contents output.new.inner) }
+    ensures same { result ≡ 0 → output.new.failed ≡ output.old.failed }
+    ensures fault { result ≡ 1 → TellsAuditInPart world (W.contents output.old.inner) (W.contents output.new.inner) output.old.failed output.new.failed }
 {
     let text = match audit_world(alloc, world) {
         Ok(text) => text,
@@ -128,8 +144,10 @@ fn script<R: Read, W: Write, E: Write>(
     ensures bound { result ≤ 2 }
     ensures done { result ≡ 0 → mode.audit ≡ false → Answered mode.options (lines_left [] (R.remaining input.old.inner)) (W.contents output.old.inner) (W.contents output.new.inner) }
     ensures audited { result ≡ 0 → mode.audit ≡ true → Audited mode.options (lines_left [] (R.remaining input.old.inner)) (W.contents output.old.inner) (W.contents output.new.inner) }
-    ensures fault { result ≡ 1 → mode.audit ≡ false → Stopped mode.options (lines_left [] (R.remaining input.old.inner)) (W.contents output.old.inner) (W.contents output.new.inner) }
-    ensures cut { result ≡ 1 → mode.audit ≡ true → Stopped mode.options (lines_left [] (R.remaining input.old.inner)) (W.contents output.old.inner) (W.contents output.new.inner) ⊎ AuditedInPart mode.options (lines_left [] (R.remaining input.old.inner)) (W.contents output.old.inner) (W.contents output.new.inner) }
+    ensures fault { result ≡ 1 → mode.audit ≡ false → Stopped mode.options (lines_left [] (R.remaining input.old.inner)) (W.contents output.old.inner) (W.contents output.new.inner) input.old.failed input.new.failed output.old.failed output.new.failed }
+    ensures cut { result ≡ 1 → mode.audit ≡ true → Stopped mode.options (lines_left [] (R.remaining input.old.inner)) (W.contents output.old.inner) (W.contents output.new.inner) input.old.failed input.new.failed output.old.failed output.new.failed ⊎ AuditedInPart mode.options (lines_left [] (R.remaining input.old.inner)) (W.contents output.old.inner) (W.contents output.new.inner) input.old.failed input.new.failed output.old.failed output.new.failed }
+    ensures same { result ≡ 0 → (input.new.failed ≡ input.old.failed) × (output.new.failed ≡ output.old.failed) }
+    ensures served { result ≤ 1 → IsServed mode.options }
     ensures bad { result ≡ 2 → ¬ IsServed mode.options }
     ensures kept { result ≡ 2 → (input.new ≡ input.old) × (output.new ≡ output.old) }
 {
@@ -164,12 +182,15 @@ pub fn run<R: Read, W: Write, E: Write>(
     // Where a run was asked for.
     ensures done { (mode : ScriptMode) → IsModeOf (map (λ word. word.now) words.now) (ByScript mode) → result ≡ 0 → mode.audit ≡ false → Answered mode.options (lines_left [] (R.remaining input.old.inner)) (W.contents output.old.inner) (W.contents output.new.inner) }
     ensures audited { (mode : ScriptMode) → IsModeOf (map (λ word. word.now) words.now) (ByScript mode) → result ≡ 0 → mode.audit ≡ true → Audited mode.options (lines_left [] (R.remaining input.old.inner)) (W.contents output.old.inner) (W.contents output.new.inner) }
-    ensures fault { (mode : ScriptMode) → IsModeOf (map (λ word. word.now) words.now) (ByScript mode) → result ≡ 1 → mode.audit ≡ false → Stopped mode.options (lines_left [] (R.remaining input.old.inner)) (W.contents output.old.inner) (W.contents output.new.inner) }
-    ensures cut { (mode : ScriptMode) → IsModeOf (map (λ word. word.now) words.now) (ByScript mode) → result ≡ 1 → mode.audit ≡ true → Stopped mode.options (lines_left [] (R.remaining input.old.inner)) (W.contents output.old.inner) (W.contents output.new.inner) ⊎ AuditedInPart mode.options (lines_left [] (R.remaining input.old.inner)) (W.contents output.old.inner) (W.contents output.new.inner) }
+    ensures fault { (mode : ScriptMode) → IsModeOf (map (λ word. word.now) words.now) (ByScript mode) → result ≡ 1 → mode.audit ≡ false → Stopped mode.options (lines_left [] (R.remaining input.old.inner)) (W.contents output.old.inner) (W.contents output.new.inner) input.old.failed input.new.failed output.old.failed output.new.failed }
+    ensures cut { (mode : ScriptMode) → IsModeOf (map (λ word. word.now) words.now) (ByScript mode) → result ≡ 1 → mode.audit ≡ true → Stopped mode.options (lines_left [] (R.remaining input.old.inner)) (W.contents output.old.inner) (W.contents output.new.inner) input.old.failed input.new.failed output.old.failed output.new.failed ⊎ AuditedInPart mode.options (lines_left [] (R.remaining input.old.inner)) (W.contents output.old.inner) (W.contents output.new.inner) input.old.failed input.new.failed output.old.failed output.new.failed }
+    ensures served { (mode : ScriptMode) → IsModeOf (map (λ word. word.now) words.now) (ByScript mode) → result ≡ 0 → IsServed mode.options }
     ensures bad { (mode : ScriptMode) → IsModeOf (map (λ word. word.now) words.now) (ByScript mode) → result ≡ 2 → ¬ IsServed mode.options }
+    // No failed call goes unnoticed.
+    ensures same { result ≡ 0 → (input.new.failed ≡ input.old.failed) × (output.new.failed ≡ output.old.failed) }
     // Where none was: a text that was asked for, or a mistake.
     ensures shown { result ≡ 0 → ((mode : ScriptMode) × IsModeOf (map (λ word. word.now) words.now) (ByScript mode)) ⊎ (AsksForText (map (λ word. word.now) words.now) × (input.new ≡ input.old) × Shown (W.contents output.old.inner) (W.contents output.new.inner)) }
-    ensures told { result ≡ 1 → ((mode : ScriptMode) × IsModeOf (map (λ word. word.now) words.now) (ByScript mode)) ⊎ ((input.new ≡ input.old) × Shown (W.contents output.old.inner) (W.contents output.new.inner)) }
+    ensures told { result ≡ 1 → ((mode : ScriptMode) × IsModeOf (map (λ word. word.now) words.now) (ByScript mode)) ⊎ ((input.new ≡ input.old) × ((output.new ≡ output.old) ⊎ OneMore output.old.failed output.new.failed) × Shown (W.contents output.old.inner) (W.contents output.new.inner)) }
     ensures help { fault_of program_app (map (λ word. word.now) words.now) ≡ DisplayHelp ∷ [] → result ≤ 1 }
     ensures mistake { ((mode : ScriptMode) → ¬ IsModeOf (map (λ word. word.now) words.now) (ByScript mode)) → ¬ AsksForText (map (λ word. word.now) words.now) → (1 ≤ result) × (input.new ≡ input.old) × (output.new ≡ output.old) }
     ensures kept { result ≡ 2 → (input.new ≡ input.old) × (output.new ≡ output.old) }

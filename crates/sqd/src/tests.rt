@@ -1,6 +1,6 @@
 //! The program over memory.
 use crate::flags::{Mode, Refused, ScriptMode, flags};
-use crate::program::{audit_fault, no_memory, run};
+use crate::program::{audit_fault, no_memory, no_text, run};
 use sq_merge::check::AuditFault;
 use sq_merge::options::Options;
 use sq_wire::counted::Counted;
@@ -223,6 +223,15 @@ fn tells_of_no_memory(rt: HostRuntime) -> Result<(), Fail> {
     let mut errors = Vec::new(rt.alloc());
     assert!(rt; no_memory(&mut errors) == 1);
     assert!(rt; errors.as_slice() == b"sqd: no memory after 0 requests\n".as_slice());
+    Ok(())
+}
+
+#[test]
+fn tells_that_words_are_no_text(rt: HostRuntime) -> Result<(), Fail> {
+    let mut errors = Vec::new(rt.alloc());
+    assert!(rt; no_text(&mut errors) == 2);
+    let text = str::from_utf8(errors.as_slice()).unwrap_or("");
+    assert!(rt; text.starts_with("error: invalid UTF-8"));
     Ok(())
 }
 

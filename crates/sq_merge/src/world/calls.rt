@@ -60,7 +60,7 @@ impl World {
         ensures asked { IfOk result (λ by. by ≡ asked actor now name.now by.queue) }
         ensures read { OnOk result (self.new ≡ having_read self.old actor) }
         ensures known { IfOk result (IsKnownBy self.new) }
-        ensures refused { IfErr result (NameRefused self.old name.now) }
+        ensures refused { IfErr result (NameRefused self.old actor name.now) }
         ensures err { OnErr result (self.new ≡ self.old) }
     {
         let queue = self.resolve(alloc, actor, name)?;

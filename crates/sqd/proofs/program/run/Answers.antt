@@ -20,6 +20,10 @@ pub returns-in-Ok-Script-clause-cut : goal.returns-in-Ok-Script-clause-cut
 returns-in-Ok-Script-clause-cut g c mode asked one =
     rw (asks_for_one _ c.in-Ok-Script.field-0 mode c.in-Ok-Script.ensures.ok asked) at (c.script.ensures.cut one)
 
+pub returns-in-Ok-Script-clause-served : goal.returns-in-Ok-Script-clause-served
+returns-in-Ok-Script-clause-served g c mode asked zero =
+    rw (asks_for_one _ c.in-Ok-Script.field-0 mode c.in-Ok-Script.ensures.ok asked) at (c.script.ensures.served (omega (arith, zero)))
+
 pub returns-in-Ok-Script-clause-bad : goal.returns-in-Ok-Script-clause-bad
 returns-in-Ok-Script-clause-bad g c mode asked two =
     rw (asks_for_one _ c.in-Ok-Script.field-0 mode c.in-Ok-Script.ensures.ok asked) at (c.script.ensures.bad two)
@@ -46,7 +50,7 @@ returns-in-Err-Usage-clause-mistake g c none other =
     (rw told.0 (omega arith), refl {a = c.args.input.now}, told.1)
 
 pub returns-in-Err-NoMemory-clause-fault : goal.returns-in-Err-NoMemory-clause-fault
-returns-in-Err-NoMemory-clause-fault g c mode asked one no_audit = stopped_first _ _ _
+returns-in-Err-NoMemory-clause-fault g c mode asked one no_audit = stopped_first _ _ _ _ _
 
 pub returns-in-Err-NoMemory-clause-cut : goal.returns-in-Err-NoMemory-clause-cut
-returns-in-Err-NoMemory-clause-cut g c mode asked one audit = inl (stopped_first _ _ _)
+returns-in-Err-NoMemory-clause-cut g c mode asked one audit = inl (stopped_first _ _ _ _ _)

@@ -1,12 +1,13 @@
-use Rattle.std.proofs.Common.{rules, ◌≡◌, ◌<◌, length, Some, None, Err, inl, inr, sym}
+use Rattle.std.proofs.Common.{rules, ◌≡◌, ◌<◌, length, Some, None, Err, inl, sym}
 use Rattle.std.specs.Prelude.{position}
 use Rattle.std.proofs.lemmas.List.{length-set}
+use Rattle.sq_base.specs.declared.refusal.Refusal.TheVariants.{NoMemory}
 use Rattle.sq_merge.specs.Acts.{call_of}
 use Rattle.sq_merge.specs.Books.{is_of, book_of}
 use Rattle.sq_merge.specs.Openings.{home_place}
 use Rattle.sq_merge.specs.WorldValue.{WorldValue}
 use Rattle.sq_merge.specs.Worlds.{IsKnown}
-use Rattle.sq_merge.proofs.StepLaws.{place_none, stepped_found, stepped_new, refused_found, refused_new}
+use Rattle.sq_merge.proofs.StepLaws.{place_none, stepped_found, stepped_new, refused_found, refused_new, refused_unmade}
 use Rattle.sq_merge.proofs.WorldLaws.{kept_home}
 use Rattle.sq_merge.proofs.world.World.at_home.Goals as goal
 
@@ -14,7 +15,7 @@ pub returns-in_default-clause-refusal : goal.returns-in_default-clause-refusal
 returns-in_default-clause-refusal c =
     let old : WorldValue = record { directory = c.self.inside.directory; per_queue = c.self.inside.per_queue; sample = c.self.inside.sample; homes = c.self.inside.homes.items; books = c.self.inside.books.items } in
     let none : home_place old.per_queue (length old.homes) c.args.id.now ≡ None = search rules in
-    rw (← c.self.view_is) (inr (inl ((λ at h is. place_none old.per_queue old.homes c.args.id.now c.home_place.ensures.homes c.self.invariant.kept.numbered none at h is.there is.is), c.absent.ensures)))
+    rw (← c.self.view_is) (inl ((λ at h is. place_none old.per_queue old.homes c.args.id.now c.home_place.ensures.homes c.self.invariant.kept.numbered none at h is.there is.is), c.absent.ensures))
 
 pub returns-in_err-reply-in-Some-book_at-clause-refusal : goal.returns-in_err-reply-in-Some-book_at-clause-refusal
 returns-in_err-reply-in-Some-book_at-clause-refusal c =
@@ -79,3 +80,12 @@ returns-in_ok-reply-in-None-clause-stepped c =
     let pos : position (is_of c.args.actor) old.books ≡ None = sym (rw (← c.self.view_is) at c.in-None.ensures.place) in
     rw (← c.self.view_is, c.put.ensures, c.try_reserve.ensures.items)
     (stepped_new old c.args.actor c.args.now c.args.name c.args.id.now (call_of c.args.act) c.in_ok-reply-in-None.reply c.in-Some.place c.index_mut-home-in-None.result.now c.home_step-in-None.new.home c.home_step-in-None.new.book c.self.invariant.kept.numbered c.home_place.ensures.queue place c.index_mut-home-in-None.ensures.value pos (rw c.new-book.ensures at c.in_ok-reply-in-None.ensures.step))
+
+pub returns-in_err-try_reserve-in-None-clause-refusal : goal.returns-in_err-try_reserve-in-None-clause-refusal
+returns-in_err-try_reserve-in-None-clause-refusal c =
+    let old : WorldValue = record { directory = c.self.inside.directory; per_queue = c.self.inside.per_queue; sample = c.self.inside.sample; homes = c.self.inside.homes.items; books = c.self.inside.books.items } in
+    let place : home_place old.per_queue (length old.homes) c.args.id.now ≡ Some c.in-Some.place = search rules in
+    let pos : position (is_of c.args.actor) old.books ≡ None = sym (rw (← c.self.view_is) at c.in-None.ensures.place) in
+    let refused : c.from_residual-in_err-try_reserve-in-None.result ≡ Err NoMemory = search rules in
+    rw (refused, ← c.self.view_is)
+    (refused_unmade old c.args.actor c.args.now c.args.id.now (call_of c.args.act) c.in-Some.place c.self.invariant.kept.numbered c.home_place.ensures.queue place pos)

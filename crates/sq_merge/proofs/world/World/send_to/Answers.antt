@@ -9,7 +9,7 @@ returns-in_err-sent c =
     let refused : c.from_residual-in_err-sent.result ≡ Err c.in_err-sent.field-0.0 = search rules in
     let below : c.pick-home.result < c.args.self.now.per_queue = rw (← c.self.view_is) c.pick-home.ensures in
     let refuses : Refuses c.args.by.now c.args.self.now c.pick-home.result (Send c.args.call.now.body c.args.call.now.delay) c.in_err-sent.field-0.0 = rw (← c.self.view_is, ← c.as_str.ensures, ← c.in_ok-body.ensures.value) c.in_err-sent.ensures.refuses in
-    rw refused (c.in_err-sent.ensures.err ∙ c.self.view_is, inr (inr (rw c.as_str.ensures at c.in_ok-body.ensures.checked, (c.pick-home.result, below, refuses))))
+    rw refused (c.in_err-sent.ensures.err ∙ c.self.view_is, inr (rw c.as_str.ensures at c.in_ok-body.ensures.checked, inr (c.pick-home.result, below, refuses)))
 
 pub unreachable-requires : goal.unreachable-requires
 unreachable-requires c = stepped_sent _ _ _ _ _ _ _ _ _ c.in_ok-sent.ensures.does c.in_default.not-Sent
