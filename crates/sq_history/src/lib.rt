@@ -1,7 +1,7 @@
 //! A home with its history.
 #![tactic(auto)]
 
-pub mod log;
+mod log;
 pub mod record;
 pub mod recorded;
 #[cfg(test)]
