@@ -2,7 +2,7 @@
 ghost use Rattle.std.specs.Prelude.{◌<◌};
 
 use crate::record::HomeRecord;
-use crate::recorded::{Home, Recorded};
+use crate::recorded::{Home, Recorded, reply_of_look};
 use sq_base::body::{BODY_LIMIT, Body};
 use sq_base::ids::{HomeId, HomeNo, QueueNo, Serial};
 use sq_base::ranges::{Delay, MaxMessages, MaxReceives, Receives, Retention, Timeout};
@@ -291,6 +291,23 @@ fn limits_are_kept(rt: HostRuntime) -> Result<(), Fail> {
         ],
     );
     assert_eq!(rt; wrong, None);
+    Ok(())
+}
+
+#[test]
+fn a_look_at_a_shard_receives_its_message(rt: HostRuntime) -> Result<(), Fail> {
+    let mut shard = Shard::unopened(site(10, 1), PlainStore::new(rt.alloc()));
+    shard.configure(0, Settings::standard(), 1)?;
+    let body = Body::new(rt.alloc(), "hello", BODY_LIMIT)?;
+    shard.send(1000, body, None)?;
+    for (now, want) in [
+        (1000, Told::Gave(1, 31_000)),
+        (30_999, Told::Nothing),
+        (31_000, Told::Gave(2, 61_000)),
+    ] {
+        let given = shard.look(rt.alloc(), now, MaxMessages::of(10), None)?;
+        assert_eq!(rt; told_by(&reply_of_look(given)), want);
+    }
     Ok(())
 }
 

@@ -90,3 +90,6 @@ impl BoxedItem {
         &self.item
     }
 }
+
+#[cfg(test)]
+mod tests;
