@@ -25,6 +25,8 @@ const OVER_LIMIT: Told = Told::Refused("OverLimit", 14);
 
 const OUT_OF_RANGE: Told = Told::Refused("InvalidParameterValue", 7);
 
+const NO_HANDLE: Told = Told::Refused("ReceiptHandleIsInvalid", 15);
+
 const NOT_IN_FLIGHT: Told = Told::Refused("MessageNotInflight", 16);
 
 /// An action at a moment, with members beside the queue's name and URL, and what it is answered.
@@ -117,12 +119,41 @@ fn a_message_is_hidden_until_its_timeout(rt: HostRuntime) -> Result<(), Fail> {
         CREATE,
         SEND,
         (1000, "ReceiveMessage", "", Told::Got(1)),
+        (30_999, "ReceiveMessage", "", Told::Empty),
         (31_000, "ReceiveMessage", "", Told::Got(2)),
         (31_000, "DeleteMessage", second, Told::Done),
         (31_000, "DeleteMessage", second, Told::Done),
         (61_000, "ReceiveMessage", "", Told::Empty),
     ];
     assert!(rt; goes(rt.alloc(), limits(10, 10), &deleted)?);
+    Ok(())
+}
+
+#[test]
+fn a_wrong_handle_is_refused(rt: HostRuntime) -> Result<(), Fail> {
+    let of_first = [
+        ",\"ReceiptHandle\":\"000000000001-000-00000000-0000000000000005-00000001\"",
+        ",\"ReceiptHandle\":\"000000000001-000-0000000A-0000000000000000-00000001\"",
+        ",\"ReceiptHandle\":\"000000000001-000-00000000-0000000000000000-000000010\"",
+    ];
+    let of_second = [
+        ",\"ReceiptHandle\":\"000000000001-000-00000000-0000000000000005-00000002\"",
+        ",\"ReceiptHandle\":\"000000000001-000-0000000A-0000000000000000-00000002\"",
+        ",\"ReceiptHandle\":\"000000000001-000-00000000-0000000000000000-000000020\"",
+    ];
+    for [serial, slot, longer] in [of_first, of_second] {
+        let steps = [
+            CREATE,
+            SEND,
+            (1000, "ReceiveMessage", "", Told::Got(1)),
+            (30_999, "ReceiveMessage", "", Told::Empty),
+            (31_000, "ReceiveMessage", "", Told::Got(2)),
+            (31_000, "DeleteMessage", serial, NO_HANDLE),
+            (31_000, "DeleteMessage", slot, NO_HANDLE),
+            (31_000, "DeleteMessage", longer, NO_HANDLE),
+        ];
+        assert!(rt; goes(rt.alloc(), limits(10, 10), &steps)?);
+    }
     Ok(())
 }
 
@@ -203,12 +234,13 @@ fn limits_are_kept(rt: HostRuntime) -> Result<(), Fail> {
         (late, "SendMessage", HELLO, Told::Refused("ClockRange", 2)),
     ];
     assert!(rt; goes(rt.alloc(), limits(10, 10), &clock)?);
-    let eleven = ",\"MaxNumberOfMessages\":11,\"VisibilityTimeout\":0";
+    let eleven = ",\"VisibilityTimeout\":0,\"MaxNumberOfMessages\":11";
+    let ten_at_once = ",\"VisibilityTimeout\":0,\"MaxNumberOfMessages\":10";
     let most = [
         CREATE,
         SEND,
         (1000, "ReceiveMessage", eleven, OUT_OF_RANGE),
-        (1000, "ReceiveMessage", ten, Told::Got(1)),
+        (1000, "ReceiveMessage", ten_at_once, Told::Got(1)),
     ];
     assert!(rt; goes(rt.alloc(), limits(10, 10), &most)?);
     Ok(())
