@@ -1,5 +1,5 @@
-//! A long run of steps chosen at random, what the audit says of it, and of a record that is taken out.
-ghost use Rattle.std.specs.Prelude.{◌<◌};
+//! Runs of steps chosen at random, what the audit says of them, and of each record that is taken out.
+ghost use Rattle.std.specs.Prelude.{◌<◌, ◌≤◌};
 
 use crate::act::{Act, HomeAct, Outcome, Step};
 use crate::check::AuditFault;
@@ -172,17 +172,20 @@ impl Told {
     }
 }
 
-fn ran(alloc: Global) -> Result<(World, Told), Refusal> {
+// The parts that so many steps leave, and what was told of them: the same each time.
+fn ran(alloc: Global, steps: u64) -> Result<(Parts, Told), Refusal>
+    requires { steps ≤ 100000 }
+{
     let mut world = World::new(alloc, OPTIONS)?;
     let mut choices = Choices { state: 1 };
     let mut told = Told::new();
-    for number in 0..100_000 {
+    for number in 0..steps {
         let step = choices.step(alloc, number, &told)?;
         if let Ok(outcome) = world.step(alloc, &step) {
             told.note(&step.act, &outcome);
         }
     }
-    Ok((world, told))
+    Ok((world.parts(), told))
 }
 
 // How many events the run has, how many messages were sent in it, and how many places are told.
@@ -201,12 +204,45 @@ fn fault(alloc: Global, parts: &Parts) -> Option<AuditFault> {
 
 #[test]
 fn a_long_run_is_audited(rt: HostRuntime) -> Result<(), Fail> {
-    let (world, told) = ran(rt.alloc())?;
-    let mut parts = world.parts();
+    let (mut parts, told) = ran(rt.alloc(), 100_000)?;
     let wanted = (told.events, told.sends, told.sends);
     assert!(rt; counts(rt.alloc(), &parts) == Ok(wanted));
     assert!(rt; parts.drop_record(0, 0));
     assert!(rt; fault(rt.alloc(), &parts) == Some(AuditFault::RecordMissing(0, 0)));
     assert!(rt; !parts.drop_record(0, 0));
+    Ok(())
+}
+
+#[test]
+fn each_record_that_is_taken_out_is_told(rt: HostRuntime) -> Result<(), Fail> {
+    let (whole, told) = ran(rt.alloc(), 300)?;
+    let books = whole.records.as_slice();
+    let mut dropped = 0usize;
+    for at in 0..books.len() {
+        let actor = books[at].actor();
+        for place in 0..books[at].records().len() as u64 {
+            let (mut parts, _) = ran(rt.alloc(), 300)?;
+            assert!(rt; parts.drop_record(actor, place));
+            assert!(rt; fault(rt.alloc(), &parts) == Some(AuditFault::RecordMissing(actor, place)));
+            assert!(rt; !parts.drop_record(actor, place));
+            dropped = dropped.saturating_add(1);
+        }
+    }
+    assert!(rt; dropped == told.events && 100 < dropped);
+    // Some of them were of the directory.
+    assert!(rt; 2 <= whole.directory.events().len());
+    Ok(())
+}
+
+#[test]
+fn a_record_that_is_not_there_is_not_taken_out(rt: HostRuntime) -> Result<(), Fail> {
+    let (mut parts, _) = ran(rt.alloc(), 300)?;
+    // The actors are 0 to 7, and none has so many records.
+    assert!(rt; !parts.drop_record(8, 0));
+    for actor in 0..8 {
+        assert!(rt; !parts.drop_record(actor, 300));
+        assert!(rt; !parts.drop_record(actor, u64::MAX));
+    }
+    assert!(rt; fault(rt.alloc(), &parts) == None);
     Ok(())
 }
