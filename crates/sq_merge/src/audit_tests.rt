@@ -215,32 +215,32 @@ fn a_long_run_is_audited(rt: HostRuntime) -> Result<(), Fail> {
 
 #[test]
 fn each_record_that_is_taken_out_is_told(rt: HostRuntime) -> Result<(), Fail> {
-    let (whole, told) = ran(rt.alloc(), 300)?;
+    let (whole, told) = ran(rt.alloc(), 150)?;
     let books = whole.records.as_slice();
     let mut dropped = 0usize;
     for at in 0..books.len() {
         let actor = books[at].actor();
         for place in 0..books[at].records().len() as u64 {
-            let (mut parts, _) = ran(rt.alloc(), 300)?;
+            let (mut parts, _) = ran(rt.alloc(), 150)?;
             assert!(rt; parts.drop_record(actor, place));
             assert!(rt; fault(rt.alloc(), &parts) == Some(AuditFault::RecordMissing(actor, place)));
             assert!(rt; !parts.drop_record(actor, place));
             dropped = dropped.saturating_add(1);
         }
     }
-    assert!(rt; dropped == told.events && 100 < dropped);
-    // Some of them were of the directory.
-    assert!(rt; 2 <= whole.directory.events().len());
+    assert!(rt; dropped == told.events && 50 < dropped);
+    // The directory's records are among them.
+    assert!(rt; 1 <= whole.directory.events().len());
     Ok(())
 }
 
 #[test]
 fn a_record_that_is_not_there_is_not_taken_out(rt: HostRuntime) -> Result<(), Fail> {
-    let (mut parts, _) = ran(rt.alloc(), 300)?;
+    let (mut parts, _) = ran(rt.alloc(), 150)?;
     // The actors are 0 to 7, and none has so many records.
     assert!(rt; !parts.drop_record(8, 0));
     for actor in 0..8 {
-        assert!(rt; !parts.drop_record(actor, 300));
+        assert!(rt; !parts.drop_record(actor, 150));
         assert!(rt; !parts.drop_record(actor, u64::MAX));
     }
     assert!(rt; fault(rt.alloc(), &parts) == None);
