@@ -1,2 +1,3 @@
 pub mod HistoryValue
 pub mod Histories
+pub mod Events

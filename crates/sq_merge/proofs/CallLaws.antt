@@ -17,7 +17,7 @@ use Rattle.sq_model.proofs.LookLaws.{look_over}
 use Rattle.sq_merge.specs.declared.calls.Answer.{Answer}
 use Rattle.sq_merge.specs.declared.calls.Asked.{Asked}
 use Rattle.sq_merge.specs.declared.calls.ReceiveMessage.{ReceiveMessage}
-use Rattle.sq_merge.specs.Books.{book_of}
+use Rattle.sq_steps.specs.Books.{book_of}
 use Rattle.sq_merge.specs.Calls.{home_of, given_by, Configures, Configured, Looks, AskedInVain, AsksNext, ReceiveAt}
 use Rattle.sq_merge.specs.GivenValue.{AreReceived}
 use Rattle.sq_merge.specs.WorldValue.{WorldValue}

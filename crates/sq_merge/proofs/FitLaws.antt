@@ -17,12 +17,12 @@ use Rattle.sq_merge.specs.declared.calls.Call.TheVariants as call
 use Rattle.sq_merge.specs.declared.calls.CreateQueue.{CreateQueue}
 use Rattle.sq_merge.specs.declared.calls.ReceiveMessage.{ReceiveMessage}
 use Rattle.sq_merge.specs.declared.calls.SendMessage.{SendMessage}
-use Rattle.sq_merge.specs.Books.{book_of, having_seen}
+use Rattle.sq_steps.specs.Books.{book_of, having_seen}
 use Rattle.sq_merge.specs.Calls.{Does, Configured, AskedInVain, SendAt, ReceiveAt, AtHandle, CreateTold, ByName, asked}
 use Rattle.sq_merge.specs.Fits.{IsStepOf, IsMaking, ConfigureNotes, VainNotes, SendFits, ReceiveFits, HandleFits, ReplyFits, LeavesNotes}
 use Rattle.sq_merge.specs.WorldValue.{WorldValue}
 use Rattle.sq_merge.specs.Worlds.{Created, having_read}
-use Rattle.sq_merge.proofs.BookListLaws.{book_own}
+use Rattle.sq_steps.proofs.BookListLaws.{book_own}
 use Rattle.sq_merge.proofs.KnownLaws.{book_put}
 
 abbrev notes_of : ℕ → WorldValue → List Note

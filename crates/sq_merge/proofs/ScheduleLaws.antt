@@ -3,8 +3,8 @@ use Rattle.std.proofs.Common.{◌≡◌, ℕ, ◌+◌, ◌<◌, List, [], ◌∷
 use Rattle.std.specs.List.{slice_index_or}
 use Rattle.std.proofs.lemmas.List.{take_more}
 use Rattle.sq_base.specs.declared.refusal.Refusal.{Refusal}
-use Rattle.sq_merge.specs.declared.act.Outcome.{Outcome}
-use Rattle.sq_merge.specs.declared.act.Step.{Step}
+use Rattle.sq_steps.specs.declared.act.Outcome.{Outcome}
+use Rattle.sq_steps.specs.declared.act.Step.{Step}
 use Rattle.sq_merge.specs.WorldValue.{WorldValue}
 use Rattle.sq_merge.specs.Worlds.{StepTold, StepRefused, Schedule}
 

@@ -1,12 +1,10 @@
 -- A step of a world, from what was done to its parts.
-use Rattle.std.proofs.Common.{◌≡◌, ◌≢◌, ℕ, zero, suc, ◌+◌, ◌-◌, ◌*◌, ◌/◌, ◌%◌, ◌<◌, ◌≤◌, true, false, List, [], ◌∷◌, ◌++◌, length, refl, ap, sym, ◌∙◌, subst, inl, inr, arith, Option, Some, None, slice_get, slice_set}
-use Rattle.std.specs.Prelude.{nat_lt, ◌&&◌, if◌then◌else◌, position}
+use Rattle.std.proofs.Common.{◌≡◌, ◌≢◌, ℕ, zero, suc, ◌+◌, ◌-◌, ◌*◌, ◌<◌, ◌≤◌, List, [], ◌∷◌, ◌++◌, length, refl, ap, sym, ◌∙◌, subst, inl, inr, arith, Option, Some, None, slice_get, slice_set}
+use Rattle.std.specs.Prelude.{position}
 use Rattle.std.specs.List.{slice_index_or}
-use Rattle.std.proofs.lemmas.Nat.{div-mul-add, mod-mul-add}
-use Rattle.std.proofs.Math.Nat.{mod-add-div, mod-lt, mul_comm, mul-le-mul_right}
-use Rattle.std.proofs.lemmas.Option.{slice_get_read, slice_get_within}
+use Rattle.std.proofs.Math.Nat.{mul-le-mul_right}
+use Rattle.std.proofs.lemmas.Option.{slice_get_read}
 use Rattle.std.proofs.lemmas.List.{length-append}
-use Rattle.std.proofs.lemmas.Grind.{common_steps}
 use Rattle.sq_base.specs.declared.ids.HomeId.{HomeId}
 use Rattle.sq_base.specs.declared.refusal.Refusal.{Refusal}
 use Rattle.sq_base.specs.declared.refusal.Refusal.TheVariants.{NoMemory}
@@ -21,53 +19,16 @@ use Rattle.sq_model.specs.Replays.{HomeEvent}
 use Rattle.sq_model.specs.Notes.{Book}
 use Rattle.sq_model.specs.Matches.{HomeHistory, IsHomeEvent}
 use Rattle.sq_history.specs.HistoryValue.{HistoryValue}
-use Rattle.sq_merge.specs.DirectoryHistory.{DirectoryHistory}
-use Rattle.sq_merge.specs.Books.{is_of, new_book, book_of, having_seen, last_place, HomeMoves, DirectoryMoves, IsHomeRefused, IsCreateRefused}
+use Rattle.sq_directory.specs.DirectoryHistory.{DirectoryHistory}
+use Rattle.sq_steps.specs.Books.{is_of, new_book, book_of, having_seen, last_place, HomeMoves, DirectoryMoves, IsHomeRefused, IsCreateRefused}
 use Rattle.sq_merge.specs.WorldValue.{WorldValue}
-use Rattle.sq_merge.specs.Worlds.{history_of, histories_of, home_id, IsNumbered, IsHomeOf, IsKeptWorld, HomeStepped, HomeRefused, Created, CreateRefused, having_read}
+use Rattle.sq_audit.specs.HomeIds.{history_of, histories_of, IsNumbered, home_place}
+use Rattle.sq_merge.specs.Worlds.{IsHomeOf, IsKeptWorld, HomeStepped, HomeRefused, Created, CreateRefused, having_read}
 use Rattle.sq_merge.specs.declared.options.Options.{Options}
-use Rattle.sq_merge.specs.Openings.{home_place, never_opened, never_opened_homes, limits_of, IsServed, new_world}
-use Rattle.sq_merge.proofs.ElementLaws.{some_same, get_cases, get_mapped, get_within}
-use Rattle.sq_merge.proofs.BookListLaws.{book_own, found_there, found_put, lost_there, lost_put}
-
-pub same_id : (x y : HomeId) → x.queue ≡ y.queue → x.home ≡ y.home → x ≡ y
-same_id x y q h = ap (λ (n : ℕ). record { queue = n; home = x.home }) q ∙ ap (λ (n : ℕ). record { queue = y.queue; home = n }) h
-
-place_is : (per_queue count : ℕ) (id : HomeId) → 1 ≤ id.queue → id.home < per_queue → (id.queue - 1) * per_queue + id.home < count
-    → ((id.queue - 1) * per_queue + id.home < count) × (home_id per_queue ((id.queue - 1) * per_queue + id.home) ≡ id)
-place_is per_queue count id least below within =
-    (within, same_id (home_id per_queue ((id.queue - 1) * per_queue + id.home)) id (omega (arith, div-mul-add (id.queue - 1) per_queue id.home below, least)) (mod-mul-add (id.queue - 1) per_queue id.home below))
-
--- a place that is found has the home
-pub place_found : (per_queue count : ℕ) (id : HomeId) (place : ℕ) → 1 ≤ id.queue → home_place per_queue count id ≡ Some place → (place < count) × (home_id per_queue place ≡ id)
-place_found per_queue count id place least h =
-    let at = (id.queue - 1) * per_queue + id.home in
-    elim (nat_lt id.home per_queue) as (λ v. nat_lt id.home per_queue ≡ v → (if v && nat_lt at count then Some at else None) ≡ Some place → (place < count) × (home_id per_queue place ≡ id)) [
-      | true ↦ (λ e. elim (nat_lt at count) as (λ w. nat_lt at count ≡ w → (if w then Some at else None) ≡ Some place → (place < count) × (home_id per_queue place ≡ id)) [
-        | true ↦ (λ f k. subst (λ (n : ℕ). (n < count) × (home_id per_queue n ≡ id)) (some_same k) (place_is per_queue count id least (grind (arith, common_steps, e)) (grind (arith, common_steps, f))))
-        | false ↦ (λ f k. absurd cc)
-      ] refl)
-      | false ↦ (λ e k. absurd cc)
-    ] refl h
-
-mul-order : (a b c d : ℕ) → c + b * a ≡ d → a * b + c ≡ d
-mul-order a b c d h = let e = mul_comm a b in omega (arith, h, e)
-
-pub place_back : (per_queue count at : ℕ) → 1 ≤ per_queue → at < count → home_place per_queue count (home_id per_queue at) ≡ Some at
-place_back per_queue count at some within =
-    let less : nat_lt (at % per_queue) per_queue ≡ true = (let lt = mod-lt at some in grind (arith, common_steps, lt)) in
-    let is : (at / per_queue + 1 - 1) * per_queue + at % per_queue ≡ at = (let e : at / per_queue + 1 - 1 ≡ at / per_queue = omega arith in rw e (mul-order (at / per_queue) per_queue (at % per_queue) at (mod-add-div at per_queue))) in
-    let inside : nat_lt at count ≡ true = grind (arith, common_steps) in
-    rw (less, is, inside) refl
-
-within : (homes : List HistoryValue) (at : ℕ) (h : HistoryValue) → slice_get homes at ≡ Some h → at < length homes
-within homes at h there = slice_get_within homes at h there
-
--- and no other place is
-pub place_none : (per_queue : ℕ) (homes : List HistoryValue) (id : HomeId) → 1 ≤ per_queue → IsNumbered per_queue homes → home_place per_queue (length homes) id ≡ None → (at : ℕ) (h : HistoryValue) → slice_get homes at ≡ Some h → h.site.home ≡ id → ⊥
-place_none per_queue homes id some numbered none at h there is =
-    let place : home_place per_queue (length homes) id ≡ Some at = subst (λ (x : HomeId). home_place per_queue (length homes) x ≡ Some at) (sym (numbered at h there) ∙ is) (place_back per_queue (length homes) at some (within homes at h there)) in
-    cc
+use Rattle.sq_merge.specs.Openings.{never_opened, never_opened_homes, limits_of, IsServed, new_world}
+use Rattle.sq_directory.proofs.ElementLaws.{get_cases, get_mapped, get_within}
+use Rattle.sq_steps.proofs.BookListLaws.{book_own, found_put, lost_there, lost_put, found_is}
+use Rattle.sq_audit.proofs.HomeIdLaws.{place_found}
 
 -- the home at its place
 home_is : (old : WorldValue) (id : HomeId) (place : ℕ) (before : HistoryValue) → IsNumbered old.per_queue old.homes → 1 ≤ id.queue → home_place old.per_queue (length old.homes) id ≡ Some place → before ≡ slice_index_or old.homes place before → IsHomeOf old id place before
@@ -75,9 +36,6 @@ home_is old id place before numbered least found is =
     let t = place_found old.per_queue (length old.homes) id place least found in
     let there : slice_get old.homes place ≡ Some before = slice_get_read old.homes (length old.homes) place before refl t.0 is in
     record { there = there; is = numbered place before there ∙ t.1 }
-
-pub found_is : (books : List Book) (actor at : ℕ) (mine : Book) → position (is_of actor) books ≡ Some at → at < length books → mine ≡ slice_index_or books at mine → mine ≡ book_of actor books
-found_is books actor at mine pos lt own = some_same (sym (slice_get_read books (length books) at mine refl lt own) ∙ found_there actor books at pos)
 
 pub stepped_found : (old : WorldValue) (actor now : ℕ) (name : Option (List ℕ)) (id : HomeId) (call : HomeCall) (reply : HomeReply) (place at : ℕ) (before after : HistoryValue) (mine noted : Book)
     → IsNumbered old.per_queue old.homes → 1 ≤ id.queue → home_place old.per_queue (length old.homes) id ≡ Some place → before ≡ slice_index_or old.homes place before

@@ -15,16 +15,18 @@ use Rattle.sq_model.specs.declared.directory.DirectoryCall.TheVariants.{Create}
 use Rattle.sq_model.specs.Replays.{HomeEvent}
 use Rattle.sq_model.specs.Systems.{DirectoryEvent}
 use Rattle.sq_model.specs.Notes.{HomeNote, DirectoryNote, Note, OfDirectory, OfHome, place_of, Book, actor_of, directory_note, home_note}
-use Rattle.sq_model.specs.Matches.{HomeHistory, IsHomeEvent, IsNote, IsNamed, Happened, IsNoted, IsOfDirectory, IsOfHome}
+use Rattle.sq_model.specs.Matches.{HomeHistory, IsHomeEvent, IsNote, IsNamed, Happened, IsNoted, IsOfDirectory, IsOfHome, IsMatched}
 use Rattle.sq_history.specs.HistoryValue.{HistoryValue}
 use Rattle.sq_history.specs.Histories.{event_of, note_of}
-use Rattle.sq_merge.specs.DirectoryHistories.{directory_event}
-use Rattle.sq_merge.specs.Books.{new_book, book_of, put_book, with_note, having_seen}
+use Rattle.sq_directory.specs.DirectoryHistories.{directory_event}
+use Rattle.sq_steps.specs.Books.{new_book, book_of, put_book, with_note, having_seen}
 use Rattle.sq_merge.specs.WorldValue.{WorldValue}
-use Rattle.sq_merge.specs.Worlds.{history_of, histories_of, home_id, IsKnown, IsKeptWorld, HomeStepped, Created, having_read}
-use Rattle.sq_merge.proofs.BookLaws.{seen_below}
-use Rattle.sq_merge.proofs.ElementLaws.{get_old, get_new, get_cases, get_map, get_mapped, get_same, set_cases, set_kept}
-use Rattle.sq_merge.proofs.BookListLaws.{book_there, book_own, put_cases, put_there, put_kept, put_distinct}
+use Rattle.sq_audit.specs.HomeIds.{history_of, histories_of, home_id}
+use Rattle.sq_merge.specs.Worlds.{IsKnown, IsKeptWorld, HomeStepped, Created, having_read}
+use Rattle.sq_directory.proofs.MakerLaws.{seen_below}
+use Rattle.sq_directory.proofs.ElementLaws.{get_old, get_new, get_cases, get_map, get_mapped, get_same, set_cases, set_kept}
+use Rattle.sq_steps.proofs.BookListLaws.{book_there, book_own, put_cases, put_there, put_kept, put_distinct}
+use Rattle.sq_audit.proofs.CheckLaws.{fits_match}
 
 -- what was there is there, with more events
 record Grown (homes : List HomeHistory) (j : ℕ) (old : HomeHistory) : Type 0 where
@@ -303,3 +305,8 @@ kept_read w actor kept =
       counted = λ b x h. elim (put_cases noted w.books b x h) [ inl k ↦ kept.counted b x k | inr same ↦ rw same (book_counted w.books actor kept.counted) ];
       distinct = put_distinct noted w.books kept.distinct;
     }
+
+-- what a world leaves is matched
+pub kept_matched : (w : WorldValue) → IsKeptWorld w → IsMatched w.directory.events (histories_of w.homes) w.books
+kept_matched w kept =
+    fits_match w.directory.events (histories_of w.homes) w.books kept.distinct (λ b i book n h. (kept.exact b i book n h, kept.happened b i book n h)) kept.directory_noted kept.homes_noted

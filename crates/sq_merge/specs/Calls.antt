@@ -28,7 +28,7 @@ use Rattle.sq_merge.specs.declared.calls.CreateQueue.{CreateQueue}
 use Rattle.sq_merge.specs.declared.calls.DeleteMessage.{DeleteMessage}
 use Rattle.sq_merge.specs.declared.calls.ReceiveMessage.{ReceiveMessage}
 use Rattle.sq_merge.specs.declared.calls.SendMessage.{SendMessage}
-use Rattle.sq_merge.specs.Books.{book_of}
+use Rattle.sq_steps.specs.Books.{book_of}
 use Rattle.sq_merge.specs.WorldValue.{WorldValue}
 use Rattle.sq_merge.specs.Worlds.{HomeStepped, HomeRefused, Created, CreateRefused, NameRefused, having_read, IsKnown}
 

@@ -26,7 +26,7 @@ use Rattle.sq_merge.specs.declared.calls.Call.TheVariants as call
 use Rattle.sq_merge.specs.declared.calls.CreateQueue.{CreateQueue}
 use Rattle.sq_merge.specs.declared.calls.ReceiveMessage.{ReceiveMessage}
 use Rattle.sq_merge.specs.declared.calls.SendMessage.{SendMessage}
-use Rattle.sq_merge.specs.Books.{book_of}
+use Rattle.sq_steps.specs.Books.{book_of}
 use Rattle.sq_merge.specs.Calls.{home_of, given_by, receipt_of, handle_at}
 use Rattle.sq_merge.specs.WorldValue.{WorldValue}
 

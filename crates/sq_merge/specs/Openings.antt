@@ -1,12 +1,11 @@
 -- The options that a world takes, and the world that it begins as.
-use Rattle.std.specs.Prelude.{ℕ, zero, suc, ◌+◌, ◌-◌, ◌*◌, ◌/◌, ◌≤◌, ◌&&◌, nat_lt, if◌then◌else◌, List, [], ◌∷◌, ◌++◌, Option, Some, None}
+use Rattle.std.specs.Prelude.{ℕ, zero, suc, ◌+◌, ◌*◌, ◌/◌, ◌≤◌, List, [], ◌∷◌, ◌++◌}
 use Rattle.sq_base.specs.Stamps.{start}
-use Rattle.sq_base.specs.declared.ids.HomeId.{HomeId}
 use Rattle.sq_model.specs.Homes.{Unopened}
 use Rattle.sq_model.specs.declared.place.Limits.{Limits}
 use Rattle.sq_history.specs.HistoryValue.{HistoryValue}
 use Rattle.sq_merge.specs.WorldValue.{WorldValue}
-use Rattle.sq_merge.specs.Worlds.{home_id}
+use Rattle.sq_audit.specs.HomeIds.{home_id}
 use Rattle.sq_merge.specs.declared.options.Options.{Options}
 
 -- all are in their ranges
@@ -17,11 +16,6 @@ pub record IsServed (o : Options) : Type 0 where
   pub rows : (1 ≤ o.rows) × (o.rows ≤ 1048576)
   pub flights : (o.homes ≤ o.flights) × (o.flights ≤ 120000)
   pub transit : (1 ≤ o.transit) × (o.transit ≤ 100000)
-
--- where a home stands among so many of all queues
-abbrev pub home_place : ℕ → ℕ → HomeId → Option ℕ
-home_place per_queue count id =
-    if nat_lt id.home per_queue && nat_lt ((id.queue - 1) * per_queue + id.home) count then Some ((id.queue - 1) * per_queue + id.home) else None
 
 -- a home that was never opened
 abbrev pub never_opened : ℕ → Limits → ℕ → HistoryValue

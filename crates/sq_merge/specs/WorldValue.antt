@@ -2,7 +2,7 @@
 use Rattle.std.specs.Prelude.{ℕ, List}
 use Rattle.sq_model.specs.Notes.{Book}
 use Rattle.sq_history.specs.HistoryValue.{HistoryValue}
-use Rattle.sq_merge.specs.DirectoryHistory.{DirectoryHistory}
+use Rattle.sq_directory.specs.DirectoryHistory.{DirectoryHistory}
 
 -- the directory, how many homes a queue has and how many of them a receive asks, all homes, the first queue's first, and the actors in order of their first act
 pub record WorldValue : Type 0 where

@@ -1,7 +1,5 @@
 -- Steps of the whole system by actors, and what is true of it at all times.
-use Rattle.std.specs.Prelude.{◌≡◌, ◌≢◌, ◌⊎◌, ◌+◌, ◌/◌, ◌%◌, ℕ, List, [], ◌∷◌, length, map, nat_le, if◌then◌else◌, position, slice_get, slice_set, Option, Some, None}
-use Rattle.std.specs.List.{AllByRecursion}
-use Rattle.sq_base.specs.StampValue.{StampValue}
+use Rattle.std.specs.Prelude.{◌≡◌, ◌⊎◌, ◌+◌, ℕ, List, [], ◌∷◌, length, nat_le, if◌then◌else◌, position, slice_get, slice_set, Option, Some, None}
 use Rattle.sq_base.specs.Stamps.{stamp_end}
 use Rattle.sq_base.specs.declared.ids.HomeId.{HomeId}
 use Rattle.sq_base.specs.declared.refusal.Refusal.{Refusal}
@@ -16,21 +14,19 @@ use Rattle.sq_model.specs.Directories.{number_of}
 use Rattle.sq_model.specs.Replays.{HomeEvent}
 use Rattle.sq_model.specs.Systems.{DirectoryEvent}
 use Rattle.sq_model.specs.Notes.{Note, place_of, Book}
-use Rattle.sq_model.specs.Matches.{HomeHistory, IsCreate, IsNote, IsHomeEvent, Happened, IsNoted, IsOfDirectory, IsOfHome}
+use Rattle.sq_model.specs.Matches.{HomeHistory, IsNote, IsHomeEvent, Happened, IsNoted, IsOfDirectory, IsOfHome}
 use Rattle.sq_history.specs.HistoryValue.{HistoryValue}
-use Rattle.sq_merge.specs.declared.act.Act.{Act}
-use Rattle.sq_merge.specs.declared.act.Act.TheVariants as act
-use Rattle.sq_merge.specs.declared.act.Outcome.{Outcome}
-use Rattle.sq_merge.specs.declared.act.Outcome.TheVariants as told
-use Rattle.sq_merge.specs.declared.act.Step.{Step}
-use Rattle.sq_merge.specs.Acts.{call_of}
-use Rattle.sq_merge.specs.Books.{is_of, IsSeen, book_of, put_book, having_seen, HomeMoves, DirectoryMoves, IsHomeRefused, IsCreateRefused}
-use Rattle.sq_merge.specs.DirectoryHistory.{DirectoryHistory}
+use Rattle.sq_steps.specs.declared.act.Act.{Act}
+use Rattle.sq_steps.specs.declared.act.Act.TheVariants as act
+use Rattle.sq_steps.specs.declared.act.Outcome.{Outcome}
+use Rattle.sq_steps.specs.declared.act.Outcome.TheVariants as told
+use Rattle.sq_steps.specs.declared.act.Step.{Step}
+use Rattle.sq_steps.specs.Acts.{call_of}
+use Rattle.sq_steps.specs.Books.{is_of, book_of, put_book, having_seen, HomeMoves, DirectoryMoves, IsHomeRefused, IsCreateRefused, AreDistinct}
+use Rattle.sq_directory.specs.DirectoryHistory.{DirectoryHistory}
 use Rattle.sq_merge.specs.WorldValue.{WorldValue}
-
--- the home at a place in the list of all homes
-abbrev pub home_id : ℕ → ℕ → HomeId
-home_id per_queue at = record { queue = at / per_queue + 1; home = at % per_queue }
+use Rattle.sq_audit.specs.HomeIds.{histories_of, IsNumbered}
+use Rattle.sq_directory.specs.Makers.{IsMadeBy}
 
 -- a home of the system
 pub record IsHomeOf (w : WorldValue) (id : HomeId) (at : ℕ) (h : HistoryValue) : Type 0 where
@@ -93,21 +89,6 @@ Schedule w (s ∷ ss) done after =
     (((e : Refusal) × StepRefused w s.actor s.clock s.act e) × Schedule w ss done after)
     ⊎ ((mid : WorldValue) × (outcome : Outcome) × (rest : ℕ) × StepTold w mid s.actor s.clock s.act outcome × Schedule mid ss rest after × (done ≡ rest + 1))
 
-abbrev pub history_of : HistoryValue → HomeHistory
-history_of h = record { home = h.site.home; events = h.events }
-
-abbrev pub histories_of : List HistoryValue → List HomeHistory
-histories_of homes = map history_of homes
-
--- the n-th home has its queue and its number there by its place
-abbrev pub IsNumbered : ℕ → List HistoryValue → Type 0
-IsNumbered per_queue homes = (at : ℕ) (h : HistoryValue) → slice_get homes at ≡ Some h → h.site.home ≡ home_id per_queue at
-
--- each actor is there once
-abbrev pub AreDistinct : List Book → Type 0
-AreDistinct [] = Unit {0}
-AreDistinct (x ∷ xs) = AllByRecursion (λ y. y.actor ≢ x.actor) xs × AreDistinct xs
-
 -- True of the system at all times: notes and events are of each other, the n-th note of an actor has number n, each actor is there once.
 pub record IsKeptWorld (w : WorldValue) : Type 0 where
   pub numbered : IsNumbered w.per_queue w.homes
@@ -117,10 +98,6 @@ pub record IsKeptWorld (w : WorldValue) : Type 0 where
   pub exact : (b i : ℕ) (book : Book) (n : Note) → IsNote w.books b i book n → place_of n ≡ i
   pub counted : (b : ℕ) (book : Book) → slice_get w.books b ≡ Some book → book.next ≡ length book.notes
   pub distinct : AreDistinct w.books
-
--- a queue of this number was made by this name, or found, and not after this stamp
-abbrev pub IsMadeBy : List DirectoryEvent → StampValue → List ℕ → ℕ → Type 0
-IsMadeBy directory stamp name queue = (k : ℕ) × (e : DirectoryEvent) × (slice_get directory k ≡ Some e) × IsSeen e.stamp stamp × IsCreate e name queue
 
 -- an actor knows a queue by a name: it was made by it before what the actor has seen
 abbrev pub IsKnown : List DirectoryEvent → Book → Option (List ℕ) → ℕ → Type 0

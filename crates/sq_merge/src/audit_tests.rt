@@ -1,13 +1,12 @@
 //! Runs of steps chosen at random, what the audit says of them, and of each record that is taken out.
 ghost use Rattle.std.specs.Prelude.{◌<◌, ◌≤◌};
 
-use crate::act::{Act, HomeAct, Outcome, Step};
-use crate::check::AuditFault;
-use crate::merge::merge;
 use crate::options::Options;
-use crate::parts::Parts;
-use crate::places::places_of;
 use crate::world::World;
+use sq_audit::check::AuditFault;
+use sq_audit::merge::merge;
+use sq_audit::parts::Parts;
+use sq_audit::places::places_of;
 use sq_base::body::{BODY_LIMIT, Body};
 use sq_base::ids::{HomeId, HomeNo, QueueNo, Serial};
 use sq_base::name::QueueName;
@@ -18,6 +17,7 @@ use sq_base::settings::Settings;
 use sq_model::calls::Receipt;
 use sq_model::directory::Attributes;
 use sq_model::replies::HomeReply;
+use sq_steps::act::{Act, HomeAct, Outcome, Step};
 use std::alloc::Global;
 use std::test::Fail;
 

@@ -1,14 +1,13 @@
 //! Calls of clients on queues of several homes.
 ghost use Rattle.std.specs.Prelude.{◌<◌};
 
-use crate::act::{Act, HomeAct, Step};
 use crate::calls::{
     Answer, AskedAttributes, BodyText, Call, ChangeMessageVisibility, CreateQueue, DeleteMessage,
     ReceiveMessage, SendMessage,
 };
-use crate::merge::merge;
 use crate::options::Options;
 use crate::world::World;
+use sq_audit::merge::merge;
 use sq_base::handle::Handle;
 use sq_base::ids::{HomeId, HomeNo, QueueNo};
 use sq_base::message_id::MessageId;
@@ -16,6 +15,7 @@ use sq_base::name::QueueName;
 use sq_base::ranges::{MaxMessages, Receives, Timeout};
 use sq_base::refusal::Refusal;
 use sq_model::directory::Attributes;
+use sq_steps::act::{Act, HomeAct, Step};
 use std::alloc::Global;
 use std::test::Fail;
 

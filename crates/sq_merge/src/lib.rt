@@ -1,37 +1,24 @@
-//! The whole system from its parts: what actors do, what they keep of it, and the one run of it all.
+//! The whole system from its parts: calls of clients, done by many actors at many homes.
 #![tactic(auto)]
 
-pub mod act;
 #[cfg(test)]
 mod audit_tests;
-pub mod book;
-pub mod books;
 #[cfg(test)]
 mod call_tests;
 pub mod calls;
-pub mod check;
 pub mod digest;
-pub mod directory;
-mod firsts;
 pub mod given;
-mod home_states;
-pub mod homes;
-pub mod merge;
+mod homes;
 pub mod options;
-pub mod parts;
-#[cfg(test)]
-mod place_tests;
-pub mod places;
-pub mod queues;
-pub mod record;
-mod room;
-pub mod run;
-pub mod sorted;
-mod state;
-pub mod tagged;
-#[cfg(test)]
-mod tests;
-pub mod track;
 pub mod world;
 #[cfg(test)]
 mod world_tests;
+
+pub use sq_audit::check::AuditFault;
+pub use sq_audit::merge::merge;
+pub use sq_audit::parts::Parts;
+pub use sq_audit::places::places_of;
+pub use sq_audit::run::Run;
+pub use sq_audit::tagged::Tagged;
+pub use sq_audit::track::place_of;
+pub use sq_steps::act::{Act, HomeAct, Outcome, Step};

@@ -1,32 +1,34 @@
 //! All queues of a service with all that was done to them, for one thread.
 ghost use Rattle.std.specs.Prelude.{◌≡◌, ◌⊎◌, ◌↔◌, ◌<◌, true, None, Some, length, position, IfOk, IfErr, IfSome, OnErr};
 ghost use Rattle.sq_model.specs.Directories.{number_of};
-ghost use Rattle.sq_merge.specs.Acts.{call_of};
-ghost use Rattle.sq_merge.specs.Books.{is_of, book_of};
-ghost use Rattle.sq_merge.specs.Worlds.{HomeStepped, HomeRefused, Created, CreateRefused, NameRefused, having_read, StepTold, StepRefused, Schedule, IsKnown, IsKeptWorld, histories_of};
+ghost use Rattle.sq_steps.specs.Acts.{call_of};
+ghost use Rattle.sq_steps.specs.Books.{is_of, book_of};
+ghost use Rattle.sq_merge.specs.Worlds.{HomeStepped, HomeRefused, Created, CreateRefused, NameRefused, having_read, StepTold, StepRefused, Schedule, IsKnown, IsKeptWorld};
+ghost use Rattle.sq_audit.specs.HomeIds.{histories_of};
 ghost use Rattle.sq_merge.specs.Calls.{CallTold};
 ghost use Rattle.sq_merge.specs.Fits.{LeavesNotes};
 ghost use Rattle.sq_merge.specs.Openings.{IsServed, new_world};
 ghost use Rattle.sq_merge.specs.PartsValue.{parts_of};
 ghost use Rattle.sq_model.specs.Matches.{IsMatched};
 
-use crate::act::{Act, HomeAct, Outcome, Step};
-use crate::book::{Book, create_step, home_step};
-use crate::books::Books;
 use crate::calls::{Answer, Call};
-use crate::directory::Directory;
-use crate::homes::{Homes, absent, home_place, never_opened_homes};
+use crate::homes::{absent, never_opened_homes};
 use crate::options::Options;
-use crate::parts::Parts;
-use crate::room::put;
+use sq_audit::homes::{Homes, home_place};
+use sq_audit::parts::Parts;
 use sq_base::ids::{HomeId, QueueNo};
 use sq_base::name::QueueName;
 use sq_base::refusal::Refusal;
+use sq_directory::directory::Directory;
 use sq_history::recorded::Home;
 use sq_model::directory::{Attributes, QueueSettings};
 use sq_model::place::Limits;
 use sq_model::replies::HomeReply;
 use sq_sample::sampler::{HomeCount, Sampler};
+use sq_steps::act::{Act, HomeAct, Outcome, Step};
+use sq_steps::book::{Book, create_step, home_step};
+use sq_steps::books::Books;
+use sq_steps::room::put;
 use std::alloc::Global;
 use std::marker::Model;
 

@@ -1,10 +1,9 @@
 //! Steps of several actors at several homes, and the one order of it all.
 ghost use Rattle.std.specs.Prelude.{◌<◌};
 
-use crate::act::{Act, HomeAct, Outcome, Step};
-use crate::merge::merge;
 use crate::options::Options;
 use crate::world::World;
+use sq_audit::merge::merge;
 use sq_base::body::{BODY_LIMIT, Body};
 use sq_base::ids::{HomeId, HomeNo, QueueNo};
 use sq_base::name::QueueName;
@@ -13,6 +12,7 @@ use sq_base::refusal::Refusal;
 use sq_base::settings::Settings;
 use sq_model::directory::Attributes;
 use sq_model::replies::HomeReply;
+use sq_steps::act::{Act, HomeAct, Outcome, Step};
 use std::alloc::Global;
 use std::test::Fail;
 

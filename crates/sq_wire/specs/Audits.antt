@@ -11,11 +11,11 @@ use Rattle.sq_model.specs.Matches.{IsMatched}
 use Rattle.sq_model.specs.Merges.{IsMerged}
 use Rattle.sq_model.specs.Places.{run_ends, run_sends}
 use Rattle.sq_model.specs.Systems.{Tag, stamp_of, opening, IsRun, IsOnePlace}
-use Rattle.sq_merge.specs.Actors.{ActorsRise, PartsRise}
-use Rattle.sq_merge.specs.AllPlaces.{ArePlaces}
-use Rattle.sq_merge.specs.SystemNow.{events_of, system_now}
+use Rattle.sq_audit.specs.Actors.{ActorsRise, PartsRise}
+use Rattle.sq_audit.specs.AllPlaces.{ArePlaces}
+use Rattle.sq_audit.specs.SystemNow.{events_of, system_now}
 use Rattle.sq_merge.specs.WorldValue.{WorldValue}
-use Rattle.sq_merge.specs.Worlds.{histories_of, IsNumbered}
+use Rattle.sq_audit.specs.HomeIds.{histories_of, IsNumbered}
 use Rattle.sq_wire.specs.Replies.{id_text}
 
 -- the moment in ms and the count, in decimal digits. Own.

@@ -2,7 +2,7 @@
 ghost use Rattle.std.specs.Prelude.{◌≡◌, IfOk, IfErr, string_bytes};
 ghost use Rattle.serde_json.specs.View.{view};
 ghost use Rattle.serde_json.specs.Written.{compact_text};
-ghost use Rattle.sq_merge.specs.Tags.{tags_of};
+ghost use Rattle.sq_audit.specs.Tags.{tags_of};
 ghost use Rattle.sq_wire.specs.Audits.{stamp_text, place_name, placed_data, events_data, places_data, audit_data, IsAudit};
 
 use crate::reply::id_text;
@@ -10,11 +10,8 @@ use crate::text::Text;
 use serde_json::{Value, json};
 use sq_base::message_id::MessageId;
 use sq_base::stamp::Stamp;
-use sq_merge::check::AuditFault;
-use sq_merge::merge::merge;
-use sq_merge::places::places_of;
-use sq_merge::tagged::Tagged;
 use sq_merge::world::World;
+use sq_merge::{AuditFault, Tagged, merge, places_of};
 use sq_model::place::Place;
 use std::alloc::{AllocError, Global};
 use uuid::Uuid;

@@ -15,7 +15,7 @@ ghost use Rattle.sqd.specs.declared.flags.Mode.TheVariants.{Script as ByScript};
 use crate::flags::{Mode, Refused, ScriptMode, flags};
 use clap::Error;
 use sq_base::refusal::Refusal;
-use sq_merge::check::AuditFault;
+use sq_merge::AuditFault;
 use sq_merge::world::World;
 use sq_wire::audit::audit_world;
 use sq_wire::counted::Counted;

@@ -1,7 +1,7 @@
 //! The program over memory.
 use crate::flags::{Mode, Refused, ScriptMode, flags};
 use crate::program::{audit_fault, no_memory, no_text, run};
-use sq_merge::check::AuditFault;
+use sq_merge::AuditFault;
 use sq_merge::options::Options;
 use sq_wire::counted::Counted;
 use std::alloc::Global;

@@ -2,12 +2,11 @@
 ghost use Rattle.std.specs.Prelude.{◌≡◌, ◌≢◌, Some, IfOk, IfErr, IfSome, OnOk, OnErr};
 ghost use Rattle.sq_model.specs.Directories.{number_of};
 ghost use Rattle.sq_model.specs.declared.calls.HomeCall.TheVariants.{Configure, Look};
-ghost use Rattle.sq_merge.specs.Acts.{call_of};
+ghost use Rattle.sq_steps.specs.Acts.{call_of};
 ghost use Rattle.sq_merge.specs.Worlds.{NameRefused, having_read};
 ghost use Rattle.sq_merge.specs.Calls.{IsKnownBy, Does, Refuses, Configures, Configured, Looks, ConfigureStops, SendAt, ReceiveAt, DeleteAt, ChangeAt, AtHandle, CreateTold, ByName, handle_at, asked, home_of, given_by};
 ghost use Rattle.sq_merge.specs.GivenValue.{AreReceived};
 
-use crate::act::HomeAct;
 use crate::calls::{
     Answer, Asked, ChangeMessageVisibility, CreateQueue, DeleteMessage, ReceiveMessage, SendMessage,
 };
@@ -24,6 +23,7 @@ use sq_model::directory::QueueSettings;
 use sq_model::replies::HomeReply;
 use sq_model::rows::Rows;
 use sq_sample::sampler::HomeCount;
+use sq_steps::act::HomeAct;
 use std::alloc::Global;
 
 impl World {

@@ -2,7 +2,7 @@ use Rattle.std.proofs.Common.{◌≡◌, ◌∙◌, ap}
 use Rattle.std.proofs.lemmas.Result.{IfOk-weaker}
 use Rattle.serde_json.specs.View.{view}
 use Rattle.serde_json.specs.Written.{compact_text, has_float}
-use Rattle.sq_merge.specs.Tags.{tags_of}
+use Rattle.sq_audit.specs.Tags.{tags_of}
 use Rattle.sq_wire.specs.Audits.{audit_data}
 use Rattle.sq_wire.proofs.AuditLaws.{audit_no_float}
 use Rattle.sq_wire.proofs.audit.audit_string.Goals as goal

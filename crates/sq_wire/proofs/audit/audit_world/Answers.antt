@@ -3,8 +3,8 @@ use Rattle.serde_json.specs.Written.{compact_text}
 use Rattle.sq_model.specs.Matches.{IsMatched}
 use Rattle.sq_model.specs.Merges.{IsMerged}
 use Rattle.sq_model.specs.Systems.{IsRun, IsOnePlace}
-use Rattle.sq_merge.specs.SystemNow.{events_of, system_now}
-use Rattle.sq_merge.specs.Worlds.{histories_of, IsNumbered}
+use Rattle.sq_audit.specs.SystemNow.{events_of, system_now}
+use Rattle.sq_audit.specs.HomeIds.{histories_of, IsNumbered}
 use Rattle.sq_wire.specs.Audits.{audit_data}
 use Rattle.sq_wire.proofs.audit.audit_world.Goals as goal
 

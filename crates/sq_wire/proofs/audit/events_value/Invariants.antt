@@ -1,6 +1,6 @@
 use Rattle.std.proofs.Common.{◌≡◌, map, take}
 use Rattle.serde_json.specs.View.{view}
-use Rattle.sq_merge.specs.Tags.{tags_of}
+use Rattle.sq_audit.specs.Tags.{tags_of}
 use Rattle.sq_wire.specs.Audits.{event_data}
 use Rattle.sq_wire.proofs.audit.events_value.Given as goal
 

@@ -2,12 +2,13 @@ use Rattle.std.proofs.Common.{rules, ◌≡◌, ◌<◌, length, Some, None, Err
 use Rattle.std.specs.Prelude.{position}
 use Rattle.std.proofs.lemmas.List.{length-set}
 use Rattle.sq_base.specs.declared.refusal.Refusal.TheVariants.{NoMemory}
-use Rattle.sq_merge.specs.Acts.{call_of}
-use Rattle.sq_merge.specs.Books.{is_of, book_of}
-use Rattle.sq_merge.specs.Openings.{home_place}
+use Rattle.sq_steps.specs.Acts.{call_of}
+use Rattle.sq_steps.specs.Books.{is_of, book_of}
+use Rattle.sq_audit.specs.HomeIds.{home_place}
 use Rattle.sq_merge.specs.WorldValue.{WorldValue}
 use Rattle.sq_merge.specs.Worlds.{IsKnown}
-use Rattle.sq_merge.proofs.StepLaws.{place_none, stepped_found, stepped_new, refused_found, refused_new, refused_unmade}
+use Rattle.sq_audit.proofs.HomeIdLaws.{place_none}
+use Rattle.sq_merge.proofs.StepLaws.{stepped_found, stepped_new, refused_found, refused_new, refused_unmade}
 use Rattle.sq_merge.proofs.WorldLaws.{kept_home}
 use Rattle.sq_merge.proofs.world.World.at_home.Goals as goal
 

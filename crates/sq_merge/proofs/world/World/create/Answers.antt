@@ -3,10 +3,10 @@ use Rattle.std.specs.Prelude.{position}
 use Rattle.sq_base.specs.declared.refusal.Refusal.TheVariants.{NoMemory}
 use Rattle.sq_model.specs.Notes.{Book}
 use Rattle.sq_model.specs.declared.directory.DirectoryCall.TheVariants.{Create}
-use Rattle.sq_merge.specs.Books.{is_of, IsCreateRefused}
+use Rattle.sq_steps.specs.Books.{is_of, IsCreateRefused}
 use Rattle.sq_merge.specs.WorldValue.{WorldValue}
-use Rattle.sq_merge.proofs.BookListLaws.{lost_there}
-use Rattle.sq_merge.proofs.StepLaws.{found_is, created_found, created_new, create_unmade}
+use Rattle.sq_steps.proofs.BookListLaws.{lost_there, found_is}
+use Rattle.sq_merge.proofs.StepLaws.{created_found, created_new, create_unmade}
 use Rattle.sq_merge.proofs.WorldLaws.{kept_created}
 use Rattle.sq_merge.proofs.world.World.create.Goals as goal
 

@@ -1,4 +1,4 @@
-use Rattle.sq_merge.proofs.CheckLaws.{kept_matched}
+use Rattle.sq_merge.proofs.WorldLaws.{kept_matched}
 use Rattle.sq_merge.proofs.world.World.parts.Goals as goal
 
 pub returns-clause-matched : goal.returns-clause-matched

@@ -1,9 +1,10 @@
 use Rattle.std.proofs.Common.{rules, ◌≡◌, ◌<◌, length, Some, None, subst, sym}
 use Rattle.std.specs.Prelude.{position}
 use Rattle.sq_model.specs.Directories.{number_of}
-use Rattle.sq_merge.specs.Books.{is_of, book_of}
+use Rattle.sq_steps.specs.Books.{is_of, book_of}
 use Rattle.sq_merge.specs.WorldValue.{WorldValue}
-use Rattle.sq_merge.specs.Worlds.{IsKeptWorld, IsMadeBy, IsKnown}
+use Rattle.sq_merge.specs.Worlds.{IsKeptWorld, IsKnown}
+use Rattle.sq_directory.specs.Makers.{IsMadeBy}
 use Rattle.sq_merge.proofs.KnownLaws.{known_read}
 use Rattle.sq_merge.proofs.StepLaws.{read_found, read_new}
 use Rattle.sq_merge.proofs.WorldLaws.{kept_read}

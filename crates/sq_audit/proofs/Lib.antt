@@ -1,0 +1,15 @@
+pub mod OrderLaws
+pub mod PartLaws
+pub mod MergeLaws
+pub mod ActorLaws
+pub mod StateLaws
+pub mod SpotLaws
+pub mod FollowLaws
+pub mod ListLaws
+pub mod IdOrder
+pub mod RunLaws
+pub mod AuditLaws
+pub mod CheckLaws
+pub mod OnePlaceLaws
+pub mod NoteOrderLaws
+pub mod HomeIdLaws

@@ -1,0 +1,137 @@
+-- The notes of the actors order their events in a run.
+use Rattle.std.proofs.Common.{◌≡◌, ℕ, zero, suc, ◌<◌, List, [], ◌∷◌, refl, ap, sym, ◌∙◌, subst, inl, inr, arith, Some, slice_get}
+use Rattle.std.specs.Prelude.{All}
+use Rattle.sq_base.specs.Stamps.{start, Below}
+use Rattle.sq_model.specs.Replays.{HomeEvent}
+use Rattle.sq_model.specs.Systems.{DirectoryEvent, Tag, OfDirectory, OfHome, stamp_of}
+use Rattle.sq_model.specs.Merges.{history_at, rank_of, IsMerged}
+use Rattle.sq_model.specs.Notes as kept
+use Rattle.sq_model.specs.Notes.{Note, Book, NotesRise}
+use Rattle.sq_model.specs.Matches.{HomeHistory, IsNote, IsMatched}
+use Rattle.sq_history.specs.HistoryValue.{HistoryValue}
+use Rattle.sq_history.specs.Histories.{IsKept}
+use Rattle.sq_audit.specs.Actors.{event_actor, event_place, ActorsRise, PartsRise, PlacesAgree, PlacesApart}
+use Rattle.sq_steps.specs.Books.{NotesRiseAt, AreDistinct}
+use Rattle.sq_directory.specs.DirectoryHistory.{DirectoryHistory}
+use Rattle.sq_directory.specs.DirectoryHistories.{IsDirectoryKept}
+use Rattle.sq_audit.specs.SystemNow.{events_of}
+use Rattle.sq_audit.specs.HomeIds.{history_of, histories_of, IsNumbered}
+use Rattle.sq_audit.proofs.ActorLaws.{actors_rise, homes_rise, in_directory, in_home, merged_parts_rise}
+use Rattle.sq_audit.proofs.CheckLaws.{nat_compare, notes_rise, home_once}
+use Rattle.sq_steps.proofs.BookListLaws.{book_once}
+use Rattle.sq_directory.proofs.ElementLaws.{some_same, get_map}
+
+-- an event of a home's history is that of a home that is there
+event_home : (homes : List HistoryValue) (j k : ℕ) (e : HomeEvent) → slice_get (history_at (events_of homes) j) k ≡ Some e → (h : HistoryValue) × (slice_get homes j ≡ Some h) × (slice_get h.events k ≡ Some e)
+event_home [] j k e is = absurd cc
+event_home (h ∷ hs) zero k e is = (h, refl, is)
+event_home (h ∷ hs) (suc j) k e is = event_home hs j k e is
+
+-- of two notes of one actor, the one with the higher number has the higher stamp
+notes_below : (ns : List Note) → NotesRise ns → (i j : ℕ) (n m : Note) → slice_get ns i ≡ Some n → slice_get ns j ≡ Some m → kept.place_of n < kept.place_of m → Below (kept.stamp_of n) (kept.stamp_of m)
+notes_below ns rise i j n m h g lt = elim (nat_compare i j) [
+  | inl less ↦ (notes_rise ns rise i j n m less h g).1
+  | inr rest ↦ (elim rest [
+    | inl same ↦ (let one : n ≡ m = some_same (sym h ∙ ap (slice_get ns) same ∙ g) in let e : kept.place_of n ≡ kept.place_of m = ap kept.place_of one in absurd (omega (arith, e, lt)))
+    | inr more ↦ (let up : kept.place_of m < kept.place_of n = (notes_rise ns rise j i m n more g h).0 in absurd (omega (arith, up, lt)))
+  ])
+]
+
+-- a note and an event are of one part
+abbrev IsOfPart : List HomeHistory → Note → Tag → Type 0
+IsOfPart homes (kept.OfDirectory n) (OfDirectory e) = Unit {0}
+IsOfPart homes (kept.OfHome n) (OfHome j e) = (h : HomeHistory) × (slice_get homes j ≡ Some h) × (n.home ≡ h.home)
+IsOfPart homes n t = ⊥
+
+-- the note of an event
+record HasNote (homes : List HomeHistory) (books : List Book) (t : Tag) : Type 0 where
+  at : ℕ
+  index : ℕ
+  book : Book
+  note : Note
+  there : IsNote books at index book note
+  of_actor : book.actor ≡ event_actor t
+  of_place : kept.place_of note ≡ event_place t
+  of_stamp : kept.stamp_of note ≡ stamp_of t
+  of_part : IsOfPart homes note t
+
+module _ (per_queue : ℕ) (d : List DirectoryEvent) (homes : List HistoryValue) (books : List Book) (run : List Tag)
+    (numbered : IsNumbered per_queue homes) (distinct : AreDistinct books) (rise : (b : ℕ) → NotesRiseAt books b)
+    (matched : IsMatched d (histories_of homes) books) (merged : IsMerged d (events_of homes) run) where
+  abbrev hs : List HomeHistory
+  hs = histories_of homes
+
+  -- each event of the run has its note
+  has_note : (i : ℕ) (t : Tag) → slice_get run i ≡ Some t → HasNote hs books t
+  has_note i (OfDirectory e) is =
+      let at = in_directory run i e is in
+      let x = matched.directory_noted at.0 e (rw merged.of_the_directory at at.1) in
+      record {
+        at = x.at;
+        index = x.index;
+        book = x.book;
+        note = x.note;
+        there = x.there;
+        of_actor = x.of_actor;
+        of_place = ap kept.place_of x.of_event;
+        of_stamp = ap kept.stamp_of x.of_event;
+        of_part = subst (λ (n : Note). IsOfPart hs n (OfDirectory e)) (sym x.of_event) tt;
+      }
+  has_note i (OfHome j e) is =
+      let at = in_home run i j e is in
+      let h = event_home homes j at.0 e (rw (merged.of_each_home j) at at.1) in
+      let there = get_map history_of homes j h.0 h.1 in
+      let x = matched.homes_noted j at.0 (history_of h.0) e (record { in_homes = there; in_events = h.2 }) in
+      record {
+        at = x.at;
+        index = x.index;
+        book = x.book;
+        note = x.note;
+        there = x.there;
+        of_actor = x.of_actor;
+        of_place = ap kept.place_of x.of_event.1;
+        of_stamp = ap kept.stamp_of x.of_event.1;
+        of_part = subst (λ (n : Note). IsOfPart hs n (OfHome j e)) (sym x.of_event.1) (history_of h.0, there, refl);
+      }
+
+  -- what is of one part with one note is of one part
+  one_part : (t u : Tag) (n : Note) → IsOfPart hs n t → IsOfPart hs n u → rank_of t ≡ rank_of u
+  one_part (OfDirectory e) (OfDirectory f) n p q = refl
+  one_part (OfDirectory e) (OfHome j f) (kept.OfDirectory n) p q = absurd q
+  one_part (OfDirectory e) (OfHome j f) (kept.OfHome n) p q = absurd p
+  one_part (OfHome i e) (OfDirectory f) (kept.OfDirectory n) p q = absurd p
+  one_part (OfHome i e) (OfDirectory f) (kept.OfHome n) p q = absurd q
+  one_part (OfHome i e) (OfHome j f) (kept.OfDirectory n) p q = absurd p
+  one_part (OfHome i e) (OfHome j f) (kept.OfHome n) p q = ap suc (home_once per_queue homes numbered i j p.0 q.0 p.1 q.1 (sym p.2 ∙ q.2))
+
+  places_agree : PlacesAgree run
+  places_agree i j t u ti uj actor lt =
+      let x = has_note i t ti in
+      let y = has_note j u uj in
+      let at : x.at ≡ y.at = book_once books distinct x.at y.at x.book y.book x.there.in_books y.there.in_books (x.of_actor ∙ actor ∙ sym y.of_actor) in
+      let same : x.book ≡ y.book = some_same (sym x.there.in_books ∙ ap (slice_get books) at ∙ y.there.in_books) in
+      let there : slice_get x.book.notes y.index ≡ Some y.note = subst (λ (b : Book). slice_get b.notes y.index ≡ Some y.note) (sym same) y.there.in_notes in
+      let lower : kept.place_of x.note < kept.place_of y.note = rw (x.of_place, y.of_place) lt in
+      rw (← x.of_stamp, ← y.of_stamp) (notes_below x.book.notes (rise x.at x.book x.there.in_books) x.index y.index x.note y.note x.there.in_notes there lower)
+
+  places_apart : PlacesApart run
+  places_apart i j t u ti uj actor place =
+      let x = has_note i t ti in
+      let y = has_note j u uj in
+      let once = matched.once x.at y.at x.index y.index x.book y.book x.note y.note x.there y.there (x.of_actor ∙ actor ∙ sym y.of_actor) (x.of_place ∙ place ∙ sym y.of_place) in
+      let same : x.book ≡ y.book = some_same (sym x.there.in_books ∙ ap (slice_get books) once.0 ∙ y.there.in_books) in
+      let one : x.note ≡ y.note = some_same (sym x.there.in_notes ∙ ap (λ (z : Book). slice_get z.notes x.index) same ∙ ap (slice_get y.book.notes) once.1 ∙ y.there.in_notes) in
+      (one_part t u y.note (subst (λ (n : Note). IsOfPart hs n t) one x.of_part) y.of_part, sym x.of_stamp ∙ ap kept.stamp_of one ∙ y.of_stamp)
+
+-- the events of each part stand in their order in the run of them all
+pub kept_parts_rise : (directory : DirectoryHistory) (homes : List HistoryValue) (run : List Tag) → IsMerged directory.events (events_of homes) run → IsDirectoryKept directory → All IsKept homes → PartsRise run
+kept_parts_rise directory homes run merged own all =
+    merged_parts_rise directory.events (events_of homes) run merged (record { low = start; last = directory.last; rising = own.rising }) (λ i. homes_rise homes i all)
+
+-- where notes and histories are matched, each actor's events stand in its order in the run of them all
+pub matched_rise : (per_queue : ℕ) (directory : DirectoryHistory) (homes : List HistoryValue) (books : List Book) (run : List Tag) → IsNumbered per_queue homes → AreDistinct books → ((b : ℕ) → NotesRiseAt books b)
+    → IsMatched directory.events (histories_of homes) books → IsMerged directory.events (events_of homes) run → IsDirectoryKept directory → All IsKept homes → ActorsRise run
+matched_rise per_queue directory homes books run numbered distinct rise matched merged own all =
+    actors_rise directory.events (events_of homes) run merged (record { low = start; last = directory.last; rising = own.rising }) (λ i. homes_rise homes i all)
+    (places_agree per_queue directory.events homes books run numbered distinct rise matched merged)
+    (places_apart per_queue directory.events homes books run numbered distinct rise matched merged)

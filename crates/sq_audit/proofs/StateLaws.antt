@@ -1,0 +1,263 @@
+-- A step of a home on what decides how its rows leave it.
+use Rattle.std.proofs.Common.{◌≡◌, ℕ, zero, suc, ◌+◌, ◌≤◌, Bool, true, false, not, cond, List, [], ◌∷◌, ◌++◌, map, refl, arith, ap, sym, ◌∙◌, subst, inl, inr, Option, Some, None, unwrap_or}
+use Rattle.std.specs.Prelude.{◌⊎◌, ◌&&◌, ◌==◌, nat_lt, filter, if◌then◌else◌}
+use Rattle.std.specs.List.{list_any, All, Contains}
+use Rattle.std.proofs.lemmas.List.{append-nil}
+use Rattle.std.proofs.lemmas.List.Elements.{All-head, All-tail}
+use Rattle.std.proofs.lemmas.Bool.Decides.{eqb_tells}
+use Rattle.sq_base.specs.declared.row.Row.{Row}
+use Rattle.sq_base.specs.declared.settings.Settings.{Settings}
+use Rattle.sq_model.specs.declared.place.Site.{Site}
+use Rattle.sq_model.specs.declared.calls.Receipt.{Receipt}
+use Rattle.sq_model.specs.declared.calls.HomeCall.{HomeCall}
+use Rattle.sq_model.specs.declared.calls.HomeCall.TheVariants.{Configure, Close, Send, Look, Delete, Change, Purge, Count, LeaveTask, TurnBack, GiveUp}
+use Rattle.sq_model.specs.declared.replies.HomeReply.{HomeReply}
+use Rattle.sq_model.specs.declared.replies.HomeReply.TheVariants.{Done, Sent, Looked, Over, Counted}
+use Rattle.sq_model.specs.Rows.{ms, trimmed, is_visible, is_dead, is_live, is_held, serials_of, has_serial, received, received_if, changed_if, RisesFrom, IsLook}
+use Rattle.sq_model.specs.Homes.{Home, Unopened, Serving, Closed, HomeStep, IsRising, sent_row}
+use Rattle.sq_model.specs.Lineages.{Cause, Expired, Deleted, Purged, ClosedAway, Ending, ended, expired, home_ends, home_sends}
+use Rattle.sq_model.specs.Systems.{is_alone}
+use Rattle.sq_model.proofs.RowLaws.{rises_trimmed, rises_push, rises_received, rises_changed, rises_without}
+use Rattle.sq_audit.specs.declared.state.RowState.{RowState}
+use Rattle.sq_audit.specs.declared.state.Policy.{Policy}
+use Rattle.sq_audit.specs.RowStates.{state_of, states_of, is_past, is_named, looked, next_policy, Effect, Stays, Leaves, effect_of, effect_sends, kept_states, past_states, states_after, ended_states, state_ends}
+
+-- membership by cases on the list
+abbrev Has : List Row → Row → Type 0
+Has [] row = ⊥
+Has (r ∷ rows) row = (row ≡ r) ⊎ Has rows row
+
+has_contained : (rows : List Row) (row : Row) → Contains rows row → Has rows row
+has_contained [] row c = absurd (omega (arith, c.1))
+has_contained (r ∷ rows) row (zero, lt, e) = inl (sym e)
+has_contained (r ∷ rows) row (suc k, lt, e) = inr (has_contained rows row (k, omega (arith, lt), e))
+
+-- of those that pass each one was there, and passes
+has_filtered : (p : Row → Bool) (rows : List Row) (row : Row) → Has (filter p rows) row → Has rows row × (p row ≡ true)
+has_filtered p [] row h = absurd h
+has_filtered p (r ∷ rows) row h =
+    elim (p r) as (λ b. p r ≡ b → Has (cond b (r ∷ filter p rows) (filter p rows)) row → Has (r ∷ rows) row × (p row ≡ true)) [
+      | true ↦ (λ e t. elim t [ inl same ↦ (inl same, rw same e) | inr later ↦ (let rest = has_filtered p rows row later in (inr rest.0, rest.1)) ])
+      | false ↦ (λ e t. let rest = has_filtered p rows row t in (inr rest.0, rest.1))
+    ] refl h
+
+has_mapped : (f : Row → Row) (rows : List Row) (row : Row) → Has (map f rows) row → (r : Row) × Has rows r × (row ≡ f r)
+has_mapped f [] row h = absurd h
+has_mapped f (r ∷ rows) row h = elim h [ inl same ↦ (r, inl refl, same) | inr later ↦ (let rest = has_mapped f rows row later in (rest.0, inr rest.1, rest.2)) ]
+
+-- a row of a serial that stands in a list
+row_of : (serial : ℕ) (rows : List Row) → has_serial serial rows ≡ true → (row : Row) × Has rows row × (row.serial ≡ serial)
+row_of serial [] h = absurd cc
+row_of serial (r ∷ rows) h =
+    elim (eqb_tells r.serial serial) as (λ _. (row : Row) × Has (r ∷ rows) row × (row.serial ≡ serial)) [
+      | inl p ↦ (r, inl refl, p.1)
+      | inr p ↦ (let rest = row_of serial rows (rw p.0 at h) in (rest.0, inr rest.1, rest.2))
+    ]
+
+above : (low : ℕ) (rows : List Row) (next : ℕ) (row : Row) → RisesFrom low rows next → Has rows row → low ≤ row.serial
+above low [] next row h i = absurd i
+above low (r ∷ rows) next row h i = elim i [ inl same ↦ rw same h.0 | inr later ↦ omega (arith, h.0, above (r.serial + 1) rows next row h.1 later) ]
+
+-- one row has a serial
+only_row : (low : ℕ) (rows : List Row) (next : ℕ) (a b : Row) → RisesFrom low rows next → Has rows a → Has rows b → a.serial ≡ b.serial → a ≡ b
+only_row low [] next a b h i j e = absurd i
+only_row low (r ∷ rows) next a b h i j e =
+    elim i [
+      | inl same ↦ elim j [
+        | inl also ↦ same ∙ sym also
+        | inr later ↦ absurd (omega (arith, above (r.serial + 1) rows next b h.1 later, e, ap (λ (x : Row). x.serial) same))
+      ]
+      | inr later ↦ elim j [
+        | inl also ↦ absurd (omega (arith, above (r.serial + 1) rows next a h.1 later, e, ap (λ (x : Row). x.serial) also))
+        | inr too ↦ only_row (r.serial + 1) rows next a b h.1 later too e
+      ]
+    ]
+
+all_has : (xs ys : List Row) → All (Contains ys) xs → (row : Row) → Has xs row → Has ys row
+all_has [] ys h row i = absurd i
+all_has (x ∷ xs) ys h row i = elim i [ inl same ↦ rw same (has_contained ys x (All-head (Contains ys) x xs h)) | inr later ↦ all_has xs ys (All-tail (Contains ys) x xs h) row later ]
+
+-- a row of a serial that was given is live
+given_live : (s : Settings) (m until n : ℕ) (rows given : List Row) (next : ℕ) (row : Row) → RisesFrom 0 rows next → IsLook s m until n rows given → Has rows row → has_serial row.serial given ≡ true → is_live s m row ≡ true
+given_live s m until n rows given next row h look i e =
+    let g = row_of row.serial given e in
+    let there = all_has given (map (received m until) (filter (is_live s m) rows)) look.each g.0 g.1 in
+    let r = has_mapped (received m until) (filter (is_live s m) rows) g.0 there in
+    let live = has_filtered (is_live s m) rows r.0 r.1 in
+    let serial : r.0.serial ≡ row.serial = sym (ap (λ (x : Row). x.serial) r.2) ∙ g.2 in
+    subst (λ (x : Row). is_live s m x ≡ true) (only_row 0 rows next r.0 row h live.0 i serial) live.1
+
+serials_have : (serial : ℕ) (given : List Row) → list_any (λ c. c == serial) (serials_of given) ≡ has_serial serial given
+serials_have serial [] = refl
+serials_have serial (g ∷ given) = rw (serials_have serial given) refl
+
+last_both : (a b c : Bool) → (a && b && c) ≡ true → c ≡ true
+last_both true b c h = elim b as (λ v. (v && c) ≡ true → c ≡ true) [ true ↦ (λ e. e) | false ↦ (λ e. absurd cc) ] h
+last_both false b c h = absurd cc
+
+look_case : (live has few : Bool) (m until : ℕ) (row : Row) → (has ≡ true → live ≡ true) → (live ≡ true → few ≡ true)
+    → state_of (if live && has then received m until row else row) ≡ (if few && has then record (state_of row) { receives = row.receives + 1 } else state_of row)
+look_case true true true m until row h k = refl
+look_case true true false m until row h k = let e : false ≡ true = k refl in absurd cc
+look_case false true few m until row h k = let e : false ≡ true = h refl in absurd cc
+look_case true false true m until row h k = refl
+look_case true false false m until row h k = refl
+look_case false false true m until row h k = refl
+look_case false false false m until row h k = refl
+
+-- a look on a row is that on its state
+looked_row : (s : Settings) (m until : ℕ) (given : List Row) (row : Row) → (has_serial row.serial given ≡ true → is_live s m row ≡ true) → state_of (received_if s (serials_of given) m until row) ≡ looked given (state_of row)
+looked_row s m until given row live =
+    rw (serials_have row.serial given) (look_case (is_live s m row) (has_serial row.serial given) (nat_lt row.receives 4294967295) m until row live (last_both (is_visible m row) (not (is_dead s m row)) (nat_lt row.receives 4294967295)))
+
+pub looked_rows : (s : Settings) (m until : ℕ) (given : List Row) (rows : List Row) → ((row : Row) → Has rows row → has_serial row.serial given ≡ true → is_live s m row ≡ true)
+    → map state_of (map (received_if s (serials_of given) m until) rows) ≡ map (looked given) (map state_of rows)
+looked_rows s m until given [] live = refl
+looked_rows s m until given (row ∷ rows) live =
+    let first = looked_row s m until given row (live row (inl refl)) in
+    let rest = looked_rows s m until given rows (λ r i. live r (inr i)) in
+    cc
+
+map_filter : (p : RowState → Bool) (rows : List Row) → map state_of (filter (λ row. p (state_of row)) rows) ≡ filter p (map state_of rows)
+map_filter p [] = refl
+map_filter p (row ∷ rows) =
+    let rest = map_filter p rows in
+    elim (p (state_of row)) as (λ b. map state_of (cond b (row ∷ filter (λ r. p (state_of r)) rows) (filter (λ r. p (state_of r)) rows)) ≡ cond b (state_of row ∷ filter p (map state_of rows)) (filter p (map state_of rows)))
+    [ true ↦ ap (λ (xs : List RowState). state_of row ∷ xs) rest | false ↦ rest ]
+
+map_push : (rows : List Row) (row : Row) → map state_of (rows ++ row ∷ []) ≡ map state_of rows ++ state_of row ∷ []
+map_push [] row = refl
+map_push (r ∷ rows) row = ap (λ (xs : List RowState). state_of r ∷ xs) (map_push rows row)
+
+ended_map : (cause : Cause) (rows : List Row) → ended_states cause (map state_of rows) ≡ ended cause rows
+ended_map cause [] = refl
+ended_map cause (row ∷ rows) = ap (λ (es : List Ending). record { line = row.lineage; cause = cause } ∷ es) (ended_map cause rows)
+
+changed_state : (m : ℕ) (receipt : Receipt) (until : ℕ) (row : Row) → state_of (changed_if m receipt until row) ≡ state_of row
+changed_state m receipt until row = elim (is_held m receipt row) as (λ b. state_of (if b then record row { visible_from = until } else row) ≡ state_of row) [ true ↦ refl | false ↦ refl ]
+
+changed_rows : (m : ℕ) (receipt : Receipt) (until : ℕ) (rows : List Row) → map state_of (map (changed_if m receipt until) rows) ≡ map state_of rows
+changed_rows m receipt until [] = refl
+changed_rows m receipt until (row ∷ rows) = let first = changed_state m receipt until row in let rest = changed_rows m receipt until rows in cc
+
+pub filter_all : {X : Type 0} (xs : List X) → filter (λ x. true) xs ≡ xs
+filter_all [] = refl
+filter_all (x ∷ xs) = ap (λ ys. x ∷ ys) (filter_all xs)
+
+filter_none : {X : Type 0} (xs : List X) → filter (λ x. false) xs ≡ []
+filter_none [] = refl
+filter_none (x ∷ xs) = filter_none xs
+
+-- the policy of a home is what its settings say
+abbrev pub GoesBy : Home → Option Policy → Type 0
+GoesBy Unopened policy = policy ≡ None
+GoesBy (Serving s v n rows) policy = policy ≡ Some (record { retention = s.retention; version = v })
+GoesBy Closed policy = Unit {0}
+
+-- what a step does to a home is what its effect does to the states of its rows
+pub record Mirrors (home : Home) (policy next : Option Policy) (m : ℕ) (effect : Effect) (leaving : List Ending) (reply : HomeReply) (after : Home) : Type 0 where
+  pub rising : IsRising after
+  pub goes_by : GoesBy after next
+  pub states : states_of after ≡ states_after m effect (kept_states policy m (states_of home))
+  pub ends : leaving ≡ state_ends policy m effect (states_of home)
+  pub sends : home_sends reply ≡ effect_sends effect
+
+abbrev policy_of : Settings → ℕ → Option Policy
+policy_of s v = Some (record { retention = s.retention; version = v })
+
+kept_rows : (s : Settings) (v m : ℕ) (rows : List Row) → map state_of (trimmed s m rows) ≡ kept_states (policy_of s v) m (map state_of rows)
+kept_rows s v m rows = map_filter (λ row. not (is_past s.retention m row)) rows
+
+past_rows : (s : Settings) (v m : ℕ) (rows : List Row) → ended Expired (expired s m rows) ≡ ended_states Expired (past_states (policy_of s v) m (map state_of rows))
+past_rows s v m rows = sym (ended_map Expired (expired s m rows)) ∙ ap (ended_states Expired) (map_filter (is_past s.retention m) rows)
+
+-- only those past the retention leave
+only_past : (s : Settings) (v m : ℕ) (rows : List Row) → ended Expired (expired s m rows) ≡ ended_states Expired (past_states (policy_of s v) m (map state_of rows)) ++ []
+only_past s v m rows = rw append-nil (past_rows s v m rows)
+
+left_rows : (s : Settings) (v m : ℕ) (p : RowState → Bool) (cause : Cause) (rows : List Row)
+    → ended Expired (expired s m rows) ++ ended cause (filter (λ row. p (state_of row)) (trimmed s m rows)) ≡ state_ends (policy_of s v) m (Leaves p cause) (map state_of rows)
+left_rows s v m p cause rows =
+    let gone : ended cause (filter (λ row. p (state_of row)) (trimmed s m rows)) ≡ ended_states cause (filter p (kept_states (policy_of s v) m (map state_of rows))) =
+    sym (ended_map cause (filter (λ row. p (state_of row)) (trimmed s m rows))) ∙ ap (ended_states cause) (map_filter p (trimmed s m rows) ∙ ap (filter p) (kept_rows s v m rows)) in
+    ap (λ (es : List Ending). es ++ ended cause (filter (λ row. p (state_of row)) (trimmed s m rows))) (past_rows s v m rows) ∙ ap (λ (es : List Ending). ended_states Expired (past_states (policy_of s v) m (map state_of rows)) ++ es) gone
+
+all_left : (s : Settings) (v m : ℕ) (cause : Cause) (rows : List Row)
+    → ended Expired (expired s m rows) ++ ended cause (trimmed s m rows) ≡ state_ends (policy_of s v) m (Leaves (λ row. true) cause) (map state_of rows)
+all_left s v m cause rows =
+    subst (λ (rs : List Row). ended Expired (expired s m rows) ++ ended cause rs ≡ state_ends (policy_of s v) m (Leaves (λ row. true) cause) (map state_of rows))
+    (filter_all (trimmed s m rows)) (left_rows s v m (λ row. true) cause rows)
+
+-- the rows change, their states do not
+stays : (s : Settings) (v n m : ℕ) (rows kept : List Row) (reply : HomeReply) → map state_of kept ≡ map state_of (trimmed s m rows) → RisesFrom 0 kept n → home_sends reply ≡ []
+    → Mirrors (Serving s v n rows) (policy_of s v) (policy_of s v) m Stays (ended Expired (expired s m rows)) reply (Serving s v n kept)
+stays s v n m rows kept reply same rising none = record { rising = rising; goes_by = refl; states = same ∙ kept_rows s v m rows; ends = only_past s v m rows; sends = none }
+
+serving_mirrors : (site : Site) (s : Settings) (v n : ℕ) (rows : List Row) (m : ℕ) (call : HomeCall) (reply : HomeReply) (after : Home) → HomeStep site (Serving s v n rows) m call reply after → is_alone call ≡ true → RisesFrom 0 rows n
+    → Mirrors (Serving s v n rows) (policy_of s v) (next_policy (policy_of s v) call) m (effect_of call reply) (home_ends (Serving s v n rows) m call) reply after
+unfolding HomeStep
+serving_mirrors site s v n rows m (Configure t w) Done after h a rising =
+    let trimmed_rising = rises_trimmed s m 0 rows n rising in
+    rw h (elim (nat_lt v w) as (λ b. Mirrors (Serving s v n rows) (policy_of s v) (if b then policy_of t w else policy_of s v) m Stays (ended Expired (expired s m rows)) Done (if b then Serving t w n (trimmed s m rows) else Serving s v n (trimmed s m rows))) [
+      | true ↦ record { rising = trimmed_rising; goes_by = refl; states = kept_rows s v m rows; ends = only_past s v m rows; sends = refl }
+      | false ↦ stays s v n m rows (trimmed s m rows) Done refl trimmed_rising refl
+    ])
+serving_mirrors site s v n rows m Close Done after h a rising =
+    rw h (record { rising = tt; goes_by = tt; states = sym (filter_none (kept_states (policy_of s v) m (map state_of rows))); ends = all_left s v m ClosedAway rows; sends = refl })
+serving_mirrors site s v n rows m (Send body delay) (Sent sent) after h a rising =
+    let kept = trimmed s m rows in
+    rw (h.2, h.1) (record {
+      rising = rises_push 0 kept n (sent_row site.home n sent.slot m (m + ms (unwrap_or delay s.delay)) body) (rises_trimmed s m 0 rows n rising) refl;
+      goes_by = refl;
+      states = map_push kept (sent_row site.home n sent.slot m (m + ms (unwrap_or delay s.delay)) body) ∙ ap (λ (xs : List RowState). xs ++ state_of (sent_row site.home n sent.slot m (m + ms (unwrap_or delay s.delay)) body) ∷ []) (kept_rows s v m rows);
+      ends = only_past s v m rows;
+      sends = refl;
+    })
+serving_mirrors site s v n rows m (Look max timeout) (Looked given) after h a rising =
+    let kept = trimmed s m rows in
+    let until = m + ms (unwrap_or timeout s.timeout) in
+    let kept_rising = rises_trimmed s m 0 rows n rising in
+    rw h.2 (record {
+      rising = rises_received s (serials_of given) m until 0 kept n kept_rising;
+      goes_by = refl;
+      states = looked_rows s m until given kept (λ row i e. given_live s m until _ kept given n row kept_rising h.1 i e) ∙ ap (map (looked given)) (kept_rows s v m rows);
+      ends = only_past s v m rows;
+      sends = refl;
+    })
+serving_mirrors site s v n rows m (Look max timeout) Over after h a rising = rw h.2 (stays s v n m rows (trimmed s m rows) Over refl (rises_trimmed s m 0 rows n rising) refl)
+serving_mirrors site s v n rows m (Delete receipt) Done after h a rising =
+    let kept = trimmed s m rows in
+    rw h.1 (record {
+      rising = rises_without receipt 0 kept n (rises_trimmed s m 0 rows n rising);
+      goes_by = refl;
+      states = map_filter (λ row. not (is_named receipt row)) kept ∙ ap (filter (λ (row : RowState). not (is_named receipt row))) (kept_rows s v m rows);
+      ends = left_rows s v m (is_named receipt) Deleted rows;
+      sends = refl;
+    })
+serving_mirrors site s v n rows m (Change receipt timeout) Done after h a rising =
+    let kept = trimmed s m rows in
+    rw h.3 (stays s v n m rows (map (changed_if m receipt (m + ms timeout)) kept) Done (changed_rows m receipt (m + ms timeout) kept) (rises_changed m receipt (m + ms timeout) 0 kept n (rises_trimmed s m 0 rows n rising)) refl)
+serving_mirrors site s v n rows m Purge Done after h a rising =
+    rw h (record { rising = omega arith; goes_by = refl; states = sym (filter_none (kept_states (policy_of s v) m (map state_of rows))); ends = all_left s v m Purged rows; sends = refl })
+serving_mirrors site s v n rows m Count (Counted counts) after h a rising = rw h.1 (stays s v n m rows (trimmed s m rows) (Counted counts) refl (rises_trimmed s m 0 rows n rising) refl)
+serving_mirrors site s v n rows m (Configure t w) reply after h a rising = elim h [ ]
+serving_mirrors site s v n rows m Close reply after h a rising = elim h [ ]
+serving_mirrors site s v n rows m (Send body delay) reply after h a rising = elim h [ ]
+serving_mirrors site s v n rows m (Look max timeout) reply after h a rising = elim h [ ]
+serving_mirrors site s v n rows m (Delete receipt) reply after h a rising = elim h [ ]
+serving_mirrors site s v n rows m (Change receipt timeout) reply after h a rising = elim h [ ]
+serving_mirrors site s v n rows m Purge reply after h a rising = elim h [ ]
+serving_mirrors site s v n rows m Count reply after h a rising = elim h [ ]
+serving_mirrors site s v n rows m call reply after h a rising = absurd cc
+
+pub mirrors : (site : Site) (home : Home) (policy : Option Policy) (m : ℕ) (call : HomeCall) (reply : HomeReply) (after : Home) → HomeStep site home m call reply after → is_alone call ≡ true → IsRising home → GoesBy home policy
+    → Mirrors home policy (next_policy policy call) m (effect_of call reply) (home_ends home m call) reply after
+unfolding HomeStep
+mirrors site (Serving s v n rows) policy m call reply after h a rising by = rw by (serving_mirrors site s v n rows m call reply after h a rising)
+mirrors site Unopened policy m (Configure t w) Done after h a rising by = rw (by, h) (record { rising = omega arith; goes_by = refl; states = refl; ends = refl; sends = refl })
+mirrors site Unopened policy m Close Done after h a rising by = rw (by, h) (record { rising = tt; goes_by = tt; states = refl; ends = refl; sends = refl })
+mirrors site Unopened policy m call reply after h a rising by = elim h [ ]
+mirrors site Closed policy m (LeaveTask task) reply after h a rising by = absurd cc
+mirrors site Closed policy m (TurnBack item) reply after h a rising by = absurd cc
+mirrors site Closed policy m (GiveUp item) reply after h a rising by = absurd cc
+mirrors site Closed policy m call reply after h a rising by = elim h [ ]

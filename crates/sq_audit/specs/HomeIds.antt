@@ -1,0 +1,24 @@
+-- The homes of a service by their places: their ids and their histories.
+use Rattle.std.specs.Prelude.{◌≡◌, ◌+◌, ◌/◌, ◌%◌, ℕ, List, map, slice_get, Some, ◌-◌, ◌*◌, ◌&&◌, nat_lt, if◌then◌else◌, Option, None}
+use Rattle.sq_base.specs.declared.ids.HomeId.{HomeId}
+use Rattle.sq_model.specs.Matches.{HomeHistory}
+use Rattle.sq_history.specs.HistoryValue.{HistoryValue}
+
+-- the home at a place in the list of all homes
+abbrev pub home_id : ℕ → ℕ → HomeId
+home_id per_queue at = record { queue = at / per_queue + 1; home = at % per_queue }
+
+abbrev pub history_of : HistoryValue → HomeHistory
+history_of h = record { home = h.site.home; events = h.events }
+
+abbrev pub histories_of : List HistoryValue → List HomeHistory
+histories_of homes = map history_of homes
+
+-- the n-th home has its queue and its number there by its place
+abbrev pub IsNumbered : ℕ → List HistoryValue → Type 0
+IsNumbered per_queue homes = (at : ℕ) (h : HistoryValue) → slice_get homes at ≡ Some h → h.site.home ≡ home_id per_queue at
+
+-- where a home stands among so many of all queues
+abbrev pub home_place : ℕ → ℕ → HomeId → Option ℕ
+home_place per_queue count id =
+    if nat_lt id.home per_queue && nat_lt ((id.queue - 1) * per_queue + id.home) count then Some ((id.queue - 1) * per_queue + id.home) else None

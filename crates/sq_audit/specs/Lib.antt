@@ -1,0 +1,11 @@
+pub mod Tags
+pub mod SystemNow
+pub mod Actors
+pub mod RowStates
+pub mod Tracks
+pub mod HomeValues
+pub mod Audits
+pub mod AllPlaces
+pub mod HomesValue
+pub mod Faults
+pub mod HomeIds

@@ -1,0 +1,49 @@
+//! The one run of all that was done.
+ghost use Rattle.std.specs.Prelude.{◌≡◌, length, map, IfOk, IfErr, OnOk};
+ghost use Rattle.sq_model.specs.Systems.{IsRun, IsOnePlace};
+ghost use Rattle.sq_model.specs.Merges.{IsMerged};
+ghost use Rattle.sq_model.specs.Matches.{IsMatched};
+ghost use Rattle.sq_audit.specs.Actors.{ActorsRise, PartsRise};
+ghost use Rattle.sq_audit.specs.Faults.{FaultHolds};
+ghost use Rattle.sq_audit.specs.SystemNow.{events_of, system_now};
+ghost use Rattle.sq_audit.specs.HomeIds.{histories_of, IsNumbered};
+
+use crate::check::{AuditFault, check};
+use crate::parts::Parts;
+use crate::run::Run;
+use crate::sorted::sorted;
+use sq_directory::firsts::firsts;
+use std::alloc::Global;
+
+/// All that was done to the parts of a service, sorted by stamp; at equal stamps the directory comes first, and then the
+/// homes in their order. It is one run of the whole system, from its opening to what the parts are now, and each event
+/// has its record, and each record its event. The events of each actor stand in its order, and so do those of each part:
+/// two of one actor or of one part never have one stamp. No two homes have one id, as the law of one place asks.
+/// Refused for what is wrong with the records and the histories, and where nothing is, as NoMemory; those that a world
+/// leaves are right.
+pub fn merge<'a>(alloc: Global, parts: &'a Parts) -> Result<Run<'a>, AuditFault>
+    ensures matched { OnOk result (IsMatched parts.now.directory.events (histories_of parts.now.homes.homes) parts.now.records) }
+    ensures merged { IfOk result (λ run. IsMerged parts.now.directory.events (events_of parts.now.homes.homes) run) }
+    ensures run { IfOk result (λ run. IsRun parts.now.directory.directory.places (map (λ h. h.site) parts.now.homes.homes) run (system_now parts.now.directory parts.now.homes.homes)) }
+    ensures actors { IfOk result (λ run. ActorsRise run) }
+    ensures parts { IfOk result (λ run. PartsRise run) }
+    ensures numbered { OnOk result (IsNumbered parts.now.homes.per_queue parts.now.homes.homes) }
+    ensures apart { OnOk result (IsOnePlace (map (λ h. h.site) parts.now.homes.homes)) }
+    ensures fault { IfErr result (FaultHolds parts.now.directory.events (histories_of parts.now.homes.homes) parts.now.records) }
+    ensures honest { IsMatched parts.now.directory.events (histories_of parts.now.homes.homes) parts.now.records → IfErr result (λ f. f ≡ AuditFault.NoMemory) }
+    ensures wanting { IfErr result (λ f. f ≡ AuditFault.NoMemory → IsMatched parts.now.directory.events (histories_of parts.now.homes.homes) parts.now.records) }
+{
+    let homes = parts.homes.as_slice();
+    let firsts = firsts(alloc, &parts.directory);
+    check(
+        &parts.directory,
+        &firsts,
+        parts.homes.per_queue(),
+        homes,
+        parts.records.as_slice(),
+    )?;
+    match sorted(alloc, &parts.directory, homes) {
+        Ok(events) => Ok(Run::of(events)),
+        Err(_) => Err(AuditFault::NoMemory),
+    }
+}

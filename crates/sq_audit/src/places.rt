@@ -1,0 +1,175 @@
+//! Where all messages of a run are.
+ghost use Rattle.std.specs.Prelude.{◌≡◌, ◌+◌, ◌++◌, ◌≤◌, ℕ, List, OnOk, IfOk, IfErr, slice_set, get_or, vec_len};
+ghost use Rattle.std.specs.List.{fold};
+ghost use Rattle.std.specs.BTreeMap.{get};
+ghost use Rattle.sq_base.specs.declared.message_id.MessageId.{MessageId};
+ghost use Rattle.sq_model.specs.declared.place.Site.{Site};
+ghost use Rattle.sq_model.specs.Lineages.{home_sends};
+ghost use Rattle.sq_model.specs.Places.{run_ends, run_sends};
+ghost use Rattle.sq_model.specs.Systems.{System, OfHome, RunFrom, opening, IsOnePlace};
+ghost use Rattle.sq_audit.specs.AllPlaces.{ArePlaces, AreTold, id_cmp, after_end, sent_place};
+ghost use Rattle.sq_audit.specs.Audits as audits;
+ghost use Rattle.sq_audit.specs.Tags.{tag_of};
+
+use crate::home_states::HomeStates;
+use crate::run::Run;
+use crate::tagged::Tagged;
+use sq_base::message_id::MessageId;
+use sq_base::refusal::Refusal;
+use sq_model::calls::HomeCall;
+use sq_model::event::Event;
+use sq_model::place::Place;
+use sq_model::replies::HomeReply;
+use std::alloc::Global;
+use std::collections::BTreeMap;
+use std::marker::Model;
+
+/// What a pass over a run has found.
+#[derive(Drop)]
+struct Audit {
+    homes: Vec<HomeStates>,
+    sends: Vec<MessageId>,
+    ends: Vec<(MessageId, Place)>,
+}
+
+impl Model for Audit {
+    ghost use Rattle.sq_audit.specs.HomeValues.{AuditValue};
+
+    ghost Value = { AuditValue };
+
+    ghost view = { λ a. record { homes = a.homes.items; sends = a.sends.items; ends = a.ends.items } };
+}
+
+/// Where the messages of a run are: each that was sent in it, once, in rising order of id. Refused for want of memory alone.
+pub fn places_of(alloc: Global, run: &Run<'_>) -> Result<Vec<(MessageId, Place)>, Refusal>
+    ensures places { (places : ℕ) (sites : List Site) (after : System) (r : RunFrom (opening places sites) run.now after) → IsOnePlace sites
+        → IfOk result (λ told. ArePlaces (run_sends run.now) (run_ends (opening places sites) run.now after r) told.items) }
+    ensures err { IfErr result (λ e. e ≡ Refusal.NoMemory) }
+{
+    let audit = collect(alloc, run.events())?;
+    told(alloc, &audit.sends, &audit.ends)
+}
+
+fn collect(alloc: Global, events: &[Tagged<'_>]) -> Result<Audit, Refusal>
+    ensures audit { IfOk result (λ a. a ≡ fold (λ a t. audits.audit_step a (tag_of t)) audits.no_audit events.now) }
+    ensures err { IfErr result (λ e. e ≡ Refusal.NoMemory) }
+{
+    let mut audit = Audit::new(alloc);
+    for tagged in events {
+        audit.step(alloc, tagged)?;
+    }
+    Ok(audit)
+}
+
+impl Audit {
+    fn new(alloc: Global) -> Audit
+        ensures { result ≡ audits.no_audit }
+    {
+        Audit {
+            homes: Vec::new(alloc),
+            sends: Vec::new(alloc),
+            ends: Vec::new(alloc),
+        }
+    }
+
+    fn step(&mut self, alloc: Global, tagged: &Tagged<'_>) -> Result<(), Refusal>
+        ensures step { OnOk result (self.new ≡ audits.audit_step self.old (tag_of tagged.now)) }
+        ensures err { IfErr result (λ e. e ≡ Refusal.NoMemory) }
+    {
+        match tagged {
+            Tagged::Directory(_) => Ok(()),
+            Tagged::Home(place, event) => self.apply(alloc, *place, event),
+        }
+    }
+
+    fn apply(
+        &mut self,
+        alloc: Global,
+        place: u32,
+        event: &Event<HomeCall, HomeReply>,
+    ) -> Result<(), Refusal>
+        ensures step { OnOk result (self.new ≡ audits.audit_step self.old (OfHome place event.now)) }
+        ensures err { IfErr result (λ e. e ≡ Refusal.NoMemory) }
+    {
+        apply_at(alloc, &mut self.homes, place, event, &mut self.ends)?;
+        note_send(&event.reply, &mut self.sends)
+    }
+}
+
+// Lets the home at a place go on by an event, and puts last who left in it.
+fn apply_at(
+    alloc: Global,
+    homes: &mut Vec<HomeStates>,
+    place: u32,
+    event: &Event<HomeCall, HomeReply>,
+    ends: &mut Vec<(MessageId, Place)>,
+) -> Result<(), Refusal>
+    ensures homes { OnOk result (homes.new.items ≡ slice_set (audits.grown (place + 1) homes.old.items) place (audits.home_after event.now (get_or homes.old.items place audits.no_states))) }
+    ensures ends { OnOk result (ends.new.items ≡ ends.old.items ++ audits.placed_ends event.now (get_or homes.old.items place audits.no_states)) }
+    ensures err { IfErr result (λ e. e ≡ Refusal.NoMemory) }
+{
+    let place = place as usize;
+    grow(alloc, homes, place + 1)?;
+    homes[place].apply(event, ends)?;
+    Ok(())
+}
+
+// Makes room for so many homes.
+fn grow(alloc: Global, homes: &mut Vec<HomeStates>, count: usize) -> Result<(), Refusal>
+    ensures homes { OnOk result (homes.new.items ≡ audits.grown count homes.old.items) }
+    ensures len { OnOk result (count ≤ vec_len homes.new) }
+    ensures err { IfErr result (λ e. e ≡ Refusal.NoMemory) }
+{
+    for _ in 0..count.saturating_sub(homes.len()) {
+        homes.push(HomeStates::new(alloc))?;
+    }
+    Ok(())
+}
+
+// Puts last who was sent.
+fn note_send(reply: &HomeReply, sends: &mut Vec<MessageId>) -> Result<(), Refusal>
+    ensures sends { OnOk result (sends.new.items ≡ sends.old.items ++ home_sends reply.now) }
+    ensures err { IfErr result (λ e. e ≡ Refusal.NoMemory) }
+{
+    if let HomeReply::Sent(message) = reply {
+        sends.push(message.id)?;
+    }
+    Ok(())
+}
+
+fn told(
+    alloc: Global,
+    sends: &[MessageId],
+    ends: &[(MessageId, Place)],
+) -> Result<Vec<(MessageId, Place)>, Refusal>
+    ensures told { IfOk result (λ told. AreTold sends.now ends.now told.items) }
+    ensures err { IfErr result (λ e. e ≡ Refusal.NoMemory) }
+{
+    let mut places = sent_places(alloc, sends)?;
+    put_ends(&mut places, ends)?;
+    Ok(places.into_iter().collect(alloc)?)
+}
+
+fn sent_places(alloc: Global, sends: &[MessageId]) -> Result<BTreeMap<MessageId, Place>, Refusal>
+    ensures each { IfOk result (λ places. (x : MessageId) → get id_cmp places x ≡ sent_place x sends.now) }
+    ensures err { IfErr result (λ e. e ≡ Refusal.NoMemory) }
+{
+    let mut places = BTreeMap::new(alloc);
+    for id in sends {
+        places.insert(*id, Place::InHome)?;
+    }
+    Ok(places)
+}
+
+fn put_ends(
+    places: &mut BTreeMap<MessageId, Place>,
+    ends: &[(MessageId, Place)],
+) -> Result<(), Refusal>
+    ensures each { OnOk result ((x : MessageId) → get id_cmp places.new x ≡ fold (after_end x) (get id_cmp places.old x) ends.now) }
+    ensures err { IfErr result (λ e. e ≡ Refusal.NoMemory) }
+{
+    for (id, place) in ends {
+        places.insert(*id, *place)?;
+    }
+    Ok(())
+}

@@ -1,0 +1,30 @@
+//! An event of the system.
+ghost use Rattle.std.specs.Prelude.{◌≡◌};
+ghost use Rattle.sq_model.specs.Systems.{stamp_of};
+
+use sq_base::stamp::Stamp;
+use sq_model::calls::HomeCall;
+use sq_model::directory::{DirectoryCall, DirectoryReply};
+use sq_model::event::Event;
+use sq_model::replies::HomeReply;
+
+/// An event, and the part that it is of: the directory, or the home at a place in the list of all homes.
+#[derive(Clone, Copy)]
+pub enum Tagged<'a> {
+    Directory(&'a Event<DirectoryCall, DirectoryReply>),
+    Home(u32, &'a Event<HomeCall, HomeReply>),
+}
+
+impl<'a> Tagged<'a> {
+    ghost use Rattle.sq_audit.specs.Tags.{tag_of};
+
+    /// The stamp of the event.
+    pub fn stamp(&self) -> Stamp
+        ensures { result ≡ stamp_of (tag_of self.now) }
+    {
+        match self {
+            Tagged::Directory(event) => event.stamp,
+            Tagged::Home(_, event) => event.stamp,
+        }
+    }
+}

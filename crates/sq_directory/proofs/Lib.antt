@@ -1,0 +1,3 @@
+pub mod DirectoryLaws
+pub mod ElementLaws
+pub mod MakerLaws

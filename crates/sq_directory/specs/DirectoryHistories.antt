@@ -1,0 +1,39 @@
+-- What a recorded step of the directory does, and what is true of the directory at all times.
+use Rattle.std.specs.Prelude.{◌≡◌, ◌⊎◌, ℕ, [], ◌∷◌, ◌++◌, length, Some, Ok, Err}
+use Rattle.sq_base.specs.StampValue.{StampValue}
+use Rattle.sq_base.specs.Stamps.{start, after}
+use Rattle.sq_base.specs.declared.refusal.Refusal.{Refusal}
+use Rattle.sq_base.specs.declared.refusal.Refusal.TheVariants.{NoMemory}
+use Rattle.sq_model.specs.declared.place.Component.TheVariants as part
+use Rattle.sq_model.specs.declared.directory.DirectoryCall.{DirectoryCall}
+use Rattle.sq_model.specs.declared.directory.DirectoryReply.{DirectoryReply}
+use Rattle.sq_model.specs.declared.event.Actor.{Actor}
+use Rattle.sq_model.specs.Directories.{DirectoryStep, directory_refusal}
+use Rattle.sq_model.specs.Replays.{Replays, StampsRise}
+use Rattle.sq_model.specs.Systems.{DirectoryEvent, AreDirectory}
+use Rattle.sq_directory.specs.DirectoryHistory.{DirectoryHistory}
+use Rattle.sq_model.specs.Notes.{DirectoryNote, directory_note}
+
+abbrev pub directory_event : StampValue → Actor → DirectoryCall → DirectoryReply → DirectoryEvent
+directory_event stamp by call reply = record { stamp = stamp; actor = by.number; place = by.place; component = part.Directory; call = call; reply = reply }
+
+-- Exactly one event was added: a step of the directory at a new stamp, above its last and above what the actor had seen. The note is its own.
+pub record DirectoryRecords (old new : DirectoryHistory) (by : Actor) (now : ℕ) (call : DirectoryCall) (note : DirectoryNote) : Type 0 where
+  pub stamped : after old.last by.seen now ≡ Ok note.stamp
+  pub step : DirectoryStep old.directory note.stamp.moment call note.reply new.directory
+  pub last : new.last ≡ note.stamp
+  pub events : new.events ≡ old.events ++ directory_event note.stamp by call note.reply ∷ []
+  pub noted : note ≡ directory_note (length old.events) (directory_event note.stamp by call note.reply)
+
+-- No memory was found, or the first check in order that fails: the clock's, the counts', the directory's.
+abbrev pub IsDirectoryRefused : DirectoryHistory → Actor → ℕ → DirectoryCall → Refusal → Type 0
+IsDirectoryRefused old by now call e =
+    (e ≡ NoMemory)
+    ⊎ (after old.last by.seen now ≡ Err e)
+    ⊎ ((stamp : StampValue) × (after old.last by.seen now ≡ Ok stamp) × (directory_refusal old.directory stamp.moment call ≡ Some e))
+
+-- True at all times: the directory is the replay of its events, whose stamps rise, and each event is its own.
+pub record IsDirectoryKept (h : DirectoryHistory) : Type 0 where
+  pub replays : Replays DirectoryStep (record { queues = []; places = h.directory.places }) h.events h.directory
+  pub rising : StampsRise start h.events h.last
+  pub own : AreDirectory h.events

@@ -1,0 +1,4 @@
+pub mod DirectoryHistory
+pub mod DirectoryHistories
+pub mod Makers
+pub mod Events

@@ -1,0 +1,113 @@
+//! The directory: the queues of a service, and all that was done to them.
+ghost use Rattle.std.specs.Prelude.{◌≡◌, ◌++◌, ◌∷◌, [], IfOk, IfErr, IfSome, OnErr};
+ghost use Rattle.sq_base.specs.Stamps.{start};
+ghost use Rattle.sq_model.specs.Directories.{number_of};
+ghost use Rattle.sq_model.specs.declared.directory.DirectoryCall.TheVariants.{Create};
+ghost use Rattle.sq_model.specs.declared.directory.DirectoryReply.TheVariants.{Made};
+ghost use Rattle.sq_directory.specs.Makers.{IsMadeBy};
+
+use crate::queues::Queues;
+use crate::record::DirectoryRecord;
+use sq_base::ids::QueueNo;
+use sq_base::name::QueueName;
+use sq_base::refusal::Refusal;
+use sq_base::stamp::Stamp;
+use sq_model::directory::{Attributes, DirectoryCall, DirectoryReply, QueueSettings};
+use sq_model::event::{Actor, Event};
+use sq_model::place::Component;
+use std::alloc::Global;
+use std::marker::Model;
+
+/// The queues with their history: they are always the replay of its events. Clock readings are in ms.
+#[derive(Drop)]
+pub struct Directory {
+    queues: Queues,
+    last: Stamp,
+    events: Vec<Event<DirectoryCall, DirectoryReply>>,
+}
+
+impl Model for Directory {
+    ghost use Rattle.sq_directory.specs.DirectoryHistory.{DirectoryHistory};
+    ghost use Rattle.sq_directory.specs.DirectoryHistories.{IsDirectoryKept};
+
+    ghost Value = { DirectoryHistory };
+
+    ghost view = { λ d. record { directory = d.queues; last = d.last; events = d.events.items } };
+
+    ghost invariant = { λ d. IsDirectoryKept (record { directory = d.queues; last = d.last; events = d.events.items }) };
+}
+
+impl Directory {
+    ghost use Rattle.sq_directory.specs.DirectoryHistories.{DirectoryRecords, IsDirectoryRefused, IsDirectoryKept};
+
+    /// No queue, no event, and room for so many queues.
+    pub fn new(alloc: Global, places: u32) -> Directory
+        ensures { result ≡ record { directory = record { queues = []; places = places }; last = start; events = [] } }
+    {
+        Directory {
+            queues: Queues::new(alloc, places),
+            last: Stamp::start(),
+            events: Vec::new(alloc),
+        }
+    }
+
+    /// All events, the first first. The queues are always the replay of them.
+    pub fn events(&self) -> &[Event<DirectoryCall, DirectoryReply>]
+        ensures items { result.now ≡ self.now.events }
+        ensures kept { IsDirectoryKept self.now }
+    {
+        self.events.as_slice()
+    }
+
+    /// The stamp of the last event.
+    pub fn last(&self) -> Stamp
+        ensures { result ≡ self.now.last }
+    {
+        self.last
+    }
+
+    /// The number of the queue of this name.
+    pub fn find(&self, name: &QueueName) -> Option<QueueNo>
+        ensures number { result ≡ number_of name.now self.now.directory.queues }
+        // It was made by its name.
+        ensures made { IfSome result (IsMadeBy self.now.events self.now.last name.now) }
+    {
+        self.queues.find(name)
+    }
+
+    /// Makes a queue of this name with these attributes, where there is none yet; else it must have them. Answers the
+    /// queue, and the record of the step.
+    /// Refused as NoMemory, ClockRange, Worn, QueueNameExists, TableFull.
+    pub fn create(
+        &mut self,
+        by: &Actor,
+        now: u64,
+        name: &QueueName,
+        given: &Attributes,
+    ) -> Result<(QueueSettings, DirectoryRecord), Refusal>
+        ensures recorded { IfOk result (λ r. DirectoryRecords self.old self.new by.now now (Create name.now given.now) r.1) }
+        ensures made { IfOk result (λ r. r.1.reply ≡ Made r.0) }
+        ensures refusal { IfErr result (IsDirectoryRefused self.old by.now now (Create name.now given.now)) }
+        ensures err { OnErr result (self.new ≡ self.old) }
+    {
+        self.events.try_reserve(1)?;
+        let stamp = Stamp::after(self.last, by.seen, now)?;
+        let made = self.queues.create(name, given)?;
+        let told = made;
+        let call = DirectoryCall::Create(*name, *given);
+        let reply = DirectoryReply::Made(made);
+        let index = self.events.len() as u64;
+        let record = DirectoryRecord::new(&stamp, by, index, &call, &reply);
+        let event = Event {
+            stamp,
+            actor: by.number,
+            place: by.place,
+            component: Component::Directory,
+            call,
+            reply,
+        };
+        let _ = self.events.push(event);
+        self.last = record.stamp();
+        Ok((told, record))
+    }
+}

@@ -1,9 +1,0 @@
-use Rattle.std.proofs.lemmas.List.{map-append}
-use Rattle.sq_merge.specs.Records.{note_of}
-use Rattle.sq_merge.proofs.BookLaws.{home_book_more}
-use Rattle.sq_merge.proofs.book.home_step.Goals as goal
-
-pub invariant_of-book-3 : goal.invariant_of-book-3
-invariant_of-book-3 c =
-    rw (c.put.ensures, c.try_reserve.ensures.items, map-append note_of c.book.inside.records.items, c.stamp-book-inside.ensures)
-    (home_book_more _ _ _ c.args.now c.args.name _ c.in_ok-reply.record c.book.invariant (rw c.by-by.ensures at c.in_ok-reply.ensures.recorded))

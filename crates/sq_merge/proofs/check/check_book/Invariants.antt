@@ -1,7 +1,0 @@
-use Rattle.std.proofs.Common.{◌<◌, ℕ}
-use Rattle.sq_merge.specs.Worlds.{histories_of}
-use Rattle.sq_merge.specs.Faults.{NoteFits}
-use Rattle.sq_merge.proofs.check.check_book.Given as goal
-
-abbrev pub invariant-loop-index : goal.invariant-loop-index
-invariant-loop-index l = (i : ℕ) → i < l.index → NoteFits l.directory.events (histories_of l.homes) l.books l.at i

@@ -1,8 +1,0 @@
-use Rattle.std.proofs.Common.{◌<◌, ℕ}
-use Rattle.sq_merge.specs.Worlds.{histories_of}
-use Rattle.sq_merge.specs.Books.{NotesRiseAt}
-use Rattle.sq_merge.specs.Faults.{NoteFits}
-use Rattle.sq_merge.proofs.check.check_books.Given as goal
-
-abbrev pub invariant-loop-at : goal.invariant-loop-at
-invariant-loop-at l = (b : ℕ) → b < l.at → ((i : ℕ) → NoteFits l.directory.events (histories_of l.homes) l.books b i) × NotesRiseAt l.books b

@@ -1,0 +1,80 @@
+-- What an actor has stays in order with one step more.
+use Rattle.std.proofs.Common.{◌≡◌, ℕ, ◌+◌, ◌<◌, true, false, List, [], ◌∷◌, ◌++◌, Option, refl, sym, ap, subst, inl, inr, arith}
+use Rattle.std.specs.List.{AllByRecursion}
+use Rattle.std.specs.Ordering.{is_lt}
+use Rattle.std.specs.Cmp.{IsStrictWeakOrder}
+use Rattle.std.proofs.lemmas.List.Sorted.{ranks_by}
+use Rattle.sq_base.specs.StampValue.{StampValue}
+use Rattle.sq_base.specs.Stamps.{Below, stamp_cmp}
+use Rattle.sq_base.proofs.StampLaws.{stamps_total, after_above_second, below_or, below_not_less}
+use Rattle.sq_model.specs.declared.calls.HomeCall.{HomeCall}
+use Rattle.sq_model.specs.declared.directory.DirectoryCall.{DirectoryCall}
+use Rattle.sq_model.specs.Notes.{HomeNote, DirectoryNote, Note, OfDirectory, OfHome, place_of, stamp_of, Book, actor_of, NotesRise}
+use Rattle.sq_history.specs.HistoryValue.{HistoryValue}
+use Rattle.sq_history.specs.Histories.{Records}
+use Rattle.sq_directory.specs.DirectoryHistory.{DirectoryHistory}
+use Rattle.sq_directory.specs.DirectoryHistories.{DirectoryRecords}
+use Rattle.sq_directory.specs.Makers.{IsSeen}
+use Rattle.sq_steps.specs.Books.{IsBook, with_note}
+use Rattle.sq_directory.proofs.MakerLaws.{seen_below}
+
+pub all_weaken : {X : Type 0} (P Q : X → Type 0) (xs : List X) → ((x : X) → P x → Q x) → AllByRecursion P xs → AllByRecursion Q xs
+all_weaken P Q [] f h = tt
+all_weaken P Q (x ∷ xs) f h = (f x h.0, all_weaken P Q xs f h.1)
+
+pub all_both : {X : Type 0} (P Q : X → Type 0) (xs : List X) → AllByRecursion P xs → AllByRecursion Q xs → AllByRecursion (λ x. P x × Q x) xs
+all_both P Q [] h g = tt
+all_both P Q (x ∷ xs) h g = ((h.0, g.0), all_both P Q xs h.1 g.1)
+
+pub all_push : {X : Type 0} (P : X → Type 0) (xs : List X) (x : X) → AllByRecursion P xs → P x → AllByRecursion P (xs ++ x ∷ [])
+all_push P [] x h p = (p, tt)
+all_push P (y ∷ ys) x h p = (h.0, all_push P ys x h.1 p)
+
+rise_push : (ns : List Note) (n : Note) → NotesRise ns → AllByRecursion (λ m. (place_of m < place_of n) × Below (stamp_of m) (stamp_of n)) ns → NotesRise (ns ++ n ∷ [])
+rise_push [] n rise low = (tt, tt)
+rise_push (m ∷ ms) n rise low = (all_push (λ k. (place_of m < place_of k) × Below (stamp_of m) (stamp_of k)) ms n rise.0 low.0, rise_push ms n rise.1 low.1)
+
+stamps_weak : IsStrictWeakOrder (λ a b. is_lt (stamp_cmp a b))
+stamps_weak = ranks_by stamps_total (λ s. s)
+
+not_less_itself : (a : StampValue) → is_lt (stamp_cmp a a) ≡ true → ⊥
+not_less_itself a h = let k : is_lt (stamp_cmp a a) ≡ false = stamps_weak.one_way a a h in cc
+
+less_below : (a b : StampValue) → is_lt (stamp_cmp a b) ≡ true → Below a b
+less_below a b less = elim (below_or a b) [
+  | inl h ↦ h
+  | inr h ↦ elim h [
+    | inl same ↦ absurd (not_less_itself a (subst (λ (x : StampValue). is_lt (stamp_cmp a x) ≡ true) (sym same) less))
+    | inr above ↦ (let k : is_lt (stamp_cmp a b) ≡ false = below_not_less b a above in absurd cc)
+  ]
+]
+
+pub book_more : (b : Book) (n : Note) → IsBook b → place_of n ≡ b.next → Below b.seen (stamp_of n) → IsBook (with_note b n)
+book_more b n is place above =
+    let low = all_weaken (λ m. place_of m < b.next) (λ m. place_of m < place_of n) b.notes (λ m lt. omega (arith, lt, place)) is.below in
+    let under = all_weaken (λ m. IsSeen (stamp_of m) b.seen) (λ m. Below (stamp_of m) (stamp_of n)) b.notes (λ m s. seen_below (stamp_of m) b.seen (stamp_of n) s above) is.saw in
+    record {
+      rise = rise_push b.notes n is.rise (all_both (λ m. place_of m < place_of n) (λ m. Below (stamp_of m) (stamp_of n)) b.notes low under);
+      below = all_push (λ m. place_of m < b.next + 1) b.notes n (all_weaken (λ m. place_of m < b.next) (λ m. place_of m < b.next + 1) b.notes (λ m lt. omega (arith, lt)) is.below) (omega (arith, place));
+      saw = all_push (λ m. IsSeen (stamp_of m) (stamp_of n)) b.notes n (all_weaken (λ m. Below (stamp_of m) (stamp_of n)) (λ m. IsSeen (stamp_of m) (stamp_of n)) b.notes (λ m h. inr h) under) (inl refl);
+    }
+
+-- it has read what is above what it had seen
+pub book_above : (b : Book) (stamp : StampValue) → IsBook b → is_lt (stamp_cmp b.seen stamp) ≡ true → IsBook (record b { seen = stamp })
+book_above b stamp is less = record {
+  rise = is.rise;
+  below = is.below;
+  saw = all_weaken (λ m. IsSeen (stamp_of m) b.seen) (λ m. IsSeen (stamp_of m) stamp) b.notes (λ m h. inr (seen_below (stamp_of m) b.seen stamp h (less_below b.seen stamp less))) is.saw;
+}
+
+-- the note of a step of a home is above what its actor has
+pub home_book_more : (old new : HistoryValue) (book : Book) (now : ℕ) (name : Option (List ℕ)) (call : HomeCall) (note : HomeNote)
+    → IsBook book → Records old new (actor_of book) now name call note → IsBook (with_note book (OfHome note))
+home_book_more old new book now name call note is more =
+    book_more book (OfHome note) is (ap (λ (n : HomeNote). n.place) more.noted) (after_above_second old.last book.seen now note.stamp more.stamped)
+
+-- and so is that of a step of the directory
+pub directory_book_more : (old new : DirectoryHistory) (book : Book) (now : ℕ) (call : DirectoryCall) (note : DirectoryNote)
+    → IsBook book → DirectoryRecords old new (actor_of book) now call note → IsBook (with_note book (OfDirectory note))
+directory_book_more old new book now call note is more =
+    book_more book (OfDirectory note) is (ap (λ (n : DirectoryNote). n.place) more.noted) (after_above_second old.last book.seen now note.stamp more.stamped)

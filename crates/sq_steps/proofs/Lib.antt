@@ -1,0 +1,4 @@
+pub mod BookLaws
+pub mod BookListLaws
+pub mod DropLaws
+pub mod FilterLaws

@@ -1,0 +1,36 @@
+//! What an actor keeps of its steps.
+ghost use Rattle.std.specs.Prelude.{◌≡◌};
+ghost use Rattle.sq_model.specs.Notes.{place_of, stamp_of};
+ghost use Rattle.sq_steps.specs.Records.{note_of};
+
+use sq_base::stamp::Stamp;
+use sq_directory::record::DirectoryRecord;
+use sq_history::record::HomeRecord;
+
+/// An actor's record of one step.
+#[derive(Drop)]
+pub enum Record {
+    Directory(DirectoryRecord),
+    Home(HomeRecord),
+}
+
+impl Record {
+    /// The number of the step among its actor's, from 0 upwards.
+    pub fn place(&self) -> u64
+        ensures { result ≡ place_of (note_of self.now) }
+    {
+        match self {
+            Record::Directory(record) => record.place(),
+            Record::Home(record) => record.place(),
+        }
+    }
+
+    pub fn stamp(&self) -> Stamp
+        ensures { result ≡ stamp_of (note_of self.now) }
+    {
+        match self {
+            Record::Directory(record) => record.stamp(),
+            Record::Home(record) => record.stamp(),
+        }
+    }
+}
