@@ -1,22 +1,25 @@
 //! All queues of a service with all that was done to them, for one thread.
 ghost use Rattle.std.specs.Prelude.{◌≡◌, ◌⊎◌, ◌↔◌, ◌<◌, true, None, Some, length, position, IfOk, IfErr, IfSome, OnErr};
+ghost use Rattle.rand.specs.Sample.{IsSampleOf};
 ghost use Rattle.sq_model.specs.Directories.{number_of};
-ghost use Rattle.sq_steps.specs.Acts.{call_of};
+ghost use Rattle.sq_history.specs.Acts.{call_of};
 ghost use Rattle.sq_steps.specs.Books.{is_of, book_of};
 ghost use Rattle.sq_merge.specs.Worlds.{HomeStepped, HomeRefused, Created, CreateRefused, NameRefused, having_read, StepTold, StepRefused, Schedule, IsKnown, IsKeptWorld};
 ghost use Rattle.sq_audit.specs.HomeIds.{histories_of};
-ghost use Rattle.sq_merge.specs.Calls.{CallTold};
-ghost use Rattle.sq_merge.specs.Fits.{LeavesNotes};
+ghost use Rattle.sq_merge.specs.Acting.{counts_of, ActorStepped};
+ghost use Rattle.sq_merge.specs.Fits.{CallFits};
+ghost use Rattle.sq_merge.specs.Told.{Told, LeavesRecords};
 ghost use Rattle.sq_merge.specs.Openings.{IsServed, new_world};
 ghost use Rattle.sq_merge.specs.PartsValue.{parts_of};
 ghost use Rattle.sq_model.specs.Matches.{IsMatched};
 
+use crate::acting::call_as;
 use crate::calls::{Answer, Call};
 use crate::homes::{absent, never_opened_homes};
 use crate::options::Options;
 use sq_audit::homes::{Homes, home_place};
 use sq_audit::parts::Parts;
-use sq_base::ids::{HomeId, QueueNo};
+use sq_base::ids::{HomeId, HomeNo, QueueNo};
 use sq_base::name::QueueName;
 use sq_base::refusal::Refusal;
 use sq_directory::directory::Directory;
@@ -31,8 +34,6 @@ use sq_steps::books::Books;
 use sq_steps::room::put;
 use std::alloc::Global;
 use std::marker::Model;
-
-mod calls;
 
 /// The queues and their homes, and what each actor has seen and noted. Records and events are of each other at all times.
 #[derive(Drop)]
@@ -116,7 +117,6 @@ impl World {
     /// ReceiptHandleIsInvalid of what is no handle of the queue and of one of its homes; NoMemory; ClockRange; Worn; and
     /// then as the home's call. CreateQueue is refused as QueueNameExists and TableFull too, and ReceiveMessage as OverLimit
     /// where no home that was asked gave a message and one of them has too many in flight.
-    #[tactic(auto, unfolding(crate::specs::Calls::CallTold))]
     pub fn call(
         &mut self,
         alloc: Global,
@@ -124,18 +124,10 @@ impl World {
         now: u64,
         call: &Call,
     ) -> Result<Answer, Refusal>
-        ensures told { CallTold self.old actor now call.now result self.new }
-        ensures fits { LeavesNotes self.old self.new actor call.now result }
+        ensures told { Told (ActorStepped actor now) (CallFits (counts_of self.old) call.now) self.old result self.new }
+        ensures left { LeavesRecords (CallFits (counts_of self.old) call.now) (book_of actor self.old.books) result (book_of actor self.new.books) }
     {
-        match call {
-            Call::CreateQueue(call) => self.create_queue(alloc, actor, now, call),
-            Call::SendMessage(call) => self.send_message(alloc, actor, now, call),
-            Call::ReceiveMessage(call) => self.receive_message(alloc, actor, now, call),
-            Call::DeleteMessage(call) => self.delete_message(alloc, actor, now, call),
-            Call::ChangeMessageVisibility(call) => {
-                self.change_message_visibility(alloc, actor, now, call)
-            }
-        }
+        call_as(self, alloc, actor, now, call)
     }
 
     /// One step after another, and how many were not refused. What is refused changes nothing.
@@ -173,6 +165,30 @@ impl World {
         }
     }
 
+    /// How many homes a queue has.
+    pub(crate) fn per_queue(&self) -> HomeCount
+        ensures { result ≡ self.now.per_queue }
+    {
+        self.per_queue
+    }
+
+    // One home of a queue.
+    pub(crate) fn pick(&mut self) -> HomeNo
+        ensures below { result < self.old.per_queue }
+        ensures same { self.new ≡ self.old }
+    {
+        self.sampler.pick(self.per_queue)
+    }
+
+    // Distinct homes of a queue, so many as a receive asks. Refused for want of memory alone.
+    pub(crate) fn draw(&mut self, alloc: Global) -> Result<Vec<HomeNo>, Refusal>
+        ensures sample { IfOk result (λ drawn. IsSampleOf self.old.per_queue self.old.sample drawn.items) }
+        ensures refused { IfErr result (λ e. e ≡ Refusal.NoMemory) }
+        ensures same { self.new ≡ self.old }
+    {
+        self.sampler.draw(alloc, self.per_queue, self.sample)
+    }
+
     // Where what an actor has stands.
     fn book_at(&self, actor: u32) -> Option<usize>
         ensures place { result ≡ position (is_of actor) self.now.books }
@@ -182,7 +198,7 @@ impl World {
     }
 
     // Makes a queue or finds it.
-    fn create(
+    pub(crate) fn create(
         &mut self,
         alloc: Global,
         actor: u32,
@@ -211,7 +227,12 @@ impl World {
     }
 
     // Reads the number of a queue.
-    fn resolve(&mut self, alloc: Global, actor: u32, name: &QueueName) -> Result<QueueNo, Refusal>
+    pub(crate) fn resolve(
+        &mut self,
+        alloc: Global,
+        actor: u32,
+        name: &QueueName,
+    ) -> Result<QueueNo, Refusal>
         ensures found { IfOk result (λ queue. (number_of name.now self.old.directory.directory.queues ≡ Some queue) × (self.new ≡ having_read self.old actor)) }
         ensures known { IfOk result (IsKnown self.new.directory.events (book_of actor self.new.books) (Some name.now)) }
         ensures refusal { IfErr result (NameRefused self.old actor name.now) }
@@ -238,7 +259,7 @@ impl World {
     }
 
     // A step of a home by an actor that used this name.
-    fn at_home(
+    pub(crate) fn at_home(
         &mut self,
         alloc: Global,
         actor: u32,

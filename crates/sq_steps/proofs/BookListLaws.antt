@@ -128,3 +128,15 @@ book_once (z ∷ zs) d (suc b) (suc c) x y h g e = ap suc (book_once zs d.1 b c 
 
 pub same_place : (x y : ℕ) → x ≡ y → nat_eq x y ≡ true
 same_place x y e = subst (λ (z : ℕ). nat_eq x z ≡ true) e (grind (arith, common_steps))
+
+same_number : (n : ℕ) → n == n ≡ true
+same_number n = grind (arith, common_steps)
+
+-- what an actor has after a change is the change
+pub book_put : (actor : ℕ) (b : Book) (books : List Book) → b.actor ≡ actor → book_of actor (put_book b books) ≡ b
+book_put actor b [] own = rw (own, same_number actor) refl
+book_put actor b (x ∷ xs) own =
+    elim (x.actor == b.actor) as (λ v. x.actor == b.actor ≡ v → book_of actor (if v then b ∷ xs else x ∷ put_book b xs) ≡ b) [
+      | true ↦ (λ e. rw (own, same_number actor) refl)
+      | false ↦ (λ e. let other : x.actor == actor ≡ false = subst (λ (n : ℕ). x.actor == n ≡ false) own e in rw other (book_put actor b xs own))
+    ] refl

@@ -2,7 +2,7 @@ use Rattle.std.proofs.Common.{rules, ◌≡◌, ◌<◌, length, Some, None, Err
 use Rattle.std.specs.Prelude.{position}
 use Rattle.std.proofs.lemmas.List.{length-set}
 use Rattle.sq_base.specs.declared.refusal.Refusal.TheVariants.{NoMemory}
-use Rattle.sq_steps.specs.Acts.{call_of}
+use Rattle.sq_history.specs.Acts.{call_of}
 use Rattle.sq_steps.specs.Books.{is_of, book_of}
 use Rattle.sq_audit.specs.HomeIds.{home_place}
 use Rattle.sq_merge.specs.WorldValue.{WorldValue}
