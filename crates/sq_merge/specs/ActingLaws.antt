@@ -62,14 +62,18 @@ does_leaves actor now s t (AtHome name id act) (Replied reply) h =
     let n : Note = OfHome h.moves.note in
     record {
       notes = n ∷ [];
-      are = (n, record {
-        note = h.moves.note;
-        is = refl;
-        at = ap (λ (m : HomeNote). m.home) h.moves.does.noted ∙ h.home.is;
-        asked = ap (λ (m : HomeNote). m.call) h.moves.does.noted;
-        replied = h.moves.told;
-        by_name = ap (λ (m : HomeNote). m.name) h.moves.does.noted;
-      }, refl);
+      are = (
+        n,
+        record {
+          note = h.moves.note;
+          is = refl;
+          at = ap (λ (m : HomeNote). m.home) h.moves.does.noted ∙ h.home.is;
+          asked = ap (λ (m : HomeNote). m.call) h.moves.does.noted;
+          replied = h.moves.told;
+          by_name = ap (λ (m : HomeNote). m.name) h.moves.does.noted;
+        },
+        refl,
+      );
       gains = one_gain (book_of actor s.books) (book_of actor t.books) n (mine ∙ h.moves.noted_as) (after_above_second h.before.last (book_of actor s.books).seen now h.moves.note.stamp h.moves.does.stamped);
     }
 does_leaves actor now s t ask gave h = elim h [ ]

@@ -16,10 +16,10 @@ use crate::world::World;
 use sq_base::ids::{HomeId, HomeNo, QueueNo};
 use sq_base::name::QueueName;
 use sq_base::refusal::Refusal;
+use sq_history::act::HomeAct;
 use sq_model::directory::{Attributes, QueueSettings};
 use sq_model::replies::HomeReply;
 use sq_sample::sampler::HomeCount;
-use sq_history::act::HomeAct;
 use std::alloc::Global;
 
 /// Does the steps of an actor's calls at a world. A clock reading is in ms.
@@ -54,7 +54,8 @@ impl<'a> LockSteps for Acting<'a> {
         name: &QueueName,
         given: &Attributes,
     ) -> Result<QueueSettings, Refusal> {
-        self.world.create(alloc, self.actor, self.clock, name, given)
+        self.world
+            .create(alloc, self.actor, self.clock, name, given)
     }
 
     fn at_home(

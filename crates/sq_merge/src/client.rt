@@ -9,7 +9,10 @@ ghost use Rattle.sq_merge.specs.Fits.{ByName, AtAll, CreateFits, SendAt, Receive
 ghost use Rattle.sq_merge.specs.GivenValue.{AreReceived};
 ghost use Rattle.sq_merge.specs.Told.{Told, LeavesRecords};
 
-use crate::calls::{Answer, Call, ChangeMessageVisibility, CreateQueue, DeleteMessage, NamedQueue, ReceiveMessage, SendMessage};
+use crate::calls::{
+    Answer, Call, ChangeMessageVisibility, CreateQueue, DeleteMessage, NamedQueue, ReceiveMessage,
+    SendMessage,
+};
 use crate::digest::Digest;
 use crate::given::Given;
 use crate::lock_steps::LockSteps;
@@ -18,12 +21,12 @@ use sq_base::handle::Handle;
 use sq_base::ids::{HomeId, HomeNo, QueueNo};
 use sq_base::name::QueueName;
 use sq_base::refusal::Refusal;
+use sq_history::act::HomeAct;
 use sq_model::calls::Receipt;
 use sq_model::directory::QueueSettings;
 use sq_model::replies::HomeReply;
 use sq_model::rows::Rows;
 use sq_sample::sampler::HomeCount;
-use sq_history::act::HomeAct;
 use std::alloc::Global;
 
 /// Does a client's call, step by step; steps that were done before a refusal stand.

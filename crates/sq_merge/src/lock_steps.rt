@@ -11,10 +11,10 @@ use crate::calls::NamedQueue;
 use sq_base::ids::{HomeNo, QueueNo};
 use sq_base::name::QueueName;
 use sq_base::refusal::Refusal;
+use sq_history::act::HomeAct;
 use sq_model::directory::{Attributes, QueueSettings};
 use sq_model::replies::HomeReply;
 use sq_sample::sampler::HomeCount;
-use sq_history::act::HomeAct;
 use std::alloc::Global;
 
 /// Does the steps of one actor's calls. A step leaves its one record with the actor, or is a read; one that is refused

@@ -30,8 +30,7 @@ use sq_model::replies::HomeReply;
 use sq_sample::sampler::{HomeCount, Sampler};
 use sq_steps::act::{Act, HomeAct, Outcome, Step};
 use sq_steps::book::{Book, create_step, home_step};
-use sq_steps::books::Books;
-use sq_steps::room::put;
+use sq_steps::books::{Books, open};
 use std::alloc::Global;
 use std::marker::Model;
 
@@ -189,14 +188,6 @@ impl World {
         self.sampler.draw(alloc, self.per_queue, self.sample)
     }
 
-    // Where what an actor has stands.
-    fn book_at(&self, actor: u32) -> Option<usize>
-        ensures place { result ≡ position (is_of actor) self.now.books }
-        ensures within { IfSome result (λ at. at < length self.now.books) }
-    {
-        self.books.iter().position(|book| book.actor() == actor)
-    }
-
     // Makes a queue or finds it.
     pub(crate) fn create(
         &mut self,
@@ -210,18 +201,14 @@ impl World {
         ensures refusal { IfErr result (CreateRefused self.old actor now name.now given.now) }
         ensures err { OnErr result (self.new ≡ self.old) }
     {
-        match self.book_at(actor) {
-            Some(at) => {
-                let book = &mut self.books[at];
-                let made = create_step(&mut self.directory, book, now, name, given)?;
-                Ok(made)
-            }
-            None => {
-                self.books.try_reserve(1)?;
-                let mut book = Book::new(alloc, actor);
-                let made = create_step(&mut self.directory, &mut book, now, name, given)?;
-                put(&mut self.books, book);
-                Ok(made)
+        let count = self.books.len();
+        let at = open(&mut self.books, alloc, actor)?;
+        let book = &mut self.books[at];
+        match create_step(&mut self.directory, book, now, name, given) {
+            Ok(made) => Ok(made),
+            Err(refusal) => {
+                self.books.truncate(count);
+                Err(refusal)
             }
         }
     }
@@ -242,20 +229,9 @@ impl World {
             return Err(Refusal::QueueDoesNotExist);
         };
         let last = self.directory.last();
-        match self.book_at(actor) {
-            Some(at) => {
-                let book = &mut self.books[at];
-                book.see(last);
-                Ok(queue)
-            }
-            None => {
-                self.books.try_reserve(1)?;
-                let mut book = Book::new(alloc, actor);
-                book.see(last);
-                put(&mut self.books, book);
-                Ok(queue)
-            }
-        }
+        let at = open(&mut self.books, alloc, actor)?;
+        self.books[at].see(last);
+        Ok(queue)
     }
 
     // A step of a home by an actor that used this name.
@@ -276,20 +252,15 @@ impl World {
         let Some(place) = home_place(self.per_queue, self.homes.len(), id) else {
             return Err(absent(now));
         };
-        match self.book_at(actor) {
-            Some(at) => {
-                let home = &mut self.homes[place];
-                let book = &mut self.books[at];
-                let reply = home_step(alloc, home, book, now, name, act)?;
-                Ok(reply)
-            }
-            None => {
-                self.books.try_reserve(1)?;
-                let mut book = Book::new(alloc, actor);
-                let home = &mut self.homes[place];
-                let reply = home_step(alloc, home, &mut book, now, name, act)?;
-                put(&mut self.books, book);
-                Ok(reply)
+        let count = self.books.len();
+        let at = open(&mut self.books, alloc, actor)?;
+        let home = &mut self.homes[place];
+        let book = &mut self.books[at];
+        match home_step(alloc, home, book, now, name, act) {
+            Ok(reply) => Ok(reply),
+            Err(refusal) => {
+                self.books.truncate(count);
+                Err(refusal)
             }
         }
     }
