@@ -4,6 +4,4 @@ pub mod AttributeLaws
 pub mod AsciiLaws
 pub mod AuditLaws
 pub mod FloatLaws
-pub mod LineLaws
 pub mod RunLaws
-pub mod WriteLaws

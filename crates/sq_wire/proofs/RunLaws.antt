@@ -3,12 +3,12 @@ use Rattle.std.proofs.Common.{inl, inr, ◌≡◌, ℕ, zero, suc, ◌+◌, ◌<
 use Rattle.std.specs.Prelude.{IfSome, option_map, slice_get}
 use Rattle.std.specs.Io.KnownBytes.{Appends}
 use Rattle.sq_wire.specs.Scripts.{ScriptValue, Gives, Loses}
-use Rattle.sq_wire.specs.Lines.{FirstIsOver}
+use Rattle.sq_lines.specs.Lines.{FirstIsOver}
 use Rattle.sq_merge.specs.WorldValue.{WorldValue}
 use Rattle.sq_wire.specs.Scripts.{script_at}
 use Rattle.sq_wire.specs.declared.run.ServeFault.{ServeFault}
 use Rattle.sq_wire.specs.Runs.{StopsAt, Answers, AllWithin, Writes, WritesPart, WritesNoMore}
-use Rattle.sq_wire.proofs.WriteLaws.{appends_none, appends_more}
+use Rattle.sq_lines.proofs.WriteLaws.{appends_none, appends_more}
 
 pub answers_more : (world : ScriptValue) (lines : List (List ℕ)) (out : List ℕ) (mid : ScriptValue) (line text : List ℕ) (after : ScriptValue) → Answers world lines out mid → Gives mid line text after → Answers world (lines ++ line ∷ []) (out ++ (text ++ 10 ∷ [])) after
 answers_more world [] out mid line text after a g =

@@ -7,5 +7,4 @@ pub mod Replies
 pub mod Audits
 pub mod Scripts
 pub mod Texts
-pub mod Lines
 pub mod Runs

@@ -2,7 +2,7 @@
 use Rattle.std.specs.Prelude.{ℕ, List, [], ◌∷◌, ◌++◌, ◌≡◌, ◌<◌, ◌≤◌, ◌⊎◌, length, take, drop, Option, slice_get, Some}
 use Rattle.std.specs.Io.KnownBytes.{Appends}
 use Rattle.sq_wire.specs.Scripts.{ScriptValue, Gives, Loses}
-use Rattle.sq_wire.specs.Lines.{OneMore, FirstIsOver}
+use Rattle.sq_lines.specs.Lines.{OneMore, FirstIsOver}
 use Rattle.sq_wire.specs.declared.run.ServeFault.{ServeFault}
 use Rattle.sq_wire.specs.declared.run.ServeFault.TheVariants.{Read, Write, NoMemory, TooLong}
 

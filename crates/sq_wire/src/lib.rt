@@ -4,11 +4,7 @@
 pub mod actions;
 pub mod attributes;
 pub mod audit;
-pub mod buffer;
-pub mod counted;
-pub mod lines;
 pub mod members;
-pub mod put;
 pub mod reply;
 pub mod request;
 pub mod run;

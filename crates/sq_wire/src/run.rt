@@ -1,13 +1,13 @@
 //! A reply for each line.
 ghost use Rattle.std.specs.Prelude.{◌≡◌, ℕ, [], OnOk, IfOk, IfErr, IfSome, length};
-ghost use Rattle.sq_wire.specs.Lines.{lines_left};
+ghost use Rattle.sq_lines.specs.Lines.{lines_left};
 ghost use Rattle.sq_wire.specs.Scripts.{script_at};
 ghost use Rattle.sq_wire.specs.Runs.{Writes, StopsAt, IsOfCall};
 
-use crate::counted::Counted;
-use crate::lines::{LineFault, Lines};
-use crate::put::put_line;
 use crate::script::answer;
+use sq_lines::counted::Counted;
+use sq_lines::lines::{LineFault, Lines};
+use sq_lines::put::put_line;
 use sq_merge::world::World;
 use std::alloc::Global;
 use std::io::{Read, Write};

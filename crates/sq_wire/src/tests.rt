@@ -1,8 +1,8 @@
 //! Runs over memory, and over a reader and a writer that fail. The texts are those of the worked runs in `rows/`.
-use crate::counted::Counted;
-use crate::lines::{LIMIT, LineFault, Lines};
 use crate::run::{ServeFault, run_script};
 use sq_base::refusal::Refusal;
+use sq_lines::counted::Counted;
+use sq_lines::lines::{LIMIT, LineFault, Lines};
 use sq_merge::options::Options;
 use sq_merge::world::World;
 use std::alloc::Global;

@@ -1,6 +1,6 @@
 //! Worked scripts of time at one home, over memory. The same are in `rows/`, for the built program.
-use crate::counted::Counted;
 use crate::run::run_script;
+use sq_lines::counted::Counted;
 use sq_merge::options::Options;
 use sq_merge::world::World;
 use std::alloc::Global;

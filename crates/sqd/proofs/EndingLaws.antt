@@ -3,10 +3,10 @@ use Rattle.std.proofs.Common.{◌≡◌, ℕ, List, [], ◌∷◌, ◌++◌, len
 use Rattle.std.specs.Io.KnownBytes.{Appends, Keeps}
 use Rattle.std.proofs.lemmas.List.{append-nil}
 use Rattle.sq_wire.specs.Audits.{IsAudit}
-use Rattle.sq_wire.specs.Lines.{OneMore}
+use Rattle.sq_lines.specs.Lines.{OneMore}
 use Rattle.sq_wire.specs.Runs.{StopsAt}
 use Rattle.sq_wire.specs.Scripts.{ScriptValue, script_at}
-use Rattle.sq_wire.proofs.WriteLaws.{appends_keeps, appends_whole}
+use Rattle.sq_lines.proofs.WriteLaws.{appends_keeps, appends_whole}
 use Rattle.sq_merge.specs.Openings.{new_world}
 use Rattle.sq_merge.specs.WorldValue.{WorldValue}
 use Rattle.sq_merge.specs.declared.options.Options.{Options}

@@ -6,7 +6,7 @@ use Rattle.sq_wire.specs.Scripts.{ScriptValue, script_at}
 use Rattle.sq_merge.specs.Openings.{new_world}
 use Rattle.sq_merge.specs.WorldValue.{WorldValue}
 use Rattle.sq_merge.specs.declared.options.Options.{Options}
-use Rattle.sq_wire.specs.Lines.{OneMore}
+use Rattle.sq_lines.specs.Lines.{OneMore}
 use Rattle.sq_wire.specs.Runs.{Writes, StopsAt, IsOfCall}
 use Rattle.sq_wire.specs.declared.run.ServeFault.{ServeFault}
 

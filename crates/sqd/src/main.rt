@@ -12,7 +12,7 @@ mod tests;
 mod worked;
 
 use crate::program::{no_memory, no_text, run};
-use sq_wire::counted::Counted;
+use sq_lines::counted::Counted;
 use std::env;
 use std::io::{self, BufWriter, ErrorKind};
 use std::process::ExitCode;

@@ -1,9 +1,9 @@
 //! The program over memory.
 use crate::flags::{Mode, Refused, ScriptMode, flags};
 use crate::program::{audit_fault, no_memory, no_text, run};
+use sq_lines::counted::Counted;
 use sq_merge::AuditFault;
 use sq_merge::options::Options;
-use sq_wire::counted::Counted;
 use std::alloc::Global;
 use std::io::{self, ErrorKind, Write};
 use std::test::Fail;

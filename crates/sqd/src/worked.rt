@@ -1,7 +1,7 @@
 //! Worked scripts with an audit or with two homes, over memory. The same are in `rows/`, for the built
 //! program.
 use crate::program::run;
-use sq_wire::counted::Counted;
+use sq_lines::counted::Counted;
 use std::alloc::Global;
 use std::test::Fail;
 

@@ -1,8 +1,8 @@
 use Rattle.std.proofs.Common.{arith, rules, ◌≡◌, ◌++◌, ◌∷◌, [], length}
-use Rattle.sq_wire.specs.Lines.{lines_left}
+use Rattle.sq_lines.specs.Lines.{lines_left}
 use Rattle.std.specs.Io.KnownBytes.{Appends}
 use Rattle.sq_wire.proofs.RunLaws.{done_at, stops_at, so_far_done, so_far_more, so_far_part, so_far_stops, so_far_lost, so_far_loses}
-use Rattle.sq_wire.proofs.WriteLaws.{appends_whole, appends_keeps}
+use Rattle.sq_lines.proofs.WriteLaws.{appends_whole, appends_keeps}
 use Rattle.sq_wire.specs.Scripts.{script_at}
 use Rattle.sq_wire.specs.declared.run.ServeFault.TheVariants as fault
 use Rattle.sq_wire.proofs.run.run_script.Goals as goal

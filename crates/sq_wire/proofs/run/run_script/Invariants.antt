@@ -1,5 +1,5 @@
 use Rattle.std.proofs.Common.{◌≡◌, []}
-use Rattle.sq_wire.specs.Lines.{lines_left}
+use Rattle.sq_lines.specs.Lines.{lines_left}
 use Rattle.sq_wire.specs.Scripts.{script_at}
 use Rattle.sq_wire.proofs.RunLaws.{IsSoFar}
 use Rattle.sq_wire.proofs.run.run_script.Given as goal

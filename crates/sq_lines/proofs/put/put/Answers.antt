@@ -1,6 +1,6 @@
 use Rattle.std.proofs.Common.{rules}
-use Rattle.sq_wire.proofs.WriteLaws.{appends_on, rest_whole}
-use Rattle.sq_wire.proofs.put.put.Goals as goal
+use Rattle.sq_lines.proofs.WriteLaws.{appends_on, rest_whole}
+use Rattle.sq_lines.proofs.put.put.Goals as goal
 
 pub loop-at-preserved : goal.loop-at-preserved
 loop-at-preserved g c = record {

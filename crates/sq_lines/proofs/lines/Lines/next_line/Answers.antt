@@ -1,9 +1,9 @@
 use Rattle.std.proofs.Common.{◌≡◌, ◌<◌, ◌∷◌, ◌++◌, length, Some, None, option_map, rules, arith, refl, sym, subst, [], List, ℕ, false, IfSome, MatchOption}
-use Rattle.sq_wire.specs.Lines.{lines_left, has_feed, FirstIsOver}
+use Rattle.sq_lines.specs.Lines.{lines_left, has_feed, FirstIsOver}
 use Rattle.std.proofs.lemmas.List.{nil_from_length}
 use Rattle.memchr.specs.Find.{IsFirstByte, is_byte}
-use Rattle.sq_wire.proofs.LineLaws.{IsDone, no_feed_none, no_feed_found, no_feed_more, cut_found, line_cut, line_end, lines_kept, lines_on, lines_left_some, over_cut, over_all, over_here, over_left, over_same, within_cut, within_all, within_same}
-use Rattle.sq_wire.proofs.lines.Lines.next_line.Goals as goal
+use Rattle.sq_lines.proofs.LineLaws.{IsDone, no_feed_none, no_feed_found, no_feed_more, cut_found, line_cut, line_end, lines_kept, lines_on, lines_left_some, over_cut, over_all, over_here, over_left, over_same, within_cut, within_all, within_same}
+use Rattle.sq_lines.proofs.lines.Lines.next_line.Goals as goal
 
 pub invariant_of-self : goal.invariant_of-self
 invariant_of-self g c = (subst (λ (x : List ℕ). has_feed x ≡ false) (sym c.in-Ok.ensures.none) no_feed_none, search rules)

@@ -1,6 +1,6 @@
 use Rattle.std.proofs.Common.{◌≡◌, ◌++◌, ◌+◌, ◌-◌, ◌≤◌, IfSome, Some, length, false}
-use Rattle.sq_wire.specs.Lines.{lines_left, has_feed}
-use Rattle.sq_wire.proofs.lines.Lines.next_line.Given as goal
+use Rattle.sq_lines.specs.Lines.{lines_left, has_feed}
+use Rattle.sq_lines.proofs.lines.Lines.next_line.Given as goal
 
 abbrev pub invariant-loop-at : goal.invariant-loop-at
 invariant-loop-at g l = record {

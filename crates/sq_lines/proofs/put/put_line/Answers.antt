@@ -1,7 +1,7 @@
 use Rattle.std.proofs.Common.{◌≡◌, ◌∷◌, [], take, arith, ℕ, subst}
 use Rattle.std.specs.Io.KnownBytes.{Appends}
-use Rattle.sq_wire.proofs.WriteLaws.{appends_text}
-use Rattle.sq_wire.proofs.put.put_line.Goals as goal
+use Rattle.sq_lines.proofs.WriteLaws.{appends_text}
+use Rattle.sq_lines.proofs.put.put_line.Goals as goal
 
 pub returns-in-Err-clause-err : goal.returns-in-Err-clause-err
 returns-in-Err-clause-err g c =

@@ -5,7 +5,7 @@ use Rattle.std.specs.Io.KnownBytes.{Consumes, Keeps, IsAtEnd}
 use Rattle.std.proofs.lemmas.Bool.{eqb-true}
 use Rattle.std.proofs.lemmas.List.{append-nil}
 use Rattle.memchr.specs.Find.{Nowhere, Passes, is_byte, IsFirstByte}
-use Rattle.sq_wire.specs.Lines.{longer, lines_of, lines_left, has_feed, FirstIsOver, FirstIsWithin}
+use Rattle.sq_lines.specs.Lines.{longer, lines_of, lines_left, has_feed, FirstIsOver, FirstIsWithin}
 
 -- one with none before and none in the rest
 no_feed_with : (b : ℕ) (bs : List ℕ) → (b == 10) ≡ false → has_feed bs ≡ false → has_feed (b ∷ bs) ≡ false

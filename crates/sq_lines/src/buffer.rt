@@ -1,7 +1,7 @@
 //! Bytes that were read ahead of what is asked for.
 ghost use Rattle.std.specs.Prelude.{◌≡◌, ◌+◌, ◌≤◌, ◌<◌, [], take, drop, length, vec_len, IfOk, OnOk, OnErr, MatchResult};
 ghost use Rattle.std.specs.Io.KnownBytes.{Consumes, Keeps, IsAtEnd};
-ghost use Rattle.sq_wire.specs.Lines.{OneMore};
+ghost use Rattle.sq_lines.specs.Lines.{OneMore};
 
 use crate::counted::Counted;
 use std::alloc::{AllocError, Global};

@@ -1,6 +1,6 @@
 //! A reader or writer that counts its failed calls.
 ghost use Rattle.std.specs.Prelude.{◌≡◌, ◌<◌, OnOk, OnErr, IfOk, length};
-ghost use Rattle.sq_wire.specs.Lines.{OneMore};
+ghost use Rattle.sq_lines.specs.Lines.{OneMore};
 ghost use Rattle.std.specs.Io.{ReadsAtMost, WritesAtMost};
 ghost use Rattle.std.specs.Io.KnownBytes.{ReadConsumes, WriteAppends, Keeps};
 

@@ -1,7 +1,7 @@
 //! Writing all of a text.
 ghost use Rattle.std.specs.Prelude.{◌≡◌, ◌<◌, ◌≤◌, ◌++◌, ◌∷◌, [], take, OnOk, IfErr, length};
 ghost use Rattle.std.specs.Io.KnownBytes.{Appends};
-ghost use Rattle.sq_wire.specs.Lines.{OneMore};
+ghost use Rattle.sq_lines.specs.Lines.{OneMore};
 
 use crate::counted::Counted;
 use std::io::Write;

@@ -1,7 +1,7 @@
 //! Reading a line.
 ghost use Rattle.std.specs.Prelude.{◌≡◌, ◌≢◌, ◌∷◌, ◌++◌, [], IfOk, IfErr, IfSome, MatchOption, option_map, Some, OnOk, OnErr, ◌<◌, ◌≤◌, ◌+◌, take, drop, length, vec_len, vec_capacity};
-ghost use Rattle.sq_wire.specs.Lines.{lines_left, lines_of, FirstIsOver, FirstIsWithin, OneMore};
-ghost use Rattle.sq_wire.specs.declared.lines.LineFault.TheVariants.{TooLong, Read, NoMemory};
+ghost use Rattle.sq_lines.specs.Lines.{lines_left, lines_of, FirstIsOver, FirstIsWithin, OneMore};
+ghost use Rattle.sq_lines.specs.declared.lines.LineFault.TheVariants.{TooLong, Read, NoMemory};
 
 use crate::buffer::Buffer;
 use crate::counted::Counted;
@@ -26,7 +26,7 @@ pub enum LineFault {
 
 impl From<AllocError> for LineFault {
     ghost use Rattle.std.specs.Prelude.{◌≡◌};
-    ghost use Rattle.sq_wire.specs.declared.lines.LineFault.TheVariants.{NoMemory};
+    ghost use Rattle.sq_lines.specs.declared.lines.LineFault.TheVariants.{NoMemory};
 
     ghost from_gives = { λ _ e. e ≡ NoMemory };
 
@@ -44,7 +44,7 @@ pub struct Lines {
 
 impl Model for Lines {
     ghost use Rattle.std.specs.Prelude.{ℕ, List, ◌≡◌, ◌≤◌, ◌++◌, false, vec_len};
-    ghost use Rattle.sq_wire.specs.Lines.{has_feed};
+    ghost use Rattle.sq_lines.specs.Lines.{has_feed};
 
     ghost Value = { List ℕ };
 
