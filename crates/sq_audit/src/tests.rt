@@ -13,6 +13,7 @@ use sq_base::settings::Settings;
 use sq_base::stamp::Stamp;
 use sq_directory::directory::Directory;
 use sq_directory::firsts::firsts;
+use sq_history::act::HomeAct;
 use sq_history::recorded::{Home, Recorded};
 use sq_model::directory::Attributes;
 use sq_model::event::Actor;
@@ -68,9 +69,10 @@ fn purged(alloc: Global, number: u8, moments: &[u64]) -> Result<Home, Refusal>
         },
     };
     let mut home = Recorded::unopened(alloc, Shard::unopened(site, PlainStore::new(alloc)));
-    home.configure(&actor(0), 1000, None, &Settings::standard(), 1)?;
+    let act = HomeAct::Configure(Settings::standard(), 1);
+    home.step(alloc, &actor(0), 1000, None, act)?;
     for now in moments {
-        home.purge(&actor(0), *now, None)?;
+        home.step(alloc, &actor(0), *now, None, HomeAct::Purge)?;
     }
     Ok(home)
 }

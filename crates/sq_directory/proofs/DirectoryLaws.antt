@@ -1,7 +1,6 @@
 -- The directory stays the replay of its events.
 use Rattle.std.proofs.Common.{◌≡◌, ℕ, List, [], ◌∷◌, ◌++◌, Option, Some, None, refl, ap, subst, sym}
 use Rattle.sq_base.specs.Stamps.{start}
-use Rattle.sq_base.proofs.StampLaws.{after_above_first}
 use Rattle.sq_model.specs.declared.place.Component.TheVariants as part
 use Rattle.sq_model.specs.declared.directory.Attributes.{Attributes}
 use Rattle.sq_model.specs.declared.directory.QueueSettings.{QueueSettings}
@@ -11,9 +10,9 @@ use Rattle.sq_model.specs.declared.directory.DirectoryReply.{DirectoryReply}
 use Rattle.sq_model.specs.declared.directory.DirectoryReply.TheVariants.{Made}
 use Rattle.sq_model.specs.declared.event.Actor.{Actor}
 use Rattle.sq_model.specs.Directories.{Directory, Creates, DirectoryStep, place_of}
-use Rattle.sq_model.specs.Replays.{Replays}
+use Rattle.sq_model.specs.Replays.{Replays, StampsRise}
 use Rattle.sq_model.specs.Systems.{DirectoryEvent, AreDirectory}
-use Rattle.sq_model.proofs.ReplayLaws.{replays_push, rise_push}
+use Rattle.sq_model.proofs.ReplayLaws.{replays_push}
 use Rattle.sq_directory.specs.DirectoryHistory.{DirectoryHistory}
 use Rattle.sq_model.specs.Notes.{DirectoryNote}
 use Rattle.sq_directory.specs.DirectoryHistories.{DirectoryRecords, IsDirectoryKept, directory_event}
@@ -31,14 +30,15 @@ own_push : (es : List DirectoryEvent) (e : DirectoryEvent) → AreDirectory es �
 own_push [] e own is = (is, tt)
 own_push (x ∷ es) e own is = (own.0, own_push es e own.1 is)
 
-pub directory_kept_more : (old new : DirectoryHistory) (by : Actor) (now : ℕ) (call : DirectoryCall) (note : DirectoryNote) → IsDirectoryKept old → DirectoryRecords old new by now call note → IsDirectoryKept new
-directory_kept_more old new by now call note kept more =
+pub directory_kept_more : (old new : DirectoryHistory) (by : Actor) (now : ℕ) (call : DirectoryCall) (note : DirectoryNote)
+    → IsDirectoryKept old → StampsRise start new.events new.last → DirectoryRecords old new by now call note → IsDirectoryKept new
+directory_kept_more old new by now call note kept rising more =
     let event = directory_event note.stamp by call note.reply in
     let first : Directory = record { queues = []; places = old.directory.places } in
     let goes : Replays DirectoryStep first (old.events ++ event ∷ []) new.directory = replays_push DirectoryStep first old.events old.directory event new.directory kept.replays more.step in
     record {
       replays = rw more.events (subst (λ (places : ℕ). Replays DirectoryStep (record { queues = []; places = places }) (old.events ++ event ∷ []) new.directory)
           (sym (step_places old.directory note.stamp.moment call note.reply new.directory more.step)) goes);
-      rising = rw (more.events, more.last) (rise_push start old.events old.last event kept.rising (after_above_first old.last by.seen now note.stamp more.stamped));
+      rising = rising;
       own = rw more.events (own_push old.events event kept.own refl);
     }

@@ -11,11 +11,12 @@ use Rattle.sq_model.specs.declared.event.Actor.{Actor}
 use Rattle.sq_model.specs.Directories.{DirectoryStep, directory_refusal}
 use Rattle.sq_model.specs.Replays.{Replays, StampsRise}
 use Rattle.sq_model.specs.Systems.{DirectoryEvent, AreDirectory}
-use Rattle.sq_directory.specs.DirectoryHistory.{DirectoryHistory}
 use Rattle.sq_model.specs.Notes.{DirectoryNote, directory_note}
+use Rattle.sq_history.specs.Logs.{event_by}
+use Rattle.sq_directory.specs.DirectoryHistory.{DirectoryHistory}
 
 abbrev pub directory_event : StampValue → Actor → DirectoryCall → DirectoryReply → DirectoryEvent
-directory_event stamp by call reply = record { stamp = stamp; actor = by.number; place = by.place; component = part.Directory; call = call; reply = reply }
+directory_event stamp by call reply = event_by stamp by part.Directory call reply
 
 -- Exactly one event was added: a step of the directory at a new stamp, above its last and above what the actor had seen. The note is its own.
 pub record DirectoryRecords (old new : DirectoryHistory) (by : Actor) (now : ℕ) (call : DirectoryCall) (note : DirectoryNote) : Type 0 where

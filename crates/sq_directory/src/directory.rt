@@ -1,5 +1,5 @@
 //! The directory: the queues of a service, and all that was done to them.
-ghost use Rattle.std.specs.Prelude.{◌≡◌, ◌++◌, ◌∷◌, [], IfOk, IfErr, IfSome, OnErr};
+ghost use Rattle.std.specs.Prelude.{◌≡◌, [], IfOk, IfErr, IfSome, OnErr};
 ghost use Rattle.sq_base.specs.Stamps.{start};
 ghost use Rattle.sq_model.specs.Directories.{number_of};
 ghost use Rattle.sq_model.specs.declared.directory.DirectoryCall.TheVariants.{Create};
@@ -12,6 +12,7 @@ use sq_base::ids::QueueNo;
 use sq_base::name::QueueName;
 use sq_base::refusal::Refusal;
 use sq_base::stamp::Stamp;
+use sq_history::log::Log;
 use sq_model::directory::{Attributes, DirectoryCall, DirectoryReply, QueueSettings};
 use sq_model::event::{Actor, Event};
 use sq_model::place::Component;
@@ -22,8 +23,7 @@ use std::marker::Model;
 #[derive(Drop)]
 pub struct Directory {
     queues: Queues,
-    last: Stamp,
-    events: Vec<Event<DirectoryCall, DirectoryReply>>,
+    log: Log<DirectoryCall, DirectoryReply>,
 }
 
 impl Model for Directory {
@@ -32,9 +32,9 @@ impl Model for Directory {
 
     ghost Value = { DirectoryHistory };
 
-    ghost view = { λ d. record { directory = d.queues; last = d.last; events = d.events.items } };
+    ghost view = { λ d. record { directory = d.queues; last = d.log.last; events = d.log.events } };
 
-    ghost invariant = { λ d. IsDirectoryKept (record { directory = d.queues; last = d.last; events = d.events.items }) };
+    ghost invariant = { λ d. IsDirectoryKept (record { directory = d.queues; last = d.log.last; events = d.log.events }) };
 }
 
 impl Directory {
@@ -46,8 +46,7 @@ impl Directory {
     {
         Directory {
             queues: Queues::new(alloc, places),
-            last: Stamp::start(),
-            events: Vec::new(alloc),
+            log: Log::new(alloc),
         }
     }
 
@@ -56,14 +55,14 @@ impl Directory {
         ensures items { result.now ≡ self.now.events }
         ensures kept { IsDirectoryKept self.now }
     {
-        self.events.as_slice()
+        self.log.events()
     }
 
     /// The stamp of the last event.
     pub fn last(&self) -> Stamp
         ensures { result ≡ self.now.last }
     {
-        self.last
+        self.log.last()
     }
 
     /// The number of the queue of this name.
@@ -90,24 +89,17 @@ impl Directory {
         ensures refusal { IfErr result (IsDirectoryRefused self.old by.now now (Create name.now given.now)) }
         ensures err { OnErr result (self.new ≡ self.old) }
     {
-        self.events.try_reserve(1)?;
-        let stamp = Stamp::after(self.last, by.seen, now)?;
+        let stamp = self.log.begin(by, now)?;
         let made = self.queues.create(name, given)?;
         let told = made;
         let call = DirectoryCall::Create(*name, *given);
         let reply = DirectoryReply::Made(made);
-        let index = self.events.len() as u64;
+        let kept_call = call;
+        let kept_reply = reply;
+        let index = self
+            .log
+            .add(stamp, by, Component::Directory, kept_call, kept_reply);
         let record = DirectoryRecord::new(&stamp, by, index, &call, &reply);
-        let event = Event {
-            stamp,
-            actor: by.number,
-            place: by.place,
-            component: Component::Directory,
-            call,
-            reply,
-        };
-        let _ = self.events.push(event);
-        self.last = record.stamp();
         Ok((told, record))
     }
 }

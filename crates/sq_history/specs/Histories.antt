@@ -13,12 +13,12 @@ use Rattle.sq_model.specs.declared.event.Actor.{Actor}
 use Rattle.sq_model.specs.Homes.{Unopened, HomeStep, home_refusal}
 use Rattle.sq_model.specs.Replays.{HomeEvent, Replays, StampsRise}
 use Rattle.sq_model.specs.Systems.{is_alone}
-use Rattle.sq_history.specs.HistoryValue.{HistoryValue}
 use Rattle.sq_model.specs.Notes.{HomeNote}
+use Rattle.sq_history.specs.Logs.{event_by}
+use Rattle.sq_history.specs.HistoryValue.{HistoryValue}
 
 abbrev pub event_of : StampValue → Actor → HomeId → HomeCall → HomeReply → HomeEvent
-event_of stamp by home call reply =
-    record { stamp = stamp; actor = by.number; place = by.place; component = part.Home home; call = call; reply = reply }
+event_of stamp by home call reply = event_by stamp by (part.Home home) call reply
 
 abbrev pub note_of : StampValue → Actor → HomeId → ℕ → HomeCall → HomeReply → Option (List ℕ) → HomeNote
 note_of stamp by home index call reply name =

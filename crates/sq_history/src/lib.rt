@@ -1,8 +1,9 @@
 //! A home with its history.
 #![tactic(auto)]
 
+pub mod act;
 pub mod events;
-mod log;
+pub mod log;
 pub mod record;
 pub mod recorded;
 #[cfg(test)]

@@ -1,79 +1,108 @@
-//! The events of a home, in order.
-ghost use Rattle.std.specs.Prelude.{◌≡◌, ◌⊎◌, ◌<◌, ◌++◌, ◌∷◌, [], OnOk, IfOk, IfErr, Ok, Err, vec_len, vec_capacity, length};
-ghost use Rattle.sq_base.specs.Stamps.{after};
-ghost use Rattle.sq_history.specs.Histories.{event_of, note_of};
+//! The events of a part of the system, in order.
+ghost use Rattle.std.specs.Prelude.{◌≡◌, ◌<◌, ◌++◌, ◌∷◌, [], OnOk, IfOk, IfErr, Ok, length};
+ghost use Rattle.sq_base.specs.Stamps.{start, after, Below};
+ghost use Rattle.sq_model.specs.Replays.{StampsRise};
+ghost use Rattle.sq_history.specs.Logs.{event_by, IsFull, IsUnready};
 
-use crate::record::HomeRecord;
-use sq_base::ids::HomeId;
-use sq_base::name::QueueName;
 use sq_base::refusal::Refusal;
 use sq_base::stamp::Stamp;
-use sq_model::calls::HomeCall;
 use sq_model::event::{Actor, Event};
 use sq_model::place::Component;
-use sq_model::replies::HomeReply;
+use std::alloc::Global;
+use std::marker::Model;
 
-/// The events so far, and the stamp of the last one.
+/// The events so far, and the stamp of the last one. Their stamps rise.
 #[derive(Drop)]
-pub struct Log {
-    pub last: Stamp,
-    pub events: Vec<Event<HomeCall, HomeReply>>,
+pub struct Log<K, R> {
+    last: Stamp,
+    events: Vec<Event<K, R>>,
 }
 
-/// Who did a step, at which stamp and home, and by which name of its queue.
-#[derive(Drop)]
-pub struct Doing<'a> {
-    pub by: &'a Actor,
-    pub stamp: Stamp,
-    pub home: HomeId,
-    pub name: Option<QueueName>,
+impl<K, R> Model for Log<K, R> {
+    ghost use Rattle.std.specs.Prelude.{◌-◌, vec_len, vec_capacity};
+    ghost use Rattle.sq_base.specs.Stamps.{start};
+    ghost use Rattle.sq_model.specs.Replays.{StampsRise};
+    ghost use Rattle.sq_history.specs.LogValue.{LogValue};
+
+    ghost Value = { LogValue K R };
+
+    ghost view = { λ l. record { last = l.last; events = l.events.items; room = vec_capacity l.events - vec_len l.events } };
+
+    ghost invariant = { λ l. StampsRise start l.events.items l.last };
 }
 
-impl Log {
+impl<K: Drop, R: Drop> Log<K, R> {
+    /// No event.
+    pub fn new(alloc: Global) -> Log<K, R>
+        ensures last { result.last ≡ start }
+        ensures events { result.events ≡ [] }
+    {
+        Log {
+            last: Stamp::start(),
+            events: Vec::new(alloc),
+        }
+    }
+
+    /// The stamp of the last event; the least stamp where there is none.
+    pub fn last(&self) -> Stamp
+        ensures { result ≡ self.now.last }
+    {
+        self.last
+    }
+
+    /// All events, the first first.
+    pub fn events(&self) -> &[Event<K, R>]
+        ensures items { result.now ≡ self.now.events }
+        ensures rising { StampsRise start self.now.events self.now.last }
+    {
+        self.events.as_slice()
+    }
+
+    /// Makes room for one event more. Refused as NoMemory where the list is full.
+    pub fn reserve(&mut self) -> Result<(), Refusal>
+        ensures last { self.new.last ≡ self.old.last }
+        ensures events { self.new.events ≡ self.old.events }
+        ensures room { OnOk result (0 < self.new.room) }
+        ensures refused { IfErr result (IsFull self.old) }
+    {
+        self.events.try_reserve(1)?;
+        Ok(())
+    }
+
     /// Makes room for one event more, and gives its stamp: above the last one, and above what the actor saw.
     /// Refused as NoMemory (the list is full), ClockRange, Worn.
     pub fn begin(&mut self, by: &Actor, now: u64) -> Result<Stamp, Refusal>
         ensures last { self.new.last ≡ self.old.last }
-        ensures items { self.new.events.items ≡ self.old.events.items }
-        ensures room { OnOk result (vec_len self.new.events < vec_capacity self.new.events) }
+        ensures events { self.new.events ≡ self.old.events }
+        ensures room { OnOk result (0 < self.new.room) }
         ensures stamped { IfOk result (λ stamp. after self.old.last by.now.seen now ≡ Ok stamp) }
-        ensures refused { IfErr result (λ e. ((e ≡ Refusal.NoMemory) × (vec_len self.old.events ≡ vec_capacity self.old.events)) ⊎ (after self.old.last by.now.seen now ≡ Err e)) }
+        ensures above { IfOk result (Below self.old.last) }
+        ensures refused { IfErr result (IsUnready self.old by.now now) }
     {
-        self.events.try_reserve(1)?;
+        self.reserve()?;
         Stamp::after(self.last, by.seen, now)
     }
 
-    /// Adds the event of a step, and gives its record; the call and the reply come twice, once for each.
-    pub fn add(
-        &mut self,
-        doing: Doing<'_>,
-        kept: (HomeCall, HomeReply),
-        told: (HomeCall, HomeReply),
-    ) -> HomeRecord
-        requires room { vec_len self.old.events < vec_capacity self.old.events }
-        requires same { told ≡ kept }
-        ensures last { self.new.last ≡ doing.entry.stamp }
-        ensures items { self.new.events.items ≡ self.old.events.items ++ event_of doing.entry.stamp doing.entry.by.now doing.entry.home kept.0 kept.1 ∷ [] }
-        ensures noted { result ≡ note_of doing.entry.stamp doing.entry.by.now doing.entry.home (length self.old.events.items) kept.0 kept.1 doing.entry.name }
+    /// Adds the event of a step, where there is room for it, and tells its number: from 0 upwards.
+    pub fn add(&mut self, stamp: Stamp, by: &Actor, component: Component, call: K, reply: R) -> u64
+        requires room { 0 < self.old.room }
+        requires above { Below self.old.last stamp }
+        ensures last { self.new.last ≡ stamp }
+        ensures events { self.new.events ≡ self.old.events ++ event_by stamp by.now component call reply ∷ [] }
+        ensures rising { StampsRise start self.new.events self.new.last }
+        ensures index { result ≡ length self.old.events }
     {
         let index = self.events.len() as u64;
-        let Doing {
-            by,
-            stamp,
-            home,
-            name,
-        } = doing;
-        let record = HomeRecord::new(&stamp, by, &home, index, told, name);
         let event = Event {
             stamp,
             actor: by.number,
             place: by.place,
-            component: Component::Home(home),
-            call: kept.0,
-            reply: kept.1,
+            component,
+            call,
+            reply,
         };
         let _ = self.events.push(event);
-        self.last = record.stamp();
-        record
+        self.last = stamp;
+        index
     }
 }

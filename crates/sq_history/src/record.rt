@@ -92,14 +92,6 @@ impl HomeRecord {
         &self.reply
     }
 
-    /// The reply, where the record is not needed any more.
-    pub fn into_reply(self) -> HomeReply
-        ensures { result ≡ self.reply }
-    {
-        let HomeRecord { reply, .. } = self;
-        reply
-    }
-
     /// The queue's name that the actor used.
     pub fn name(&self) -> &Option<QueueName>
         ensures { result.now ≡ self.now.name }

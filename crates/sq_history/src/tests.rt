@@ -1,8 +1,9 @@
 //! Values from the rules of the queue, and each call once where it succeeds.
 ghost use Rattle.std.specs.Prelude.{◌<◌};
 
+use crate::act::HomeAct;
 use crate::record::HomeRecord;
-use crate::recorded::{Home, Recorded, reply_of_look};
+use crate::recorded::{Home, Recorded};
 use sq_base::body::{BODY_LIMIT, Body};
 use sq_base::ids::{HomeId, HomeNo, QueueNo, Serial};
 use sq_base::ranges::{Delay, MaxMessages, MaxReceives, Receives, Retention, Timeout};
@@ -14,6 +15,7 @@ use sq_model::calls::{HomeCall, Receipt};
 use sq_model::event::{Actor, Event};
 use sq_model::place::{Limits, Site};
 use sq_model::replies::HomeReply;
+use sq_model::same::is_same_reply;
 use sq_shard::plain::PlainStore;
 use sq_shard::shard::Shard;
 use std::alloc::Global;
@@ -88,6 +90,22 @@ fn receipt(serial: u64, receive: u64) -> Receipt {
     }
 }
 
+fn act_of(alloc: Global, act: Act) -> Result<HomeAct, Refusal> {
+    Ok(match act {
+        Act::Configure(settings, version) => HomeAct::Configure(settings, version),
+        Act::Send(delay) => HomeAct::Send(Body::new(alloc, "hello", BODY_LIMIT)?, delay),
+        Act::Look(timeout) => HomeAct::Look(MaxMessages::of(10), timeout),
+        Act::Delete(serial, receive) => HomeAct::Delete(receipt(serial, receive)),
+        Act::Change(serial, receive, timeout) => {
+            HomeAct::Change(receipt(serial, receive), timeout)
+        }
+        Act::Purge => HomeAct::Purge,
+        Act::Count => HomeAct::Count,
+        Act::Close => HomeAct::Close,
+    })
+}
+
+// Asks it by an actor, with no name; gives the record, where it tells what was answered.
 fn call(
     home: &mut Home,
     alloc: Global,
@@ -95,55 +113,12 @@ fn call(
     now: u64,
     act: Act,
 ) -> Result<HomeRecord, Refusal> {
-    match act {
-        Act::Configure(settings, version) => home.configure(by, now, None, &settings, version),
-        Act::Send(delay) => send(home, alloc, by, now, delay),
-        Act::Look(timeout) => look(home, alloc, by, now, timeout),
-        Act::Delete(serial, receive) => home.delete(by, now, None, &receipt(serial, receive)),
-        Act::Change(serial, receive, timeout) => {
-            home.change(by, now, None, &receipt(serial, receive), timeout)
-        }
-        Act::Purge => home.purge(by, now, None),
-        Act::Count => count(home, by, now),
-        Act::Close => home.close(by, now, None),
-    }
-}
-
-fn send(
-    home: &mut Home,
-    alloc: Global,
-    by: &Actor,
-    now: u64,
-    delay: Option<Delay>,
-) -> Result<HomeRecord, Refusal> {
-    let body = Body::new(alloc, "hello", BODY_LIMIT)?;
-    let (_, record) = home.send(by, now, None, body, delay)?;
-    Ok(record)
-}
-
-fn look(
-    home: &mut Home,
-    alloc: Global,
-    by: &Actor,
-    now: u64,
-    timeout: Option<Timeout>,
-) -> Result<HomeRecord, Refusal> {
-    let (given, record) = home.look(alloc, by, now, None, MaxMessages::of(10), timeout)?;
-    let same = match (&given, record.reply()) {
-        (Some(given), HomeReply::Looked(rows)) => given.len() == rows.len(),
-        (None, HomeReply::Over) => true,
-        _ => false,
-    };
-    if same {
+    let (reply, record) = home.step(alloc, by, now, None, act_of(alloc, act)?)?;
+    if is_same_reply(&reply, record.reply()) {
         Ok(record)
     } else {
         Err(Refusal::UnsupportedOperation)
     }
-}
-
-fn count(home: &mut Home, by: &Actor, now: u64) -> Result<HomeRecord, Refusal> {
-    let (_, record) = home.count(by, now, None)?;
-    Ok(record)
 }
 
 fn told_by_rows(rows: &[Row]) -> Told {
@@ -306,7 +281,10 @@ fn a_look_at_a_shard_receives_its_message(rt: HostRuntime) -> Result<(), Fail> {
         (31_000, Told::Gave(2, 61_000)),
     ] {
         let given = shard.look(rt.alloc(), now, MaxMessages::of(10), None)?;
-        assert_eq!(rt; told_by(&reply_of_look(given)), want);
+        assert_eq!(rt;
+            given.as_ref().map(|rows| told_by_rows(rows.as_slice())),
+            Some(want)
+        );
     }
     Ok(())
 }
@@ -440,35 +418,6 @@ fn refused_calls_leave_no_event(rt: HostRuntime) -> Result<(), Fail> {
     Ok(())
 }
 
-fn same_message(a: &Row, b: &Row) -> bool {
-    a.id == b.id
-        && a.lineage == b.lineage
-        && a.body.as_str() == b.body.as_str()
-        && a.origin == b.origin
-}
-
-fn same_times(a: &Row, b: &Row) -> bool {
-    a.enqueued == b.enqueued
-        && a.visible_from == b.visible_from
-        && a.receives == b.receives
-        && a.last_receive == b.last_receive
-}
-
-fn same_row(a: &Row, b: &Row) -> bool {
-    a.serial == b.serial && a.slot == b.slot && same_message(a, b) && same_times(a, b)
-}
-
-// Whether both replies are of looks, and give the same message alone.
-fn give_the_same(a: &HomeReply, b: &HomeReply) -> bool {
-    match (a, b) {
-        (HomeReply::Looked(a), HomeReply::Looked(b)) => match (a.as_slice(), b.as_slice()) {
-            ([a], [b]) => same_row(a, b),
-            _ => false,
-        },
-        _ => false,
-    }
-}
-
 fn is_at(event: &Event<HomeCall, HomeReply>, place: u64, stamp: Stamp) -> bool {
     event.actor == 7 && event.place == place && event.stamp == stamp
 }
@@ -478,7 +427,7 @@ fn is_of(record: &HomeRecord, events: &[Event<HomeCall, HomeReply>]) -> bool {
     match events.get(record.index() as usize) {
         Some(event) => {
             is_at(event, record.place(), record.stamp())
-                && give_the_same(record.reply(), &event.reply)
+                && is_same_reply(record.reply(), &event.reply)
         }
         None => false,
     }
@@ -516,7 +465,7 @@ fn each_call_has_its_event(rt: HostRuntime) -> Result<(), Fail> {
     let mut ahead = actor(2);
     ahead.seen = stamp(5000, 3);
     let deleted = call(&mut home, rt.alloc(), &ahead, 2000, Act::Delete(0, 1))?;
-    assert!(rt; matches!(deleted.into_reply(), HomeReply::Done));
+    assert!(rt; matches!(deleted.reply(), HomeReply::Done));
     let wanted = [(0, stamp(0, 1)), (1, stamp(1000, 0)), (2, stamp(5000, 4))];
     assert!(rt; are_at(home.events(), &wanted));
     Ok(())

@@ -1,11 +1,6 @@
 -- Which queues an actor knows by their names.
-use Rattle.std.proofs.Common.{◌≡◌, ℕ, true, false, List, [], ◌∷◌, length, refl, ap, sym, ◌∙◌, subst, inl, inr, arith, Option, Some}
-use Rattle.std.specs.Prelude.{◌==◌, if◌then◌else◌}
-use Rattle.std.specs.Ordering.{is_lt}
-use Rattle.std.proofs.lemmas.Grind.{common_steps}
-use Rattle.sq_base.specs.StampValue.{StampValue}
-use Rattle.sq_base.specs.Stamps.{stamp_cmp}
-use Rattle.sq_base.proofs.StampLaws.{after_above_second, below_less, below_not_less, below_or}
+use Rattle.std.proofs.Common.{◌≡◌, ℕ, List, length, refl, ap, sym, ◌∙◌, inl, inr, Option, Some}
+use Rattle.sq_base.proofs.StampLaws.{after_above_second}
 use Rattle.sq_model.specs.declared.calls.HomeCall.{HomeCall}
 use Rattle.sq_model.specs.declared.replies.HomeReply.{HomeReply}
 use Rattle.sq_model.specs.declared.directory.Attributes.{Attributes}
@@ -15,33 +10,13 @@ use Rattle.sq_model.specs.Notes.{Book, actor_of}
 use Rattle.sq_base.specs.declared.ids.HomeId.{HomeId}
 use Rattle.sq_directory.specs.DirectoryHistories.{directory_event}
 use Rattle.sq_directory.specs.Makers.{IsSeen, IsMadeBy}
-use Rattle.sq_steps.specs.Books.{later, book_of, put_book, having_seen}
+use Rattle.sq_steps.specs.Books.{book_of, having_seen}
 use Rattle.sq_merge.specs.WorldValue.{WorldValue}
 use Rattle.sq_merge.specs.Worlds.{HomeStepped, Created, having_read, IsKnown}
-use Rattle.sq_steps.proofs.BookListLaws.{book_own}
+use Rattle.sq_steps.proofs.BookListLaws.{book_own, book_put}
+use Rattle.sq_steps.proofs.BookLaws.{later_second}
 use Rattle.sq_directory.proofs.ElementLaws.{get_new}
 use Rattle.sq_directory.proofs.MakerLaws.{made_later}
-
-later_second : (a b : StampValue) → IsSeen b (later a b)
-later_second a b = elim (below_or a b) as (λ _. IsSeen b (later a b)) [
-  | inl below ↦ rw (below_less a b below) (inl refl)
-  | inr rest ↦ elim rest as (λ _. IsSeen b (later a b)) [
-    | inl same ↦ elim (is_lt (stamp_cmp a b)) as (λ v. IsSeen b (if v then b else a)) [ true ↦ inl refl | false ↦ inl (sym same) ]
-    | inr above ↦ rw (below_not_less b a above) (inr above)
-  ]
-]
-
-same_number : (n : ℕ) → n == n ≡ true
-same_number n = grind (arith, common_steps)
-
--- what an actor has after a change is the change
-pub book_put : (actor : ℕ) (b : Book) (books : List Book) → b.actor ≡ actor → book_of actor (put_book b books) ≡ b
-book_put actor b [] own = rw (own, same_number actor) refl
-book_put actor b (x ∷ xs) own =
-    elim (x.actor == b.actor) as (λ v. x.actor == b.actor ≡ v → book_of actor (if v then b ∷ xs else x ∷ put_book b xs) ≡ b) [
-      | true ↦ (λ e. rw (own, same_number actor) refl)
-      | false ↦ (λ e. let other : x.actor == actor ≡ false = subst (λ (n : ℕ). x.actor == n ≡ false) own e in rw other (book_put actor b xs own))
-    ] refl
 
 -- an actor that read the directory knows the queue that it found
 pub known_read : (w : WorldValue) (actor : ℕ) (name : List ℕ) (queue : ℕ) → IsMadeBy w.directory.events w.directory.last name queue

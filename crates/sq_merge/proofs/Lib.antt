@@ -4,5 +4,6 @@ pub mod StepLaws
 pub mod DigestLaws
 pub mod GivenLaws
 pub mod KnownLaws
-pub mod CallLaws
-pub mod FitLaws
+pub mod PathLaws
+pub mod ClientLaws
+pub mod ActingLaws

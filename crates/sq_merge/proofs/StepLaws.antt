@@ -1,5 +1,5 @@
 -- A step of a world, from what was done to its parts.
-use Rattle.std.proofs.Common.{◌≡◌, ◌≢◌, ℕ, zero, suc, ◌+◌, ◌-◌, ◌*◌, ◌<◌, ◌≤◌, List, [], ◌∷◌, ◌++◌, length, refl, ap, sym, ◌∙◌, subst, inl, inr, arith, Option, Some, None, slice_get, slice_set}
+use Rattle.std.proofs.Common.{◌≡◌, ◌≢◌, ℕ, zero, suc, ◌+◌, ◌-◌, ◌*◌, ◌<◌, ◌≤◌, List, [], ◌∷◌, ◌++◌, length, refl, ap, sym, ◌∙◌, subst, inl, inr, arith, Option, Some, None, slice_get, slice_set, take}
 use Rattle.std.specs.Prelude.{position}
 use Rattle.std.specs.List.{slice_index_or}
 use Rattle.std.proofs.Math.Nat.{mul-le-mul_right}
@@ -20,14 +20,14 @@ use Rattle.sq_model.specs.Notes.{Book}
 use Rattle.sq_model.specs.Matches.{HomeHistory, IsHomeEvent}
 use Rattle.sq_history.specs.HistoryValue.{HistoryValue}
 use Rattle.sq_directory.specs.DirectoryHistory.{DirectoryHistory}
-use Rattle.sq_steps.specs.Books.{is_of, new_book, book_of, having_seen, last_place, HomeMoves, DirectoryMoves, IsHomeRefused, IsCreateRefused}
+use Rattle.sq_steps.specs.Books.{is_of, new_book, book_of, place_in, opened, having_seen, last_place, HomeMoves, DirectoryMoves, IsHomeRefused, IsCreateRefused}
 use Rattle.sq_merge.specs.WorldValue.{WorldValue}
 use Rattle.sq_audit.specs.HomeIds.{history_of, histories_of, IsNumbered, home_place}
 use Rattle.sq_merge.specs.Worlds.{IsHomeOf, IsKeptWorld, HomeStepped, HomeRefused, Created, CreateRefused, having_read}
 use Rattle.sq_merge.specs.declared.options.Options.{Options}
 use Rattle.sq_merge.specs.Openings.{never_opened, never_opened_homes, limits_of, IsServed, new_world}
-use Rattle.sq_directory.proofs.ElementLaws.{get_cases, get_mapped, get_within}
-use Rattle.sq_steps.proofs.BookListLaws.{book_own, found_put, lost_there, lost_put, found_is}
+use Rattle.sq_directory.proofs.ElementLaws.{some_same, get_cases, get_mapped, get_within}
+use Rattle.sq_steps.proofs.BookListLaws.{book_own, lost_there, opened_put, opened_is, kept_front}
 use Rattle.sq_audit.proofs.HomeIdLaws.{place_found}
 
 -- the home at its place
@@ -37,15 +37,19 @@ home_is old id place before numbered least found is =
     let there : slice_get old.homes place ≡ Some before = slice_get_read old.homes (length old.homes) place before refl t.0 is in
     record { there = there; is = numbered place before there ∙ t.1 }
 
-pub stepped_found : (old : WorldValue) (actor now : ℕ) (name : Option (List ℕ)) (id : HomeId) (call : HomeCall) (reply : HomeReply) (place at : ℕ) (before after : HistoryValue) (mine noted : Book)
+written_back : {X : Type 0} (xs : List X) (at : ℕ) (x : X) → slice_get xs at ≡ Some x → slice_set xs at x ≡ xs
+written_back [] at x h = absurd cc
+written_back (y ∷ ys) zero x h = ap (λ z. z ∷ ys) (sym (some_same h))
+written_back (y ∷ ys) (suc at) x h = ap (λ zs. y ∷ zs) (written_back ys at x h)
+
+pub stepped_opened : (old : WorldValue) (actor now : ℕ) (name : Option (List ℕ)) (id : HomeId) (call : HomeCall) (reply : HomeReply) (place : ℕ) (before after : HistoryValue) (mine noted : Book)
     → IsNumbered old.per_queue old.homes → 1 ≤ id.queue → home_place old.per_queue (length old.homes) id ≡ Some place → before ≡ slice_index_or old.homes place before
-    → position (is_of actor) old.books ≡ Some at → at < length old.books → mine ≡ slice_index_or old.books at mine
+    → mine ≡ slice_index_or (opened actor old.books) (place_in actor old.books) mine
     → HomeMoves before after mine noted now name call reply
-    → HomeStepped old (record old { homes = slice_set old.homes place after; books = slice_set old.books at noted }) actor now name id call reply
-stepped_found old actor now name id call reply place at before after mine noted numbered least found there pos lt own moves =
-    let is = found_is old.books actor at mine pos lt own in
+    → HomeStepped old (record old { homes = slice_set old.homes place after; books = slice_set (opened actor old.books) (place_in actor old.books) noted }) actor now name id call reply
+stepped_opened old actor now name id call reply place before after mine noted numbered least found there own moves =
+    let is = opened_is actor old.books mine own in
     let noted_own : noted.actor ≡ actor = ap (λ (b : Book). b.actor) moves.noted_as ∙ ap (λ (b : Book). b.actor) is ∙ book_own actor old.books in
-    let books = found_put noted old.books at (subst (λ (n : ℕ). position (is_of n) old.books ≡ Some at) (sym noted_own) pos) in
     record {
       at = place;
       before = before;
@@ -53,40 +57,15 @@ stepped_found old actor now name id call reply place at before after mine noted 
       noted = noted;
       home = home_is old id place before numbered least found there;
       moves = subst (λ (b : Book). HomeMoves before after b noted now name call reply) is moves;
-      changed = ap (λ (bs : List Book). record old { homes = slice_set old.homes place after; books = bs }) books;
+      changed = ap (λ (bs : List Book). record old { homes = slice_set old.homes place after; books = bs }) (opened_put actor noted old.books noted_own);
     }
 
-pub stepped_new : (old : WorldValue) (actor now : ℕ) (name : Option (List ℕ)) (id : HomeId) (call : HomeCall) (reply : HomeReply) (place : ℕ) (before after : HistoryValue) (noted : Book)
+pub refused_opened : (old : WorldValue) (actor now : ℕ) (id : HomeId) (call : HomeCall) (e : Refusal) (place : ℕ) (before : HistoryValue) (mine : Book)
     → IsNumbered old.per_queue old.homes → 1 ≤ id.queue → home_place old.per_queue (length old.homes) id ≡ Some place → before ≡ slice_index_or old.homes place before
-    → position (is_of actor) old.books ≡ None
-    → HomeMoves before after (new_book actor) noted now name call reply
-    → HomeStepped old (record old { homes = slice_set old.homes place after; books = old.books ++ noted ∷ [] }) actor now name id call reply
-stepped_new old actor now name id call reply place before after noted numbered least found there pos moves =
-    let noted_own : noted.actor ≡ actor = ap (λ (b : Book). b.actor) moves.noted_as in
-    let books = lost_put noted old.books (subst (λ (n : ℕ). position (is_of n) old.books ≡ None) (sym noted_own) pos) in
-    record {
-      at = place;
-      before = before;
-      after = after;
-      noted = noted;
-      home = home_is old id place before numbered least found there;
-      moves = subst (λ (b : Book). HomeMoves before after b noted now name call reply) (sym (lost_there actor old.books pos)) moves;
-      changed = ap (λ (bs : List Book). record old { homes = slice_set old.homes place after; books = bs }) (sym books);
-    }
-
-pub refused_found : (old : WorldValue) (actor now : ℕ) (id : HomeId) (call : HomeCall) (e : Refusal) (place at : ℕ) (before : HistoryValue) (mine : Book)
-    → IsNumbered old.per_queue old.homes → 1 ≤ id.queue → home_place old.per_queue (length old.homes) id ≡ Some place → before ≡ slice_index_or old.homes place before
-    → position (is_of actor) old.books ≡ Some at → at < length old.books → mine ≡ slice_index_or old.books at mine
+    → mine ≡ slice_index_or (opened actor old.books) (place_in actor old.books) mine
     → IsHomeRefused before mine now call e → HomeRefused old actor now id call e
-refused_found old actor now id call e place at before mine numbered least found there pos lt own refused =
-    inr (place, before, home_is old id place before numbered least found there, subst (λ (b : Book). IsHomeRefused before b now call e) (found_is old.books actor at mine pos lt own) refused)
-
-pub refused_new : (old : WorldValue) (actor now : ℕ) (id : HomeId) (call : HomeCall) (e : Refusal) (place : ℕ) (before : HistoryValue)
-    → IsNumbered old.per_queue old.homes → 1 ≤ id.queue → home_place old.per_queue (length old.homes) id ≡ Some place → before ≡ slice_index_or old.homes place before
-    → position (is_of actor) old.books ≡ None
-    → IsHomeRefused before (new_book actor) now call e → HomeRefused old actor now id call e
-refused_new old actor now id call e place before numbered least found there pos refused =
-    inr (place, before, home_is old id place before numbered least found there, subst (λ (b : Book). IsHomeRefused before b now call e) (sym (lost_there actor old.books pos)) refused)
+refused_opened old actor now id call e place before mine numbered least found there own refused =
+    inr (place, before, home_is old id place before numbered least found there, subst (λ (b : Book). IsHomeRefused before b now call e) (opened_is actor old.books mine own) refused)
 
 new_is_not_worn : (actor : ℕ) → (new_book actor).next ≢ last_place
 new_is_not_worn actor e = omega (arith, e)
@@ -104,46 +83,39 @@ pub create_unmade : (old : WorldValue) (actor now : ℕ) (name : List ℕ) (give
 create_unmade old actor now name given pos =
     subst (λ (b : Book). IsCreateRefused old.directory b now (Create name given) NoMemory) (sym (lost_there actor old.books pos)) (inr (new_is_not_worn actor, inl refl))
 
-pub created_found : (old : WorldValue) (actor now : ℕ) (name : List ℕ) (given : Attributes) (made : QueueSettings) (at : ℕ) (after : DirectoryHistory) (mine noted : Book)
-    → position (is_of actor) old.books ≡ Some at → at < length old.books → mine ≡ slice_index_or old.books at mine
+pub created_opened : (old : WorldValue) (actor now : ℕ) (name : List ℕ) (given : Attributes) (made : QueueSettings) (after : DirectoryHistory) (mine noted : Book)
+    → mine ≡ slice_index_or (opened actor old.books) (place_in actor old.books) mine
     → DirectoryMoves old.directory after mine noted now (Create name given) (Made made)
-    → Created old (record old { directory = after; books = slice_set old.books at noted }) actor now name given made
-created_found old actor now name given made at after mine noted pos lt own moves =
-    let is = found_is old.books actor at mine pos lt own in
+    → Created old (record old { directory = after; books = slice_set (opened actor old.books) (place_in actor old.books) noted }) actor now name given made
+created_opened old actor now name given made after mine noted own moves =
+    let is = opened_is actor old.books mine own in
     let noted_own : noted.actor ≡ actor = ap (λ (b : Book). b.actor) moves.noted_as ∙ ap (λ (b : Book). b.actor) is ∙ book_own actor old.books in
-    let books = found_put noted old.books at (subst (λ (n : ℕ). position (is_of n) old.books ≡ Some at) (sym noted_own) pos) in
     record {
       after = after;
       noted = noted;
       moves = subst (λ (b : Book). DirectoryMoves old.directory after b noted now (Create name given) (Made made)) is moves;
-      changed = ap (λ (bs : List Book). record old { directory = after; books = bs }) books;
+      changed = ap (λ (bs : List Book). record old { directory = after; books = bs }) (opened_put actor noted old.books noted_own);
     }
 
-pub created_new : (old : WorldValue) (actor now : ℕ) (name : List ℕ) (given : Attributes) (made : QueueSettings) (after : DirectoryHistory) (noted : Book)
-    → position (is_of actor) old.books ≡ None
-    → DirectoryMoves old.directory after (new_book actor) noted now (Create name given) (Made made)
-    → Created old (record old { directory = after; books = old.books ++ noted ∷ [] }) actor now name given made
-created_new old actor now name given made after noted pos moves =
-    let noted_own : noted.actor ≡ actor = ap (λ (b : Book). b.actor) moves.noted_as in
-    let books = lost_put noted old.books (subst (λ (n : ℕ). position (is_of n) old.books ≡ None) (sym noted_own) pos) in
-    record {
-      after = after;
-      noted = noted;
-      moves = subst (λ (b : Book). DirectoryMoves old.directory after b noted now (Create name given) (Made made)) (sym (lost_there actor old.books pos)) moves;
-      changed = ap (λ (bs : List Book). record old { directory = after; books = bs }) (sym books);
-    }
-
-pub read_found : (old : WorldValue) (actor at : ℕ) (mine : Book) → position (is_of actor) old.books ≡ Some at → at < length old.books → mine ≡ slice_index_or old.books at mine
-    → record old { books = slice_set old.books at (having_seen mine old.directory.last) } ≡ having_read old actor
-read_found old actor at mine pos lt own =
-    let is = found_is old.books actor at mine pos lt own in
+pub read_opened : (old : WorldValue) (actor : ℕ) (mine : Book) → mine ≡ slice_index_or (opened actor old.books) (place_in actor old.books) mine
+    → record old { books = slice_set (opened actor old.books) (place_in actor old.books) (having_seen mine old.directory.last) } ≡ having_read old actor
+read_opened old actor mine own =
+    let is = opened_is actor old.books mine own in
     let noted = having_seen (book_of actor old.books) old.directory.last in
-    rw is (ap (λ (bs : List Book). record old { books = bs }) (found_put noted old.books at (subst (λ (n : ℕ). position (is_of n) old.books ≡ Some at) (sym (book_own actor old.books)) pos)))
+    rw is (ap (λ (bs : List Book). record old { books = bs }) (opened_put actor noted old.books (book_own actor old.books)))
 
-pub read_new : (old : WorldValue) (actor : ℕ) → position (is_of actor) old.books ≡ None
-    → record old { books = old.books ++ having_seen (new_book actor) old.directory.last ∷ [] } ≡ having_read old actor
-read_new old actor pos =
-    rw (lost_there actor old.books pos) (ap (λ (bs : List Book). record old { books = bs }) (sym (lost_put (having_seen (new_book actor) old.directory.last) old.books pos)))
+-- a home that is written back as it was read
+pub home_kept : (old : WorldValue) (id : HomeId) (place : ℕ) (before : HistoryValue) → 1 ≤ id.queue → home_place old.per_queue (length old.homes) id ≡ Some place → before ≡ slice_index_or old.homes place before → slice_set old.homes place before ≡ old.homes
+home_kept old id place before least found is =
+    let t = place_found old.per_queue (length old.homes) id place least found in
+    written_back old.homes place before (slice_get_read old.homes (length old.homes) place before refl t.0 is)
+
+-- a step that was refused leaves the actors as they were
+pub closed_again : (actor : ℕ) (books : List Book) (mine : Book) → mine ≡ slice_index_or (opened actor books) (place_in actor books) mine → take (length books) (slice_set (opened actor books) (place_in actor books) mine) ≡ books
+closed_again actor books mine own =
+    let is = opened_is actor books mine own in
+    let mine_own : mine.actor ≡ actor = ap (λ (b : Book). b.actor) is ∙ book_own actor books in
+    ap (λ (bs : List Book). take (length books) bs) (opened_put actor mine books mine_own) ∙ kept_front actor mine books is
 
 length_opened : (per_queue : ℕ) (limits : Limits) (n : ℕ) → length (never_opened_homes per_queue limits n) ≡ n
 length_opened per_queue limits zero = refl

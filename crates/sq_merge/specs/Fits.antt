@@ -1,24 +1,22 @@
--- The notes that a call leaves with its actor, and the reply that is made of them: its steps in their order, reads left out, up to a stop.
-use Rattle.std.specs.Prelude.{◌≡◌, ◌⊎◌, ℕ, zero, suc, ◌<◌, Bool, true, false, List, [], ◌∷◌, ◌++◌, length, slice_get, Option, Some, Result, Ok, Err}
+-- Which steps a call does, and what it tells of them, up to a stop; nothing here speaks of states.
+use Rattle.std.specs.Prelude.{◌≡◌, ◌⊎◌, ℕ, zero, suc, ◌<◌, Bool, true, false, List, [], ◌∷◌, ◌++◌, length, slice_get, Option, Some, None, Result, Ok, Err}
 use Rattle.hex.specs.Hex.{encode_lower}
 use Rattle.md5.specs.Md5.{md5}
 use Rattle.rand.specs.Sample.{IsSampleOf}
+use Rattle.sq_base.specs.Bodies.{body_check}
 use Rattle.sq_base.specs.declared.handle.Handle.{Handle}
 use Rattle.sq_base.specs.declared.refusal.Refusal.{Refusal}
-use Rattle.sq_base.specs.declared.refusal.Refusal.TheVariants.{OverLimit}
+use Rattle.sq_base.specs.declared.refusal.Refusal.TheVariants.{NoMemory, QueueDoesNotExist, OverLimit, ReceiptHandleIsInvalid}
 use Rattle.sq_base.specs.declared.row.Row.{Row}
-use Rattle.sq_base.specs.declared.settings.Settings.{Settings}
 use Rattle.sq_model.specs.declared.calls.Receipt.{Receipt}
-use Rattle.sq_model.specs.declared.calls.HomeCall.{HomeCall}
-use Rattle.sq_model.specs.declared.calls.HomeCall.TheVariants.{Configure, Send, Look, Delete, Change}
 use Rattle.sq_model.specs.declared.directory.Attributes.{Attributes}
-use Rattle.sq_model.specs.declared.directory.QueueSettings.{QueueSettings}
 use Rattle.sq_model.specs.declared.directory.DirectoryCall.TheVariants.{Create}
-use Rattle.sq_model.specs.declared.directory.DirectoryReply.TheVariants.{Made}
+use Rattle.sq_model.specs.declared.directory.QueueSettings.{QueueSettings}
 use Rattle.sq_model.specs.declared.replies.HomeReply.{HomeReply}
 use Rattle.sq_model.specs.declared.replies.HomeReply.TheVariants as reply
 use Rattle.sq_model.specs.declared.replies.SentMessage.{SentMessage}
-use Rattle.sq_model.specs.Notes.{HomeNote, DirectoryNote, Note, OfDirectory, OfHome}
+use Rattle.sq_history.specs.declared.act.HomeAct.{HomeAct}
+use Rattle.sq_history.specs.declared.act.HomeAct.TheVariants.{Configure, Send, Look, Delete, Change}
 use Rattle.sq_merge.specs.declared.calls.Answer.{Answer}
 use Rattle.sq_merge.specs.declared.calls.Answer.TheVariants as answer
 use Rattle.sq_merge.specs.declared.calls.Call.{Call}
@@ -26,96 +24,110 @@ use Rattle.sq_merge.specs.declared.calls.Call.TheVariants as call
 use Rattle.sq_merge.specs.declared.calls.CreateQueue.{CreateQueue}
 use Rattle.sq_merge.specs.declared.calls.ReceiveMessage.{ReceiveMessage}
 use Rattle.sq_merge.specs.declared.calls.SendMessage.{SendMessage}
-use Rattle.sq_steps.specs.Books.{book_of}
+use Rattle.sq_merge.specs.Asks.{Resolve, Directed, AtHome, Done, found_of, made_of, replied_of, HomeCounts, IsOfAnyStep, MayRefuse}
 use Rattle.sq_merge.specs.Calls.{home_of, given_by, receipt_of, handle_at}
-use Rattle.sq_merge.specs.WorldValue.{WorldValue}
 
--- of a step at this home of a queue, by the name that was used
-pub record IsStepOf (name : List ℕ) (queue home : ℕ) (step : HomeCall) (told : HomeReply) (n : Note) : Type 0 where
-  pub note : HomeNote
-  pub is : n ≡ OfHome note
-  pub at : note.home ≡ home_of queue home
-  pub asked : note.call ≡ step
-  pub replied : note.reply ≡ told
-  pub by_name : note.name ≡ Some name
+-- a queue is looked up by its name; a queue is made, or found; a home of a queue is asked, by the queue's name
+abbrev pub named : List ℕ → Result ℕ Refusal → Done
+named name told = record { ask = Resolve name; told = found_of told }
 
--- of a queue that was made or found
-pub record IsMaking (name : List ℕ) (given : Attributes) (made : QueueSettings) (n : Note) : Type 0 where
-  pub note : DirectoryNote
-  pub is : n ≡ OfDirectory note
-  pub asked : note.call ≡ Create name given
-  pub replied : note.reply ≡ Made made
+abbrev pub created : List ℕ → Attributes → Result QueueSettings Refusal → Done
+created name given told = record { ask = Directed (Create name given); told = made_of told }
 
--- of those of homes 0 to n - 1 that took settings, in their order
-abbrev pub ConfigureNotes : List ℕ → ℕ → Settings → ℕ → ℕ → List Note → Type 0
-ConfigureNotes name queue settings version zero notes = notes ≡ []
-ConfigureNotes name queue settings version (suc n) notes =
-    ConfigureNotes name queue settings version n notes
-    ⊎ ((front : List Note) × (last : Note) × (told : HomeReply) × ConfigureNotes name queue settings version n front
-    × IsStepOf name queue n (Configure settings version) told last × (notes ≡ front ++ last ∷ []))
+abbrev pub at_home : List ℕ → ℕ → ℕ → HomeAct → Result HomeReply Refusal → Done
+at_home name queue home act told = record { ask = AtHome name (home_of queue home) act; told = replied_of told }
 
-abbrev pub CreateFits : ℕ → CreateQueue → List Note → Result Answer Refusal → Type 0
-CreateFits per_queue c notes (Ok told) =
-    (made : QueueSettings) × (first : Note) × (rest : List Note) × IsMaking c.name c.attributes made first
-    × ConfigureNotes c.name made.queue made.settings made.version per_queue rest × (notes ≡ first ∷ rest) × (told ≡ answer.Queue c.name)
-CreateFits per_queue c notes (Err e) =
-    (notes ≡ [])
-    ⊎ ((made : QueueSettings) × (first : Note) × (rest : List Note) × (n : ℕ) × (n < per_queue) × IsMaking c.name c.attributes made first
-    × ConfigureNotes c.name made.queue made.settings made.version n rest × (notes ≡ first ∷ rest))
+-- A call on a queue: the queue is looked up by its name, and what is left is done after that.
+abbrev pub ByName : List ℕ → (ℕ → List Done → Result Answer Refusal → Type 0) → List Done → Result Answer Refusal → Type 0
+ByName name At trace told =
+    ((e : Refusal) × MayRefuse (Resolve name) e × (trace ≡ named name (Err e) ∷ []) × (told ≡ Err e))
+    ⊎ ((queue : ℕ) × (rest : List Done) × (trace ≡ named name (Ok queue) ∷ rest) × At queue rest told)
 
-abbrev pub SendFits : ℕ → SendMessage → List Note → Result Answer Refusal → Type 0
-SendFits per_queue c notes (Ok told) =
-    (queue : ℕ) × (home : ℕ) × (sent : SentMessage) × (n : Note) × (home < per_queue)
-    × IsStepOf c.queue queue home (Send c.body c.delay) (reply.Sent sent) n × (notes ≡ n ∷ []) × (told ≡ answer.Sent sent.id (encode_lower (md5 c.body)))
-SendFits per_queue c notes (Err e) = notes ≡ []
+-- One step at a home of a queue, whose reply makes the answer.
+abbrev pub OneStep : List ℕ → ℕ → ℕ → HomeAct → (HomeReply → Answer → Type 0) → List Done → Result Answer Refusal → Type 0
+OneStep name queue home act Makes trace told =
+    ((by : HomeReply) × (answer : Answer) × (trace ≡ at_home name queue home act (Ok by) ∷ []) × Makes by answer × (told ≡ Ok answer))
+    ⊎ ((e : Refusal) × MayRefuse (AtHome name (home_of queue home) act) e × (trace ≡ at_home name queue home act (Err e) ∷ []) × (told ≡ Err e))
 
--- of the first n of these homes, that gave no message; whether one of them has too many in flight
-abbrev pub VainNotes : ReceiveMessage → ℕ → List ℕ → ℕ → Bool → List Note → Type 0
-VainNotes c queue homes zero over notes = (over ≡ false) × (notes ≡ [])
-VainNotes c queue homes (suc n) over notes =
-    (front : List Note) × (last : Note) × (was : Bool) × (home : ℕ) × VainNotes c queue homes n was front × (slice_get homes n ≡ Some home) × (notes ≡ front ++ last ∷ [])
-    × ((IsStepOf c.queue queue home (Look c.max c.timeout) (reply.Looked []) last × (over ≡ was))
-    ⊎ (IsStepOf c.queue queue home (Look c.max c.timeout) reply.Over last × (over ≡ true)))
+-- a home that was asked did it; or it is closed, and is passed over
+abbrev pub IsPassed : Result HomeReply Refusal → Type 0
+IsPassed told = (told ≡ Ok reply.Done) ⊎ (told ≡ Err QueueDoesNotExist)
 
--- of the home that gave messages, after those that gave none
-pub record GivingNotes (c : ReceiveMessage) (queue : ℕ) (homes : List ℕ) (home : ℕ) (rows : List Row) (notes : List Note) : Type 0 where
-  pub count : ℕ
-  pub over : Bool
-  pub front : List Note
-  pub last : Note
-  pub before : VainNotes c queue homes count over front
-  pub next : slice_get homes count ≡ Some home
-  pub gives : IsStepOf c.queue queue home (Look c.max c.timeout) (reply.Looked rows) last
-  pub all : notes ≡ front ++ last ∷ []
+-- homes 0 to n - 1 of a queue were asked this, one after another
+abbrev pub AskedAll : List ℕ → ℕ → HomeAct → ℕ → List Done → Type 0
+AskedAll name queue act zero trace = trace ≡ []
+AskedAll name queue act (suc n) trace =
+    (front : List Done) × (told : Result HomeReply Refusal) × AskedAll name queue act n front × IsPassed told × (trace ≡ front ++ at_home name queue n act told ∷ [])
 
--- distinct homes are asked, and only the last of them may give messages
-abbrev pub ReceiveFits : ℕ → ℕ → ReceiveMessage → List Note → Result Answer Refusal → Type 0
-ReceiveFits per_queue sample c notes (Ok told) =
-    (queue : ℕ) × (homes : List ℕ) × IsSampleOf per_queue sample homes
-    × (((home : ℕ) × (row : Row) × (rows : List Row) × GivingNotes c queue homes home (row ∷ rows) notes × (told ≡ given_by c (home_of queue home) (row ∷ rows)))
-    ⊎ (VainNotes c queue homes (length homes) false notes × (told ≡ given_by c (home_of queue 0) [])))
-ReceiveFits per_queue sample c notes (Err e) =
-    (notes ≡ [])
-    ⊎ ((queue : ℕ) × (homes : List ℕ) × IsSampleOf per_queue sample homes
-    × (((n : ℕ) × (over : Bool) × (home : ℕ) × VainNotes c queue homes n over notes × (slice_get homes n ≡ Some home))
-    ⊎ (VainNotes c queue homes (length homes) true notes × (e ≡ OverLimit))))
+-- All homes of a queue are asked this, and the call is answered so; a refusal that each step may have ends it.
+abbrev pub AtAll : ℕ → List ℕ → ℕ → HomeAct → Answer → List Done → Result Answer Refusal → Type 0
+AtAll homes name queue act answer trace told =
+    (AskedAll name queue act homes trace × (told ≡ Ok answer))
+    ⊎ ((n : ℕ) × (front : List Done) × (e : Refusal) × (n < homes) × AskedAll name queue act n front × IsOfAnyStep e
+    × (trace ≡ front ++ at_home name queue n act (Err e) ∷ []) × (told ≡ Err e))
 
-abbrev pub HandleFits : ℕ → List ℕ → Option Handle → (Receipt → HomeCall) → List Note → Result Answer Refusal → Type 0
-HandleFits per_queue name handle step notes (Ok told) =
-    (queue : ℕ) × (h : Handle) × (replied : HomeReply) × (n : Note) × (handle_at per_queue queue handle ≡ Some h)
-    × IsStepOf name queue h.home (step (receipt_of h)) replied n × (notes ≡ n ∷ []) × (told ≡ answer.Done)
-HandleFits per_queue name handle step notes (Err e) = notes ≡ []
+-- CreateQueue: the queue is made, where it is not there, and then its homes take its settings
+abbrev pub CreateFits : ℕ → CreateQueue → List Done → Result Answer Refusal → Type 0
+CreateFits homes c trace told =
+    ((e : Refusal) × MayRefuse (Directed (Create c.name c.attributes)) e × (trace ≡ created c.name c.attributes (Err e) ∷ []) × (told ≡ Err e))
+    ⊎ ((made : QueueSettings) × (rest : List Done) × (trace ≡ created c.name c.attributes (Ok made) ∷ rest)
+    × AtAll homes c.name made.queue (Configure made.settings made.version) (answer.Queue c.name) rest told)
 
--- these notes are the call's, and the reply is made of them
-abbrev pub ReplyFits : ℕ → ℕ → Call → List Note → Result Answer Refusal → Type 0
-ReplyFits per_queue sample (call.CreateQueue c) notes told = CreateFits per_queue c notes told
-ReplyFits per_queue sample (call.SendMessage c) notes told = SendFits per_queue c notes told
-ReplyFits per_queue sample (call.ReceiveMessage c) notes told = ReceiveFits per_queue sample c notes told
-ReplyFits per_queue sample (call.DeleteMessage c) notes told = HandleFits per_queue c.queue c.handle (λ receipt. Delete receipt) notes told
-ReplyFits per_queue sample (call.ChangeMessageVisibility c) notes told = HandleFits per_queue c.queue c.handle (λ receipt. Change receipt c.timeout) notes told
+-- the answer to a send is the message's id and its body's digest
+abbrev pub MakesSent : List ℕ → HomeReply → Answer → Type 0
+MakesSent body by told = (sent : SentMessage) × (by ≡ reply.Sent sent) × (told ≡ answer.Sent sent.id (encode_lower (md5 body)))
 
--- a call leaves its notes with its actor, after those that were there
-pub record LeavesNotes (w after : WorldValue) (actor : ℕ) (c : Call) (told : Result Answer Refusal) : Type 0 where
-  pub notes : List Note
-  pub added : (book_of actor after.books).notes ≡ (book_of actor w.books).notes ++ notes
-  pub fits : ReplyFits w.per_queue w.sample c notes told
+-- SendMessage at a queue: the body is checked, and put last at one of the queue's homes
+abbrev pub SendAt : ℕ → SendMessage → ℕ → List Done → Result Answer Refusal → Type 0
+SendAt homes c queue trace told =
+    ((e : Refusal) × ((body_check c.body 262144 ≡ Err e) ⊎ ((body_check c.body 262144 ≡ Ok tt) × (e ≡ NoMemory))) × (trace ≡ []) × (told ≡ Err e))
+    ⊎ ((home : ℕ) × (home < homes) × (body_check c.body 262144 ≡ Ok tt) × OneStep c.queue queue home (Send c.body c.delay) (MakesSent c.body) trace told)
+
+-- a home that is asked gives no message: it has none, or too many in flight; whether any home so far has
+abbrev pub GivesNone : HomeReply → Bool → Bool → Type 0
+GivesNone by was over = ((by ≡ reply.Looked []) × (over ≡ was)) ⊎ ((by ≡ reply.Over) × (over ≡ true))
+
+-- The first n of these homes were asked, one after another, and gave no message; whether one of them has too many in flight.
+abbrev pub InVain : ReceiveMessage → ℕ → List ℕ → ℕ → Bool → List Done → Type 0
+InVain c queue drawn zero over trace = (over ≡ false) × (trace ≡ [])
+InVain c queue drawn (suc n) over trace =
+    (front : List Done) × (was : Bool) × (home : ℕ) × (by : HomeReply) × InVain c queue drawn n was front × (slice_get drawn n ≡ Some home) × GivesNone by was over
+    × (trace ≡ front ++ at_home c.queue queue home (Look c.max c.timeout) (Ok by) ∷ [])
+
+-- a home ends a receive: it gives messages, or refuses
+abbrev pub EndsReceive : ReceiveMessage → ℕ → ℕ → Result HomeReply Refusal → Result Answer Refusal → Type 0
+EndsReceive c queue home by told =
+    ((row : Row) × (rows : List Row) × (by ≡ Ok (reply.Looked (row ∷ rows))) × (told ≡ Ok (given_by c (home_of queue home) (row ∷ rows))))
+    ⊎ ((e : Refusal) × MayRefuse (AtHome c.queue (home_of queue home) (Look c.max c.timeout)) e × (by ≡ Err e) × (told ≡ Err e))
+
+-- what a receive tells where no home gave a message
+abbrev pub told_none : ReceiveMessage → ℕ → Bool → Result Answer Refusal
+told_none c queue true = Err OverLimit
+told_none c queue false = Ok (given_by c (home_of queue 0) [])
+
+-- ReceiveMessage at a queue: distinct homes are asked, up to the first that gives messages or refuses. Where none does, the call is refused if one of them has too many in flight.
+abbrev pub ReceiveAt : HomeCounts → ReceiveMessage → ℕ → List Done → Result Answer Refusal → Type 0
+ReceiveAt counts c queue trace told =
+    ((trace ≡ []) × (told ≡ Err NoMemory))
+    ⊎ ((drawn : List ℕ) × (over : Bool) × IsSampleOf counts.homes counts.sample drawn
+    × (((n : ℕ) × (front : List Done) × (home : ℕ) × (by : Result HomeReply Refusal) × InVain c queue drawn n over front × (slice_get drawn n ≡ Some home)
+    × (trace ≡ front ++ at_home c.queue queue home (Look c.max c.timeout) by ∷ []) × EndsReceive c queue home by told)
+    ⊎ (InVain c queue drawn (length drawn) over trace × (told ≡ told_none c queue over))))
+
+-- the answer to a step that has nothing to tell
+abbrev pub MakesDone : HomeReply → Answer → Type 0
+MakesDone by told = (by ≡ reply.Done) × (told ≡ answer.Done)
+
+-- a step on the message of a handle, at the handle's home
+abbrev pub HandleAt : ℕ → List ℕ → Option Handle → (Receipt → HomeAct) → ℕ → List Done → Result Answer Refusal → Type 0
+HandleAt homes name handle act queue trace told =
+    ((handle_at homes queue handle ≡ None) × (trace ≡ []) × (told ≡ Err ReceiptHandleIsInvalid))
+    ⊎ ((h : Handle) × (handle_at homes queue handle ≡ Some h) × OneStep name queue h.home (act (receipt_of h)) MakesDone trace told)
+
+-- These steps are the call's, and what is told is made of them.
+abbrev pub CallFits : HomeCounts → Call → List Done → Result Answer Refusal → Type 0
+CallFits counts (call.CreateQueue c) trace told = CreateFits counts.homes c trace told
+CallFits counts (call.SendMessage c) trace told = ByName c.queue (SendAt counts.homes c) trace told
+CallFits counts (call.ReceiveMessage c) trace told = ByName c.queue (ReceiveAt counts c) trace told
+CallFits counts (call.DeleteMessage c) trace told = ByName c.queue (HandleAt counts.homes c.queue c.handle (λ receipt. Delete receipt)) trace told
+CallFits counts (call.ChangeMessageVisibility c) trace told = ByName c.queue (HandleAt counts.homes c.queue c.handle (λ receipt. Change receipt c.timeout)) trace told

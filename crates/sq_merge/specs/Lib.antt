@@ -3,5 +3,9 @@ pub mod Worlds
 pub mod Openings
 pub mod PartsValue
 pub mod GivenValue
+pub mod Asks
+pub mod Told
 pub mod Calls
 pub mod Fits
+pub mod Acting
+pub mod ActingLaws

@@ -21,7 +21,7 @@ use Rattle.sq_steps.specs.declared.act.Act.TheVariants as act
 use Rattle.sq_steps.specs.declared.act.Outcome.{Outcome}
 use Rattle.sq_steps.specs.declared.act.Outcome.TheVariants as told
 use Rattle.sq_steps.specs.declared.act.Step.{Step}
-use Rattle.sq_steps.specs.Acts.{call_of}
+use Rattle.sq_history.specs.Acts.{call_of}
 use Rattle.sq_steps.specs.Books.{is_of, book_of, put_book, having_seen, HomeMoves, DirectoryMoves, IsHomeRefused, IsCreateRefused, AreDistinct}
 use Rattle.sq_directory.specs.DirectoryHistory.{DirectoryHistory}
 use Rattle.sq_merge.specs.WorldValue.{WorldValue}

@@ -104,11 +104,9 @@ pub enum Call {
     ChangeMessageVisibility(ChangeMessageVisibility),
 }
 
-/// Who makes a call, at which clock reading in ms, and of which queue: the name that was used, and its number.
+/// A queue, by the name that it was looked up by, and by its number.
 #[derive(Clone, Copy, PartialEq, Eq, Debug)]
-pub struct Asked {
-    pub actor: u32,
-    pub clock: u64,
+pub struct NamedQueue {
     pub name: QueueName,
     pub queue: QueueNo,
 }

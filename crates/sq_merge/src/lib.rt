@@ -1,14 +1,17 @@
 //! The whole system from its parts: calls of clients, done by many actors at many homes.
 #![tactic(auto)]
 
+pub mod acting;
 #[cfg(test)]
 mod audit_tests;
 #[cfg(test)]
 mod call_tests;
 pub mod calls;
+pub mod client;
 pub mod digest;
 pub mod given;
 mod homes;
+pub mod lock_steps;
 pub mod options;
 pub mod world;
 #[cfg(test)]

@@ -1,22 +1,25 @@
 //! All queues of a service with all that was done to them, for one thread.
 ghost use Rattle.std.specs.Prelude.{◌≡◌, ◌⊎◌, ◌↔◌, ◌<◌, true, None, Some, length, position, IfOk, IfErr, IfSome, OnErr};
+ghost use Rattle.rand.specs.Sample.{IsSampleOf};
 ghost use Rattle.sq_model.specs.Directories.{number_of};
-ghost use Rattle.sq_steps.specs.Acts.{call_of};
+ghost use Rattle.sq_history.specs.Acts.{call_of};
 ghost use Rattle.sq_steps.specs.Books.{is_of, book_of};
 ghost use Rattle.sq_merge.specs.Worlds.{HomeStepped, HomeRefused, Created, CreateRefused, NameRefused, having_read, StepTold, StepRefused, Schedule, IsKnown, IsKeptWorld};
 ghost use Rattle.sq_audit.specs.HomeIds.{histories_of};
-ghost use Rattle.sq_merge.specs.Calls.{CallTold};
-ghost use Rattle.sq_merge.specs.Fits.{LeavesNotes};
+ghost use Rattle.sq_merge.specs.Acting.{counts_of, ActorStepped};
+ghost use Rattle.sq_merge.specs.Fits.{CallFits};
+ghost use Rattle.sq_merge.specs.Told.{Told, LeavesRecords};
 ghost use Rattle.sq_merge.specs.Openings.{IsServed, new_world};
 ghost use Rattle.sq_merge.specs.PartsValue.{parts_of};
 ghost use Rattle.sq_model.specs.Matches.{IsMatched};
 
+use crate::acting::call_as;
 use crate::calls::{Answer, Call};
 use crate::homes::{absent, never_opened_homes};
 use crate::options::Options;
 use sq_audit::homes::{Homes, home_place};
 use sq_audit::parts::Parts;
-use sq_base::ids::{HomeId, QueueNo};
+use sq_base::ids::{HomeId, HomeNo, QueueNo};
 use sq_base::name::QueueName;
 use sq_base::refusal::Refusal;
 use sq_directory::directory::Directory;
@@ -27,12 +30,9 @@ use sq_model::replies::HomeReply;
 use sq_sample::sampler::{HomeCount, Sampler};
 use sq_steps::act::{Act, HomeAct, Outcome, Step};
 use sq_steps::book::{Book, create_step, home_step};
-use sq_steps::books::Books;
-use sq_steps::room::put;
+use sq_steps::books::{Books, open};
 use std::alloc::Global;
 use std::marker::Model;
-
-mod calls;
 
 /// The queues and their homes, and what each actor has seen and noted. Records and events are of each other at all times.
 #[derive(Drop)]
@@ -116,7 +116,6 @@ impl World {
     /// ReceiptHandleIsInvalid of what is no handle of the queue and of one of its homes; NoMemory; ClockRange; Worn; and
     /// then as the home's call. CreateQueue is refused as QueueNameExists and TableFull too, and ReceiveMessage as OverLimit
     /// where no home that was asked gave a message and one of them has too many in flight.
-    #[tactic(auto, unfolding(crate::specs::Calls::CallTold))]
     pub fn call(
         &mut self,
         alloc: Global,
@@ -124,18 +123,10 @@ impl World {
         now: u64,
         call: &Call,
     ) -> Result<Answer, Refusal>
-        ensures told { CallTold self.old actor now call.now result self.new }
-        ensures fits { LeavesNotes self.old self.new actor call.now result }
+        ensures told { Told (ActorStepped actor now) (CallFits (counts_of self.old) call.now) self.old result self.new }
+        ensures left { LeavesRecords (CallFits (counts_of self.old) call.now) (book_of actor self.old.books) result (book_of actor self.new.books) }
     {
-        match call {
-            Call::CreateQueue(call) => self.create_queue(alloc, actor, now, call),
-            Call::SendMessage(call) => self.send_message(alloc, actor, now, call),
-            Call::ReceiveMessage(call) => self.receive_message(alloc, actor, now, call),
-            Call::DeleteMessage(call) => self.delete_message(alloc, actor, now, call),
-            Call::ChangeMessageVisibility(call) => {
-                self.change_message_visibility(alloc, actor, now, call)
-            }
-        }
+        call_as(self, alloc, actor, now, call)
     }
 
     /// One step after another, and how many were not refused. What is refused changes nothing.
@@ -173,16 +164,32 @@ impl World {
         }
     }
 
-    // Where what an actor has stands.
-    fn book_at(&self, actor: u32) -> Option<usize>
-        ensures place { result ≡ position (is_of actor) self.now.books }
-        ensures within { IfSome result (λ at. at < length self.now.books) }
+    /// How many homes a queue has.
+    pub(crate) fn per_queue(&self) -> HomeCount
+        ensures { result ≡ self.now.per_queue }
     {
-        self.books.iter().position(|book| book.actor() == actor)
+        self.per_queue
+    }
+
+    // One home of a queue.
+    pub(crate) fn pick(&mut self) -> HomeNo
+        ensures below { result < self.old.per_queue }
+        ensures same { self.new ≡ self.old }
+    {
+        self.sampler.pick(self.per_queue)
+    }
+
+    // Distinct homes of a queue, so many as a receive asks. Refused for want of memory alone.
+    pub(crate) fn draw(&mut self, alloc: Global) -> Result<Vec<HomeNo>, Refusal>
+        ensures sample { IfOk result (λ drawn. IsSampleOf self.old.per_queue self.old.sample drawn.items) }
+        ensures refused { IfErr result (λ e. e ≡ Refusal.NoMemory) }
+        ensures same { self.new ≡ self.old }
+    {
+        self.sampler.draw(alloc, self.per_queue, self.sample)
     }
 
     // Makes a queue or finds it.
-    fn create(
+    pub(crate) fn create(
         &mut self,
         alloc: Global,
         actor: u32,
@@ -194,24 +201,25 @@ impl World {
         ensures refusal { IfErr result (CreateRefused self.old actor now name.now given.now) }
         ensures err { OnErr result (self.new ≡ self.old) }
     {
-        match self.book_at(actor) {
-            Some(at) => {
-                let book = &mut self.books[at];
-                let made = create_step(&mut self.directory, book, now, name, given)?;
-                Ok(made)
-            }
-            None => {
-                self.books.try_reserve(1)?;
-                let mut book = Book::new(alloc, actor);
-                let made = create_step(&mut self.directory, &mut book, now, name, given)?;
-                put(&mut self.books, book);
-                Ok(made)
+        let count = self.books.len();
+        let at = open(&mut self.books, alloc, actor)?;
+        let book = &mut self.books[at];
+        match create_step(&mut self.directory, book, now, name, given) {
+            Ok(made) => Ok(made),
+            Err(refusal) => {
+                self.books.truncate(count);
+                Err(refusal)
             }
         }
     }
 
     // Reads the number of a queue.
-    fn resolve(&mut self, alloc: Global, actor: u32, name: &QueueName) -> Result<QueueNo, Refusal>
+    pub(crate) fn resolve(
+        &mut self,
+        alloc: Global,
+        actor: u32,
+        name: &QueueName,
+    ) -> Result<QueueNo, Refusal>
         ensures found { IfOk result (λ queue. (number_of name.now self.old.directory.directory.queues ≡ Some queue) × (self.new ≡ having_read self.old actor)) }
         ensures known { IfOk result (IsKnown self.new.directory.events (book_of actor self.new.books) (Some name.now)) }
         ensures refusal { IfErr result (NameRefused self.old actor name.now) }
@@ -221,24 +229,13 @@ impl World {
             return Err(Refusal::QueueDoesNotExist);
         };
         let last = self.directory.last();
-        match self.book_at(actor) {
-            Some(at) => {
-                let book = &mut self.books[at];
-                book.see(last);
-                Ok(queue)
-            }
-            None => {
-                self.books.try_reserve(1)?;
-                let mut book = Book::new(alloc, actor);
-                book.see(last);
-                put(&mut self.books, book);
-                Ok(queue)
-            }
-        }
+        let at = open(&mut self.books, alloc, actor)?;
+        self.books[at].see(last);
+        Ok(queue)
     }
 
     // A step of a home by an actor that used this name.
-    fn at_home(
+    pub(crate) fn at_home(
         &mut self,
         alloc: Global,
         actor: u32,
@@ -255,20 +252,15 @@ impl World {
         let Some(place) = home_place(self.per_queue, self.homes.len(), id) else {
             return Err(absent(now));
         };
-        match self.book_at(actor) {
-            Some(at) => {
-                let home = &mut self.homes[place];
-                let book = &mut self.books[at];
-                let reply = home_step(alloc, home, book, now, name, act)?;
-                Ok(reply)
-            }
-            None => {
-                self.books.try_reserve(1)?;
-                let mut book = Book::new(alloc, actor);
-                let home = &mut self.homes[place];
-                let reply = home_step(alloc, home, &mut book, now, name, act)?;
-                put(&mut self.books, book);
-                Ok(reply)
+        let count = self.books.len();
+        let at = open(&mut self.books, alloc, actor)?;
+        let home = &mut self.homes[place];
+        let book = &mut self.books[at];
+        match home_step(alloc, home, book, now, name, act) {
+            Ok(reply) => Ok(reply),
+            Err(refusal) => {
+                self.books.truncate(count);
+                Err(refusal)
             }
         }
     }

@@ -1,12 +1,13 @@
 -- What an actor has stays in order with one step more.
 use Rattle.std.proofs.Common.{◌≡◌, ℕ, ◌+◌, ◌<◌, true, false, List, [], ◌∷◌, ◌++◌, Option, refl, sym, ap, subst, inl, inr, arith}
+use Rattle.std.specs.Prelude.{if◌then◌else◌}
 use Rattle.std.specs.List.{AllByRecursion}
 use Rattle.std.specs.Ordering.{is_lt}
 use Rattle.std.specs.Cmp.{IsStrictWeakOrder}
 use Rattle.std.proofs.lemmas.List.Sorted.{ranks_by}
 use Rattle.sq_base.specs.StampValue.{StampValue}
 use Rattle.sq_base.specs.Stamps.{Below, stamp_cmp}
-use Rattle.sq_base.proofs.StampLaws.{stamps_total, after_above_second, below_or, below_not_less}
+use Rattle.sq_base.proofs.StampLaws.{stamps_total, after_above_second, below_or, below_less, below_not_less}
 use Rattle.sq_model.specs.declared.calls.HomeCall.{HomeCall}
 use Rattle.sq_model.specs.declared.directory.DirectoryCall.{DirectoryCall}
 use Rattle.sq_model.specs.Notes.{HomeNote, DirectoryNote, Note, OfDirectory, OfHome, place_of, stamp_of, Book, actor_of, NotesRise}
@@ -15,7 +16,7 @@ use Rattle.sq_history.specs.Histories.{Records}
 use Rattle.sq_directory.specs.DirectoryHistory.{DirectoryHistory}
 use Rattle.sq_directory.specs.DirectoryHistories.{DirectoryRecords}
 use Rattle.sq_directory.specs.Makers.{IsSeen}
-use Rattle.sq_steps.specs.Books.{IsBook, with_note}
+use Rattle.sq_steps.specs.Books.{later, IsBook, with_note}
 use Rattle.sq_directory.proofs.MakerLaws.{seen_below}
 
 pub all_weaken : {X : Type 0} (P Q : X → Type 0) (xs : List X) → ((x : X) → P x → Q x) → AllByRecursion P xs → AllByRecursion Q xs
@@ -78,3 +79,22 @@ pub directory_book_more : (old new : DirectoryHistory) (book : Book) (now : ℕ)
     → IsBook book → DirectoryRecords old new (actor_of book) now call note → IsBook (with_note book (OfDirectory note))
 directory_book_more old new book now call note is more =
     book_more book (OfDirectory note) is (ap (λ (n : DirectoryNote). n.place) more.noted) (after_above_second old.last book.seen now note.stamp more.stamped)
+
+-- of two stamps the later is not below either
+pub later_first : (a b : StampValue) → IsSeen a (later a b)
+later_first a b = elim (below_or a b) as (λ _. IsSeen a (later a b)) [
+  | inl below ↦ rw (below_less a b below) (inr below)
+  | inr rest ↦ elim rest as (λ _. IsSeen a (later a b)) [
+    | inl same ↦ elim (is_lt (stamp_cmp a b)) as (λ v. IsSeen a (if v then b else a)) [ true ↦ inl same | false ↦ inl refl ]
+    | inr above ↦ rw (below_not_less b a above) (inl refl)
+  ]
+]
+
+pub later_second : (a b : StampValue) → IsSeen b (later a b)
+later_second a b = elim (below_or a b) as (λ _. IsSeen b (later a b)) [
+  | inl below ↦ rw (below_less a b below) (inl refl)
+  | inr rest ↦ elim rest as (λ _. IsSeen b (later a b)) [
+    | inl same ↦ elim (is_lt (stamp_cmp a b)) as (λ v. IsSeen b (if v then b else a)) [ true ↦ inl refl | false ↦ inl (sym same) ]
+    | inr above ↦ rw (below_not_less b a above) (inr above)
+  ]
+]

@@ -1,12 +1,13 @@
 -- The actors' books, and one of them changed.
-use Rattle.std.proofs.Common.{◌≡◌, ◌≢◌, ◌⊎◌, ℕ, zero, suc, ◌+◌, ◌<◌, ◌≤◌, true, false, not, cond, List, [], ◌∷◌, ◌++◌, length, refl, ap, sym, subst, inl, inr, arith, Some, None, slice_get, slice_set, ◌∙◌}
+use Rattle.std.proofs.Common.{◌≡◌, ◌≢◌, ◌⊎◌, ℕ, zero, suc, ◌+◌, ◌<◌, ◌≤◌, true, false, not, cond, List, [], ◌∷◌, ◌++◌, length, refl, ap, sym, subst, inl, inr, arith, Some, None, slice_get, slice_set, take, ◌∙◌}
 use Rattle.std.specs.Prelude.{nat_eq, nat_lt, ◌==◌, if◌then◌else◌, position}
 use Rattle.std.specs.List.{AllByRecursion, position_or_len, slice_index_or}
 use Rattle.std.proofs.lemmas.Bool.{eqb-true}
 use Rattle.std.proofs.lemmas.Grind.{common_steps}
 use Rattle.sq_model.specs.Notes.{Book}
-use Rattle.sq_steps.specs.Books.{is_of, new_book, book_of, put_book, AreDistinct}
+use Rattle.sq_steps.specs.Books.{is_of, new_book, book_of, place_in, opened, put_book, AreDistinct}
 use Rattle.sq_directory.proofs.ElementLaws.{some_same, all_get}
+use Rattle.std.proofs.Math.Seq.{take-length}
 use Rattle.std.proofs.lemmas.Option.{slice_get_read}
 
 -- what an actor has is among all, or nothing
@@ -128,3 +129,77 @@ book_once (z ∷ zs) d (suc b) (suc c) x y h g e = ap suc (book_once zs d.1 b c 
 
 pub same_place : (x y : ℕ) → x ≡ y → nat_eq x y ≡ true
 same_place x y e = subst (λ (z : ℕ). nat_eq x z ≡ true) e (grind (arith, common_steps))
+
+same_number : (n : ℕ) → n == n ≡ true
+same_number n = grind (arith, common_steps)
+
+-- what an actor has after a change is the change
+pub book_put : (actor : ℕ) (b : Book) (books : List Book) → b.actor ≡ actor → book_of actor (put_book b books) ≡ b
+book_put actor b [] own = rw (own, same_number actor) refl
+book_put actor b (x ∷ xs) own =
+    elim (x.actor == b.actor) as (λ v. x.actor == b.actor ≡ v → book_of actor (if v then b ∷ xs else x ∷ put_book b xs) ≡ b) [
+      | true ↦ (λ e. rw (own, same_number actor) refl)
+      | false ↦ (λ e. let other : x.actor == actor ≡ false = subst (λ (n : ℕ). x.actor == n ≡ false) own e in rw other (book_put actor b xs own))
+    ] refl
+
+-- an actor that is there, or was made, stands in its place
+pub opened_there : (actor : ℕ) (books : List Book) → slice_get (opened actor books) (place_in actor books) ≡ Some (book_of actor books)
+opened_there actor [] = refl
+opened_there actor (x ∷ xs) =
+    elim (x.actor == actor) as (λ v. slice_get (if v then x ∷ xs else x ∷ opened actor xs) (cond (not v) (1 + place_in actor xs) 0) ≡ Some (if v then x else book_of actor xs))
+    [ true ↦ refl | false ↦ (let next : 1 + place_in actor xs ≡ suc (place_in actor xs) = omega arith in rw next (opened_there actor xs)) ]
+
+pub opened_put : (actor : ℕ) (b : Book) (books : List Book) → b.actor ≡ actor → slice_set (opened actor books) (place_in actor books) b ≡ put_book b books
+opened_put actor b [] own = refl
+opened_put actor b (x ∷ xs) own =
+    let same : (x.actor == b.actor) ≡ (x.actor == actor) = ap (λ (n : ℕ). x.actor == n) own in
+    rw same
+    (elim (x.actor == actor) as (λ v. slice_set (if v then x ∷ xs else x ∷ opened actor xs) (cond (not v) (1 + place_in actor xs) 0) b ≡ (if v then b ∷ xs else x ∷ put_book b xs))
+    [ true ↦ refl | false ↦ (let next : 1 + place_in actor xs ≡ suc (place_in actor xs) = omega arith in rw next (ap (λ ys. x ∷ ys) (opened_put actor b xs own))) ])
+
+-- an actor that changed nothing leaves those that were there
+pub kept_front : (actor : ℕ) (b : Book) (books : List Book) → b ≡ book_of actor books → take (length books) (put_book b books) ≡ books
+kept_front actor b [] is = refl
+kept_front actor b (x ∷ xs) is =
+    let own : b.actor ≡ actor = ap (λ (y : Book). y.actor) is ∙ book_own actor (x ∷ xs) in
+    let same : (x.actor == b.actor) ≡ (x.actor == actor) = ap (λ (n : ℕ). x.actor == n) own in
+    rw same
+    (elim (x.actor == actor) as (λ v. b ≡ (if v then x else book_of actor xs) → take (length (x ∷ xs)) (if v then b ∷ xs else x ∷ put_book b xs) ≡ x ∷ xs) [
+      | true ↦ (λ e. subst (λ (y : Book). take (length (x ∷ xs)) (y ∷ xs) ≡ x ∷ xs) (sym e) (take-length (x ∷ xs)))
+      | false ↦ (λ e. ap (λ ys. x ∷ ys) (kept_front actor b xs e))
+    ] is)
+
+pub opened_within : (actor : ℕ) (books : List Book) → place_in actor books < length (opened actor books)
+opened_within actor [] = omega arith
+opened_within actor (x ∷ xs) =
+    elim (x.actor == actor) as (λ v. cond (not v) (1 + place_in actor xs) 0 < length (if v then x ∷ xs else x ∷ opened actor xs))
+    [ true ↦ omega arith | false ↦ omega (arith, opened_within actor xs) ]
+
+-- what is read in an actor's place is the actor's
+pub opened_is : (actor : ℕ) (books : List Book) (mine : Book) → mine ≡ slice_index_or (opened actor books) (place_in actor books) mine → mine ≡ book_of actor books
+opened_is actor books mine own = some_same (sym (slice_get_read (opened actor books) (length (opened actor books)) (place_in actor books) mine refl (opened_within actor books) own) ∙ opened_there actor books)
+
+within_opened : (actor : ℕ) (books : List Book) → place_in actor books < length books → opened actor books ≡ books
+within_opened actor [] lt = absurd (omega (arith, lt))
+within_opened actor (x ∷ xs) lt =
+    elim (x.actor == actor) as (λ v. cond (not v) (1 + place_in actor xs) 0 < length (x ∷ xs) → (if v then x ∷ xs else x ∷ opened actor xs) ≡ x ∷ xs)
+    [ true ↦ (λ l. refl) | false ↦ (λ l. ap (λ ys. x ∷ ys) (within_opened actor xs (omega (arith, l)))) ] lt
+
+past_opened : (actor : ℕ) (books : List Book) → length books ≤ place_in actor books → (place_in actor books ≡ length books) × (opened actor books ≡ books ++ new_book actor ∷ [])
+past_opened actor [] le = (refl, refl)
+past_opened actor (x ∷ xs) le =
+    elim (x.actor == actor) as (λ v. length (x ∷ xs) ≤ cond (not v) (1 + place_in actor xs) 0 → (cond (not v) (1 + place_in actor xs) 0 ≡ length (x ∷ xs)) × ((if v then x ∷ xs else x ∷ opened actor xs) ≡ x ∷ (xs ++ new_book actor ∷ []))) [
+      | true ↦ (λ l. absurd (omega (arith, l)))
+      | false ↦ (λ l. let rest = past_opened actor xs (omega (arith, l)) in (omega (arith, rest.0), ap (λ ys. x ∷ ys) rest.1))
+    ] le
+
+-- an actor that is found is in its place, and one that is not is made
+pub found_opened : (actor : ℕ) (books : List Book) (at : ℕ) → position (is_of actor) books ≡ Some at → (at ≡ place_in actor books) × (opened actor books ≡ books)
+found_opened actor books at h =
+    elim (nat_lt (place_in actor books) (length books)) as (λ v. nat_lt (place_in actor books) (length books) ≡ v → cond v (Some (place_in actor books)) None ≡ Some at → (at ≡ place_in actor books) × (opened actor books ≡ books))
+    [ true ↦ (λ e k. (sym (some_same k), within_opened actor books (grind (arith, common_steps, e)))) | false ↦ (λ e k. absurd cc) ] refl h
+
+pub lost_opened : (actor : ℕ) (books : List Book) → position (is_of actor) books ≡ None → (place_in actor books ≡ length books) × (opened actor books ≡ books ++ new_book actor ∷ [])
+lost_opened actor books h =
+    elim (nat_lt (place_in actor books) (length books)) as (λ v. nat_lt (place_in actor books) (length books) ≡ v → cond v (Some (place_in actor books)) None ≡ None → (place_in actor books ≡ length books) × (opened actor books ≡ books ++ new_book actor ∷ []))
+    [ true ↦ (λ e k. absurd cc) | false ↦ (λ e k. past_opened actor books (grind (arith, common_steps, e))) ] refl h

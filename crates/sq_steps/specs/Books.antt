@@ -1,6 +1,6 @@
 -- What an actor has seen and noted, and how that goes on.
 use Rattle.std.specs.Prelude.{◌≡◌, ◌≢◌, ◌⊎◌, ◌==◌, Bool, not, ℕ, ◌+◌, ◌<◌, nat_le, if◌then◌else◌, List, [], ◌∷◌, ◌++◌, map, filter, slice_get, Option, Some}
-use Rattle.std.specs.List.{AllByRecursion}
+use Rattle.std.specs.List.{AllByRecursion, position_or_len}
 use Rattle.std.specs.Ordering.{is_lt}
 use Rattle.sq_base.specs.StampValue.{StampValue}
 use Rattle.sq_base.specs.Stamps.{start, stamp_end, stamp_cmp}
@@ -81,6 +81,15 @@ is_of actor book = book.actor == actor
 abbrev pub book_of : ℕ → List Book → Book
 book_of actor [] = new_book actor
 book_of actor (book ∷ books) = if book.actor == actor then book else book_of actor books
+
+-- where an actor stands among all, or would as the last
+abbrev pub place_in : ℕ → List Book → ℕ
+place_in actor books = position_or_len (is_of actor) books
+
+-- all actors, with this one, which did nothing yet where it was not there
+abbrev pub opened : ℕ → List Book → List Book
+opened actor [] = new_book actor ∷ []
+opened actor (x ∷ xs) = if x.actor == actor then x ∷ xs else x ∷ opened actor xs
 
 -- in the place of what its actor had, or last where it had nothing
 abbrev pub put_book : Book → List Book → List Book

@@ -4,7 +4,7 @@ ghost use Rattle.std.specs.List.{list_any};
 ghost use Rattle.sq_model.specs.Notes.{NotesRise, actor_of, place_of};
 ghost use Rattle.sq_model.specs.declared.directory.DirectoryCall.TheVariants.{Create};
 ghost use Rattle.sq_model.specs.declared.directory.DirectoryReply.TheVariants.{Made};
-ghost use Rattle.sq_steps.specs.Acts.{call_of};
+ghost use Rattle.sq_history.specs.Acts.{call_of};
 ghost use Rattle.sq_steps.specs.Records.{note_of, notes_of};
 ghost use Rattle.sq_steps.specs.Books.{new_book, having_seen, without_note, last_place, worn_at, HomeMoves, DirectoryMoves, IsHomeRefused, IsCreateRefused};
 
@@ -143,7 +143,7 @@ pub fn home_step(
     }
     book.records.try_reserve(1)?;
     let by = book.by();
-    let (reply, record) = act.at(alloc, home, &by, now, name)?;
+    let (reply, record) = home.step(alloc, &by, now, name, act)?;
     book.next += 1;
     book.seen = record.stamp();
     put(&mut book.records, Record::Home(record));

@@ -1,10 +1,13 @@
 //! What all actors have seen and noted.
-ghost use Rattle.std.specs.Prelude.{◌≡◌, ◌↔◌, ◌<◌, true, length, position, IfSome};
+ghost use Rattle.std.specs.Prelude.{◌≡◌, ◌↔◌, ◌<◌, None, true, length, position, IfOk, IfErr, IfSome, OnOk, OnErr};
 ghost use Rattle.sq_model.specs.Notes.{place_of};
 ghost use Rattle.sq_model.specs.Matches.{IsNoted};
-ghost use Rattle.sq_steps.specs.Books.{is_of, without, AreDistinct};
+ghost use Rattle.sq_steps.specs.Books.{is_of, place_in, opened, without, AreDistinct};
 
 use crate::book::Book;
+use crate::room::put;
+use sq_base::refusal::Refusal;
+use std::alloc::Global;
 use std::marker::Model;
 
 /// The actors of a service, each once.
@@ -60,4 +63,20 @@ pub fn book_at(books: &[Book], actor: u32) -> Option<usize>
     ensures within { IfSome result (λ at. at < length books.now) }
 {
     books.iter().position(|book| book.actor() == actor)
+}
+
+/// Where what an actor has stands, which is made where it is not there. Refused as NoMemory of a new actor alone.
+pub fn open(books: &mut Vec<Book>, alloc: Global, actor: u32) -> Result<usize, Refusal>
+    ensures place { IfOk result (λ at. at ≡ place_in actor books.old.items) }
+    ensures opened { OnOk result (books.new.items ≡ opened actor books.old.items) }
+    ensures within { IfOk result (λ at. at < length books.new.items) }
+    ensures refused { IfErr result (λ e. (e ≡ Refusal.NoMemory) × (position (is_of actor) books.old.items ≡ None)) }
+    ensures err { OnErr result (books.new.items ≡ books.old.items) }
+{
+    if let Some(at) = book_at(books, actor) {
+        return Ok(at);
+    }
+    books.try_reserve(1)?;
+    put(books, Book::new(alloc, actor));
+    Ok(books.len() - 1)
 }

@@ -4,7 +4,9 @@ use Rattle.sq_base.specs.declared.refusal.Refusal.{Refusal}
 use Rattle.sq_base.specs.declared.refusal.Refusal.TheVariants.{NoMemory}
 use Rattle.sq_merge.specs.WorldValue.{WorldValue}
 use Rattle.sq_wire.specs.Requests.{line_request}
-use Rattle.sq_merge.specs.Calls.{CallTold}
+use Rattle.sq_merge.specs.Acting.{counts_of, ActorStepped}
+use Rattle.sq_merge.specs.Fits.{CallFits}
+use Rattle.sq_merge.specs.Told.{Told}
 use Rattle.sq_wire.specs.Replies.{reply_text_of}
 use Rattle.sq_merge.specs.declared.calls.Answer.{Answer}
 use Rattle.sq_wire.specs.declared.request.Request.{Request}
@@ -22,7 +24,7 @@ abbrev pub LineTold : ScriptValue → List ℕ → Result Answer Refusal → Scr
 LineTold s line told after =
     ((after ≡ s) × ((told ≡ Err NoMemory) ⊎ ((e : Refusal) × (line_request line ≡ Err e) × (told ≡ Err e))))
     ⊎ ((request : Request) × (line_request line ≡ Ok request) × (after.clock ≡ unwrap_or request.clock s.clock)
-    × CallTold s.world request.actor (unwrap_or request.clock s.clock) request.call told after.world)
+    × Told (ActorStepped request.actor (unwrap_or request.clock s.clock)) (CallFits (counts_of s.world) request.call) s.world told after.world)
 
 -- a line may have this text for its reply, and leave this
 unfoldable pub Gives : ScriptValue → List ℕ → List ℕ → ScriptValue → Type 0

@@ -1,74 +1,60 @@
-use Rattle.std.proofs.Common.{rules, ◌≡◌, ◌<◌, length, Some, None, Err, subst, sym}
-use Rattle.std.specs.Prelude.{position}
-use Rattle.sq_base.specs.declared.refusal.Refusal.TheVariants.{NoMemory}
+use Rattle.std.proofs.Common.{rules, ◌≡◌, length, Err, arith, subst}
+use Rattle.std.specs.List.{slice_index_or}
 use Rattle.sq_model.specs.Notes.{Book}
 use Rattle.sq_model.specs.declared.directory.DirectoryCall.TheVariants.{Create}
-use Rattle.sq_steps.specs.Books.{is_of, IsCreateRefused}
+use Rattle.sq_steps.specs.Books.{place_in, opened, IsCreateRefused}
+use Rattle.sq_steps.proofs.BookListLaws.{opened_is}
 use Rattle.sq_merge.specs.WorldValue.{WorldValue}
-use Rattle.sq_steps.proofs.BookListLaws.{lost_there, found_is}
-use Rattle.sq_merge.proofs.StepLaws.{created_found, created_new, create_unmade}
+use Rattle.sq_merge.proofs.StepLaws.{created_opened, create_unmade, closed_again}
 use Rattle.sq_merge.proofs.WorldLaws.{kept_created}
 use Rattle.sq_merge.proofs.world.World.create.Goals as goal
 
-pub returns-in_err-made-in-Some-clause-refusal : goal.returns-in_err-made-in-Some-clause-refusal
-returns-in_err-made-in-Some-clause-refusal c =
+pub returns-in_err-at-clause-refusal : goal.returns-in_err-at-clause-refusal
+returns-in_err-at-clause-refusal c =
     let old : WorldValue = record { directory = c.self.inside.directory; per_queue = c.self.inside.per_queue; sample = c.self.inside.sample; homes = c.self.inside.homes.items; books = c.self.inside.books.items } in
-    let pos : position (is_of c.args.actor) old.books ≡ Some c.in-Some.at = sym (rw (← c.self.view_is) at c.in-Some.ensures.place) in
-    let lt : c.in-Some.at < length old.books = search rules in
-    let refused : c.from_residual.result ≡ Err c.in_err-made-in-Some.field-0.0 = search rules in
-    rw (refused, ← c.self.view_is)
-    (subst (λ (b : Book). IsCreateRefused old.directory b c.args.now (Create c.args.name.now c.args.given.now) c.in_err-made-in-Some.field-0.0) (found_is old.books c.args.actor c.in-Some.at c.index_mut-book.result.now pos lt c.index_mut-book.ensures.value) c.in_err-made-in-Some.ensures.refusal)
+    let refused : c.from_residual.result ≡ Err c.in_err-at.field-0.0 = search rules in
+    rw (refused, c.in_err-at.ensures.refused.0, ← c.self.view_is) (create_unmade old c.args.actor c.args.now c.args.name.now c.args.given.now c.in_err-at.ensures.refused.1)
 
-pub invariant_of-self-in-Some : goal.invariant_of-self-in-Some
-invariant_of-self-in-Some c =
+pub invariant_of-self-in-Ok : goal.invariant_of-self-in-Ok
+invariant_of-self-in-Ok c =
     let old : WorldValue = record { directory = c.self.inside.directory; per_queue = c.self.inside.per_queue; sample = c.self.inside.sample; homes = c.self.inside.homes.items; books = c.self.inside.books.items } in
-    let pos : position (is_of c.args.actor) old.books ≡ Some c.in-Some.at = sym (rw (← c.self.view_is) at c.in-Some.ensures.place) in
-    let lt : c.in-Some.at < length old.books = search rules in
+    let own : c.index_mut-book.result.now ≡ slice_index_or (opened c.args.actor old.books) (place_in c.args.actor old.books) c.index_mut-book.result.now = rw (c.in_ok-at.ensures.opened, c.in_ok-at.ensures.place) at c.index_mut-book.ensures.value in
     record {
-      kept = kept_created old c.args.actor c.args.now c.args.name.now c.args.given.now c.in_ok-made-in-Some.made _ c.self.invariant.kept
-          (created_found old c.args.actor c.args.now c.args.name.now c.args.given.now c.in_ok-made-in-Some.made c.in-Some.at c.create_step.new.directory c.index_mut-book.result.now c.create_step.new.book pos lt c.index_mut-book.ensures.value c.in_ok-made-in-Some.ensures.step);
+      kept = rw (c.in_ok-at.ensures.opened, c.in_ok-at.ensures.place)
+          (kept_created old c.args.actor c.args.now c.args.name.now c.args.given.now c.in-Ok.made _ c.self.invariant.kept
+          (created_opened old c.args.actor c.args.now c.args.name.now c.args.given.now c.in-Ok.made c.create_step.new.directory c.index_mut-book.result.now c.create_step.new.book own c.in-Ok.ensures.step));
       sample = c.self.invariant.sample;
       few = c.self.invariant.few;
     }
 
-pub returns-in_err-made-in-None-clause-refusal : goal.returns-in_err-made-in-None-clause-refusal
-returns-in_err-made-in-None-clause-refusal c =
+pub returns-in-Ok-clause-created : goal.returns-in-Ok-clause-created
+returns-in-Ok-clause-created c =
     let old : WorldValue = record { directory = c.self.inside.directory; per_queue = c.self.inside.per_queue; sample = c.self.inside.sample; homes = c.self.inside.homes.items; books = c.self.inside.books.items } in
-    let pos : position (is_of c.args.actor) old.books ≡ None = sym (rw (← c.self.view_is) at c.in-None.ensures.place) in
-    let refused : c.from_residual-in_err-made-in-None.result ≡ Err c.in_err-made-in-None.field-0.0 = search rules in
-    rw (refused, ← c.self.view_is)
-    (subst (λ (b : Book). IsCreateRefused old.directory b c.args.now (Create c.args.name.now c.args.given.now) c.in_err-made-in-None.field-0.0) (sym (lost_there c.args.actor old.books pos)) (rw c.new-book.ensures at c.in_err-made-in-None.ensures.refusal))
+    let own : c.index_mut-book.result.now ≡ slice_index_or (opened c.args.actor old.books) (place_in c.args.actor old.books) c.index_mut-book.result.now = rw (c.in_ok-at.ensures.opened, c.in_ok-at.ensures.place) at c.index_mut-book.ensures.value in
+    rw (← c.self.view_is, c.in_ok-at.ensures.opened, c.in_ok-at.ensures.place)
+    (created_opened old c.args.actor c.args.now c.args.name.now c.args.given.now c.in-Ok.made c.create_step.new.directory c.index_mut-book.result.now c.create_step.new.book own c.in-Ok.ensures.step)
 
-pub invariant_of-self-in-None : goal.invariant_of-self-in-None
-invariant_of-self-in-None c =
+pub invariant_of-self-in-Err : goal.invariant_of-self-in-Err
+invariant_of-self-in-Err c =
     let old : WorldValue = record { directory = c.self.inside.directory; per_queue = c.self.inside.per_queue; sample = c.self.inside.sample; homes = c.self.inside.homes.items; books = c.self.inside.books.items } in
-    let pos : position (is_of c.args.actor) old.books ≡ None = sym (rw (← c.self.view_is) at c.in-None.ensures.place) in
-    record {
-      kept = rw (c.put.ensures, c.try_reserve.ensures.items)
-          (kept_created old c.args.actor c.args.now c.args.name.now c.args.given.now c.in_ok-made-in-None.made _ c.self.invariant.kept
-          (created_new old c.args.actor c.args.now c.args.name.now c.args.given.now c.in_ok-made-in-None.made c.create_step-in-None.new.directory c.create_step-in-None.new.book pos (rw c.new-book.ensures at c.in_ok-made-in-None.ensures.step)));
-      sample = c.self.invariant.sample;
-      few = c.self.invariant.few;
-    }
+    let own : c.index_mut-book.result.now ≡ slice_index_or (opened c.args.actor old.books) (place_in c.args.actor old.books) c.index_mut-book.result.now = rw (c.in_ok-at.ensures.opened, c.in_ok-at.ensures.place) at c.index_mut-book.ensures.value in
+    let count : c.len-count.result ≡ length old.books = omega (arith, c.len-count.ensures, c.self.inside.books.ok.0) in
+    let front : c.truncate.new.self.items ≡ old.books =
+    rw (c.truncate.ensures.items, count, c.in-Err.ensures.book_err, c.in_ok-at.ensures.opened, c.in_ok-at.ensures.place) (closed_again c.args.actor old.books c.index_mut-book.result.now own) in
+    rw (c.in-Err.ensures.directory_err, front) (record { kept = c.self.invariant.kept; sample = c.self.invariant.sample; few = c.self.invariant.few })
 
-pub returns-in_ok-made-in-Some-clause-created : goal.returns-in_ok-made-in-Some-clause-created
-returns-in_ok-made-in-Some-clause-created c =
+pub returns-in-Err-clause-refusal : goal.returns-in-Err-clause-refusal
+returns-in-Err-clause-refusal c =
     let old : WorldValue = record { directory = c.self.inside.directory; per_queue = c.self.inside.per_queue; sample = c.self.inside.sample; homes = c.self.inside.homes.items; books = c.self.inside.books.items } in
-    let pos : position (is_of c.args.actor) old.books ≡ Some c.in-Some.at = sym (rw (← c.self.view_is) at c.in-Some.ensures.place) in
-    let lt : c.in-Some.at < length old.books = search rules in
+    let own : c.index_mut-book.result.now ≡ slice_index_or (opened c.args.actor old.books) (place_in c.args.actor old.books) c.index_mut-book.result.now = rw (c.in_ok-at.ensures.opened, c.in_ok-at.ensures.place) at c.index_mut-book.ensures.value in
     rw (← c.self.view_is)
-    (created_found old c.args.actor c.args.now c.args.name.now c.args.given.now c.in_ok-made-in-Some.made c.in-Some.at c.create_step.new.directory c.index_mut-book.result.now c.create_step.new.book pos lt c.index_mut-book.ensures.value c.in_ok-made-in-Some.ensures.step)
+    (subst (λ (b : Book). IsCreateRefused old.directory b c.args.now (Create c.args.name.now c.args.given.now) c.in-Err.refusal) (opened_is c.args.actor old.books c.index_mut-book.result.now own) c.in-Err.ensures.refusal)
 
-pub returns-in_ok-made-in-None-clause-created : goal.returns-in_ok-made-in-None-clause-created
-returns-in_ok-made-in-None-clause-created c =
+pub returns-in-Err-clause-err : goal.returns-in-Err-clause-err
+returns-in-Err-clause-err c =
     let old : WorldValue = record { directory = c.self.inside.directory; per_queue = c.self.inside.per_queue; sample = c.self.inside.sample; homes = c.self.inside.homes.items; books = c.self.inside.books.items } in
-    let pos : position (is_of c.args.actor) old.books ≡ None = sym (rw (← c.self.view_is) at c.in-None.ensures.place) in
-    rw (← c.self.view_is, c.put.ensures, c.try_reserve.ensures.items)
-    (created_new old c.args.actor c.args.now c.args.name.now c.args.given.now c.in_ok-made-in-None.made c.create_step-in-None.new.directory c.create_step-in-None.new.book pos (rw c.new-book.ensures at c.in_ok-made-in-None.ensures.step))
-
-pub returns-in_err-try_reserve-in-None-clause-refusal : goal.returns-in_err-try_reserve-in-None-clause-refusal
-returns-in_err-try_reserve-in-None-clause-refusal c =
-    let old : WorldValue = record { directory = c.self.inside.directory; per_queue = c.self.inside.per_queue; sample = c.self.inside.sample; homes = c.self.inside.homes.items; books = c.self.inside.books.items } in
-    let pos : position (is_of c.args.actor) old.books ≡ None = sym (rw (← c.self.view_is) at c.in-None.ensures.place) in
-    let refused : c.from_residual-in_err-try_reserve-in-None.result ≡ Err NoMemory = search rules in
-    rw (refused, ← c.self.view_is) (create_unmade old c.args.actor c.args.now c.args.name.now c.args.given.now pos)
+    let own : c.index_mut-book.result.now ≡ slice_index_or (opened c.args.actor old.books) (place_in c.args.actor old.books) c.index_mut-book.result.now = rw (c.in_ok-at.ensures.opened, c.in_ok-at.ensures.place) at c.index_mut-book.ensures.value in
+    let count : c.len-count.result ≡ length old.books = omega (arith, c.len-count.ensures, c.self.inside.books.ok.0) in
+    let front : c.truncate.new.self.items ≡ old.books =
+    rw (c.truncate.ensures.items, count, c.in-Err.ensures.book_err, c.in_ok-at.ensures.opened, c.in_ok-at.ensures.place) (closed_again c.args.actor old.books c.index_mut-book.result.now own) in
+    rw (c.in-Err.ensures.directory_err, front) c.self.view_is

@@ -1,0 +1,15 @@
+-- What is done at a home, as its call.
+use Rattle.sq_model.specs.declared.calls.HomeCall.{HomeCall}
+use Rattle.sq_model.specs.declared.calls.HomeCall.TheVariants as call
+use Rattle.sq_history.specs.declared.act.HomeAct.{HomeAct}
+use Rattle.sq_history.specs.declared.act.HomeAct.TheVariants.{Configure, Close, Send, Look, Delete, Change, Purge, Count}
+
+abbrev pub call_of : HomeAct → HomeCall
+call_of (Configure t w) = call.Configure t w
+call_of Close = call.Close
+call_of (Send body delay) = call.Send body delay
+call_of (Look max timeout) = call.Look max timeout
+call_of (Delete receipt) = call.Delete receipt
+call_of (Change receipt timeout) = call.Change receipt timeout
+call_of Purge = call.Purge
+call_of Count = call.Count

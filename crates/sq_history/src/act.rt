@@ -1,0 +1,217 @@
+//! What may be asked of a home alone, and what its rows answer.
+ghost use Rattle.std.specs.Prelude.{◌≡◌, ◌⊎◌, ◌<◌, Some, IfOk, IfErr, OnErr};
+ghost use Rattle.sq_model.specs.Homes.{HomeStep, home_refusal};
+ghost use Rattle.sq_model.specs.declared.calls.HomeCall.TheVariants.{Look as AsLook};
+ghost use Rattle.sq_model.specs.declared.replies.HomeReply.TheVariants.{Done, Sent, Counted};
+ghost use Rattle.sq_shard.specs.Looks.{look_reply};
+ghost use Rattle.sq_history.specs.Acts.{call_of};
+
+use sq_base::body::Body;
+use sq_base::ranges::{Delay, MaxMessages, Timeout};
+use sq_base::refusal::Refusal;
+use sq_base::settings::Settings;
+use sq_model::calls::{HomeCall, Receipt};
+use sq_model::replies::{Counts, HomeReply, SentMessage};
+use sq_model::rows::{Rows, copy_rows};
+use sq_shard::shard::Shard;
+use sq_shard::store::Store;
+use std::alloc::Global;
+use std::marker::Model;
+
+/// What is done at one home. A step that a home shares with another part of the system is none of these.
+#[derive(Drop)]
+pub enum HomeAct {
+    /// Takes settings of this version, where it is above the home's own, and opens a home that was never opened.
+    Configure(Settings, u64),
+    /// Closes the home for good, and lets go of its messages.
+    Close,
+    /// Puts a message last; without a delay the home's is taken.
+    Send(Body, Option<Delay>),
+    /// Receives up to so many messages; without a timeout the home's is taken. It gives the rows, as they stand after
+    /// it, or none at all where messages are live and too many are in flight.
+    Look(MaxMessages, Option<Timeout>),
+    /// Takes out the row on which slot, serial and receive number agree; where there is none it is done too.
+    Delete(Receipt),
+    /// Hides a message in flight for so many seconds from the stamp's moment on, and for no longer than 12 hours after
+    /// its last receive; with 0 it is visible at once.
+    Change(Receipt, Timeout),
+    /// Takes out all messages, those in flight or delayed among them; serials go on.
+    Purge,
+    /// How many messages are visible, in flight and delayed.
+    Count,
+}
+
+impl HomeAct {
+    /// The same act. Refused for want of memory alone.
+    pub fn copy(&self) -> Result<HomeAct, Refusal>
+        ensures copy { IfOk result (λ copy. copy ≡ self.now) }
+        ensures refused { IfErr result (λ e. e ≡ Refusal.NoMemory) }
+    {
+        Ok(match self {
+            HomeAct::Configure(settings, version) => HomeAct::Configure(*settings, *version),
+            HomeAct::Close => HomeAct::Close,
+            HomeAct::Send(body, delay) => HomeAct::Send(body.copy()?, *delay),
+            HomeAct::Look(max, timeout) => HomeAct::Look(*max, *timeout),
+            HomeAct::Delete(receipt) => HomeAct::Delete(*receipt),
+            HomeAct::Change(receipt, timeout) => HomeAct::Change(*receipt, *timeout),
+            HomeAct::Purge => HomeAct::Purge,
+            HomeAct::Count => HomeAct::Count,
+        })
+    }
+
+    // Its call, for an event or a record. Refused for want of memory alone.
+    pub(crate) fn call(&self) -> Result<HomeCall, Refusal>
+        ensures call { IfOk result (λ call. call ≡ call_of self.now) }
+        ensures refused { IfErr result (λ e. e ≡ Refusal.NoMemory) }
+    {
+        Ok(match self {
+            HomeAct::Configure(settings, version) => HomeCall::Configure(*settings, *version),
+            HomeAct::Close => HomeCall::Close,
+            HomeAct::Send(body, delay) => HomeCall::Send(body.copy()?, *delay),
+            HomeAct::Look(max, timeout) => HomeCall::Look(*max, *timeout),
+            HomeAct::Delete(receipt) => HomeCall::Delete(*receipt),
+            HomeAct::Change(receipt, timeout) => HomeCall::Change(*receipt, *timeout),
+            HomeAct::Purge => HomeCall::Purge,
+            HomeAct::Count => HomeCall::Count,
+        })
+    }
+
+    // Asks it of a home's rows at a moment in ms. Refused as NoMemory, and then as the home's call.
+    pub(crate) fn ask<S: Store>(
+        self,
+        alloc: Global,
+        shard: &mut Shard<S>,
+        moment: u64,
+    ) -> Result<Answer, Refusal>
+        requires { moment < 4611686018427387904 }
+        ensures step { IfOk result (λ reply. HomeStep shard.old.site shard.old.home moment (call_of self) reply shard.new.home) }
+        ensures site { shard.new.site ≡ shard.old.site }
+        ensures refusal { IfErr result (λ e. (e ≡ Refusal.NoMemory) ⊎ (home_refusal shard.old.site shard.old.home moment (call_of self) ≡ Some e)) }
+        ensures err { OnErr result (shard.new ≡ shard.old) }
+    {
+        match self {
+            HomeAct::Configure(settings, version) => {
+                shard.configure(moment, settings, version)?;
+                Ok(Answer::done())
+            }
+            HomeAct::Close => {
+                shard.close(moment)?;
+                Ok(Answer::done())
+            }
+            HomeAct::Send(body, delay) => Ok(Answer::sent(shard.send(moment, body, delay)?)),
+            HomeAct::Look(max, timeout) => look(alloc, shard, moment, max, timeout),
+            HomeAct::Delete(receipt) => {
+                shard.delete(moment, receipt)?;
+                Ok(Answer::done())
+            }
+            HomeAct::Change(receipt, timeout) => {
+                shard.change(moment, receipt, timeout)?;
+                Ok(Answer::done())
+            }
+            HomeAct::Purge => {
+                shard.purge(moment)?;
+                Ok(Answer::done())
+            }
+            HomeAct::Count => Ok(Answer::counted(shard.count(moment)?)),
+        }
+    }
+}
+
+/// A reply three times: for the event, for its record, and for who asked.
+#[derive(Drop)]
+pub(crate) struct Answer {
+    pub(crate) kept: HomeReply,
+    pub(crate) noted: HomeReply,
+    pub(crate) told: HomeReply,
+}
+
+impl Model for Answer {
+    ghost use Rattle.std.specs.Prelude.{◌≡◌};
+    ghost use Rattle.sq_model.specs.declared.replies.HomeReply.{HomeReply};
+
+    ghost Value = { HomeReply };
+
+    ghost view = { λ a. a.told };
+
+    ghost invariant = { λ a. (a.kept ≡ a.told) × (a.noted ≡ a.told) };
+}
+
+impl Answer {
+    fn done() -> Answer
+        ensures { result ≡ Done }
+    {
+        Answer {
+            kept: HomeReply::Done,
+            noted: HomeReply::Done,
+            told: HomeReply::Done,
+        }
+    }
+
+    fn sent(sent: SentMessage) -> Answer
+        ensures { result ≡ Sent sent }
+    {
+        let noted = sent;
+        let told = sent;
+        Answer {
+            kept: HomeReply::Sent(sent),
+            noted: HomeReply::Sent(noted),
+            told: HomeReply::Sent(told),
+        }
+    }
+
+    fn counted(counts: Counts) -> Answer
+        ensures { result ≡ Counted counts }
+    {
+        Answer {
+            kept: HomeReply::Counted(counts),
+            noted: HomeReply::Counted(counts),
+            told: HomeReply::Counted(counts),
+        }
+    }
+}
+
+// A look; the rows that it gives are copied before anything changes.
+fn look<S: Store>(
+    alloc: Global,
+    shard: &mut Shard<S>,
+    moment: u64,
+    max: MaxMessages,
+    timeout: Option<Timeout>,
+) -> Result<Answer, Refusal>
+    requires { moment < 4611686018427387904 }
+    ensures step { IfOk result (λ reply. HomeStep shard.old.site shard.old.home moment (AsLook max timeout) reply shard.new.home) }
+    ensures site { shard.new.site ≡ shard.old.site }
+    ensures refusal { IfErr result (λ e. (e ≡ Refusal.NoMemory) ⊎ (home_refusal shard.old.site shard.old.home moment (AsLook max timeout) ≡ Some e)) }
+    ensures err { OnErr result (shard.new ≡ shard.old) }
+{
+    let chosen_for = timeout;
+    let given = shard.choose(alloc, moment, max, chosen_for)?;
+    let kept = copy_given(alloc, &given)?;
+    let noted = copy_given(alloc, &given)?;
+    shard.give(moment, timeout, &given);
+    Ok(Answer {
+        kept: reply_of_look(kept),
+        noted: reply_of_look(noted),
+        told: reply_of_look(given),
+    })
+}
+
+fn copy_given(alloc: Global, given: &Option<Rows>) -> Result<Option<Rows>, Refusal>
+    ensures copy { IfOk result (λ copy. copy ≡ given.now) }
+    ensures refused { IfErr result (λ e. e ≡ Refusal.NoMemory) }
+{
+    match given {
+        Some(rows) => Ok(Some(copy_rows(alloc, rows.as_slice())?)),
+        None => Ok(None),
+    }
+}
+
+// What a look that gave these rows tells, or gave none since too many messages are in flight.
+fn reply_of_look(given: Option<Rows>) -> HomeReply
+    ensures { result ≡ look_reply given }
+{
+    match given {
+        Some(given) => HomeReply::Looked(given),
+        None => HomeReply::Over,
+    }
+}

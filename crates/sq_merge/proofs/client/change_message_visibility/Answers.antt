@@ -1,0 +1,13 @@
+use Rattle.std.proofs.Common.{rules, ◌≡◌, Err}
+use Rattle.sq_history.specs.declared.act.HomeAct.TheVariants.{Change}
+use Rattle.sq_merge.specs.Fits.{HandleAt}
+use Rattle.sq_merge.proofs.ClientLaws.{told_found, told_lost}
+use Rattle.sq_merge.proofs.client.change_message_visibility.Goals as goal
+
+pub returns-in_err-queue : goal.returns-in_err-queue
+returns-in_err-queue g c =
+    let is : c.from_residual.result ≡ Err c.in_err-queue.field-0.0 = search rules in
+    told_lost _ _ _ _ _ _ _ is c.in_err-queue.ensures.refusal c.in_err-queue.ensures.did
+
+pub returns : goal.returns
+returns g c = told_found _ g.S.LockSteps.counts (λ n. HandleAt n.homes c.args.call.now.queue c.args.call.now.handle (λ receipt. Change receipt c.args.call.now.timeout)) _ _ _ _ _ _ c.in_ok-queue.ensures.did c.resolve.ensures.same c.change_at.ensures

@@ -1,0 +1,31 @@
+-- What the steps of a call do to a world.
+use Rattle.std.specs.Prelude.{◌≡◌, ℕ, Some, Result, Ok, Err}
+use Rattle.sq_base.specs.declared.refusal.Refusal.{Refusal}
+use Rattle.sq_model.specs.Directories.{number_of}
+use Rattle.sq_model.specs.declared.directory.DirectoryCall.TheVariants.{Create}
+use Rattle.sq_model.specs.declared.directory.DirectoryReply.TheVariants.{Made}
+use Rattle.sq_history.specs.Acts.{call_of}
+use Rattle.sq_merge.specs.Asks.{Ask, Resolve, Directed, AtHome, Gave, Found, Answered, Replied, HomeCounts}
+use Rattle.sq_merge.specs.WorldValue.{WorldValue}
+use Rattle.sq_merge.specs.Worlds.{HomeStepped, HomeRefused, Created, CreateRefused, NameRefused, having_read}
+
+abbrev pub counts_of : WorldValue → HomeCounts
+counts_of w = record { homes = w.per_queue; sample = w.sample }
+
+-- one step of a call by an actor at a clock reading, told so
+abbrev pub ActorDoes : ℕ → ℕ → WorldValue → Ask → Gave → WorldValue → Type 0
+ActorDoes actor now w (Resolve name) (Found queue) t = (number_of name w.directory.directory.queues ≡ Some queue) × (t ≡ having_read w actor)
+ActorDoes actor now w (Directed (Create name given)) (Answered (Made made)) t = Created w t actor now name given made
+ActorDoes actor now w (AtHome name id act) (Replied reply) t = HomeStepped w t actor now (Some name) id (call_of act) reply
+ActorDoes actor now w ask gave t = ⊥
+
+-- why one is refused
+abbrev pub ActorRefused : ℕ → ℕ → WorldValue → Ask → Refusal → Type 0
+ActorRefused actor now w (Resolve name) e = NameRefused w actor name e
+ActorRefused actor now w (Directed (Create name given)) e = CreateRefused w actor now name given e
+ActorRefused actor now w (AtHome name id act) e = HomeRefused w actor now id (call_of act) e
+
+-- One step of a call by an actor at a clock reading; what is refused changes nothing.
+abbrev pub ActorStepped : ℕ → ℕ → WorldValue → Ask → Result Gave Refusal → WorldValue → Type 0
+ActorStepped actor now w ask (Ok gave) t = ActorDoes actor now w ask gave t
+ActorStepped actor now w ask (Err e) t = ActorRefused actor now w ask e × (t ≡ w)

@@ -1,0 +1,140 @@
+-- What the steps of calls ask and are told, and the records that they leave with their actor.
+use Rattle.std.specs.Prelude.{◌≡◌, ◌⊎◌, ℕ, List, [], ◌∷◌, ◌++◌, Option, Some, Result, Ok, Err}
+use Rattle.std.specs.List.{All}
+use Rattle.sq_base.specs.Stamps.{Below}
+use Rattle.sq_base.specs.declared.ids.HomeId.{HomeId}
+use Rattle.sq_base.specs.declared.refusal.Refusal.{Refusal}
+use Rattle.sq_base.specs.declared.refusal.Refusal.TheVariants.{NoMemory, ClockRange, Worn, InvalidParameterValue, QueueDoesNotExist, QueueNameExists, OverLimit, ReceiptHandleIsInvalid, MessageNotInflight, TableFull}
+use Rattle.sq_model.specs.declared.directory.Attributes.{Attributes}
+use Rattle.sq_model.specs.declared.directory.DirectoryCall.{DirectoryCall}
+use Rattle.sq_model.specs.declared.directory.DirectoryCall.TheVariants.{Create}
+use Rattle.sq_model.specs.declared.directory.DirectoryReply.{DirectoryReply}
+use Rattle.sq_model.specs.declared.directory.DirectoryReply.TheVariants.{Made}
+use Rattle.sq_model.specs.declared.directory.QueueSettings.{QueueSettings}
+use Rattle.sq_model.specs.declared.replies.HomeReply.{HomeReply}
+use Rattle.sq_model.specs.declared.replies.HomeReply.TheVariants as reply
+use Rattle.sq_model.specs.Notes.{HomeNote, DirectoryNote, Note, OfDirectory, OfHome, stamp_of, Book}
+use Rattle.sq_history.specs.declared.act.HomeAct.{HomeAct}
+use Rattle.sq_history.specs.declared.act.HomeAct.TheVariants as act
+use Rattle.sq_history.specs.Acts.{call_of}
+use Rattle.sq_directory.specs.Makers.{IsSeen}
+use Rattle.sq_merge.specs.GivenValue.{AreReceived}
+
+-- What a step asks: the number of the queue of a name, which is a read; a step of the directory; a step of a home, by the queue's name that was used.
+pub data Ask : Type 0 where
+  Resolve : (name : List ℕ) → Ask
+  Directed : (call : DirectoryCall) → Ask
+  AtHome : (name : List ℕ) (home : HomeId) (act : HomeAct) → Ask
+
+-- what it is told where it is not refused
+pub data Gave : Type 0 where
+  Found : (queue : ℕ) → Gave
+  Answered : (reply : DirectoryReply) → Gave
+  Replied : (reply : HomeReply) → Gave
+
+abbrev pub found_of : Result ℕ Refusal → Result Gave Refusal
+found_of (Ok queue) = Ok (Found queue)
+found_of (Err e) = Err e
+
+abbrev pub made_of : Result QueueSettings Refusal → Result Gave Refusal
+made_of (Ok made) = Ok (Answered (Made made))
+made_of (Err e) = Err e
+
+abbrev pub replied_of : Result HomeReply Refusal → Result Gave Refusal
+replied_of (Ok reply) = Ok (Replied reply)
+replied_of (Err e) = Err e
+
+-- a step that was asked, and what was told; what is refused is no step of the system, and is asked all the same
+pub record Done : Type 0 where
+  pub ask : Ask
+  pub told : Result Gave Refusal
+
+-- how many homes a queue has, and how many of them a receive asks
+pub record HomeCounts : Type 0 where
+  pub homes : ℕ
+  pub sample : ℕ
+
+-- what a home replies to an act
+abbrev pub IsReplyTo : HomeAct → HomeReply → Type 0
+IsReplyTo (act.Configure settings version) reply.Done = Unit {0}
+IsReplyTo act.Close reply.Done = Unit {0}
+IsReplyTo (act.Send body delay) (reply.Sent sent) = Unit {0}
+IsReplyTo (act.Look max timeout) (reply.Looked rows) = AreReceived rows
+IsReplyTo (act.Look max timeout) reply.Over = Unit {0}
+IsReplyTo (act.Delete receipt) reply.Done = Unit {0}
+IsReplyTo (act.Change receipt timeout) reply.Done = Unit {0}
+IsReplyTo act.Purge reply.Done = Unit {0}
+IsReplyTo act.Count (reply.Counted counts) = Unit {0}
+IsReplyTo act other = ⊥
+
+-- an act on a message that a handle names
+abbrev pub IsOnMessage : HomeAct → Type 0
+IsOnMessage (act.Delete receipt) = Unit {0}
+IsOnMessage (act.Change receipt timeout) = Unit {0}
+IsOnMessage act = ⊥
+
+-- what may refuse each step: memory, the clock, a count at its end
+abbrev pub IsOfAnyStep : Refusal → Type 0
+IsOfAnyStep e = (e ≡ NoMemory) ⊎ (e ≡ ClockRange) ⊎ (e ≡ Worn)
+
+-- and what may refuse this act at a home that serves
+abbrev pub IsOfAct : HomeAct → Refusal → Type 0
+IsOfAct (act.Configure settings version) e = ⊥
+IsOfAct act.Close e = ⊥
+IsOfAct (act.Send body delay) e = e ≡ OverLimit
+IsOfAct (act.Look max timeout) e = ⊥
+IsOfAct (act.Delete receipt) e = e ≡ ReceiptHandleIsInvalid
+IsOfAct (act.Change receipt timeout) e = (e ≡ ReceiptHandleIsInvalid) ⊎ (e ≡ MessageNotInflight) ⊎ (e ≡ InvalidParameterValue)
+IsOfAct act.Purge e = ⊥
+IsOfAct act.Count e = ⊥
+
+-- what may refuse a step
+abbrev pub MayRefuse : Ask → Refusal → Type 0
+MayRefuse (Resolve name) e = (e ≡ QueueDoesNotExist) ⊎ (e ≡ NoMemory)
+MayRefuse (Directed (Create name given)) e = IsOfAnyStep e ⊎ (e ≡ QueueNameExists) ⊎ (e ≡ TableFull)
+MayRefuse (AtHome name home act) e = IsOfAnyStep e ⊎ (e ≡ QueueDoesNotExist) ⊎ IsOfAct act e
+
+-- a record of a step of the directory
+pub record IsDirectoryRecord (call : DirectoryCall) (told : DirectoryReply) (n : Note) : Type 0 where
+  pub note : DirectoryNote
+  pub is : n ≡ OfDirectory note
+  pub asked : note.call ≡ call
+  pub replied : note.reply ≡ told
+
+-- a record of a step of a home, by the name that was used
+pub record IsHomeRecord (name : List ℕ) (home : HomeId) (act : HomeAct) (told : HomeReply) (n : Note) : Type 0 where
+  pub note : HomeNote
+  pub is : n ≡ OfHome note
+  pub at : note.home ≡ home
+  pub asked : note.call ≡ call_of act
+  pub replied : note.reply ≡ told
+  pub by_name : note.name ≡ Some name
+
+-- the records of a step that was done: its own, and none of a read
+abbrev pub AreOfReply : Ask → Gave → List Note → Type 0
+AreOfReply (Resolve name) (Found queue) ns = ns ≡ []
+AreOfReply (Directed call) (Answered reply) ns = (n : Note) × IsDirectoryRecord call reply n × (ns ≡ n ∷ [])
+AreOfReply (AtHome name home act) (Replied reply) ns = (n : Note) × IsHomeRecord name home act reply n × (ns ≡ n ∷ [])
+AreOfReply ask gave ns = ⊥
+
+-- the records of a step; what was refused has none
+abbrev pub AreOfStep : Ask → Result Gave Refusal → List Note → Type 0
+AreOfStep ask (Ok gave) ns = AreOfReply ask gave ns
+AreOfStep ask (Err e) ns = ns ≡ []
+
+-- the records of steps, in their order
+abbrev pub AreOf : List Done → List Note → Type 0
+AreOf [] ns = ns ≡ []
+AreOf (d ∷ ds) ns = (front : List Note) × (rest : List Note) × AreOfStep d.ask d.told front × AreOf ds rest × (ns ≡ front ++ rest)
+
+-- An actor has these records more, each at a stamp above all that it had seen before; and what it had seen it has seen.
+pub record Gains (ns : List Note) (before after : Book) : Type 0 where
+  pub added : after.notes ≡ before.notes ++ ns
+  pub above : All (λ n. Below before.seen (stamp_of n)) ns
+  pub saw : IsSeen before.seen after.seen
+
+-- a step leaves its records with its actor, and no others
+pub record LeavesOf (ask : Ask) (told : Result Gave Refusal) (before after : Book) : Type 0 where
+  pub notes : List Note
+  pub are : AreOfStep ask told notes
+  pub gains : Gains notes before after

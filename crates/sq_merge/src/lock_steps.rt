@@ -1,0 +1,89 @@
+//! The steps that calls of clients are made of: each is done under one lock, or changes nothing.
+ghost use Rattle.std.specs.Prelude.{◌≡◌, ◌<◌, ℕ, List, Result, IfOk, IfErr};
+ghost use Rattle.rand.specs.Sample.{IsSampleOf};
+ghost use Rattle.sq_base.specs.declared.refusal.Refusal.{Refusal};
+ghost use Rattle.sq_model.specs.declared.directory.DirectoryCall.TheVariants.{Create};
+ghost use Rattle.sq_model.specs.Notes.{Book};
+ghost use Rattle.sq_merge.specs.Asks.{Ask, Resolve, Directed, AtHome, Gave, found_of, made_of, replied_of, HomeCounts, IsReplyTo, MayRefuse, LeavesOf};
+ghost use Rattle.sq_merge.specs.Calls.{home_of};
+
+use crate::calls::NamedQueue;
+use sq_base::ids::{HomeNo, QueueNo};
+use sq_base::name::QueueName;
+use sq_base::refusal::Refusal;
+use sq_history::act::HomeAct;
+use sq_model::directory::{Attributes, QueueSettings};
+use sq_model::replies::HomeReply;
+use sq_sample::sampler::HomeCount;
+use std::alloc::Global;
+
+/// Does the steps of one actor's calls. A step leaves its one record with the actor, or is a read; one that is refused
+/// changes nothing.
+pub trait LockSteps {
+    /// What a step is: on which state, what it asks, what it is told, and which state it leaves.
+    ghost stepped: { Self → Ask → Result Gave Refusal → Self → Type 0 };
+
+    /// The actor knows the queue of this number by this name.
+    ghost knows: { Self → List ℕ → ℕ → Type 0 };
+
+    /// How many homes a queue has, and how many of them a receive asks.
+    ghost counts: { Self → HomeCounts };
+
+    /// What the actor has seen, and its records.
+    ghost book: { Self → Book };
+
+    /// How many homes a queue has.
+    fn homes(&self) -> HomeCount
+        ensures { result ≡ (counts self.now).homes };
+
+    /// Reads the number of the queue of this name. Refused as QueueDoesNotExist, NoMemory.
+    fn resolve(&mut self, alloc: Global, name: &QueueName) -> Result<QueueNo, Refusal>
+        ensures did { stepped self.old (Resolve name.now) (found_of result) self.new }
+        ensures refusal { IfErr result (MayRefuse (Resolve name.now)) }
+        ensures known { IfOk result (knows self.new name.now) }
+        ensures same { counts self.new ≡ counts self.old };
+
+    /// Makes a queue of this name, or finds the one that has these attributes.
+    /// Refused as NoMemory, ClockRange, Worn, QueueNameExists, TableFull.
+    fn create(
+        &mut self,
+        alloc: Global,
+        name: &QueueName,
+        given: &Attributes,
+    ) -> Result<QueueSettings, Refusal>
+        ensures did { stepped self.old (Directed (Create name.now given.now)) (made_of result) self.new }
+        ensures refusal { IfErr result (MayRefuse (Directed (Create name.now given.now))) }
+        ensures known { IfOk result (λ made. knows self.new name.now made.queue) }
+        ensures same { counts self.new ≡ counts self.old };
+
+    /// A step of a home of a queue.
+    /// Refused as NoMemory, ClockRange, Worn, QueueDoesNotExist, and then as the home's call.
+    fn at_home(
+        &mut self,
+        alloc: Global,
+        of: &NamedQueue,
+        home: HomeNo,
+        act: HomeAct,
+    ) -> Result<HomeReply, Refusal>
+        requires known { knows self.old of.now.name of.now.queue }
+        requires below { home < (counts self.old).homes }
+        ensures did { stepped self.old (AtHome of.now.name (home_of of.now.queue home) act) (replied_of result) self.new }
+        ensures reply { IfOk result (IsReplyTo act) }
+        ensures refusal { IfErr result (MayRefuse (AtHome of.now.name (home_of of.now.queue home) act)) }
+        ensures known { knows self.new of.now.name of.now.queue }
+        ensures same { counts self.new ≡ counts self.old };
+
+    /// One home of a queue.
+    fn pick(&mut self) -> HomeNo
+        ensures below { result < (counts self.old).homes }
+        ensures same { self.new ≡ self.old };
+
+    /// Distinct homes of a queue, so many as a receive asks. Refused for want of memory alone.
+    fn draw(&mut self, alloc: Global) -> Result<Vec<HomeNo>, Refusal>
+        ensures sample { IfOk result (λ drawn. IsSampleOf (counts self.old).homes (counts self.old).sample drawn.items) }
+        ensures refused { IfErr result (λ e. e ≡ Refusal.NoMemory) }
+        ensures same { self.new ≡ self.old };
+
+    /// A step leaves its records with the actor, and no others.
+    ghost leaves: { (s t : Self) (ask : Ask) (told : Result Gave Refusal) → stepped s ask told t → LeavesOf ask told (book s) (book t) };
+}
