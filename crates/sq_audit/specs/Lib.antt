@@ -9,3 +9,4 @@ pub mod AllPlaces
 pub mod HomesValue
 pub mod Faults
 pub mod HomeIds
+pub mod EvidenceValue

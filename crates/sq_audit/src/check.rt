@@ -4,10 +4,10 @@ ghost use Rattle.sq_model.specs.Notes.{OfHome, place_of};
 ghost use Rattle.sq_model.specs.Matches.{Happened, IsMatched};
 ghost use Rattle.sq_steps.specs.Records.{note_of};
 ghost use Rattle.sq_steps.specs.Books.{NotesRiseAt, AreDistinct};
-ghost use Rattle.sq_audit.specs.HomeIds.{histories_of, home_id, IsNumbered};
+ghost use Rattle.sq_audit.specs.HomeIds.{histories_of, home_id};
 ghost use Rattle.sq_audit.specs.Faults.{FaultHolds, IsWrong, NoteFits, DirectoryFits, HomeFits, IsRecordFault, IsAt, IsNotedAt, IsEventFault};
 
-use crate::homes::home_place;
+use crate::homes::{Homes, home_place};
 use sq_base::ids::HomeId;
 use sq_directory::directory::Directory;
 use sq_directory::events::has_directory_event;
@@ -19,6 +19,7 @@ use sq_sample::sampler::HomeCount;
 use sq_steps::book::Book;
 use sq_steps::books::book_at;
 use sq_steps::record::Record;
+use std::marker::Model;
 
 /// Why records and histories are not of each other.
 #[derive(Clone, Copy, PartialEq, Eq, Debug)]
@@ -31,95 +32,113 @@ pub enum AuditFault {
     RecordTwice(u32, u64),
 }
 
+/// What an audit compares: the histories of all parts, each home at its number, and the records of all actors, each of them
+/// once. Where the directory's history first has each queue tells where to look first, and no more.
+#[derive(Drop)]
+pub(crate) struct Evidence<'a> {
+    directory: &'a Directory,
+    firsts: &'a [usize],
+    per_queue: HomeCount,
+    homes: &'a [Home],
+    books: &'a [Book],
+}
+
+impl<'a> Model for Evidence<'a> {
+    ghost use Rattle.sq_steps.specs.Books.{AreDistinct};
+    ghost use Rattle.sq_audit.specs.HomeIds.{histories_of, IsNumbered};
+    ghost use Rattle.sq_audit.specs.EvidenceValue.{EvidenceValue};
+
+    ghost Value = { EvidenceValue };
+
+    ghost view = { λ e. record { directory = e.directory.now.events; per_queue = e.per_queue; homes = histories_of e.homes.now; books = e.books.now } };
+
+    ghost invariant = { λ e. record { numbered : IsNumbered e.per_queue e.homes.now; distinct : AreDistinct e.books.now } };
+}
+
+impl<'a> Evidence<'a> {
+    pub(crate) fn of(
+        directory: &'a Directory,
+        firsts: &'a [usize],
+        homes: &'a Homes,
+        books: &'a [Book],
+    ) -> Evidence<'a>
+        requires { AreDistinct books.now }
+        ensures { result ≡ record { directory = directory.now.events; per_queue = homes.now.per_queue; homes = histories_of homes.now.homes; books = books.now } }
+    {
+        Evidence {
+            directory,
+            firsts,
+            per_queue: homes.per_queue(),
+            homes: homes.as_slice(),
+            books,
+        }
+    }
+}
+
 /// Whether records and histories are of each other; else what is wrong. It takes no memory. The event that a queue's first
 /// place names is the first that is looked at for the queue's name.
-pub(crate) fn check(
-    directory: &Directory,
-    firsts: &[usize],
-    per_queue: HomeCount,
-    homes: &[Home],
-    books: &[Book],
-) -> Result<(), AuditFault>
-    requires numbered { IsNumbered per_queue homes.now }
-    requires distinct { AreDistinct books.now }
-    ensures ok { OnOk result (IsMatched directory.now.events (histories_of homes.now) books.now) }
-    ensures rise { OnOk result ((b : ℕ) → NotesRiseAt books.now b) }
-    ensures fault { IfErr result (λ f. FaultHolds directory.now.events (histories_of homes.now) books.now f) }
+pub(crate) fn check(evidence: &Evidence<'_>) -> Result<(), AuditFault>
+    ensures ok { OnOk result (IsMatched evidence.now.directory evidence.now.homes evidence.now.books) }
+    ensures rise { OnOk result ((b : ℕ) → NotesRiseAt evidence.now.books b) }
+    ensures fault { IfErr result (λ f. FaultHolds evidence.now.directory evidence.now.homes evidence.now.books f) }
     ensures never { IfErr result (λ f. f ≢ AuditFault.NoMemory) }
-    ensures honest { IsMatched directory.now.events (histories_of homes.now) books.now → IsOk result }
+    ensures honest { IsMatched evidence.now.directory evidence.now.homes evidence.now.books → IsOk result }
 {
-    check_books(directory, firsts, per_queue, homes, books)?;
-    check_directory(directory, per_queue, homes, books)?;
-    check_homes(directory, per_queue, homes, books)?;
+    // What is always true of the evidence is known once a part of it is read.
+    let _ = &evidence.books;
+    check_books(evidence)?;
+    check_directory(evidence)?;
+    check_homes(evidence)?;
     Ok(())
 }
 
 // All records of all actors.
-fn check_books(
-    directory: &Directory,
-    firsts: &[usize],
-    per_queue: HomeCount,
-    homes: &[Home],
-    books: &[Book],
-) -> Result<(), AuditFault>
-    requires numbered { IsNumbered per_queue homes.now }
-    requires distinct { AreDistinct books.now }
-    ensures ok { OnOk result ((b i : ℕ) → NoteFits directory.now.events (histories_of homes.now) books.now b i) }
-    ensures rise { OnOk result ((b : ℕ) → NotesRiseAt books.now b) }
-    ensures fault { IfErr result (λ f. IsWrong directory.now.events (histories_of homes.now) books.now f) }
+fn check_books(evidence: &Evidence<'_>) -> Result<(), AuditFault>
+    ensures ok { OnOk result ((b i : ℕ) → NoteFits evidence.now.directory evidence.now.homes evidence.now.books b i) }
+    ensures rise { OnOk result ((b : ℕ) → NotesRiseAt evidence.now.books b) }
+    ensures fault { IfErr result (λ f. IsWrong evidence.now.directory evidence.now.homes evidence.now.books f) }
 {
+    let books = evidence.books;
     for at in 0..books.len() {
-        check_book(directory, firsts, per_queue, homes, books, at)?;
+        check_book(evidence, at)?;
     }
     Ok(())
 }
 
 // All records of one actor.
-fn check_book(
-    directory: &Directory,
-    firsts: &[usize],
-    per_queue: HomeCount,
-    homes: &[Home],
-    books: &[Book],
-    at: usize,
-) -> Result<(), AuditFault>
-    requires numbered { IsNumbered per_queue homes.now }
-    requires distinct { AreDistinct books.now }
-    requires within { at < length books.now }
-    ensures ok { OnOk result ((i : ℕ) → NoteFits directory.now.events (histories_of homes.now) books.now at i) }
-    ensures rise { OnOk result (NotesRiseAt books.now at) }
-    ensures fault { IfErr result (λ f. IsWrong directory.now.events (histories_of homes.now) books.now f) }
+fn check_book(evidence: &Evidence<'_>, at: usize) -> Result<(), AuditFault>
+    requires within { at < length evidence.now.books }
+    ensures ok { OnOk result ((i : ℕ) → NoteFits evidence.now.directory evidence.now.homes evidence.now.books at i) }
+    ensures rise { OnOk result (NotesRiseAt evidence.now.books at) }
+    ensures fault { IfErr result (λ f. IsWrong evidence.now.directory evidence.now.homes evidence.now.books f) }
 {
+    let books = evidence.books;
     let book = &books[at];
     let actor = book.actor();
     let records = book.records();
     for index in 0..records.len() {
         let kept = &records[index];
-        check_record(directory, firsts, per_queue, homes, actor, index, kept)?;
+        check_record(evidence, actor, index, kept)?;
     }
     Ok(())
 }
 
 // One record: it stands at the number of its step, and the step was done.
 fn check_record(
-    directory: &Directory,
-    firsts: &[usize],
-    per_queue: HomeCount,
-    homes: &[Home],
+    evidence: &Evidence<'_>,
     actor: u32,
     index: usize,
     kept: &Record,
 ) -> Result<(), AuditFault>
-    requires numbered { IsNumbered per_queue homes.now }
     ensures place { OnOk result (place_of (note_of kept.now) ≡ index) }
-    ensures happened { OnOk result (Happened directory.now.events (histories_of homes.now) actor (note_of kept.now)) }
-    ensures fault { IfErr result (IsRecordFault directory.now.events (histories_of homes.now) actor index (note_of kept.now)) }
+    ensures happened { OnOk result (Happened evidence.now.directory evidence.now.homes actor (note_of kept.now)) }
+    ensures fault { IfErr result (IsRecordFault evidence.now.directory evidence.now.homes actor index (note_of kept.now)) }
 {
     let place = kept.place();
     if place != index as u64 {
         return Err(AuditFault::RecordMissing(actor, index as u64));
     }
-    if happened(directory, firsts, per_queue, homes, actor, kept) {
+    if happened(evidence, actor, kept) {
         Ok(())
     } else {
         Err(AuditFault::RecordMissing(actor, place))
@@ -127,104 +146,69 @@ fn check_record(
 }
 
 // Whether a record is of an event of this actor.
-fn happened(
-    directory: &Directory,
-    firsts: &[usize],
-    per_queue: HomeCount,
-    homes: &[Home],
-    actor: u32,
-    kept: &Record,
-) -> bool
-    requires numbered { IsNumbered per_queue homes.now }
-    ensures { result ≡ true ↔ Happened directory.now.events (histories_of homes.now) actor (note_of kept.now) }
+fn happened(evidence: &Evidence<'_>, actor: u32, kept: &Record) -> bool
+    ensures { result ≡ true ↔ Happened evidence.now.directory evidence.now.homes actor (note_of kept.now) }
 {
     match kept {
-        Record::Directory(kept) => has_directory_event(directory, actor, kept),
-        Record::Home(kept) => home_happened(directory, firsts, per_queue, homes, actor, kept),
+        Record::Directory(kept) => has_directory_event(evidence.directory, actor, kept),
+        Record::Home(kept) => home_happened(evidence, actor, kept),
     }
 }
 
 // Whether a home has the event of a record, and the name that the record bears was its queue's.
-fn home_happened(
-    directory: &Directory,
-    firsts: &[usize],
-    per_queue: HomeCount,
-    homes: &[Home],
-    actor: u32,
-    kept: &HomeRecord,
-) -> bool
-    requires numbered { IsNumbered per_queue homes.now }
-    ensures { result ≡ true ↔ Happened directory.now.events (histories_of homes.now) actor (OfHome kept.now) }
+fn home_happened(evidence: &Evidence<'_>, actor: u32, kept: &HomeRecord) -> bool
+    ensures { result ≡ true ↔ Happened evidence.now.directory evidence.now.homes actor (OfHome kept.now) }
 {
-    let Some(place) = home_place(per_queue, homes.len(), kept.home()) else {
+    let homes = evidence.homes;
+    let Some(place) = home_place(evidence.per_queue, homes.len(), kept.home()) else {
         return false;
     };
     let home = &homes[place];
-    has_home_event(home, actor, kept) && has_name(directory, firsts, kept)
+    has_home_event(home, actor, kept) && has_name(evidence.directory, evidence.firsts, kept)
 }
 
 // All events of the directory.
-fn check_directory(
-    directory: &Directory,
-    per_queue: HomeCount,
-    homes: &[Home],
-    books: &[Book],
-) -> Result<(), AuditFault>
-    requires numbered { IsNumbered per_queue homes.now }
-    requires distinct { AreDistinct books.now }
-    requires fit { (b i : ℕ) → NoteFits directory.now.events (histories_of homes.now) books.now b i }
-    ensures ok { OnOk result ((k : ℕ) → DirectoryFits directory.now.events books.now k) }
-    ensures fault { IfErr result (λ f. IsWrong directory.now.events (histories_of homes.now) books.now f) }
+fn check_directory(evidence: &Evidence<'_>) -> Result<(), AuditFault>
+    requires fit { (b i : ℕ) → NoteFits evidence.now.directory evidence.now.homes evidence.now.books b i }
+    ensures ok { OnOk result ((k : ℕ) → DirectoryFits evidence.now.directory evidence.now.books k) }
+    ensures fault { IfErr result (λ f. IsWrong evidence.now.directory evidence.now.homes evidence.now.books f) }
 {
-    let made = directory.events();
+    let made = evidence.directory.events();
     for index in 0..made.len() {
         let event = &made[index];
         let by = (event.actor, event.place);
-        check_event(per_queue, homes.len(), books, by, None, index)?;
+        check_event(evidence, by, None, index)?;
     }
     Ok(())
 }
 
 // All events of all homes.
-fn check_homes(
-    directory: &Directory,
-    per_queue: HomeCount,
-    homes: &[Home],
-    books: &[Book],
-) -> Result<(), AuditFault>
-    requires numbered { IsNumbered per_queue homes.now }
-    requires distinct { AreDistinct books.now }
-    requires fit { (b i : ℕ) → NoteFits directory.now.events (histories_of homes.now) books.now b i }
-    ensures ok { OnOk result ((j k : ℕ) → HomeFits (histories_of homes.now) books.now j k) }
-    ensures fault { IfErr result (λ f. IsWrong directory.now.events (histories_of homes.now) books.now f) }
+fn check_homes(evidence: &Evidence<'_>) -> Result<(), AuditFault>
+    requires fit { (b i : ℕ) → NoteFits evidence.now.directory evidence.now.homes evidence.now.books b i }
+    ensures ok { OnOk result ((j k : ℕ) → HomeFits evidence.now.homes evidence.now.books j k) }
+    ensures fault { IfErr result (λ f. IsWrong evidence.now.directory evidence.now.homes evidence.now.books f) }
 {
+    let homes = evidence.homes;
     for place in 0..homes.len() {
-        check_home(directory, per_queue, homes, books, place)?;
+        check_home(evidence, place)?;
     }
     Ok(())
 }
 
 // All events of one home.
-fn check_home(
-    directory: &Directory,
-    per_queue: HomeCount,
-    homes: &[Home],
-    books: &[Book],
-    place: usize,
-) -> Result<(), AuditFault>
-    requires numbered { IsNumbered per_queue homes.now }
-    requires distinct { AreDistinct books.now }
-    requires within { place < length homes.now }
-    requires fit { (b i : ℕ) → NoteFits directory.now.events (histories_of homes.now) books.now b i }
-    ensures ok { OnOk result ((k : ℕ) → HomeFits (histories_of homes.now) books.now place k) }
-    ensures fault { IfErr result (λ f. IsWrong directory.now.events (histories_of homes.now) books.now f) }
+fn check_home(evidence: &Evidence<'_>, place: usize) -> Result<(), AuditFault>
+    requires within { place < length evidence.now.homes }
+    requires fit { (b i : ℕ) → NoteFits evidence.now.directory evidence.now.homes evidence.now.books b i }
+    ensures ok { OnOk result ((k : ℕ) → HomeFits evidence.now.homes evidence.now.books place k) }
+    ensures fault { IfErr result (λ f. IsWrong evidence.now.directory evidence.now.homes evidence.now.books f) }
 {
+    let homes = evidence.homes;
     let home = &homes[place];
     let done = home.events();
     for index in 0..done.len() {
         let event = &done[index];
         let by = (event.actor, event.place);
-        check_event(per_queue, homes.len(), books, by, Some(place), index)?;
+        check_event(evidence, by, Some(place), index)?;
     }
     Ok(())
 }
@@ -232,19 +216,17 @@ fn check_home(
 // One event of the directory, or of the home at a place, by its actor and its number: the record of this number is
 // there, and names the event. One that names another event agrees with that one.
 fn check_event(
-    per_queue: HomeCount,
-    count: usize,
-    books: &[Book],
+    evidence: &Evidence<'_>,
     by: (u32, u64),
     home: Option<usize>,
     index: usize,
 ) -> Result<(), AuditFault>
-    requires distinct { AreDistinct books.now }
-    requires within { IfSome home (λ j. j < count) }
-    ensures ok { OnOk result (IsNotedAt books.now by.0 by.1 (IsAt per_queue home index)) }
-    ensures fault { IfErr result (IsEventFault per_queue books.now by.0 by.1 home index) }
+    requires within { IfSome home (λ j. j < length evidence.now.homes) }
+    ensures ok { OnOk result (IsNotedAt evidence.now.books by.0 by.1 (IsAt evidence.now.per_queue home index)) }
+    ensures fault { IfErr result (IsEventFault evidence.now.per_queue evidence.now.books by.0 by.1 home index) }
 {
     let (actor, place) = by;
+    let books = evidence.books;
     let Some(at) = book_at(books, actor) else {
         return Err(AuditFault::RecordMissing(actor, place));
     };
@@ -254,7 +236,7 @@ fn check_event(
         return Err(AuditFault::RecordMissing(actor, place));
     }
     let kept = &records[place as usize];
-    if is_at(per_queue, count, home, index, kept) {
+    if is_at(evidence, home, index, kept) {
         Ok(())
     } else {
         Err(AuditFault::RecordTwice(actor, place))
@@ -262,31 +244,25 @@ fn check_event(
 }
 
 // Whether a record names this event of the directory, or of the home at a place.
-fn is_at(
-    per_queue: HomeCount,
-    count: usize,
-    home: Option<usize>,
-    index: usize,
-    kept: &Record,
-) -> bool
-    requires within { IfSome home (λ j. j < count) }
-    ensures { result ≡ true ↔ IsAt per_queue home index (note_of kept.now) }
+fn is_at(evidence: &Evidence<'_>, home: Option<usize>, index: usize, kept: &Record) -> bool
+    requires within { IfSome home (λ j. j < length evidence.now.homes) }
+    ensures { result ≡ true ↔ IsAt evidence.now.per_queue home index (note_of kept.now) }
 {
     match (home, kept) {
         (None, Record::Directory(kept)) => kept.index() == index as u64,
         (Some(place), Record::Home(kept)) => {
-            is_home_at(per_queue, count, place, kept.home()) && kept.index() == index as u64
+            is_home_at(evidence, place, kept.home()) && kept.index() == index as u64
         }
         _ => false,
     }
 }
 
 // Whether the home at a place has this id.
-fn is_home_at(per_queue: HomeCount, count: usize, place: usize, id: &HomeId) -> bool
-    requires within { place < count }
-    ensures { result ≡ true ↔ id.now ≡ home_id per_queue place }
+fn is_home_at(evidence: &Evidence<'_>, place: usize, id: &HomeId) -> bool
+    requires within { place < length evidence.now.homes }
+    ensures { result ≡ true ↔ id.now ≡ home_id evidence.now.per_queue place }
 {
-    match home_place(per_queue, count, id) {
+    match home_place(evidence.per_queue, evidence.homes.len(), id) {
         Some(at) => at == place,
         None => false,
     }

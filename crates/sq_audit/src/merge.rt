@@ -8,7 +8,7 @@ ghost use Rattle.sq_audit.specs.Faults.{FaultHolds};
 ghost use Rattle.sq_audit.specs.SystemNow.{events_of, system_now};
 ghost use Rattle.sq_audit.specs.HomeIds.{histories_of, IsNumbered};
 
-use crate::check::{AuditFault, check};
+use crate::check::{AuditFault, Evidence, check};
 use crate::parts::Parts;
 use crate::run::Run;
 use crate::sorted::sorted;
@@ -35,13 +35,8 @@ pub fn merge<'a>(alloc: Global, parts: &'a Parts) -> Result<Run<'a>, AuditFault>
 {
     let homes = parts.homes.as_slice();
     let firsts = firsts(alloc, &parts.directory);
-    check(
-        &parts.directory,
-        &firsts,
-        parts.homes.per_queue(),
-        homes,
-        parts.records.as_slice(),
-    )?;
+    let records = parts.records.as_slice();
+    check(&Evidence::of(&parts.directory, &firsts, &parts.homes, records))?;
     match sorted(alloc, &parts.directory, homes) {
         Ok(events) => Ok(Run::of(events)),
         Err(_) => Err(AuditFault::NoMemory),

@@ -2,7 +2,8 @@
 ghost use Rattle.std.specs.Prelude.{◌<◌};
 ghost use Rattle.sq_steps.specs.Books.{AreDistinct};
 
-use crate::check::{AuditFault, check};
+use crate::check::{AuditFault, Evidence, check};
+use crate::homes::Homes;
 use crate::sorted::sorted;
 use crate::tagged::Tagged;
 use sq_base::ids::{HomeId, HomeNo, QueueNo};
@@ -116,14 +117,9 @@ fn events_are_listed_by_stamp(rt: HostRuntime) -> Result<(), Fail> {
 fn audited(alloc: Global, directory: &Directory, books: &[Book]) -> Result<(), AuditFault>
     requires { AreDistinct books.now }
 {
-    let homes: Vec<Home> = Vec::new(alloc);
-    check(
-        directory,
-        &firsts(alloc, directory),
-        HomeCount::of(1),
-        &homes,
-        books,
-    )
+    let homes = Homes::of(HomeCount::of(1), Vec::new(alloc));
+    let firsts = firsts(alloc, directory);
+    check(&Evidence::of(directory, &firsts, &homes, books))
 }
 
 // A directory and its actor; another directory; no actor; and another actor of the same number.

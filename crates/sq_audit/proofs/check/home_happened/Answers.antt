@@ -1,25 +1,28 @@
-use Rattle.std.proofs.Common.{rules, ◌≡◌, length, None, Some, true}
+use Rattle.std.proofs.Common.{rules, ◌≡◌, length, None, Some, true, subst, sym}
+use Rattle.sq_model.specs.Notes.{OfHome}
+use Rattle.sq_model.specs.Matches.{Happened}
 use Rattle.sq_audit.specs.HomeIds.{home_place}
+use Rattle.sq_audit.specs.EvidenceValue.{EvidenceValue}
 use Rattle.sq_audit.proofs.CheckLaws.{not_happened, did_happen, has_happened}
 use Rattle.sq_audit.proofs.check.home_happened.Goals as goal
 
 pub returns-in_default : goal.returns-in_default
 returns-in_default c =
-    let none : home_place c.args.per_queue (length c.args.homes.now) c.args.kept.now.home ≡ None = search rules in (
+    let none : home_place c.evidence.inside.per_queue (length c.evidence.inside.homes.now) c.args.kept.now.home ≡ None = search rules in (
       λ e. absurd cc,
-      λ h. absurd (not_happened c.args.per_queue c.args.homes.now c.args.directory.now.events c.args.actor c.args.kept.now c.home_place.ensures.homes (rw (← c.home.ensures) c.home_place.ensures.queue) c.requires.numbered none h),
+      λ h. absurd (not_happened c.evidence.inside.per_queue c.evidence.inside.homes.now c.evidence.inside.directory.now.events c.args.actor c.args.kept.now c.home_place.ensures.homes (rw (← c.home.ensures) c.home_place.ensures.queue) c.evidence.invariant.numbered none (subst (λ (v : EvidenceValue). Happened v.directory v.homes c.args.actor (OfHome c.args.kept.now)) (sym c.evidence.view_is) h)),
     )
 
 pub returns-then-has_home_event : goal.returns-then-has_home_event
 returns-then-has_home_event c =
-    let place : home_place c.args.per_queue (length c.args.homes.now) c.args.kept.now.home ≡ Some c.in-Some.place = search rules in (
-      λ e. did_happen c.args.per_queue c.args.homes.now c.args.directory.now.events c.args.actor c.args.kept.now c.in-Some.place c.index-homes-place.result c.requires.numbered (rw (← c.home.ensures) c.home_place.ensures.queue) place c.index-homes-place.is (c.has_home_event.ensures.0 c.if-has_home_event.true) (c.has_name.ensures.0 e),
-      λ h. c.has_name.ensures.1 (has_happened c.args.per_queue c.args.homes.now c.args.directory.now.events c.args.actor c.args.kept.now c.in-Some.place c.index-homes-place.result c.requires.numbered (rw (← c.home.ensures) c.home_place.ensures.queue) place c.index-homes-place.is h).1,
+    let place : home_place c.evidence.inside.per_queue (length c.evidence.inside.homes.now) c.args.kept.now.home ≡ Some c.in-Some.place = search rules in (
+      λ e. subst (λ (v : EvidenceValue). Happened v.directory v.homes c.args.actor (OfHome c.args.kept.now)) c.evidence.view_is (did_happen c.evidence.inside.per_queue c.evidence.inside.homes.now c.evidence.inside.directory.now.events c.args.actor c.args.kept.now c.in-Some.place c.index-homes-place.result c.evidence.invariant.numbered (rw (← c.home.ensures) c.home_place.ensures.queue) place c.index-homes-place.is (c.has_home_event.ensures.0 c.if-has_home_event.true) (c.has_name.ensures.0 e)),
+      λ h. c.has_name.ensures.1 (has_happened c.evidence.inside.per_queue c.evidence.inside.homes.now c.evidence.inside.directory.now.events c.args.actor c.args.kept.now c.in-Some.place c.index-homes-place.result c.evidence.invariant.numbered (rw (← c.home.ensures) c.home_place.ensures.queue) place c.index-homes-place.is (subst (λ (v : EvidenceValue). Happened v.directory v.homes c.args.actor (OfHome c.args.kept.now)) (sym c.evidence.view_is) h)).1,
     )
 
 pub returns-else-has_home_event : goal.returns-else-has_home_event
 returns-else-has_home_event c =
-    let place : home_place c.args.per_queue (length c.args.homes.now) c.args.kept.now.home ≡ Some c.in-Some.place = search rules in (
+    let place : home_place c.evidence.inside.per_queue (length c.evidence.inside.homes.now) c.args.kept.now.home ≡ Some c.in-Some.place = search rules in (
       λ e. absurd cc,
-      λ h. let t : c.has_home_event.result ≡ true = c.has_home_event.ensures.1 (has_happened c.args.per_queue c.args.homes.now c.args.directory.now.events c.args.actor c.args.kept.now c.in-Some.place c.index-homes-place.result c.requires.numbered (rw (← c.home.ensures) c.home_place.ensures.queue) place c.index-homes-place.is h).0 in search rules,
+      λ h. let t : c.has_home_event.result ≡ true = c.has_home_event.ensures.1 (has_happened c.evidence.inside.per_queue c.evidence.inside.homes.now c.evidence.inside.directory.now.events c.args.actor c.args.kept.now c.in-Some.place c.index-homes-place.result c.evidence.invariant.numbered (rw (← c.home.ensures) c.home_place.ensures.queue) place c.index-homes-place.is (subst (λ (v : EvidenceValue). Happened v.directory v.homes c.args.actor (OfHome c.args.kept.now)) (sym c.evidence.view_is) h)).0 in search rules,
     )
