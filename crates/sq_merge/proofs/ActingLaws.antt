@@ -1,5 +1,5 @@
 -- What the steps of a call are told, why they are refused, and what their actor knows after them.
-use Rattle.std.proofs.Common.{◌≡◌, ◌⊎◌, ℕ, ◌+◌, Bool, true, false, not, ◌&&◌, ◌||◌, List, length, Option, Some, None, Result, Ok, Err, IfOk, IfErr, OnErr, refl, sym, subst, inl, inr}
+use Rattle.std.proofs.Common.{◌≡◌, ◌⊎◌, ℕ, ◌+◌, Bool, true, false, not, ◌&&◌, ◌||◌, List, length, Option, Some, None, Result, Ok, Err, IfOk, IfErr, OnErr, sym, subst, inl, inr}
 use Rattle.std.specs.Prelude.{max, nat_le, if◌then◌else◌}
 use Rattle.sq_base.specs.Stamps.{stamp_end, next_at, after, stamped}
 use Rattle.sq_base.specs.StampValue.{StampValue}

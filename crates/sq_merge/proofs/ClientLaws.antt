@@ -1,11 +1,10 @@
 -- What the steps of a client's call come to.
-use Rattle.std.proofs.Common.{◌≡◌, ◌∙◌, ◌⊎◌, ℕ, zero, suc, ◌+◌, ◌<◌, Bool, true, false, List, [], ◌∷◌, ◌++◌, length, refl, ap, sym, subst, inl, inr, arith, Option, Some, Result, Ok, Err, IfOk, slice_get}
+use Rattle.std.proofs.Common.{◌≡◌, ◌∙◌, ◌⊎◌, ℕ, suc, ◌+◌, ◌<◌, ◌≤◌, Bool, List, [], ◌∷◌, ◌++◌, length, refl, ap, subst, inl, inr, arith, Option, Some, Result, Ok, Err, IfOk, slice_get}
 use Rattle.rand.specs.Sample.{IsSampleOf}
 use Rattle.sq_base.specs.declared.refusal.Refusal.{Refusal}
-use Rattle.sq_base.specs.declared.refusal.Refusal.TheVariants.{NoMemory, QueueDoesNotExist}
+use Rattle.sq_base.specs.declared.refusal.Refusal.TheVariants.{QueueDoesNotExist}
 use Rattle.sq_base.specs.declared.row.Row.{Row}
 use Rattle.sq_base.specs.declared.settings.Settings.{Settings}
-use Rattle.sq_model.specs.declared.calls.Receipt.{Receipt}
 use Rattle.sq_model.specs.declared.directory.DirectoryCall.TheVariants.{Create}
 use Rattle.sq_model.specs.declared.directory.DirectoryReply.TheVariants.{Made}
 use Rattle.sq_model.specs.declared.directory.QueueSettings.{QueueSettings}
@@ -20,8 +19,7 @@ use Rattle.sq_merge.specs.declared.calls.CreateQueue.{CreateQueue}
 use Rattle.sq_merge.specs.declared.calls.ReceiveMessage.{ReceiveMessage}
 use Rattle.sq_merge.specs.Asks.{Ask, Resolve, Directed, AtHome, Gave, Found, Answered, Done, replied_of, HomeCounts, IsReplyTo, IsOnMessage, IsOfAnyStep, MayRefuse}
 use Rattle.sq_merge.specs.Calls.{home_of, given_by}
-use Rattle.sq_merge.specs.Fits.{named, created, at_home, ByName, OneStep, IsPassed, AskedAll, AtAll, CreateFits, GivesNone, InVain, EndsReceive, told_none as none_told, ReceiveAt, MakesDone}
-use Rattle.sq_merge.specs.GivenValue.{AreReceived}
+use Rattle.sq_merge.specs.Fits.{named, created, at_home, ByName, IsPassed, AskedAll, AtAll, CreateFits, GivesNone, InVain, EndsReceive, none_told, ReceiveAt}
 use Rattle.sq_merge.specs.Told.{Path, Told}
 use Rattle.sq_merge.proofs.PathLaws.{path_more, told_one, told_more}
 
@@ -125,14 +123,14 @@ more_asked stepped old mid new c queue drawn n home by was over asked there h no
 
 -- a home ends a receive
 pub receive_ended : {S : Type 0} (stepped : S → Ask → Result Gave Refusal → S → Type 0) (old mid new : S) (counts : HomeCounts) (c : ReceiveMessage) (queue : ℕ) (drawn : List ℕ) (n home : ℕ) (by : Result HomeReply Refusal) (over : Bool) (told : Result Answer Refusal)
-    → IsSampleOf counts.homes counts.sample drawn → (trace : List Done) × Path stepped old trace mid × InVain c queue drawn n over trace → slice_get drawn n ≡ Some home
+    → 1 ≤ counts.sample → IsSampleOf counts.homes counts.sample drawn → (trace : List Done) × Path stepped old trace mid × InVain c queue drawn n over trace → slice_get drawn n ≡ Some home
     → stepped mid (AtHome c.queue (home_of queue home) (act.Look c.max c.timeout)) (replied_of by) new → EndsReceive c queue home by told → Told stepped (ReceiveAt counts c queue) old told new
-receive_ended stepped old mid new counts c queue drawn n home by over told sample asked there h ends =
+receive_ended stepped old mid new counts c queue drawn n home by over told some sample asked there h ends =
     let d : Done = at_home c.queue queue home (act.Look c.max c.timeout) by in
     record {
       trace = asked.0 ++ d ∷ [];
       path = path_more stepped old mid new asked.0 d asked.1 h;
-      fits = inr (drawn, over, sample, inl (n, asked.0, home, by, asked.2, there, refl, ends));
+      fits = inr (drawn, over, some, sample, inl (n, asked.0, home, by, asked.2, there, refl, ends));
     }
 
 -- a home that gives messages ends it
@@ -146,10 +144,10 @@ none_given (row ∷ rows) e = absurd (omega (arith, e))
 
 -- no home ends it
 pub receive_asked : {S : Type 0} (stepped : S → Ask → Result Gave Refusal → S → Type 0) (old new : S) (counts : HomeCounts) (c : ReceiveMessage) (queue : ℕ) (drawn : List ℕ) (n : ℕ) (over : Bool) (told : Result Answer Refusal)
-    → IsSampleOf counts.homes counts.sample drawn → (trace : List Done) × Path stepped old trace new × InVain c queue drawn n over trace → n ≡ length drawn → told ≡ none_told c queue over
+    → 1 ≤ counts.sample → IsSampleOf counts.homes counts.sample drawn → (trace : List Done) × Path stepped old trace new × InVain c queue drawn n over trace → n ≡ length drawn → told ≡ none_told c queue over
     → Told stepped (ReceiveAt counts c queue) old told new
-receive_asked stepped old new counts c queue drawn n over told sample asked all is = record {
+receive_asked stepped old new counts c queue drawn n over told some sample asked all is = record {
   trace = asked.0;
   path = asked.1;
-  fits = inr (drawn, over, sample, inr (subst (λ (k : ℕ). InVain c queue drawn k over asked.0) all asked.2, is));
+  fits = inr (drawn, over, some, sample, inr (subst (λ (k : ℕ). InVain c queue drawn k over asked.0) all asked.2, is));
 }

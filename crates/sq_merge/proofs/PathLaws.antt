@@ -1,14 +1,16 @@
 -- Steps that are asked one after another, and the records that they leave.
-use Rattle.std.proofs.Common.{◌≡◌, ◌∙◌, ◌⊎◌, List, [], ◌∷◌, ◌++◌, refl, ap, sym, subst, inl, inr, Result, Ok, Err}
+use Rattle.std.proofs.Common.{◌≡◌, ◌∙◌, ℕ, ◌+◌, List, [], ◌∷◌, ◌++◌, length, refl, ap, sym, subst, inl, inr, arith, Result, Ok, Err}
 use Rattle.std.specs.List.{All}
-use Rattle.std.proofs.lemmas.List.{append_assoc}
-use Rattle.std.proofs.lemmas.List.Elements.{All-append, All-weaker}
+use Rattle.std.proofs.lemmas.List.{append-nil, append_assoc, length-append}
+use Rattle.std.proofs.lemmas.List.Elements.{All-nil, All-cons, All-head, All-tail, All-append, All-weaker}
+use Rattle.sq_base.specs.StampValue.{StampValue}
 use Rattle.sq_base.specs.Stamps.{Below}
 use Rattle.sq_base.specs.declared.refusal.Refusal.{Refusal}
 use Rattle.sq_model.specs.Notes.{Note, stamp_of, Book}
-use Rattle.sq_merge.specs.declared.calls.Answer.{Answer}
-use Rattle.sq_merge.specs.Asks.{Ask, Gave, Done, AreOf, Gains, LeavesOf}
-use Rattle.sq_merge.specs.ActingLaws.{no_gain}
+use Rattle.sq_merge.specs.Asks.{Ask, Resolve, Directed, AtHome, Gave, Found, Answered, Replied, Done, AreOfStep, AreOf, IsNext, LeavesOf, Follow, Gains}
+use Rattle.sq_directory.specs.Makers.{IsSeen}
+use Rattle.sq_steps.specs.Books.{having_seen}
+use Rattle.sq_steps.proofs.BookLaws.{later_first}
 use Rattle.sq_merge.specs.Told.{Path, Told, LeavesRecords}
 use Rattle.sq_directory.proofs.MakerLaws.{seen_below, seen_trans}
 
@@ -17,12 +19,8 @@ pub path_more : {S : Type 0} (stepped : S → Ask → Result Gave Refusal → S 
 path_more {S} stepped s mid t [] d p h = (t, subst (λ (u : S). stepped u d.ask d.told t) p h, refl)
 path_more stepped s mid t (x ∷ ds) d p h = (p.0, p.1, path_more stepped p.0 mid t ds d p.2 h)
 
--- no step
-pub told_none : {S : Type 0} (stepped : S → Ask → Result Gave Refusal → S → Type 0) (F : List Done → Result Answer Refusal → Type 0) (old new : S) (told : Result Answer Refusal) → new ≡ old → F [] told → Told stepped F old told new
-told_none stepped F old new told same fits = record { trace = []; path = same; fits = fits }
-
 -- one step
-pub told_one : {S : Type 0} (stepped : S → Ask → Result Gave Refusal → S → Type 0) (F : List Done → Result Answer Refusal → Type 0) (old mid new : S) (told : Result Answer Refusal) (d : Done)
+pub told_one : {S A : Type 0} (stepped : S → Ask → Result Gave Refusal → S → Type 0) (F : List Done → Result A Refusal → Type 0) (old mid new : S) (told : Result A Refusal) (d : Done)
     → mid ≡ old → stepped mid d.ask d.told new → F (d ∷ []) told → Told stepped F old told new
 told_one {S} stepped F old mid new told d same h fits = record {
   trace = d ∷ [];
@@ -31,7 +29,7 @@ told_one {S} stepped F old mid new told d same h fits = record {
 }
 
 -- one step, and then others
-pub told_more : {S : Type 0} (stepped : S → Ask → Result Gave Refusal → S → Type 0) (F G : List Done → Result Answer Refusal → Type 0) (old mid new : S) (told : Result Answer Refusal) (d : Done)
+pub told_more : {S A : Type 0} (stepped : S → Ask → Result Gave Refusal → S → Type 0) (F G : List Done → Result A Refusal → Type 0) (old mid new : S) (told : Result A Refusal) (d : Done)
     → stepped old d.ask d.told mid → Told stepped G mid told new → ((rest : List Done) → G rest told → F (d ∷ rest) told) → Told stepped F old told new
 told_more stepped F G old mid new told d h rest fits = record {
   trace = d ∷ rest.trace;
@@ -39,17 +37,71 @@ told_more stepped F G old mid new told d h rest fits = record {
   fits = fits rest.trace rest.fits;
 }
 
--- what fits in one way fits in another
-pub told_as : {S : Type 0} (stepped : S → Ask → Result Gave Refusal → S → Type 0) (F G : List Done → Result Answer Refusal → Type 0) (old new : S) (told : Result Answer Refusal)
-    → ((ds : List Done) → F ds told → G ds told) → Told stepped F old told new → Told stepped G old told new
-told_as stepped F G old new told f h = record { trace = h.trace; path = h.path; fits = f h.trace h.fits }
+-- nothing was changed
+no_gain : (a b : Book) → b ≡ a → Gains [] a b
+no_gain a b same = record {
+  added = ap (λ (x : Book). x.notes) same ∙ sym (append-nil a.notes);
+  follow = tt;
+  above = All-nil (λ n. Below a.seen (stamp_of n));
+  within = All-nil (λ n. IsSeen (stamp_of n) b.seen);
+  saw = inl (sym (ap (λ (x : Book). x.seen) same));
+  counted = omega (arith, ap (λ (x : Book). x.next) same);
+  same = ap (λ (x : Book). x.actor) same;
+}
+
+-- a part was read
+read_gain : (a b : Book) (last : StampValue) → b ≡ having_seen a last → Gains [] a b
+read_gain a b last same = record {
+  added = ap (λ (x : Book). x.notes) same ∙ sym (append-nil a.notes);
+  follow = tt;
+  above = All-nil (λ n. Below a.seen (stamp_of n));
+  within = All-nil (λ n. IsSeen (stamp_of n) b.seen);
+  saw = rw (ap (λ (x : Book). x.seen) same) (later_first a.seen last);
+  counted = omega (arith, ap (λ (x : Book). x.next) same);
+  same = ap (λ (x : Book). x.actor) same;
+}
+
+-- the next record was added
+next_gain : (a b : Book) (n : Note) → IsNext a n b → Gains (n ∷ []) a b
+next_gain a b n is = record {
+  added = ap (λ (x : Book). x.notes) is.2;
+  follow = (is.0, is.1, tt);
+  above = All-cons (λ m. Below a.seen (stamp_of m)) n [] is.1 (All-nil (λ m. Below a.seen (stamp_of m)));
+  within = All-cons (λ m. IsSeen (stamp_of m) b.seen) n [] (inl (sym (ap (λ (x : Book). x.seen) is.2))) (All-nil (λ m. IsSeen (stamp_of m) b.seen));
+  saw = rw (ap (λ (x : Book). x.seen) is.2) (inr is.1);
+  counted = omega (arith, ap (λ (x : Book). x.next) is.2);
+  same = ap (λ (x : Book). x.actor) is.2;
+}
+
+-- the records of a step
+step_records : (ask : Ask) (told : Result Gave Refusal) (a b : Book) → LeavesOf ask told a b → (ns : List Note) × AreOfStep ask told ns × Gains ns a b
+step_records (Resolve name) (Ok (Found queue)) a b h = ([], refl, read_gain a b h.0 h.1)
+step_records (Directed call) (Ok (Answered reply)) a b h = (h.0 ∷ [], (h.0, h.1, refl), next_gain a b h.0 h.2)
+step_records (AtHome name home act) (Ok (Replied reply)) a b h = (h.0 ∷ [], (h.0, h.1, refl), next_gain a b h.0 h.2)
+step_records (Resolve name) (Err e) a b h = ([], refl, no_gain a b h)
+step_records (Directed call) (Err e) a b h = ([], refl, no_gain a b h)
+step_records (AtHome name home act) (Err e) a b h = ([], refl, no_gain a b h)
+step_records ask told a b h = elim h [ ]
+
+follow_lower : (next next2 : ℕ) (seen seen2 : StampValue) (ns : List Note) → next2 ≡ next → IsSeen seen seen2 → Follow next2 seen2 ns → Follow next seen ns
+follow_lower next next2 seen seen2 [] e below f = tt
+follow_lower next next2 seen seen2 (n ∷ ns) e below f = (f.0 ∙ e, seen_below seen seen2 (stamp_of n) below f.1, subst (λ (m : ℕ). Follow (m + 1) (stamp_of n) ns) e f.2)
+
+follow_append : (next next2 : ℕ) (seen seen2 : StampValue) (xs ys : List Note) → Follow next seen xs → All (λ n. IsSeen (stamp_of n) seen2) xs → IsSeen seen seen2 → next2 ≡ next + length xs → Follow next2 seen2 ys → Follow next seen (xs ++ ys)
+follow_append next next2 seen seen2 [] ys f within below e g = follow_lower next next2 seen seen2 ys (omega (arith, e)) below g
+follow_append next next2 seen seen2 (x ∷ xs) ys f within below e g =
+    (f.0, f.1, follow_append (next + 1) next2 (stamp_of x) seen2 xs ys f.2 (All-tail (λ n. IsSeen (stamp_of n) seen2) x xs within) (All-head (λ n. IsSeen (stamp_of n) seen2) x xs within) (omega (arith, e)) g)
 
 -- records that are gained one after another
 gains_more : (a b c : Book) (xs ys : List Note) → Gains xs a b → Gains ys b c → Gains (xs ++ ys) a c
 gains_more a b c xs ys h k = record {
   added = k.added ∙ ap (λ (ns : List Note). ns ++ ys) h.added ∙ append_assoc a.notes xs ys;
+  follow = follow_append a.next b.next a.seen b.seen xs ys h.follow h.within h.saw h.counted k.follow;
   above = All-append (λ n. Below a.seen (stamp_of n)) xs ys h.above (All-weaker (λ n. Below b.seen (stamp_of n)) (λ n. Below a.seen (stamp_of n)) (λ n above. seen_below a.seen b.seen (stamp_of n) h.saw above) ys k.above);
+  within = All-append (λ n. IsSeen (stamp_of n) c.seen) xs ys (All-weaker (λ n. IsSeen (stamp_of n) b.seen) (λ n. IsSeen (stamp_of n) c.seen) (λ n seen. seen_trans (stamp_of n) b.seen c.seen seen k.saw) xs h.within) k.within;
   saw = seen_trans a.seen b.seen c.seen h.saw k.saw;
+  counted = omega (arith, h.counted, k.counted, length-append xs ys);
+  same = k.same ∙ h.same;
 }
 
 -- the records that steps leave, where each leaves its own
@@ -57,13 +109,13 @@ pub path_records : {S : Type 0} (stepped : S → Ask → Result Gave Refusal →
     → (s t : S) (ds : List Done) → Path stepped s ds t → (ns : List Note) × AreOf ds ns × Gains ns (book s) (book t)
 path_records stepped book leaves s t [] p = ([], refl, no_gain (book s) (book t) (ap book p))
 path_records stepped book leaves s t (d ∷ ds) p =
-    let one = leaves s p.0 d.ask d.told p.1 in
+    let one = step_records d.ask d.told (book s) (book p.0) (leaves s p.0 d.ask d.told p.1) in
     let rest = path_records stepped book leaves p.0 t ds p.2 in
-    (one.notes ++ rest.0, (one.notes, rest.0, one.are, rest.1, refl), gains_more (book s) (book p.0) (book t) one.notes rest.0 one.gains rest.2)
+    (one.0 ++ rest.0, (one.0, rest.0, one.1, rest.1, refl), gains_more (book s) (book p.0) (book t) one.0 rest.0 one.2 rest.2)
 
 -- a call's records are those of its steps
-pub told_records : {S : Type 0} (stepped : S → Ask → Result Gave Refusal → S → Type 0) (book : S → Book) → ((s t : S) (ask : Ask) (told : Result Gave Refusal) → stepped s ask told t → LeavesOf ask told (book s) (book t))
-    → (F : List Done → Result Answer Refusal → Type 0) (old new : S) (told : Result Answer Refusal) → Told stepped F old told new → LeavesRecords F (book old) told (book new)
+pub told_records : {S A : Type 0} (stepped : S → Ask → Result Gave Refusal → S → Type 0) (book : S → Book) → ((s t : S) (ask : Ask) (told : Result Gave Refusal) → stepped s ask told t → LeavesOf ask told (book s) (book t))
+    → (F : List Done → Result A Refusal → Type 0) (old new : S) (told : Result A Refusal) → Told stepped F old told new → LeavesRecords F (book old) told (book new)
 told_records stepped book leaves F old new told h =
     let all = path_records stepped book leaves old new h.trace h.path in
     record { trace = h.trace; notes = all.0; are = all.1; gains = all.2; fits = h.fits }

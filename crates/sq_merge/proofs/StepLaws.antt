@@ -1,5 +1,5 @@
 -- A step of a world, from what was done to its parts.
-use Rattle.std.proofs.Common.{◌≡◌, ◌≢◌, ℕ, zero, suc, ◌+◌, ◌-◌, ◌*◌, ◌<◌, ◌≤◌, List, [], ◌∷◌, ◌++◌, length, refl, ap, sym, ◌∙◌, subst, inl, inr, arith, Option, Some, None, slice_get, slice_set, take}
+use Rattle.std.proofs.Common.{◌≡◌, ◌≢◌, ℕ, zero, suc, ◌*◌, ◌≤◌, List, [], ◌∷◌, length, refl, ap, sym, ◌∙◌, subst, inl, inr, arith, Option, Some, None, slice_get, slice_set, take}
 use Rattle.std.specs.Prelude.{position}
 use Rattle.std.specs.List.{slice_index_or}
 use Rattle.std.proofs.Math.Nat.{mul-le-mul_right}

@@ -1,11 +1,11 @@
 -- What the steps of calls ask and are told, and the records that they leave with their actor.
-use Rattle.std.specs.Prelude.{◌≡◌, ◌⊎◌, ℕ, List, [], ◌∷◌, ◌++◌, Option, Some, Result, Ok, Err}
+use Rattle.std.specs.Prelude.{◌≡◌, ◌⊎◌, ℕ, ◌+◌, List, [], ◌∷◌, ◌++◌, length, Some, Result, Ok, Err}
 use Rattle.std.specs.List.{All}
+use Rattle.sq_base.specs.StampValue.{StampValue}
 use Rattle.sq_base.specs.Stamps.{Below}
 use Rattle.sq_base.specs.declared.ids.HomeId.{HomeId}
 use Rattle.sq_base.specs.declared.refusal.Refusal.{Refusal}
 use Rattle.sq_base.specs.declared.refusal.Refusal.TheVariants.{NoMemory, ClockRange, Worn, InvalidParameterValue, QueueDoesNotExist, QueueNameExists, OverLimit, ReceiptHandleIsInvalid, MessageNotInflight, TableFull}
-use Rattle.sq_model.specs.declared.directory.Attributes.{Attributes}
 use Rattle.sq_model.specs.declared.directory.DirectoryCall.{DirectoryCall}
 use Rattle.sq_model.specs.declared.directory.DirectoryCall.TheVariants.{Create}
 use Rattle.sq_model.specs.declared.directory.DirectoryReply.{DirectoryReply}
@@ -13,11 +13,12 @@ use Rattle.sq_model.specs.declared.directory.DirectoryReply.TheVariants.{Made}
 use Rattle.sq_model.specs.declared.directory.QueueSettings.{QueueSettings}
 use Rattle.sq_model.specs.declared.replies.HomeReply.{HomeReply}
 use Rattle.sq_model.specs.declared.replies.HomeReply.TheVariants as reply
-use Rattle.sq_model.specs.Notes.{HomeNote, DirectoryNote, Note, OfDirectory, OfHome, stamp_of, Book}
+use Rattle.sq_model.specs.Notes.{HomeNote, DirectoryNote, Note, OfDirectory, OfHome, place_of, stamp_of, Book}
 use Rattle.sq_history.specs.declared.act.HomeAct.{HomeAct}
 use Rattle.sq_history.specs.declared.act.HomeAct.TheVariants as act
 use Rattle.sq_history.specs.Acts.{call_of}
 use Rattle.sq_directory.specs.Makers.{IsSeen}
+use Rattle.sq_steps.specs.Books.{having_seen, with_note}
 use Rattle.sq_merge.specs.GivenValue.{AreReceived}
 
 -- What a step asks: the number of the queue of a name, which is a read; a step of the directory; a step of a home, by the queue's name that was used.
@@ -127,14 +128,31 @@ abbrev pub AreOf : List Done → List Note → Type 0
 AreOf [] ns = ns ≡ []
 AreOf (d ∷ ds) ns = (front : List Note) × (rest : List Note) × AreOfStep d.ask d.told front × AreOf ds rest × (ns ≡ front ++ rest)
 
--- An actor has these records more, each at a stamp above all that it had seen before; and what it had seen it has seen.
+-- a record is the actor's next one: it has the next number, and a stamp above all that the actor had seen, which it has seen then
+abbrev pub IsNext : Book → Note → Book → Type 0
+IsNext before n after = (place_of n ≡ before.next) × Below before.seen (stamp_of n) × (after ≡ with_note before n)
+
+-- A step leaves its one record with its actor; a read leaves none, and raises what the actor has seen; what is refused changes nothing.
+abbrev pub LeavesOf : Ask → Result Gave Refusal → Book → Book → Type 0
+LeavesOf (Resolve name) (Ok (Found queue)) before after = (last : StampValue) × (after ≡ having_seen before last)
+LeavesOf (Directed call) (Ok (Answered reply)) before after = (n : Note) × IsDirectoryRecord call reply n × IsNext before n after
+LeavesOf (AtHome name home act) (Ok (Replied reply)) before after = (n : Note) × IsHomeRecord name home act reply n × IsNext before n after
+LeavesOf (Resolve name) (Err e) before after = after ≡ before
+LeavesOf (Directed call) (Err e) before after = after ≡ before
+LeavesOf (AtHome name home act) (Err e) before after = after ≡ before
+LeavesOf ask told before after = ⊥
+
+-- these records have this number and the numbers after it, and each a stamp above this one and above those before it
+abbrev pub Follow : ℕ → StampValue → List Note → Type 0
+Follow next seen [] = Unit {0}
+Follow next seen (n ∷ ns) = (place_of n ≡ next) × Below seen (stamp_of n) × Follow (next + 1) (stamp_of n) ns
+
+-- An actor has these records more: with the next numbers, at rising stamps above all that it had seen before, which it has seen then.
 pub record Gains (ns : List Note) (before after : Book) : Type 0 where
   pub added : after.notes ≡ before.notes ++ ns
+  pub follow : Follow before.next before.seen ns
   pub above : All (λ n. Below before.seen (stamp_of n)) ns
+  pub within : All (λ n. IsSeen (stamp_of n) after.seen) ns
   pub saw : IsSeen before.seen after.seen
-
--- a step leaves its records with its actor, and no others
-pub record LeavesOf (ask : Ask) (told : Result Gave Refusal) (before after : Book) : Type 0 where
-  pub notes : List Note
-  pub are : AreOfStep ask told notes
-  pub gains : Gains notes before after
+  pub counted : after.next ≡ before.next + length ns
+  pub same : after.actor ≡ before.actor

@@ -1,5 +1,5 @@
 -- Which steps a call does, and what it tells of them, up to a stop; nothing here speaks of states.
-use Rattle.std.specs.Prelude.{◌≡◌, ◌⊎◌, ℕ, zero, suc, ◌<◌, Bool, true, false, List, [], ◌∷◌, ◌++◌, length, slice_get, Option, Some, None, Result, Ok, Err}
+use Rattle.std.specs.Prelude.{◌≡◌, ◌⊎◌, ℕ, zero, suc, ◌<◌, ◌≤◌, Bool, true, false, List, [], ◌∷◌, ◌++◌, length, slice_get, Option, Some, None, Result, Ok, Err}
 use Rattle.hex.specs.Hex.{encode_lower}
 use Rattle.md5.specs.Md5.{md5}
 use Rattle.rand.specs.Sample.{IsSampleOf}
@@ -101,18 +101,18 @@ EndsReceive c queue home by told =
     ⊎ ((e : Refusal) × MayRefuse (AtHome c.queue (home_of queue home) (Look c.max c.timeout)) e × (by ≡ Err e) × (told ≡ Err e))
 
 -- what a receive tells where no home gave a message
-abbrev pub told_none : ReceiveMessage → ℕ → Bool → Result Answer Refusal
-told_none c queue true = Err OverLimit
-told_none c queue false = Ok (given_by c (home_of queue 0) [])
+abbrev pub none_told : ReceiveMessage → ℕ → Bool → Result Answer Refusal
+none_told c queue true = Err OverLimit
+none_told c queue false = Ok (given_by c (home_of queue 0) [])
 
 -- ReceiveMessage at a queue: distinct homes are asked, up to the first that gives messages or refuses. Where none does, the call is refused if one of them has too many in flight.
 abbrev pub ReceiveAt : HomeCounts → ReceiveMessage → ℕ → List Done → Result Answer Refusal → Type 0
 ReceiveAt counts c queue trace told =
     ((trace ≡ []) × (told ≡ Err NoMemory))
-    ⊎ ((drawn : List ℕ) × (over : Bool) × IsSampleOf counts.homes counts.sample drawn
+    ⊎ ((drawn : List ℕ) × (over : Bool) × (1 ≤ counts.sample) × IsSampleOf counts.homes counts.sample drawn
     × (((n : ℕ) × (front : List Done) × (home : ℕ) × (by : Result HomeReply Refusal) × InVain c queue drawn n over front × (slice_get drawn n ≡ Some home)
     × (trace ≡ front ++ at_home c.queue queue home (Look c.max c.timeout) by ∷ []) × EndsReceive c queue home by told)
-    ⊎ (InVain c queue drawn (length drawn) over trace × (told ≡ told_none c queue over))))
+    ⊎ (InVain c queue drawn (length drawn) over trace × (told ≡ none_told c queue over))))
 
 -- the answer to a step that has nothing to tell
 abbrev pub MakesDone : HomeReply → Answer → Type 0

@@ -1,5 +1,5 @@
 -- The options that a world takes, and the world that it begins as.
-use Rattle.std.specs.Prelude.{ℕ, zero, suc, ◌+◌, ◌*◌, ◌/◌, ◌≤◌, List, [], ◌∷◌, ◌++◌}
+use Rattle.std.specs.Prelude.{ℕ, zero, suc, ◌*◌, ◌/◌, ◌≤◌, List, [], ◌∷◌, ◌++◌}
 use Rattle.sq_base.specs.Stamps.{start}
 use Rattle.sq_model.specs.Homes.{Unopened}
 use Rattle.sq_model.specs.declared.place.Limits.{Limits}

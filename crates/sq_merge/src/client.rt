@@ -236,7 +236,6 @@ fn at_message<S: LockSteps>(
     act: HomeAct,
 ) -> Result<Answer, Refusal>
     requires known { S.knows steps.old of.now.name of.now.queue }
-    requires below { home < (S.counts steps.old).homes }
     requires message { IsOnMessage act }
     ensures { Told S.stepped (OneStep of.now.name of.now.queue home act MakesDone) steps.old result steps.new }
 {

@@ -1,5 +1,5 @@
 //! The steps that calls of clients are made of: each is done under one lock, or changes nothing.
-ghost use Rattle.std.specs.Prelude.{◌≡◌, ◌<◌, ℕ, List, Result, IfOk, IfErr};
+ghost use Rattle.std.specs.Prelude.{◌≡◌, ◌<◌, ◌≤◌, ℕ, List, Result, IfOk, IfErr};
 ghost use Rattle.rand.specs.Sample.{IsSampleOf};
 ghost use Rattle.sq_base.specs.declared.refusal.Refusal.{Refusal};
 ghost use Rattle.sq_model.specs.declared.directory.DirectoryCall.TheVariants.{Create};
@@ -17,8 +17,7 @@ use sq_model::replies::HomeReply;
 use sq_sample::sampler::HomeCount;
 use std::alloc::Global;
 
-/// Does the steps of one actor's calls. A step leaves its one record with the actor, or is a read; one that is refused
-/// changes nothing.
+/// Does the steps of one actor's calls. A home that the queue does not have refuses its step.
 pub trait LockSteps {
     /// What a step is: on which state, what it asks, what it is told, and which state it leaves.
     ghost stepped: { Self → Ask → Result Gave Refusal → Self → Type 0 };
@@ -66,7 +65,6 @@ pub trait LockSteps {
         act: HomeAct,
     ) -> Result<HomeReply, Refusal>
         requires known { knows self.old of.now.name of.now.queue }
-        requires below { home < (counts self.old).homes }
         ensures did { stepped self.old (AtHome of.now.name (home_of of.now.queue home) act) (replied_of result) self.new }
         ensures reply { IfOk result (IsReplyTo act) }
         ensures refusal { IfErr result (MayRefuse (AtHome of.now.name (home_of of.now.queue home) act)) }
@@ -80,10 +78,11 @@ pub trait LockSteps {
 
     /// Distinct homes of a queue, so many as a receive asks. Refused for want of memory alone.
     fn draw(&mut self, alloc: Global) -> Result<Vec<HomeNo>, Refusal>
+        ensures some { 1 ≤ (counts self.old).sample }
         ensures sample { IfOk result (λ drawn. IsSampleOf (counts self.old).homes (counts self.old).sample drawn.items) }
         ensures refused { IfErr result (λ e. e ≡ Refusal.NoMemory) }
         ensures same { self.new ≡ self.old };
 
-    /// A step leaves its records with the actor, and no others.
+    /// A step leaves its one record with the actor, or is a read; one that is refused changes nothing of the actor's.
     ghost leaves: { (s t : Self) (ask : Ask) (told : Result Gave Refusal) → stepped s ask told t → LeavesOf ask told (book s) (book t) };
 }

@@ -1,5 +1,5 @@
 //! All queues of a service with all that was done to them, for one thread.
-ghost use Rattle.std.specs.Prelude.{◌≡◌, ◌⊎◌, ◌↔◌, ◌<◌, true, None, Some, length, position, IfOk, IfErr, IfSome, OnErr};
+ghost use Rattle.std.specs.Prelude.{◌≡◌, ◌⊎◌, ◌↔◌, ◌<◌, ◌≤◌, true, None, Some, length, position, IfOk, IfErr, IfSome, OnErr};
 ghost use Rattle.rand.specs.Sample.{IsSampleOf};
 ghost use Rattle.sq_model.specs.Directories.{number_of};
 ghost use Rattle.sq_history.specs.Acts.{call_of};
@@ -181,6 +181,7 @@ impl World {
 
     // Distinct homes of a queue, so many as a receive asks. Refused for want of memory alone.
     pub(crate) fn draw(&mut self, alloc: Global) -> Result<Vec<HomeNo>, Refusal>
+        ensures some { 1 ≤ self.old.sample }
         ensures sample { IfOk result (λ drawn. IsSampleOf self.old.per_queue self.old.sample drawn.items) }
         ensures refused { IfErr result (λ e. e ≡ Refusal.NoMemory) }
         ensures same { self.new ≡ self.old }

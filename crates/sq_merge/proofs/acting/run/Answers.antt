@@ -1,4 +1,4 @@
-use Rattle.std.proofs.Common.{◌≡◌, ℕ, refl, ap, subst}
+use Rattle.std.proofs.Common.{ℕ, refl, ap, subst}
 use Rattle.sq_merge.specs.Acting.{counts_of, ActorStepped}
 use Rattle.sq_steps.specs.Books.{book_of}
 use Rattle.sq_merge.specs.Fits.{CallFits}

@@ -1,6 +1,5 @@
-use Rattle.std.proofs.Common.{rules, ◌≡◌, ◌∙◌, ◌<◌, refl, ap, inl, inr, Ok, Err}
+use Rattle.std.proofs.Common.{rules, ◌≡◌, ◌∙◌, ◌<◌, Err}
 use Rattle.sq_history.specs.declared.act.HomeAct.TheVariants.{Configure}
-use Rattle.sq_merge.specs.Fits.{IsPassed}
 use Rattle.sq_merge.proofs.ClientLaws.{more_passed, all_ended, not_closed, passed_done}
 use Rattle.sq_merge.proofs.client.configure_all.Goals as goal
 

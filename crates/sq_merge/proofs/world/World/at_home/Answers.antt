@@ -1,9 +1,8 @@
 use Rattle.std.proofs.Common.{rules, ◌≡◌, length, Some, None, Err, arith, inl, slice_set}
-use Rattle.std.specs.Prelude.{position}
 use Rattle.std.specs.List.{slice_index_or}
 use Rattle.std.proofs.lemmas.List.{length-set}
 use Rattle.sq_history.specs.Acts.{call_of}
-use Rattle.sq_steps.specs.Books.{is_of, book_of, place_in, opened}
+use Rattle.sq_steps.specs.Books.{book_of, place_in, opened}
 use Rattle.sq_audit.specs.HomeIds.{home_place}
 use Rattle.sq_audit.proofs.HomeIdLaws.{place_none}
 use Rattle.sq_merge.specs.WorldValue.{WorldValue}
