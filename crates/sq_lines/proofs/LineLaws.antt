@@ -30,7 +30,7 @@ unfolding has_feed
 no_feed_none = refl
 
 -- no line feed in one part and none in the next
-pub no_feed_more : (xs ys : List ℕ) → has_feed xs ≡ false → has_feed ys ≡ false → has_feed (xs ++ ys) ≡ false
+no_feed_more : (xs ys : List ℕ) → has_feed xs ≡ false → has_feed ys ≡ false → has_feed (xs ++ ys) ≡ false
 no_feed_more [] ys p q = q
 no_feed_more (b ∷ xs) ys p q = let f = free_of b xs p in no_feed_with b (xs ++ ys) f.first (no_feed_more xs ys f.rest q)
 
@@ -58,8 +58,15 @@ take_all [] = refl
 take_all (x ∷ xs) = ap (λ (r : List ℕ). x ∷ r) (take_all xs)
 
 -- no byte is a line feed
-pub no_feed_found : (xs : List ℕ) → IsFirstByte (is_byte 10) xs None → has_feed xs ≡ false
-no_feed_found xs none = subst (λ (r : List ℕ). has_feed r ≡ false) (take_all xs) (no_feed_front xs (length xs) (omega arith) (plain_from xs (length xs) none))
+no_feed_here : (xs : List ℕ) → IsFirstByte (is_byte 10) xs None → has_feed xs ≡ false
+no_feed_here xs none = subst (λ (r : List ℕ). has_feed r ≡ false) (take_all xs) (no_feed_front xs (length xs) (omega arith) (plain_from xs (length xs) none))
+
+pub no_feed_found : (xs searched : List ℕ) (found : Option ℕ) → IsFirstByte (is_byte 10) searched found → found ≡ None → searched ≡ xs → has_feed xs ≡ false
+no_feed_found xs searched found h none same = no_feed_here xs (rw (none, same) at h)
+
+-- no line feed in all, where there is none in either part
+pub no_feed_all : (begun ahead all : List ℕ) → has_feed begun ≡ false → has_feed ahead ≡ false → all ≡ begun ++ ahead → has_feed all ≡ false
+no_feed_all begun ahead all plain free same = rw same (no_feed_more begun ahead plain free)
 
 -- a first line feed parts what stands before it from the rest
 pub record IsCut (xs : List ℕ) (at : ℕ) : Type 0 where
