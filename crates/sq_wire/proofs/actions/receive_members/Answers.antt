@@ -1,30 +1,22 @@
-use Rattle.std.proofs.Common.{◌≡◌, rules, refl, Err}
+use Rattle.std.proofs.Common.{rules, refl}
 use Rattle.sq_wire.specs.Actions.{receive_members}
 use Rattle.sq_wire.proofs.actions.receive_members.Goals as goal
 
 pub returns-in_err-amount_if_at : goal.returns-in_err-amount_if_at
 unfolding receive_members
-returns-in_err-amount_if_at c =
-    let refused : c.from_residual-in_err-amount_if_at.result ≡ Err c.in_err-amount_if_at.field-0.0 = search rules in
-    rw (refused, ← c.in_ok-url_at.ensures, ← c.in_err-amount_if_at.ensures) refl
+returns-in_err-amount_if_at c = rw (← c.in_ok-url_at.ensures, ← c.in_err-amount_if_at.ensures) (search rules)
 
 pub returns-in_err-amount_if_at-2 : goal.returns-in_err-amount_if_at-2
 unfolding receive_members
-returns-in_err-amount_if_at-2 c =
-    let refused : c.from_residual-in_err-amount_if_at-2.result ≡ Err c.in_err-amount_if_at-2.field-0.0 = search rules in
-    rw (refused, ← c.in_ok-url_at.ensures, ← c.in_ok-amount_if_at.ensures, ← c.in_err-amount_if_at-2.ensures) refl
+returns-in_err-amount_if_at-2 c = rw (← c.in_ok-url_at.ensures, ← c.in_ok-amount_if_at.ensures, ← c.in_err-amount_if_at-2.ensures) (search rules)
 
 pub returns-in_err-amount_if_at-3 : goal.returns-in_err-amount_if_at-3
 unfolding receive_members
-returns-in_err-amount_if_at-3 c =
-    let refused : c.from_residual-in_err-amount_if_at-3.result ≡ Err c.in_err-amount_if_at-3.field-0.0 = search rules in
-    rw (refused, ← c.in_ok-url_at.ensures, ← c.in_ok-amount_if_at.ensures, ← c.in_ok-amount_if_at-2.ensures, ← c.in_err-amount_if_at-3.ensures) refl
+returns-in_err-amount_if_at-3 c = rw (← c.in_ok-url_at.ensures, ← c.in_ok-amount_if_at.ensures, ← c.in_ok-amount_if_at-2.ensures, ← c.in_err-amount_if_at-3.ensures) (search rules)
 
 pub returns-in_err-asked_at : goal.returns-in_err-asked_at
 unfolding receive_members
-returns-in_err-asked_at c =
-    let refused : c.from_residual-in_err-asked_at.result ≡ Err c.in_err-asked_at.field-0.0 = search rules in
-    rw (refused, ← c.in_ok-url_at.ensures, ← c.in_ok-amount_if_at.ensures, ← c.in_ok-amount_if_at-2.ensures, ← c.in_ok-amount_if_at-3.ensures, ← c.in_err-asked_at.ensures) refl
+returns-in_err-asked_at c = rw (← c.in_ok-url_at.ensures, ← c.in_ok-amount_if_at.ensures, ← c.in_ok-amount_if_at-2.ensures, ← c.in_ok-amount_if_at-3.ensures, ← c.in_err-asked_at.ensures) (search rules)
 
 pub returns : goal.returns
 unfolding receive_members
