@@ -1,21 +1,16 @@
 -- A run that ends before its first line, and an audit that is written in part.
-use Rattle.std.proofs.Common.{◌≡◌, ℕ, List, [], ◌∷◌, ◌++◌, length, take, Option, Some, None, Result, Ok, Err, OnOk, OnErr, IfErr, IfSome, is_err, true, false, refl, sym, subst, inl, inr}
+use Rattle.std.proofs.Common.{◌≡◌, ℕ, List, [], ◌∷◌, ◌++◌, length, take, Option, Some, None, Result, Ok, Err, OnOk, OnErr, IfErr, IfSome, is_err, true, false, refl, subst, inl, inr}
 use Rattle.std.specs.Io.KnownBytes.{Appends, Keeps}
-use Rattle.std.proofs.lemmas.List.{append-nil}
 use Rattle.sq_wire.specs.Audits.{IsAudit}
 use Rattle.sq_lines.specs.Lines.{OneMore}
 use Rattle.sq_wire.specs.Runs.{StopsAt}
 use Rattle.sq_wire.specs.Scripts.{ScriptValue, script_at}
-use Rattle.sq_lines.proofs.WriteLaws.{appends_keeps, appends_whole}
+use Rattle.sq_lines.proofs.WriteLaws.{appends_keeps, appends_none, appends_whole}
 use Rattle.sq_merge.specs.Openings.{new_world}
 use Rattle.sq_merge.specs.WorldValue.{WorldValue}
 use Rattle.sq_merge.specs.declared.options.Options.{Options}
 use Rattle.sq_wire.specs.declared.run.ServeFault.TheVariants.{NoMemory}
 use Rattle.sqd.specs.Endings.{Shown, Stopped, TellsAuditInPart}
-
-appends_none : (held : Option (List ℕ)) → Appends held held []
-appends_none None = tt
-appends_none (Some xs) = sym (append-nil xs)
 
 stops_first : (options : Options) (all : Option (List (List ℕ))) (held : Option (List ℕ))
     → IfSome all (λ lines. (after : ScriptValue) × StopsAt (NoMemory 0) lines held held (script_at (new_world options) 0) after)

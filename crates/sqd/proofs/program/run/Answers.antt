@@ -1,32 +1,29 @@
-use Rattle.std.proofs.Common.{map, refl, inl, inr, arith}
+use Rattle.std.proofs.Common.{map, refl, inl, inr, arith, rules}
 use Rattle.clap.specs.Words.{kind_of}
+use Rattle.sqd.specs.Flags.{AsksForScript}
+use Rattle.sqd.specs.declared.flags.ScriptMode.{ScriptMode}
 use Rattle.sqd.proofs.EndingLaws.{stopped_first}
 use Rattle.sqd.proofs.ModeLaws.{asks_for_one, mistaken, shown_for}
 use Rattle.sqd.proofs.program.run.Goals as goal
 
-pub returns-in-Ok-Script-clause-done : goal.returns-in-Ok-Script-clause-done
-returns-in-Ok-Script-clause-done g c mode asked zero =
-    rw (asks_for_one _ c.in-Ok-Script.field-0 mode c.in-Ok-Script.ensures.ok asked) at (c.script.ensures.done zero)
-
-pub returns-in-Ok-Script-clause-audited : goal.returns-in-Ok-Script-clause-audited
-returns-in-Ok-Script-clause-audited g c mode asked zero =
-    rw (asks_for_one _ c.in-Ok-Script.field-0 mode c.in-Ok-Script.ensures.ok asked) at (c.script.ensures.audited zero)
-
-pub returns-in-Ok-Script-clause-fault : goal.returns-in-Ok-Script-clause-fault
-returns-in-Ok-Script-clause-fault g c mode asked one =
-    rw (asks_for_one _ c.in-Ok-Script.field-0 mode c.in-Ok-Script.ensures.ok asked) at (c.script.ensures.fault one)
-
-pub returns-in-Ok-Script-clause-cut : goal.returns-in-Ok-Script-clause-cut
-returns-in-Ok-Script-clause-cut g c mode asked one =
-    rw (asks_for_one _ c.in-Ok-Script.field-0 mode c.in-Ok-Script.ensures.ok asked) at (c.script.ensures.cut one)
-
-pub returns-in-Ok-Script-clause-served : goal.returns-in-Ok-Script-clause-served
-returns-in-Ok-Script-clause-served g c mode asked zero =
-    rw (asks_for_one _ c.in-Ok-Script.field-0 mode c.in-Ok-Script.ensures.ok asked) at (c.script.ensures.served (omega (arith, zero)))
-
-pub returns-in-Ok-Script-clause-bad : goal.returns-in-Ok-Script-clause-bad
-returns-in-Ok-Script-clause-bad g c mode asked two =
-    rw (asks_for_one _ c.in-Ok-Script.field-0 mode c.in-Ok-Script.ensures.ok asked) at (c.script.ensures.bad two)
+pub returns-in-Ok-Script : goal.returns-in-Ok-Script
+returns-in-Ok-Script g c =
+    let same = λ (mode : ScriptMode) (asked : AsksForScript _ mode). asks_for_one _ c.in-Ok-Script.field-0 mode c.in-Ok-Script.ensures.ok asked in
+    record {
+      bound = search rules;
+      done = λ mode asked zero. rw (same mode asked) at (c.script.ensures.done zero);
+      audited = λ mode asked zero. rw (same mode asked) at (c.script.ensures.audited zero);
+      fault = λ mode asked one. rw (same mode asked) at (c.script.ensures.fault one);
+      cut = λ mode asked one. rw (same mode asked) at (c.script.ensures.cut one);
+      served = λ mode asked zero. rw (same mode asked) at (c.script.ensures.served (omega (arith, zero)));
+      bad = λ mode asked two. rw (same mode asked) at (c.script.ensures.bad two);
+      same = search rules;
+      shown = search rules;
+      told = search rules;
+      help = search rules;
+      mistake = search rules;
+      kept = search rules;
+    }
 
 pub returns-in-Err-Usage-clause-bad : goal.returns-in-Err-Usage-clause-bad
 returns-in-Err-Usage-clause-bad g c mode asked two =
