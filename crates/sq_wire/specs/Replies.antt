@@ -11,45 +11,17 @@ use Rattle.sq_base.specs.declared.handle.Handle.{Handle}
 use Rattle.sq_base.specs.declared.ids.HomeId.{HomeId}
 use Rattle.sq_base.specs.declared.message_id.MessageId.{MessageId}
 use Rattle.sq_base.specs.declared.refusal.Refusal.{Refusal}
-use Rattle.sq_base.specs.declared.refusal.Refusal.TheVariants.{NoMemory, ClockRange, Worn, InvalidRequest, InvalidAttributeName, InvalidAttributeValue, InvalidParameterValue, InvalidAddress, QueueDoesNotExist, QueueNameExists, QueueDeletedRecently, PurgeQueueInProgress, InvalidMessageContents, OverLimit, ReceiptHandleIsInvalid, MessageNotInflight, EmptyBatchRequest, TooManyEntriesInBatchRequest, InvalidBatchEntryId, BatchEntryIdsNotDistinct, BatchRequestTooLong, ResourceNotFoundException, UnsupportedOperation, TableFull}
 use Rattle.sq_base.specs.declared.row.Row.{Row}
 use Rattle.sq_base.specs.Handles.{handle_text}
 use Rattle.sq_base.specs.MessageIds.{id_number}
-use Rattle.sq_base.specs.Refusals.{name_of}
+use Rattle.sq_base.specs.Refusals.{name_of, number_of}
 use Rattle.sq_merge.specs.declared.calls.AskedAttributes.{AskedAttributes}
 use Rattle.sq_merge.specs.declared.calls.Answer.{Answer}
 use Rattle.sq_merge.specs.declared.calls.Answer.TheVariants.{Queue, Sent, Received, Done}
 
--- the number of a refusal in decimal digits
-abbrev pub digits_of : Refusal → List ℕ
-digits_of NoMemory = codes "1"
-digits_of ClockRange = codes "2"
-digits_of Worn = codes "3"
-digits_of InvalidRequest = codes "4"
-digits_of InvalidAttributeName = codes "5"
-digits_of InvalidAttributeValue = codes "6"
-digits_of InvalidParameterValue = codes "7"
-digits_of InvalidAddress = codes "8"
-digits_of QueueDoesNotExist = codes "9"
-digits_of QueueNameExists = codes "10"
-digits_of QueueDeletedRecently = codes "11"
-digits_of PurgeQueueInProgress = codes "12"
-digits_of InvalidMessageContents = codes "13"
-digits_of OverLimit = codes "14"
-digits_of ReceiptHandleIsInvalid = codes "15"
-digits_of MessageNotInflight = codes "16"
-digits_of EmptyBatchRequest = codes "17"
-digits_of TooManyEntriesInBatchRequest = codes "18"
-digits_of InvalidBatchEntryId = codes "19"
-digits_of BatchEntryIdsNotDistinct = codes "20"
-digits_of BatchRequestTooLong = codes "21"
-digits_of ResourceNotFoundException = codes "22"
-digits_of UnsupportedOperation = codes "23"
-digits_of TableFull = codes "24"
-
--- the text of a refusal. Own.
+-- the text of a refusal: its name, and its number in decimal digits. Own.
 unfoldable pub error_text : Refusal → List ℕ
-error_text r = codes "{\"Error\":{\"Code\":\"" ++ name_of r ++ codes "\",\"Number\":" ++ digits_of r ++ codes "}}"
+error_text r = codes "{\"Error\":{\"Code\":\"" ++ name_of r ++ codes "\",\"Number\":" ++ decimal (number_of r) ++ codes "}}"
 
 -- the URL of a queue (SQS API Reference, QueueUrl)
 abbrev pub queue_url : List ℕ → List ℕ
