@@ -111,13 +111,13 @@ fn has_other(attributes: &Map<String, Value>) -> bool
 pub fn has_other_attribute(value: &Value) -> Result<bool, Refusal>
     ensures { result ≡ has_other_attribute (view value.now) }
 {
-    match value.get("Attributes") {
-        None => Ok(false),
-        Some(member) => match member.as_object() {
-            Some(attributes) => Ok(has_other(attributes)),
-            None => Err(Refusal::InvalidRequest),
-        },
-    }
+    let Some(member) = value.get("Attributes") else {
+        return Ok(false);
+    };
+    let Some(attributes) = member.as_object() else {
+        return Err(Refusal::InvalidRequest);
+    };
+    Ok(has_other(attributes))
 }
 
 // Whether a name asks for the attribute of this name.
