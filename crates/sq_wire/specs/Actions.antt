@@ -20,13 +20,19 @@ create_of d = do
   has_other ← has_other_attribute d
   if has_other then Err InvalidAttributeName else (attributes_of amounts >>= λ attributes. ok_or (name_of text) InvalidParameterValue >>= λ name. Ok (call.CreateQueue (record { name = name; attributes = attributes })))
 
+-- message attributes are given, or message system attributes
+unfoldable pub has_attributes_at : Data → Result Bool Refusal
+has_attributes_at d = do
+  attributes ← has_members_at (codes "MessageAttributes") d
+  system_attributes ← has_members_at (codes "MessageSystemAttributes") d
+  Ok (attributes || system_attributes)
+
 unfoldable pub send_members : Data → Result SendMembers Refusal
 send_members d = do
   queue ← url_at d
   delay ← amount_if_at (codes "DelaySeconds") d
-  has_attributes ← has_members_at (codes "MessageAttributes") d
-  has_system_attributes ← has_members_at (codes "MessageSystemAttributes") d
-  Ok (record { queue = queue; delay = delay; has_attributes = has_attributes; has_system_attributes = has_system_attributes })
+  has_attributes ← has_attributes_at d
+  Ok (record { queue = queue; delay = delay; has_attributes = has_attributes })
 
 -- a body of 1 to 262144 bytes
 unfoldable pub is_too_small_or_large : List ℕ → Bool
@@ -34,7 +40,7 @@ is_too_small_or_large body = length body == 0 || nat_lt 262144 (length body)
 
 unfoldable pub addressed : SendMembers → List ℕ → Result Addressee Refusal
 addressed members body =
-    if members.has_attributes || members.has_system_attributes then Err UnsupportedOperation else (do
+    if members.has_attributes then Err UnsupportedOperation else (do
       queue ← ok_or members.queue InvalidAddress
       delay ← in_range_if 0 900 InvalidParameterValue members.delay
       if is_too_small_or_large body then Err InvalidParameterValue else Ok (record { queue = queue; delay = delay }))

@@ -2,7 +2,7 @@
 ghost use Rattle.std.specs.Prelude.{◌≡◌};
 ghost use Rattle.serde_json.specs.View.{view};
 ghost use Rattle.sq_wire.specs.Reading.{Reads};
-ghost use Rattle.sq_wire.specs.Actions.{create_of, send_members, is_too_small_or_large, addressed, send_of, receive_members, receive_of, delete_of, change_of};
+ghost use Rattle.sq_wire.specs.Actions.{create_of, has_attributes_at, send_members, is_too_small_or_large, addressed, send_of, receive_members, receive_of, delete_of, change_of};
 
 use crate::attributes::{amounts_at, asked_at, attributes_of, has_other_attribute};
 use crate::members::{
@@ -36,14 +36,23 @@ pub fn create_of(value: &Value) -> Result<Call, Refusal>
     Ok(Call::CreateQueue(CreateQueue { name, attributes }))
 }
 
+// Whether message attributes or message system attributes are given.
+#[tactic(auto, unfolding(crate::specs::Actions::has_attributes_at))]
+fn has_attributes_at(value: &Value) -> Result<bool, Refusal>
+    ensures { result ≡ has_attributes_at (view value.now) }
+{
+    let attributes = has_members_at(value, "MessageAttributes")?;
+    let system_attributes = has_members_at(value, "MessageSystemAttributes")?;
+    Ok(attributes || system_attributes)
+}
+
 /// The members of a SendMessage but its body.
 #[derive(Drop)]
 pub struct SendMembers {
     pub queue: Option<QueueName>,
-    pub delay: Option<Amount>,
     /// Message attributes are not supported.
     pub has_attributes: bool,
-    pub has_system_attributes: bool,
+    pub delay: Option<Amount>,
 }
 
 #[tactic(auto, unfolding(crate::specs::Actions::send_members))]
@@ -52,13 +61,11 @@ fn send_members(value: &Value) -> Result<SendMembers, Refusal>
 {
     let queue = url_at(value)?;
     let delay = amount_if_at(value, "DelaySeconds")?;
-    let has_attributes = has_members_at(value, "MessageAttributes")?;
-    let has_system_attributes = has_members_at(value, "MessageSystemAttributes")?;
+    let has_attributes = has_attributes_at(value)?;
     Ok(SendMembers {
         queue,
         delay,
         has_attributes,
-        has_system_attributes,
     })
 }
 
@@ -81,7 +88,7 @@ pub struct Addressee {
 fn addressed(members: &SendMembers, body: &str) -> Result<Addressee, Refusal>
     ensures { result ≡ addressed members.now body.now }
 {
-    if members.has_attributes || members.has_system_attributes {
+    if members.has_attributes {
         return Err(Refusal::UnsupportedOperation);
     }
     let queue = members.queue.ok_or(Refusal::InvalidAddress)?;

@@ -10,10 +10,6 @@ pub returns-in_err-has_attributes : goal.returns-in_err-has_attributes
 unfolding send_members
 returns-in_err-has_attributes c = rw (← c.in_ok-queue.ensures, ← c.in_ok-delay.ensures, ← c.in_err-has_attributes.ensures) (search rules)
 
-pub returns-in_err-has_system_attributes : goal.returns-in_err-has_system_attributes
-unfolding send_members
-returns-in_err-has_system_attributes c = rw (← c.in_ok-queue.ensures, ← c.in_ok-delay.ensures, ← c.in_ok-has_attributes.ensures, ← c.in_err-has_system_attributes.ensures) (search rules)
-
 pub returns : goal.returns
 unfolding send_members
-returns c = rw (← c.in_ok-queue.ensures, ← c.in_ok-delay.ensures, ← c.in_ok-has_attributes.ensures, ← c.in_ok-has_system_attributes.ensures) refl
+returns c = rw (← c.in_ok-queue.ensures, ← c.in_ok-delay.ensures, ← c.in_ok-has_attributes.ensures) refl
