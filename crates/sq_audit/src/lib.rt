@@ -6,13 +6,9 @@ mod home_states;
 pub mod homes;
 pub mod merge;
 pub mod parts;
-#[cfg(test)]
-mod place_tests;
 pub mod places;
 pub mod run;
 pub mod sorted;
 mod state;
 pub mod tagged;
-#[cfg(test)]
-mod tests;
 pub mod track;

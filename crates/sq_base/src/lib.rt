@@ -12,5 +12,3 @@ pub mod refusal;
 pub mod row;
 pub mod settings;
 pub mod stamp;
-#[cfg(test)]
-mod tests;

@@ -7,5 +7,3 @@ pub mod firsts;
 pub mod names;
 pub mod queues;
 pub mod record;
-#[cfg(test)]
-mod tests;

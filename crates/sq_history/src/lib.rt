@@ -6,5 +6,3 @@ pub mod events;
 pub mod log;
 pub mod record;
 pub mod recorded;
-#[cfg(test)]
-mod tests;

@@ -2,10 +2,6 @@
 #![tactic(auto)]
 
 pub mod acting;
-#[cfg(test)]
-mod audit_tests;
-#[cfg(test)]
-mod call_tests;
 pub mod calls;
 pub mod client;
 pub mod digest;
@@ -14,8 +10,6 @@ mod homes;
 pub mod lock_steps;
 pub mod options;
 pub mod world;
-#[cfg(test)]
-mod world_tests;
 
 pub use sq_audit::check::AuditFault;
 pub use sq_audit::merge::merge;

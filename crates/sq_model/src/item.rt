@@ -23,6 +23,15 @@ impl Model for ItemNo {
     ghost invariant = { λ n. 1 ≤ n.0 };
 }
 
+impl ItemNo {
+    /// The number of the first item.
+    pub fn first() -> ItemNo
+        ensures { result ≡ 1 }
+    {
+        ItemNo(1)
+    }
+}
+
 /// The number of a message move task, from 1 upwards and never twice. Own.
 #[derive(Clone, Copy, PartialEq, Eq, PartialOrd, Ord, Debug)]
 pub struct TaskNo(u64);
@@ -90,6 +99,3 @@ impl BoxedItem {
         &self.item
     }
 }
-
-#[cfg(test)]
-mod tests;

@@ -2,5 +2,3 @@
 #![tactic(auto)]
 
 pub mod sampler;
-#[cfg(test)]
-mod tests;

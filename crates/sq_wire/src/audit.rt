@@ -16,9 +16,6 @@ use sq_model::place::Place;
 use std::alloc::{AllocError, Global};
 use uuid::Uuid;
 
-#[cfg(test)]
-mod tests;
-
 /// The audit of a world, without its line feed: the one run of all that was done to it, each event by its stamp, and
 /// where each message is that was sent. Refused for want of memory alone: what a world leaves is always right.
 pub fn audit_world(alloc: Global, world: World) -> Result<Text, AuditFault>

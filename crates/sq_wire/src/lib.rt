@@ -9,8 +9,4 @@ pub mod reply;
 pub mod request;
 pub mod run;
 pub mod script;
-#[cfg(test)]
-mod tests;
 pub mod text;
-#[cfg(test)]
-mod worked;

@@ -19,9 +19,6 @@ use sq_merge::given::Given;
 use std::alloc::{AllocError, Global};
 use uuid::Uuid;
 
-#[cfg(test)]
-mod tests;
-
 /// The line that a client is sent, without its line feed. A refusal takes no memory.
 pub fn reply_text(alloc: Global, reply: &Result<Answer, Refusal>) -> Result<Text, AllocError>
     ensures text { IfOk result (λ text. text ≡ reply_text_of reply.now) }

@@ -11,9 +11,6 @@ use sq_base::refusal::Refusal;
 use sq_merge::calls::Call;
 use std::alloc::Global;
 
-#[cfg(test)]
-mod tests;
-
 /// A request, who makes it (0 to 63), and the clock reading of its line in ms, where it has one.
 #[derive(Drop)]
 pub struct Request {

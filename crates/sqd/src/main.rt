@@ -8,8 +8,6 @@ mod flags;
 mod program;
 #[cfg(test)]
 mod tests;
-#[cfg(test)]
-mod worked;
 
 use crate::program::{no_memory, no_text, run};
 use sq_lines::counted::Counted;

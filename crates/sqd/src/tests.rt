@@ -1,5 +1,5 @@
-//! The program over memory.
-use crate::flags::{Mode, Refused, ScriptMode, flags};
+//! The program over memory: its flags, faults of writing, and what it tells. Whole scripts are in `rows/`.
+use crate::flags::{Mode, ScriptMode, flags};
 use crate::program::{audit_fault, no_memory, no_text, run};
 use sq_lines::counted::Counted;
 use sq_merge::AuditFault;
@@ -7,20 +7,6 @@ use sq_merge::options::Options;
 use std::alloc::Global;
 use std::io::{self, ErrorKind, Write};
 use std::test::Fail;
-
-/// Takes nothing.
-#[derive(Drop)]
-struct Closed;
-
-impl Write for Closed {
-    fn write(&mut self, _buf: &[u8]) -> io::Result<usize> {
-        Err(io::Error::from(ErrorKind::BrokenPipe))
-    }
-
-    fn flush(&mut self) -> io::Result<()> {
-        Err(io::Error::from(ErrorKind::BrokenPipe))
-    }
-}
 
 /// Takes so many bytes and flushes, and no more.
 #[derive(Drop)]
@@ -48,6 +34,25 @@ impl Write for Narrow {
     }
 }
 
+// The status of a run over these words and this input, what became of the output, and the errors.
+fn run_to<W: Write>(
+    alloc: Global,
+    words: &[&str],
+    input: &[u8],
+    output: W,
+) -> (u8, Counted<W>, Vec<u8>) {
+    let mut output = Counted::new(output);
+    let mut errors = Vec::new(alloc);
+    let status = run(
+        alloc,
+        words,
+        &mut Counted::new(input),
+        &mut output,
+        &mut errors,
+    );
+    (status, output, errors)
+}
+
 fn script_mode(alloc: Global, words: &[&str]) -> Option<ScriptMode> {
     match flags(alloc, words) {
         Ok(Mode::Script(mode)) => Some(mode),
@@ -55,37 +60,23 @@ fn script_mode(alloc: Global, words: &[&str]) -> Option<ScriptMode> {
     }
 }
 
-fn script_options(alloc: Global, words: &[&str]) -> Option<Options> {
-    Some(script_mode(alloc, words)?.options)
-}
-
-fn defaults() -> Options {
-    Options {
-        homes: 4,
-        sample: 2,
+// The defaults for so many homes.
+fn defaults(homes: u32, sample: u32, audit: bool) -> ScriptMode {
+    let options = Options {
+        homes,
+        sample,
         queues: 64,
         rows: 1_048_576,
         flights: 120_000,
         transit: 10_000,
         seed: 0,
-    }
+    };
+    ScriptMode { options, audit }
 }
 
 #[test]
-fn has_defaults(rt: HostRuntime) -> Result<(), Fail> {
-    let words = ["sqd", "script"];
-    assert!(rt; script_options(rt.alloc(), words.as_slice()) == Some(defaults()));
-    let mut one = defaults();
-    one.homes = 1;
-    one.sample = 1;
-    let words = ["sqd", "script", "--homes", "1"];
-    assert!(rt; script_options(rt.alloc(), words.as_slice()) == Some(one));
-    Ok(())
-}
-
-#[test]
-fn takes_each_flag(rt: HostRuntime) -> Result<(), Fail> {
-    let words = [
+fn takes_its_flags(rt: HostRuntime) -> Result<(), Fail> {
+    let each = [
         "sqd",
         "script",
         "--homes=16",
@@ -102,7 +93,7 @@ fn takes_each_flag(rt: HostRuntime) -> Result<(), Fail> {
         "--seed",
         "18446744073709551615",
     ];
-    let wanted = Options {
+    let options = Options {
         homes: 16,
         sample: 3,
         queues: 1024,
@@ -111,33 +102,44 @@ fn takes_each_flag(rt: HostRuntime) -> Result<(), Fail> {
         transit: 100_000,
         seed: u64::MAX,
     };
-    assert!(rt; script_options(rt.alloc(), words.as_slice()) == Some(wanted));
+    let audit = false;
+    for (words, wanted) in [
+        (each.as_slice(), ScriptMode { options, audit }),
+        (["sqd", "script"].as_slice(), defaults(4, 2, false)),
+        (
+            ["sqd", "script", "--homes", "1"].as_slice(),
+            defaults(1, 1, false),
+        ),
+        (
+            ["sqd", "script", "--audit"].as_slice(),
+            defaults(4, 2, true),
+        ),
+        (
+            ["sqd", "script", "--audit", "--homes", "4"].as_slice(),
+            defaults(4, 2, true),
+        ),
+        (
+            ["sqd", "script", "--seed=0", "--audit"].as_slice(),
+            defaults(4, 2, true),
+        ),
+    ] {
+        assert!(rt; script_mode(rt.alloc(), words) == Some(wanted));
+    }
     Ok(())
 }
 
-#[test]
-fn takes_the_audit_flag(rt: HostRuntime) -> Result<(), Fail> {
-    let words = ["sqd", "script"];
-    let plain = ScriptMode {
-        options: defaults(),
-        audit: false,
-    };
-    assert!(rt; script_mode(rt.alloc(), words.as_slice()) == Some(plain));
-    let audited = ScriptMode {
-        options: defaults(),
-        audit: true,
-    };
-    let words = ["sqd", "script", "--audit"];
-    assert!(rt; script_mode(rt.alloc(), words.as_slice()) == Some(audited));
-    let words = ["sqd", "script", "--audit", "--homes", "4"];
-    assert!(rt; script_mode(rt.alloc(), words.as_slice()) == Some(audited));
-    let words = ["sqd", "script", "--seed=0", "--audit"];
-    assert!(rt; script_mode(rt.alloc(), words.as_slice()) == Some(audited));
-    Ok(())
+// Whether a run over these words has status 2, no output, and an error.
+fn are_refused(alloc: Global, words: &[&str]) -> bool {
+    let (status, output, errors) = run_to(alloc, words, b"one\n", Vec::new(alloc));
+    let errors = errors.as_slice();
+    status == 2
+        && output.inner().is_empty()
+        && errors.starts_with(b"error: ")
+        && errors.ends_with(b"\n")
 }
 
 #[test]
-fn refuses_numbers_out_of_bounds(rt: HostRuntime) -> Result<(), Fail> {
+fn refuses_bad_words(rt: HostRuntime) -> Result<(), Fail> {
     for word in [
         "--homes=0",
         "--homes=17",
@@ -156,82 +158,21 @@ fn refuses_numbers_out_of_bounds(rt: HostRuntime) -> Result<(), Fail> {
         "--seed=",
         "--homes=x",
         "--home=1",
+        "--home",
         "--audit=true",
         "--audits",
     ] {
         let words = ["sqd", "script", word];
-        let refused = flags(rt.alloc(), words.as_slice());
-        assert!(rt; matches!(&refused, Err(Refused::Usage(_))), "at {word}");
+        assert!(rt; are_refused(rt.alloc(), &words), "at {word}");
     }
-    Ok(())
-}
-
-#[test]
-fn answers_lines(rt: HostRuntime) -> Result<(), Fail> {
-    let words = ["sqd", "script", "--homes", "1"];
-    let mut input = Counted::new(b"one\ntwo".as_slice());
-    let mut output = Counted::new(Vec::new(rt.alloc()));
-    let mut errors = Vec::new(rt.alloc());
-    let status = run(
-        rt.alloc(),
-        words.as_slice(),
-        &mut input,
-        &mut output,
-        &mut errors,
-    );
-    assert!(rt; status == 0);
-    let wanted =
-        b"{\"Error\":{\"Code\":\"InvalidRequest\",\"Number\":4}}\n{\"Error\":{\"Code\":\"InvalidRequest\",\"Number\":4}}\n";
-    assert!(rt; output.inner().as_slice() == wanted.as_slice());
-    assert!(rt; errors.is_empty());
-    Ok(())
-}
-
-#[test]
-fn tells_a_fault(rt: HostRuntime) -> Result<(), Fail> {
-    let words = ["sqd", "script", "--homes", "1"];
-    let mut input = Counted::new(b"one\ntwo".as_slice());
-    let mut output = Counted::new(Closed);
-    let mut errors = Vec::new(rt.alloc());
-    let status = run(
-        rt.alloc(),
-        words.as_slice(),
-        &mut input,
-        &mut output,
-        &mut errors,
-    );
-    assert!(rt; status == 1);
-    assert!(rt; errors.as_slice() == b"sqd: write failed after 0 requests\n".as_slice());
-    let long = vec![in rt.alloc(); b'a'; 4_194_305]?;
-    let mut input = Counted::new(long.as_slice());
-    let mut output = Counted::new(Vec::new(rt.alloc()));
-    let mut errors = Vec::new(rt.alloc());
-    let status = run(
-        rt.alloc(),
-        words.as_slice(),
-        &mut input,
-        &mut output,
-        &mut errors,
-    );
-    assert!(rt; status == 1);
-    assert!(rt; errors.as_slice() == b"sqd: line too long after 0 requests\n".as_slice());
-    Ok(())
-}
-
-#[test]
-fn tells_of_no_memory(rt: HostRuntime) -> Result<(), Fail> {
-    let mut errors = Vec::new(rt.alloc());
-    assert!(rt; no_memory(&mut errors) == 1);
-    assert!(rt; errors.as_slice() == b"sqd: no memory after 0 requests\n".as_slice());
-    Ok(())
-}
-
-#[test]
-fn tells_that_words_are_no_text(rt: HostRuntime) -> Result<(), Fail> {
-    let mut errors = Vec::new(rt.alloc());
-    assert!(rt; no_text(&mut errors) == 2);
-    let text = str::from_utf8(errors.as_slice()).unwrap_or("");
-    assert!(rt; text.starts_with("error: invalid UTF-8"));
+    for words in [
+        ["sqd"].as_slice(),
+        ["sqd", "scripts"].as_slice(),
+        ["sqd", "script", "--audit", "--audit"].as_slice(),
+        ["sqd", "script", "--audit", "--homes=17", "--sample=3"].as_slice(),
+    ] {
+        assert!(rt; are_refused(rt.alloc(), words));
+    }
     Ok(())
 }
 
@@ -252,77 +193,34 @@ const FOUR_AUDITED: &str =
 ";
 
 #[test]
-fn tells_an_audit(rt: HostRuntime) -> Result<(), Fail> {
+fn tells_a_fault_of_writing(rt: HostRuntime) -> Result<(), Fail> {
     let words = ["sqd", "script", "--homes", "1", "--audit"];
-    let mut input = Counted::new(FOUR_LINES.as_bytes());
-    let mut output = Counted::new(Vec::new(rt.alloc()));
-    let mut errors = Vec::new(rt.alloc());
-    let status = run(
-        rt.alloc(),
-        words.as_slice(),
-        &mut input,
-        &mut output,
-        &mut errors,
-    );
-    assert!(rt; status == 0);
-    let told = str::from_utf8(output.inner().as_slice()).unwrap_or("");
-    assert!(rt;
-        told.strip_prefix(FOUR_REPLIES) == Some(FOUR_AUDITED),
-        "{told}"
-    );
-    assert!(rt; errors.is_empty());
-    Ok(())
-}
-
-#[test]
-fn tells_a_fault_of_writing_the_audit(rt: HostRuntime) -> Result<(), Fail> {
     let replies = FOUR_REPLIES.len();
-    for (bytes, flushes) in [
-        (replies, 5),
-        (replies + 1, 5),
-        (replies + FOUR_AUDITED.len() - 1, 5),
-        (replies + FOUR_AUDITED.len(), 4),
+    let all = replies + FOUR_AUDITED.len();
+    for (bytes, flushes, told) in [
+        (0, 0, "sqd: write failed after 0 requests\n"),
+        (replies, 5, "sqd: write failed after 4 requests\n"),
+        (replies + 1, 5, "sqd: write failed after 4 requests\n"),
+        (all - 1, 5, "sqd: write failed after 4 requests\n"),
+        (all, 4, "sqd: write failed after 4 requests\n"),
     ] {
-        let words = ["sqd", "script", "--homes", "1", "--audit"];
-        let mut input = Counted::new(FOUR_LINES.as_bytes());
-        let mut output = Counted::new(Narrow { bytes, flushes });
-        let mut errors = Vec::new(rt.alloc());
-        let status = run(
-            rt.alloc(),
-            words.as_slice(),
-            &mut input,
-            &mut output,
-            &mut errors,
-        );
+        let narrow = Narrow { bytes, flushes };
+        let (status, output, errors) = run_to(rt.alloc(), &words, FOUR_LINES.as_bytes(), narrow);
         assert!(rt; status == 1, "{bytes} bytes, {flushes} flushes");
-        assert!(rt; errors.as_slice() == b"sqd: write failed after 4 requests\n".as_slice());
+        assert!(rt; errors.as_slice() == told.as_bytes());
         assert!(rt; output.failed() == 1);
     }
     Ok(())
 }
 
 #[test]
-fn tells_no_audit_after_a_fault(rt: HostRuntime) -> Result<(), Fail> {
-    let words = ["sqd", "script", "--homes", "1", "--audit"];
-    let long = vec![in rt.alloc(); b'a'; 4_194_305]?;
-    let mut input = Counted::new(long.as_slice());
-    let mut output = Counted::new(Vec::new(rt.alloc()));
+fn tells_what_it_cannot_begin_or_end(rt: HostRuntime) -> Result<(), Fail> {
     let mut errors = Vec::new(rt.alloc());
-    let status = run(
-        rt.alloc(),
-        words.as_slice(),
-        &mut input,
-        &mut output,
-        &mut errors,
-    );
-    assert!(rt; status == 1);
-    assert!(rt; output.inner().is_empty());
-    assert!(rt; errors.as_slice() == b"sqd: line too long after 0 requests\n".as_slice());
-    Ok(())
-}
-
-#[test]
-fn tells_each_fault_of_an_audit(rt: HostRuntime) -> Result<(), Fail> {
+    assert!(rt; no_memory(&mut errors) == 1);
+    assert!(rt; errors.as_slice() == b"sqd: no memory after 0 requests\n".as_slice());
+    let mut errors = Vec::new(rt.alloc());
+    assert!(rt; no_text(&mut errors) == 2);
+    assert!(rt; errors.as_slice().starts_with(b"error: invalid UTF-8"));
     for (fault, status, text) in [
         (AuditFault::NoMemory, 1, "sqd: no memory in audit\n"),
         (
@@ -344,81 +242,24 @@ fn tells_each_fault_of_an_audit(rt: HostRuntime) -> Result<(), Fail> {
 }
 
 #[test]
-fn refuses_bad_options(rt: HostRuntime) -> Result<(), Fail> {
-    for words in [
-        ["sqd", "script", "--homes", "1", "--sample", "2"].as_slice(),
-        ["sqd", "script", "--homes", "2", "--sample", "3"].as_slice(),
-        ["sqd", "script", "--homes", "2", "--sample", "3", "--audit"].as_slice(),
-        ["sqd", "script", "--homes", "16", "--flights", "15"].as_slice(),
-    ] {
-        let mut input = Counted::new(b"one\n".as_slice());
-        let mut output = Counted::new(Vec::new(rt.alloc()));
-        let mut errors = Vec::new(rt.alloc());
-        let status = run(rt.alloc(), words, &mut input, &mut output, &mut errors);
-        assert!(rt; status == 2);
-        assert!(rt; output.inner().is_empty());
-        assert!(rt; errors.as_slice() == b"sqd: bad options\n".as_slice());
-    }
-    Ok(())
-}
-
-#[test]
-fn refuses_bad_words(rt: HostRuntime) -> Result<(), Fail> {
-    for words in [
-        ["sqd", "script", "--homes=17"].as_slice(),
-        ["sqd", "scripts"].as_slice(),
-        ["sqd"].as_slice(),
-        ["sqd", "script", "--home"].as_slice(),
-        ["sqd", "script", "--audit", "--audit"].as_slice(),
-        ["sqd", "script", "--audit", "--homes=17", "--sample=3"].as_slice(),
-    ] {
-        let mut input = Counted::new(b"one\n".as_slice());
-        let mut output = Counted::new(Vec::new(rt.alloc()));
-        let mut errors = Vec::new(rt.alloc());
-        let status = run(rt.alloc(), words, &mut input, &mut output, &mut errors);
-        assert!(rt; status == 2);
-        assert!(rt; output.inner().is_empty());
-        assert!(rt;
-            errors.as_slice().starts_with(b"error: ") && errors.as_slice().ends_with(b"\n")
-        );
-    }
-    Ok(())
-}
-
-#[test]
 fn shows_help(rt: HostRuntime) -> Result<(), Fail> {
-    let words = ["sqd", "script", "--help"];
-    let mut input = Counted::new(b"one\n".as_slice());
-    let mut output = Counted::new(Vec::new(rt.alloc()));
-    let mut errors = Vec::new(rt.alloc());
-    let status = run(
-        rt.alloc(),
-        words.as_slice(),
-        &mut input,
-        &mut output,
-        &mut errors,
-    );
-    assert!(rt; status == 0);
-    let help = str::from_utf8(output.inner().as_slice()).unwrap_or("");
-    assert!(rt; help.contains("1 to 16 [default: 4]") && help.contains("--transit"));
-    assert!(rt; help.contains("--audit"));
-    assert!(rt;
-        help.contains(
-            "After the last reply, tell the run of all that was done and where each message is"
-        )
-    );
-    assert!(rt; errors.is_empty());
-    let words = ["sqd", "--help"];
-    let mut output = Counted::new(Vec::new(rt.alloc()));
-    let status = run(
-        rt.alloc(),
-        words.as_slice(),
-        &mut input,
-        &mut output,
-        &mut errors,
-    );
-    assert!(rt; status == 0);
-    let help = str::from_utf8(output.inner().as_slice()).unwrap_or("");
-    assert!(rt; help.contains("--transit  1 to 100000") && help.contains("--audit"));
+    let audit = "After the last reply, tell the run of all that was done and where each message is";
+    for (words, told) in [
+        (
+            ["sqd", "script", "--help"].as_slice(),
+            ["1 to 16 [default: 4]", "--transit", "--audit", audit].as_slice(),
+        ),
+        (
+            ["sqd", "--help"].as_slice(),
+            ["--transit  1 to 100000", "--audit"].as_slice(),
+        ),
+    ] {
+        let (status, output, errors) = run_to(rt.alloc(), words, b"one\n", Vec::new(rt.alloc()));
+        assert!(rt; status == 0 && errors.is_empty());
+        let help = str::from_utf8(output.inner().as_slice()).unwrap_or("");
+        for text in told {
+            assert!(rt; help.contains(*text), "{text}");
+        }
+    }
     Ok(())
 }

@@ -1,0 +1,23 @@
+//! The tests of all libraries, each through what its crate makes public.
+#![tactic(auto)]
+
+#[cfg(test)]
+mod audits;
+#[cfg(test)]
+mod calls;
+#[cfg(test)]
+mod directories;
+#[cfg(test)]
+mod homes;
+#[cfg(test)]
+mod places;
+#[cfg(test)]
+mod samples;
+#[cfg(test)]
+mod setup;
+#[cfg(test)]
+mod streams;
+#[cfg(test)]
+mod values;
+#[cfg(test)]
+mod worlds;

@@ -1,0 +1,291 @@
+//! Plain values from outside, each call once where it succeeds, and what a refusal is told as.
+use crate::setup::{hello, id, stamp};
+use sq_base::body::{BODY_LIMIT, Body, body_md5};
+use sq_base::handle::{Handle, read_handle, write_handle};
+use sq_base::ids::{HomeNo, QueueNo, Serial};
+use sq_base::message_id::MessageId;
+use sq_base::name::{QueueName, names_in_byte_order};
+use sq_base::ranges::Receives;
+use sq_base::refusal::Refusal;
+use sq_base::row::Row;
+use sq_base::stamp::{Stamp, derived_order};
+use sq_model::item::{BoxedItem, Item, ItemNo, Reason};
+use sq_wire::reply::reply_text;
+use std::test::Fail;
+use uuid::Uuid;
+
+fn handle_of(queue: u64, home: u64, slot: u32, serial: u64, receive: u64) -> Option<Handle> {
+    Some(Handle {
+        queue: QueueNo::new(queue)?,
+        home: HomeNo::new(home)?,
+        slot,
+        serial: Serial::new(serial)?,
+        receive: Receives::new(receive)?,
+    })
+}
+
+#[test]
+fn handles_have_their_texts(rt: HostRuntime) {
+    let last = handle_of(
+        281_474_976_710_655,
+        15,
+        u32::MAX,
+        4_611_686_018_427_387_903,
+        4_294_967_295,
+    );
+    for (text, handle) in [
+        (
+            b"000000000001-000-00000000-0000000000000000-00000001",
+            handle_of(1, 0, 0, 0, 1),
+        ),
+        (b"ffffffffffff-00f-ffffffff-3fffffffffffffff-ffffffff", last),
+    ] {
+        assert!(rt; handle.is_some());
+        assert!(rt; read_handle(text) == handle);
+        let mut written = [0u8; 51];
+        if let Some(h) = &handle {
+            h.fits();
+            write_handle(h, &mut written);
+        }
+        assert!(rt; &written == text);
+    }
+}
+
+#[test]
+fn other_texts_are_no_handles(rt: HostRuntime) {
+    let texts: [&[u8]; 11] = [
+        b"",
+        b"00000000000A-000-00000000-0000000000000000-00000001",
+        b"00000000000g-000-00000000-0000000000000000-00000001",
+        b"000000000001-000-00000000-0000000000000000-0000001",
+        b"000000000001-000-00000000-0000000000000000-000000011",
+        b"000000000001-000-00000000-0000000000000000-00000001\n",
+        b"000000000001-000-00000000-4000000000000000-00000001",
+        b"000000000001-010-00000000-0000000000000000-00000001",
+        b"000000000000-000-00000000-0000000000000000-00000001",
+        b"000000000001-000-00000000-0000000000000000-00000000",
+        b"000000000001_000-00000000-0000000000000000-00000001",
+    ];
+    for text in texts {
+        assert!(rt; read_handle(text).is_none());
+    }
+}
+
+fn id_of(queue: u64, home: u64, serial: u64) -> Option<MessageId> {
+    Some(MessageId {
+        queue: QueueNo::new(queue)?,
+        home: HomeNo::new(home)?,
+        serial: Serial::new(serial)?,
+    })
+}
+
+#[test]
+fn ids_have_their_uuids(rt: HostRuntime) {
+    let ids = [
+        (id_of(1, 0, 0), "00000000-0001-8000-8000-000000000000"),
+        (
+            id_of(281_474_976_710_655, 15, 4_611_686_018_427_387_903),
+            "ffffffff-ffff-800f-bfff-ffffffffffff",
+        ),
+        (
+            id_of(0x0123_4567_89ab, 10, 0x0def_0123_4567_89ab),
+            "01234567-89ab-800a-8def-0123456789ab",
+        ),
+    ];
+    for (id, text) in ids {
+        assert!(rt; id.is_some());
+        if let Some(id) = id {
+            id.fits();
+            let mut buffer = Uuid::encode_buffer();
+            assert!(rt; id.to_uuid().hyphenated().encode_lower(&mut buffer) == text);
+            assert!(rt; MessageId::from_uuid(&id.to_uuid()) == Some(id));
+        }
+    }
+}
+
+#[test]
+fn other_uuids_are_no_ids(rt: HostRuntime) {
+    let texts = [
+        "00000000-0001-7000-8000-000000000000",
+        "00000000-0001-8000-4000-000000000000",
+        "00000000-0001-8000-c000-000000000000",
+        "00000000-0001-8010-8000-000000000000",
+        "00000000-0000-8000-8000-000000000000",
+        "67e55044-10b1-426f-9247-bb680e5fe0c8",
+    ];
+    for text in texts {
+        let uuid = Uuid::parse_str(text);
+        assert!(rt; uuid.is_ok());
+        if let Ok(uuid) = uuid {
+            assert!(rt; MessageId::from_uuid(&uuid).is_none());
+        }
+    }
+}
+
+#[test]
+fn bodies_are_checked(rt: HostRuntime) {
+    let bodies = [
+        ("", 10, Err(Refusal::InvalidParameterValue)),
+        ("hello", 5, Ok(())),
+        ("hello", 4, Err(Refusal::InvalidParameterValue)),
+        ("\u{1}", 10, Err(Refusal::InvalidMessageContents)),
+        ("\u{FFFE}", 10, Err(Refusal::InvalidMessageContents)),
+        ("\u{B}", 10, Err(Refusal::InvalidMessageContents)),
+        ("a\tb\r\n", 10, Ok(())),
+        (
+            "\u{7F}\u{D7FF}\u{E000}\u{FFFD}\u{10000}\u{10FFFF}",
+            100,
+            Ok(()),
+        ),
+    ];
+    for (text, limit, want) in bodies {
+        assert!(rt; Body::check(text, limit) == want);
+    }
+}
+
+#[test]
+fn bodies_are_kept(rt: HostRuntime) -> Result<(), Fail> {
+    let body = hello(rt.alloc())?;
+    let copy = body.copy()?;
+    assert!(rt; copy.as_str() == "hello");
+    assert!(rt; copy.len() == 5);
+    assert!(rt; &body_md5(&copy) == b"5d41402abc4b2a76b9719d911017c592");
+    assert!(rt; Body::new(rt.alloc(), "", BODY_LIMIT).is_err());
+    Ok(())
+}
+
+#[test]
+fn bodies_have_a_limit(rt: HostRuntime) -> Result<(), Fail> {
+    let letters = vec![in rt.alloc(); b'a'; BODY_LIMIT + 1]?;
+    let most = str::from_utf8(&letters[1..])?;
+    assert!(rt; Body::check(most, BODY_LIMIT) == Ok(()));
+    let more = str::from_utf8(&letters)?;
+    assert!(rt; Body::check(more, BODY_LIMIT) == Err(Refusal::InvalidParameterValue));
+    Ok(())
+}
+
+const LAST: u64 = 4_611_686_018_427_387_903;
+
+#[test]
+fn stamps_follow(rt: HostRuntime) {
+    let start = Stamp::start();
+    let steps = [
+        (start, start, 0, Ok(stamp(0, 1))),
+        (start, start, 7, Ok(stamp(7, 0))),
+        (stamp(5, 2), stamp(5, 9), 5, Ok(stamp(5, 10))),
+        (stamp(5, 9), stamp(6, 2), 5, Ok(stamp(6, 3))),
+        (stamp(6, 2), stamp(5, 9), 4, Ok(stamp(6, 3))),
+        (stamp(5, LAST), start, 5, Err(Refusal::Worn)),
+        (stamp(5, LAST), start, 6, Ok(stamp(6, 0))),
+        (start, start, LAST, Ok(stamp(LAST, 0))),
+        (start, start, LAST + 1, Err(Refusal::ClockRange)),
+        (stamp(5, LAST), start, u64::MAX, Err(Refusal::ClockRange)),
+    ];
+    for (a, b, now, want) in steps {
+        assert!(rt; Stamp::after(a, b, now) == want);
+    }
+    derived_order();
+    assert!(rt; stamp(5, 9).is_below(stamp(6, 0)) && !stamp(5, 9).is_below(stamp(5, 9)));
+}
+
+#[test]
+fn names_are_checked(rt: HostRuntime) {
+    let most = [b'z'; 80];
+    let more = [b'z'; 81];
+    let names: [(&[u8], bool); 10] = [
+        (b"", false),
+        (b"a", true),
+        (b"Az09-_", true),
+        (b"a.fifo", false),
+        (b"a b", false),
+        (b"a/b", false),
+        (b"\xc3\xa9", false),
+        (b"a\0", false),
+        (&most, true),
+        (&more, false),
+    ];
+    for (text, want) in names {
+        let name = QueueName::new(text);
+        assert!(rt; name.is_some() == want);
+        if let Some(name) = name {
+            assert!(rt; name.as_bytes() == text);
+            assert!(rt; name.as_str().as_bytes() == text);
+        }
+    }
+    names_in_byte_order();
+    assert!(rt;
+        QueueName::new(b"B") < QueueName::new(b"a") && QueueName::new(b"a") < QueueName::new(b"aa")
+    );
+}
+
+#[test]
+fn refusals_have_names(rt: HostRuntime) -> Result<(), Fail> {
+    for (refusal, number, name) in [
+        (Refusal::NoMemory, 1, "NoMemory"),
+        (Refusal::Worn, 3, "Worn"),
+        (Refusal::QueueDeletedRecently, 11, "QueueDeletedRecently"),
+        (Refusal::PurgeQueueInProgress, 12, "PurgeQueueInProgress"),
+        (Refusal::EmptyBatchRequest, 17, "EmptyBatchRequest"),
+        (
+            Refusal::TooManyEntriesInBatchRequest,
+            18,
+            "TooManyEntriesInBatchRequest",
+        ),
+        (Refusal::InvalidBatchEntryId, 19, "InvalidBatchEntryId"),
+        (
+            Refusal::BatchEntryIdsNotDistinct,
+            20,
+            "BatchEntryIdsNotDistinct",
+        ),
+        (Refusal::BatchRequestTooLong, 21, "BatchRequestTooLong"),
+        (
+            Refusal::ResourceNotFoundException,
+            22,
+            "ResourceNotFoundException",
+        ),
+    ] {
+        assert!(rt; refusal.number() == number);
+        assert!(rt; refusal.name() == name);
+    }
+    // No line is told these.
+    for (refusal, want) in [
+        (
+            Refusal::NoMemory,
+            r#"{"Error":{"Code":"NoMemory","Number":1}}"#,
+        ),
+        (Refusal::Worn, r#"{"Error":{"Code":"Worn","Number":3}}"#),
+    ] {
+        let told = reply_text(rt.alloc(), &Err(refusal))?;
+        assert!(rt; told.as_bytes() == want.as_bytes());
+    }
+    Ok(())
+}
+
+#[test]
+fn a_box_gives_its_item(rt: HostRuntime) -> Result<(), Fail> {
+    let row = Row {
+        id: id(0),
+        lineage: id(0),
+        body: hello(rt.alloc())?,
+        serial: Serial::first(),
+        slot: 3,
+        enqueued: 1000,
+        visible_from: 31_000,
+        receives: 1,
+        last_receive: Some(1000),
+        origin: None,
+    };
+    let item = Item {
+        number: ItemNo::first(),
+        row,
+        source: QueueNo::following(1),
+        target: QueueNo::following(0),
+        reason: Reason::DeadLetter,
+        homeward: true,
+    };
+    let boxed = BoxedItem::new(rt.alloc(), item)?;
+    let kept = boxed.get();
+    assert!(rt; kept.number == ItemNo::first() && kept.row.id == id(0) && kept.row.slot == 3);
+    assert!(rt; kept.source.get() == 2 && kept.target.get() == 1 && kept.homeward);
+    Ok(())
+}

@@ -1,0 +1,185 @@
+//! Steps of several actors at several homes, and the one order of it all.
+use crate::setup::{at, configure, create, look, merged, options, send, stepped};
+use sq_audit::tagged::Tagged;
+use sq_base::refusal::Refusal;
+use sq_merge::world::World;
+use sq_model::replies::HomeReply;
+use sq_steps::act::{HomeAct, Outcome};
+use std::alloc::Global;
+use std::test::Fail;
+
+// A world with one queue, whose homes are open.
+fn opened(alloc: Global) -> Result<World, Refusal> {
+    let steps = [
+        create(0, 0, "q")?,
+        at(0, 0, 0, configure()),
+        at(0, 0, 1, configure()),
+    ];
+    stepped(alloc, options(2, 10, 16), &steps)
+}
+
+// The part of each event, 0 for the directory and then one more for each home, with its moment and its count.
+fn listed(alloc: Global, world: World) -> Result<Vec<(u32, u64, u64)>, Refusal> {
+    let parts = world.parts();
+    let run = merged(alloc, &parts)?;
+    let mut list = Vec::new(alloc);
+    for at in 0..run.len() {
+        let event = run.event(at).ok_or(Refusal::UnsupportedOperation)?;
+        let part = match event {
+            Tagged::Directory(_) => 0,
+            Tagged::Home(place, _) => place.saturating_add(1),
+        };
+        let stamp = event.stamp();
+        list.push((part, stamp.moment, stamp.count))?;
+    }
+    Ok(list)
+}
+
+// The stamps that an actor noted, in the order of its steps.
+fn noted(alloc: Global, world: World, actor: u32) -> Result<Vec<(u64, u64)>, Refusal> {
+    let parts = world.parts();
+    let mut stamps = Vec::new(alloc);
+    for book in parts.records.as_slice() {
+        if book.actor() == actor {
+            for record in book.records() {
+                let stamp = record.stamp();
+                stamps.push((stamp.moment, stamp.count))?;
+            }
+        }
+    }
+    Ok(stamps)
+}
+
+#[test]
+fn steps_of_three_actors_have_one_order(rt: HostRuntime) -> Result<(), Fail> {
+    let mut world = opened(rt.alloc())?;
+    let looks = [
+        at(1, 0, 0, look()),
+        at(2, 0, 1, look()),
+        at(1, 0, 1, look()),
+        at(2, 0, 0, look()),
+    ];
+    assert_eq!(rt; world.run(rt.alloc(), &looks), 4);
+    let listed = listed(rt.alloc(), world)?;
+    let wanted = [
+        (0, 0, 1),
+        (1, 0, 2),
+        (1, 0, 3),
+        (2, 0, 3),
+        (2, 0, 4),
+        (1, 0, 5),
+        (2, 0, 5),
+    ];
+    assert!(rt; listed.as_slice() == wanted.as_slice());
+    Ok(())
+}
+
+#[test]
+fn an_actor_notes_the_stamps_of_its_steps(rt: HostRuntime) -> Result<(), Fail> {
+    let mut world = opened(rt.alloc())?;
+    let looks = [
+        at(1, 0, 0, look()),
+        at(2, 0, 1, look()),
+        at(1, 0, 1, look()),
+    ];
+    assert_eq!(rt; world.run(rt.alloc(), &looks), 3);
+    let noted = noted(rt.alloc(), world, 1)?;
+    assert!(rt; noted.as_slice() == [(0, 3), (0, 5)].as_slice());
+    Ok(())
+}
+
+fn gave(outcome: &Outcome) -> Option<usize> {
+    match outcome {
+        Outcome::Home(HomeReply::Looked(rows)) => Some(rows.len()),
+        _ => None,
+    }
+}
+
+#[test]
+fn a_message_is_given_where_it_is(rt: HostRuntime) -> Result<(), Fail> {
+    let mut world = opened(rt.alloc())?;
+    let sent = world.step(rt.alloc(), &at(1, 1000, 1, send(rt.alloc())?))?;
+    assert!(rt; matches!(sent, Outcome::Home(HomeReply::Sent(_))));
+    for (number, wanted) in [(0, 0), (1, 1), (1, 0)] {
+        let outcome = world.step(rt.alloc(), &at(2, 1000, number, look()))?;
+        assert!(rt; gave(&outcome) == Some(wanted));
+    }
+    Ok(())
+}
+
+fn refusal(told: Result<Outcome, Refusal>) -> Option<Refusal> {
+    match told {
+        Ok(_) => None,
+        Err(refusal) => Some(refusal),
+    }
+}
+
+#[test]
+fn a_refused_step_leaves_no_event(rt: HostRuntime) -> Result<(), Fail> {
+    let mut world = opened(rt.alloc())?;
+    let end = 4_611_686_018_427_387_904;
+    for (step, wanted) in [
+        (at(5, 0, 2, look()), Refusal::QueueDoesNotExist),
+        (at(5, end, 2, look()), Refusal::ClockRange),
+        (at(5, end, 0, look()), Refusal::ClockRange),
+    ] {
+        assert!(rt; refusal(world.step(rt.alloc(), &step)) == Some(wanted));
+    }
+    let listed = listed(rt.alloc(), world)?;
+    assert!(rt; listed.as_slice() == [(0, 0, 1), (1, 0, 2), (2, 0, 3)].as_slice());
+    Ok(())
+}
+
+#[test]
+fn options_out_of_their_ranges_are_refused(rt: HostRuntime) -> Result<(), Fail> {
+    let mut options = options(2, 10, 16);
+    options.sample = 3;
+    assert!(rt;
+        matches!(
+            World::new(rt.alloc(), options),
+            Err(Refusal::InvalidParameterValue)
+        )
+    );
+    Ok(())
+}
+
+#[test]
+fn a_run_goes_on_after_a_refusal(rt: HostRuntime) -> Result<(), Fail> {
+    let mut world = opened(rt.alloc())?;
+    let purges = [
+        at(0, 0, 0, HomeAct::Purge),
+        at(0, 0, 2, HomeAct::Purge),
+        at(0, 0, 1, HomeAct::Purge),
+    ];
+    assert!(rt; world.run(rt.alloc(), &purges) == 2);
+    Ok(())
+}
+
+// Each step is of another actor, so that a stamp follows from its part alone.
+#[test]
+fn events_are_listed_by_stamp(rt: HostRuntime) -> Result<(), Fail> {
+    let steps = [
+        create(0, 1000, "q")?,
+        at(1, 1000, 0, configure()),
+        at(2, 2000, 0, HomeAct::Purge),
+        at(3, 2000, 0, HomeAct::Purge),
+        at(4, 1000, 1, configure()),
+        at(5, 1500, 1, HomeAct::Purge),
+        at(6, 2000, 1, HomeAct::Purge),
+        at(7, 3000, 1, HomeAct::Purge),
+    ];
+    let world = stepped(rt.alloc(), options(2, 10, 16), &steps)?;
+    let listed = listed(rt.alloc(), world)?;
+    let want = [
+        (0, 1000, 0),
+        (1, 1000, 0),
+        (2, 1000, 0),
+        (2, 1500, 0),
+        (1, 2000, 0),
+        (2, 2000, 0),
+        (1, 2000, 1),
+        (2, 3000, 0),
+    ];
+    assert!(rt; listed.as_slice() == want.as_slice());
+    Ok(())
+}
