@@ -70,32 +70,32 @@ three_cases a b c x y z e h = elim (refused_cases a x (refused_if b y (refused_i
 refusal_is : (site : Site) (home : Home) (m : ℕ) (a : HomeAct) (e : Refusal) → home_refusal site home m (call_of a) ≡ Some e → IsOfAnyStep e ⊎ (e ≡ QueueDoesNotExist) ⊎ IsOfAct a e
 unfolding home_refusal
 refusal_is site (Serving s v n rows) m (act.Configure settings version) e h = absurd cc
+refusal_is site Unopened m (act.Configure settings version) e h = absurd cc
+refusal_is site Closed m (act.Configure settings version) e h = inr (inl cc)
 refusal_is site (Serving s v n rows) m act.Close e h = absurd cc
+refusal_is site Unopened m act.Close e h = absurd cc
+refusal_is site Closed m act.Close e h = inr (inl cc)
 refusal_is site (Serving s v n rows) m (act.Send body delay) e h =
     let kept : List Row = trimmed s m rows in
     elim (two_cases (nat_le last_serial n || nat_le slots (length kept)) (nat_le site.limits.rows (length kept)) Worn OverLimit e h) [ inl worn ↦ inl (inr (inr worn)) | inr over ↦ inr (inr over) ]
+refusal_is site Unopened m (act.Send body delay) e h = inr (inl cc)
+refusal_is site Closed m (act.Send body delay) e h = inr (inl cc)
 refusal_is site (Serving s v n rows) m (act.Look max timeout) e h = absurd cc
+refusal_is site Unopened m (act.Look max timeout) e h = inr (inl cc)
+refusal_is site Closed m (act.Look max timeout) e h = inr (inl cc)
 refusal_is site (Serving s v n rows) m (act.Delete receipt) e h = inr (inr (one_case (nat_le n receipt.serial) ReceiptHandleIsInvalid e h))
+refusal_is site Unopened m (act.Delete receipt) e h = inr (inl cc)
+refusal_is site Closed m (act.Delete receipt) e h = inr (inl cc)
 refusal_is site (Serving s v n rows) m (act.Change receipt timeout) e h =
     let kept : List Row = trimmed s m rows in
     inr (inr (three_cases (nat_le n receipt.serial) (not (list_any (is_held m receipt) kept)) (list_any (λ row. is_held m receipt row && is_late (m + ms timeout) row.last_receive) kept) ReceiptHandleIsInvalid MessageNotInflight InvalidParameterValue e h))
-refusal_is site (Serving s v n rows) m act.Purge e h = absurd cc
-refusal_is site (Serving s v n rows) m act.Count e h = absurd cc
-refusal_is site Unopened m (act.Configure settings version) e h = absurd cc
-refusal_is site Unopened m act.Close e h = absurd cc
-refusal_is site Unopened m (act.Send body delay) e h = inr (inl cc)
-refusal_is site Unopened m (act.Look max timeout) e h = inr (inl cc)
-refusal_is site Unopened m (act.Delete receipt) e h = inr (inl cc)
 refusal_is site Unopened m (act.Change receipt timeout) e h = inr (inl cc)
-refusal_is site Unopened m act.Purge e h = inr (inl cc)
-refusal_is site Unopened m act.Count e h = inr (inl cc)
-refusal_is site Closed m (act.Configure settings version) e h = inr (inl cc)
-refusal_is site Closed m act.Close e h = inr (inl cc)
-refusal_is site Closed m (act.Send body delay) e h = inr (inl cc)
-refusal_is site Closed m (act.Look max timeout) e h = inr (inl cc)
-refusal_is site Closed m (act.Delete receipt) e h = inr (inl cc)
 refusal_is site Closed m (act.Change receipt timeout) e h = inr (inl cc)
+refusal_is site (Serving s v n rows) m act.Purge e h = absurd cc
+refusal_is site Unopened m act.Purge e h = inr (inl cc)
 refusal_is site Closed m act.Purge e h = inr (inl cc)
+refusal_is site (Serving s v n rows) m act.Count e h = absurd cc
+refusal_is site Unopened m act.Count e h = inr (inl cc)
 refusal_is site Closed m act.Count e h = inr (inl cc)
 
 -- why no stamp is given

@@ -1,10 +1,12 @@
 -- What the steps of a client's call come to.
-use Rattle.std.proofs.Common.{◌≡◌, ◌∙◌, ◌⊎◌, ℕ, suc, ◌+◌, ◌<◌, ◌≤◌, Bool, List, [], ◌∷◌, ◌++◌, length, refl, ap, subst, inl, inr, arith, Option, Some, Result, Ok, Err, IfOk, slice_get}
+use Rattle.std.proofs.Common.{◌≡◌, ◌∙◌, ◌⊎◌, ℕ, suc, ◌+◌, ◌<◌, ◌≤◌, Bool, List, [], ◌∷◌, ◌++◌, length, refl, ap, subst, inl, inr, arith, Option, None, Some, Result, Ok, Err, IfOk, slice_get}
 use Rattle.rand.specs.Sample.{IsSampleOf}
+use Rattle.sq_base.specs.declared.handle.Handle.{Handle}
 use Rattle.sq_base.specs.declared.refusal.Refusal.{Refusal}
-use Rattle.sq_base.specs.declared.refusal.Refusal.TheVariants.{QueueDoesNotExist}
+use Rattle.sq_base.specs.declared.refusal.Refusal.TheVariants.{QueueDoesNotExist, ReceiptHandleIsInvalid}
 use Rattle.sq_base.specs.declared.row.Row.{Row}
 use Rattle.sq_base.specs.declared.settings.Settings.{Settings}
+use Rattle.sq_model.specs.declared.calls.Receipt.{Receipt}
 use Rattle.sq_model.specs.declared.directory.DirectoryCall.TheVariants.{Create}
 use Rattle.sq_model.specs.declared.directory.DirectoryReply.TheVariants.{Made}
 use Rattle.sq_model.specs.declared.directory.QueueSettings.{QueueSettings}
@@ -16,24 +18,51 @@ use Rattle.sq_history.specs.declared.act.HomeAct.TheVariants as act
 use Rattle.sq_merge.specs.declared.calls.Answer.{Answer}
 use Rattle.sq_merge.specs.declared.calls.Answer.TheVariants as answer
 use Rattle.sq_merge.specs.declared.calls.CreateQueue.{CreateQueue}
+use Rattle.sq_merge.specs.declared.calls.NamedQueue.{NamedQueue}
 use Rattle.sq_merge.specs.declared.calls.ReceiveMessage.{ReceiveMessage}
-use Rattle.sq_merge.specs.Asks.{Ask, Resolve, Directed, AtHome, Gave, Found, Answered, Done, replied_of, HomeCounts, IsReplyTo, IsOnMessage, IsOfAnyStep, MayRefuse}
-use Rattle.sq_merge.specs.Calls.{home_of, given_by}
-use Rattle.sq_merge.specs.Fits.{named, created, at_home, ByName, IsPassed, AskedAll, AtAll, CreateFits, GivesNone, InVain, EndsReceive, none_told, ReceiveAt}
+use Rattle.sq_merge.specs.declared.client.OnMessage.{OnMessage}
+use Rattle.sq_merge.specs.declared.client.OnMessage.TheVariants.{Delete, Change}
+use Rattle.sq_merge.specs.Messages.{act_of}
+use Rattle.sq_merge.specs.Asks.{Ask, Resolve, Directed, AtHome, Gave, Found, Answered, Done, replied_of, HomeCounts, IsReplyTo, IsOfAnyStep, MayRefuse}
+use Rattle.sq_merge.specs.Calls.{home_of, given_by, receipt_of, handle_at}
+use Rattle.sq_merge.specs.Fits.{named, created, at_home, ByName, IsPassed, AskedAll, AtAll, CreateFits, GivesNone, InVain, EndsReceive, none_told, ReceiveAt, HandleAt, OneStep, MakesDone}
 use Rattle.sq_merge.specs.Told.{Path, Told}
 use Rattle.sq_merge.proofs.PathLaws.{path_more, told_one, told_more}
 
 -- a call on a queue that was found
-pub told_found : {S : Type 0} (stepped : S → Ask → Result Gave Refusal → S → Type 0) (counts : S → HomeCounts) (At : HomeCounts → ℕ → List Done → Result Answer Refusal → Type 0) (old mid new : S) (name : List ℕ) (queue : ℕ) (told : Result Answer Refusal)
-    → stepped old (Resolve name) (Ok (Found queue)) mid → counts mid ≡ counts old → Told stepped (At (counts mid) queue) mid told new → Told stepped (ByName name (At (counts old))) old told new
-told_found stepped counts At old mid new name queue told h same rest =
-    told_more stepped (ByName name (At (counts old))) (At (counts mid) queue) old mid new told (named name (Ok queue)) h rest
-    (λ ds fits. inr (queue, ds, refl, subst (λ (n : HomeCounts). At n queue ds told) same fits))
+pub told_found : {S : Type 0} (stepped : S → Ask → Result Gave Refusal → S → Type 0) (counts : S → HomeCounts) (At : HomeCounts → ℕ → List Done → Result Answer Refusal → Type 0) (F : List Done → Result Answer Refusal → Type 0) (old mid new : S) (name : List ℕ) (queue : ℕ) (told : Result Answer Refusal)
+    → stepped old (Resolve name) (Ok (Found queue)) mid → counts mid ≡ counts old → Told stepped F mid told new → ((ds : List Done) → F ds told → At (counts mid) queue ds told) → Told stepped (ByName name (At (counts old))) old told new
+told_found stepped counts At F old mid new name queue told h same rest as_at =
+    told_more stepped (ByName name (At (counts old))) F old mid new told (named name (Ok (Found queue))) h rest
+    (λ ds fits. inr (queue, ds, refl, subst (λ (n : HomeCounts). At n queue ds told) same (as_at ds fits)))
+
+-- and that ends there
+pub told_ended : {S : Type 0} (stepped : S → Ask → Result Gave Refusal → S → Type 0) (At : ℕ → List Done → Result Answer Refusal → Type 0) (old new : S) (name : List ℕ) (queue : ℕ) (told : Result Answer Refusal)
+    → stepped old (Resolve name) (Ok (Found queue)) new → At queue [] told → Told stepped (ByName name At) old told new
+told_ended stepped At old new name queue told h fits = told_one stepped (ByName name At) old old new told (named name (Ok (Found queue))) refl h (inr (queue, [], refl, fits))
 
 -- and on one that was not
 pub told_lost : {S : Type 0} (stepped : S → Ask → Result Gave Refusal → S → Type 0) (At : ℕ → List Done → Result Answer Refusal → Type 0) (old new : S) (name : List ℕ) (told : Result Answer Refusal) (e : Refusal)
     → told ≡ Err e → MayRefuse (Resolve name) e → stepped old (Resolve name) (Err e) new → Told stepped (ByName name At) old told new
 told_lost stepped At old new name told e is may h = told_one stepped (ByName name At) old old new told (named name (Err e)) refl h (inl (e, may, refl, is))
+
+-- a call on the message of a handle, at a queue that was found
+pub told_handle : {S : Type 0} (stepped : S → Ask → Result Gave Refusal → S → Type 0) (counts : S → HomeCounts) (old mid new : S) (name : List ℕ) (handle : Option Handle) (a : Receipt → HomeAct) (of : NamedQueue) (h : Handle) (by : Result HomeReply Refusal) (told : Result Answer Refusal)
+    → stepped old (Resolve name) (Ok (Found of.queue)) mid → counts mid ≡ counts old → of.name ≡ name → handle_at (counts mid).homes of.queue handle ≡ Some h
+    → stepped mid (AtHome of.name (home_of of.queue h.home) (a (receipt_of h))) (replied_of by) new → OneStep of.name of.queue h.home (a (receipt_of h)) MakesDone (at_home of.name of.queue h.home (a (receipt_of h)) by ∷ []) told
+    → Told stepped (ByName name (HandleAt (counts old).homes name handle a)) old told new
+told_handle stepped counts old mid new name handle a of h by told did same by_name found asked fits =
+    let F = OneStep of.name of.queue h.home (a (receipt_of h)) MakesDone in
+    told_found stepped counts (λ n. HandleAt n.homes name handle a) F old mid new name of.queue told did same
+    (told_one stepped F mid mid new told (at_home of.name of.queue h.home (a (receipt_of h)) by) refl asked fits)
+    (λ ds one. inr (h, found, subst (λ (n : List ℕ). OneStep n of.queue h.home (a (receipt_of h)) MakesDone ds told) by_name one))
+
+-- and of what is no handle there
+pub told_no_handle : {S : Type 0} (stepped : S → Ask → Result Gave Refusal → S → Type 0) (counts : S → HomeCounts) (old new : S) (name : List ℕ) (handle : Option Handle) (a : Receipt → HomeAct) (queue : ℕ) (told : Result Answer Refusal)
+    → stepped old (Resolve name) (Ok (Found queue)) new → counts new ≡ counts old → handle_at (counts new).homes queue handle ≡ None → told ≡ Err ReceiptHandleIsInvalid
+    → Told stepped (ByName name (HandleAt (counts old).homes name handle a)) old told new
+told_no_handle stepped counts old new name handle a queue told did same lost is =
+    told_ended stepped (HandleAt (counts old).homes name handle a) old new name queue told did (inl (subst (λ (n : HomeCounts). handle_at n.homes queue handle ≡ None) same lost, refl, is))
 
 -- a queue that was made, or found, and its homes
 pub told_created : {S : Type 0} (stepped : S → Ask → Result Gave Refusal → S → Type 0) (counts : S → HomeCounts) (c : CreateQueue) (old mid new : S) (made : QueueSettings) (told : Result Answer Refusal)
@@ -93,12 +122,11 @@ passed_done settings version told replied passed = elim passed [
 ]
 
 -- nor one that deletes or changes a message
-pub message_done : (a : HomeAct) (by : HomeReply) → IsOnMessage a → IsReplyTo a by → by ≡ reply.Done
-message_done (act.Delete receipt) reply.Done on h = refl
-message_done (act.Change receipt timeout) reply.Done on h = refl
-message_done (act.Delete receipt) by on h = elim h [ ]
-message_done (act.Change receipt timeout) by on h = elim h [ ]
-message_done a by on h = elim on [ ]
+pub message_done : (what : OnMessage) (receipt : Receipt) (by : HomeReply) → IsReplyTo (act_of what receipt) by → by ≡ reply.Done
+message_done Delete receipt reply.Done h = refl
+message_done (Change timeout) receipt reply.Done h = refl
+message_done Delete receipt by h = elim h [ ]
+message_done (Change timeout) receipt by h = elim h [ ]
 
 -- a send is told as sent
 pub sent_is : (body : List ℕ) (delay : Option ℕ) (by : HomeReply) → IsReplyTo (act.Send body delay) by → ((sent : SentMessage) → by ≡ reply.Sent sent → ⊥) → ⊥

@@ -19,6 +19,7 @@ use Rattle.sq_history.specs.declared.act.HomeAct.TheVariants as act
 use Rattle.sq_history.specs.Acts.{call_of}
 use Rattle.sq_directory.specs.Makers.{IsSeen}
 use Rattle.sq_steps.specs.Books.{having_seen, with_note}
+use Rattle.sq_merge.specs.declared.calls.NamedQueue.{NamedQueue}
 use Rattle.sq_merge.specs.GivenValue.{AreReceived}
 
 -- What a step asks: the number of the queue of a name, which is a read; a step of the directory; a step of a home, by the queue's name that was used.
@@ -33,8 +34,8 @@ pub data Gave : Type 0 where
   Answered : (reply : DirectoryReply) → Gave
   Replied : (reply : HomeReply) → Gave
 
-abbrev pub found_of : Result ℕ Refusal → Result Gave Refusal
-found_of (Ok queue) = Ok (Found queue)
+abbrev pub found_of : Result NamedQueue Refusal → Result Gave Refusal
+found_of (Ok of) = Ok (Found of.queue)
 found_of (Err e) = Err e
 
 abbrev pub made_of : Result QueueSettings Refusal → Result Gave Refusal
@@ -67,12 +68,6 @@ IsReplyTo (act.Change receipt timeout) reply.Done = Unit {0}
 IsReplyTo act.Purge reply.Done = Unit {0}
 IsReplyTo act.Count (reply.Counted counts) = Unit {0}
 IsReplyTo act other = ⊥
-
--- an act on a message that a handle names
-abbrev pub IsOnMessage : HomeAct → Type 0
-IsOnMessage (act.Delete receipt) = Unit {0}
-IsOnMessage (act.Change receipt timeout) = Unit {0}
-IsOnMessage act = ⊥
 
 -- what may refuse each step: memory, the clock, a count at its end
 abbrev pub IsOfAnyStep : Refusal → Type 0

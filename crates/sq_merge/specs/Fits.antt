@@ -24,12 +24,12 @@ use Rattle.sq_merge.specs.declared.calls.Call.TheVariants as call
 use Rattle.sq_merge.specs.declared.calls.CreateQueue.{CreateQueue}
 use Rattle.sq_merge.specs.declared.calls.ReceiveMessage.{ReceiveMessage}
 use Rattle.sq_merge.specs.declared.calls.SendMessage.{SendMessage}
-use Rattle.sq_merge.specs.Asks.{Resolve, Directed, AtHome, Done, found_of, made_of, replied_of, HomeCounts, IsOfAnyStep, MayRefuse}
+use Rattle.sq_merge.specs.Asks.{Resolve, Directed, AtHome, Gave, Found, Done, made_of, replied_of, HomeCounts, IsOfAnyStep, MayRefuse}
 use Rattle.sq_merge.specs.Calls.{home_of, given_by, receipt_of, handle_at}
 
 -- a queue is looked up by its name; a queue is made, or found; a home of a queue is asked, by the queue's name
-abbrev pub named : List ℕ → Result ℕ Refusal → Done
-named name told = record { ask = Resolve name; told = found_of told }
+abbrev pub named : List ℕ → Result Gave Refusal → Done
+named name told = record { ask = Resolve name; told = told }
 
 abbrev pub created : List ℕ → Attributes → Result QueueSettings Refusal → Done
 created name given told = record { ask = Directed (Create name given); told = made_of told }
@@ -41,7 +41,7 @@ at_home name queue home act told = record { ask = AtHome name (home_of queue hom
 abbrev pub ByName : List ℕ → (ℕ → List Done → Result Answer Refusal → Type 0) → List Done → Result Answer Refusal → Type 0
 ByName name At trace told =
     ((e : Refusal) × MayRefuse (Resolve name) e × (trace ≡ named name (Err e) ∷ []) × (told ≡ Err e))
-    ⊎ ((queue : ℕ) × (rest : List Done) × (trace ≡ named name (Ok queue) ∷ rest) × At queue rest told)
+    ⊎ ((queue : ℕ) × (rest : List Done) × (trace ≡ named name (Ok (Found queue)) ∷ rest) × At queue rest told)
 
 -- One step at a home of a queue, whose reply makes the answer.
 abbrev pub OneStep : List ℕ → ℕ → ℕ → HomeAct → (HomeReply → Answer → Type 0) → List Done → Result Answer Refusal → Type 0
@@ -77,11 +77,15 @@ CreateFits homes c trace told =
 abbrev pub MakesSent : List ℕ → HomeReply → Answer → Type 0
 MakesSent body by told = (sent : SentMessage) × (by ≡ reply.Sent sent) × (told ≡ answer.Sent sent.id (encode_lower (md5 body)))
 
--- SendMessage at a queue: the body is checked, and put last at one of the queue's homes
+-- a body is put last at one of a queue's homes
+abbrev pub PutAt : ℕ → List ℕ → ℕ → List ℕ → Option ℕ → List Done → Result Answer Refusal → Type 0
+PutAt homes name queue body delay trace told = (home : ℕ) × (home < homes) × OneStep name queue home (Send body delay) (MakesSent body) trace told
+
+-- SendMessage at a queue: the body is checked, and put
 abbrev pub SendAt : ℕ → SendMessage → ℕ → List Done → Result Answer Refusal → Type 0
 SendAt homes c queue trace told =
     ((e : Refusal) × ((body_check c.body 262144 ≡ Err e) ⊎ ((body_check c.body 262144 ≡ Ok tt) × (e ≡ NoMemory))) × (trace ≡ []) × (told ≡ Err e))
-    ⊎ ((home : ℕ) × (home < homes) × (body_check c.body 262144 ≡ Ok tt) × OneStep c.queue queue home (Send c.body c.delay) (MakesSent c.body) trace told)
+    ⊎ ((body_check c.body 262144 ≡ Ok tt) × PutAt homes c.queue queue c.body c.delay trace told)
 
 -- a home that is asked gives no message: it has none, or too many in flight; whether any home so far has
 abbrev pub GivesNone : HomeReply → Bool → Bool → Type 0

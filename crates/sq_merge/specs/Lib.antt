@@ -4,6 +4,7 @@ pub mod Openings
 pub mod PartsValue
 pub mod GivenValue
 pub mod Asks
+pub mod Messages
 pub mod Told
 pub mod Calls
 pub mod Fits

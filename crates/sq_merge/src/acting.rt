@@ -24,10 +24,11 @@ use std::alloc::Global;
 
 /// Does the steps of an actor's calls at a world. A clock reading is in ms.
 #[derive(Drop)]
-pub struct Acting<'a> {
-    world: &'a mut World,
-    actor: u32,
-    clock: u64,
+pub(crate) struct Acting<'a> {
+    pub(crate) alloc: Global,
+    pub(crate) world: &'a mut World,
+    pub(crate) actor: u32,
+    pub(crate) clock: u64,
 }
 
 impl<'a> LockSteps for Acting<'a> {
@@ -40,27 +41,26 @@ impl<'a> LockSteps for Acting<'a> {
 
     ghost book = { λ s. book_of s.actor s.world.now.books };
 
+    fn alloc(&self) -> Global {
+        self.alloc
+    }
+
     fn homes(&self) -> HomeCount {
         self.world.per_queue()
     }
 
-    fn resolve(&mut self, alloc: Global, name: &QueueName) -> Result<QueueNo, Refusal> {
-        self.world.resolve(alloc, self.actor, name)
+    fn resolve(&mut self, name: &QueueName) -> Result<NamedQueue, Refusal> {
+        let queue = self.world.resolve(self.alloc, self.actor, name)?;
+        Ok(NamedQueue { name: *name, queue })
     }
 
-    fn create(
-        &mut self,
-        alloc: Global,
-        name: &QueueName,
-        given: &Attributes,
-    ) -> Result<QueueSettings, Refusal> {
+    fn create(&mut self, name: &QueueName, given: &Attributes) -> Result<QueueSettings, Refusal> {
         self.world
-            .create(alloc, self.actor, self.clock, name, given)
+            .create(self.alloc, self.actor, self.clock, name, given)
     }
 
     fn at_home(
         &mut self,
-        alloc: Global,
         of: &NamedQueue,
         home: HomeNo,
         act: HomeAct,
@@ -69,45 +69,25 @@ impl<'a> LockSteps for Acting<'a> {
             queue: of.queue,
             home,
         };
-        self.world
-            .at_home(alloc, self.actor, self.clock, Some(of.name), &id, act)
+        self.world.at_home(self.alloc, self.actor, self.clock, Some(of.name), &id, act)
     }
 
     fn pick(&mut self) -> HomeNo {
         self.world.pick()
     }
 
-    fn draw(&mut self, alloc: Global) -> Result<Vec<HomeNo>, Refusal> {
-        self.world.draw(alloc)
+    fn draw(&mut self) -> Result<Vec<HomeNo>, Refusal> {
+        self.world.draw(self.alloc)
     }
 
     ghost leaves = { λ s t ask told h. subst (λ (n : ℕ). LeavesOf ask told (book_of s.actor s.world.now.books) (book_of n t.world.now.books)) (sym h.2) (actor_leaves s.actor s.clock s.world.now t.world.now ask told h.0) };
 }
 
-// What a client asks, at the world that is borrowed.
-fn run(acting: &mut Acting<'_>, alloc: Global, call: &Call) -> Result<Answer, Refusal>
+// Does a client's call at the world that is borrowed.
+pub(crate) fn call_at(acting: &mut Acting<'_>, call: &Call) -> Result<Answer, Refusal>
     ensures same_reference { acting.new.world.ghost_name ≡ acting.old.world.ghost_name }
     ensures told { Told (ActorStepped acting.old.actor acting.old.clock) (CallFits (counts_of acting.old.world.now) call.now) acting.old.world.now result acting.new.world.now }
     ensures left { LeavesRecords (CallFits (counts_of acting.old.world.now) call.now) (book_of acting.old.actor acting.old.world.now.books) result (book_of acting.old.actor acting.new.world.now.books) }
 {
-    client::call(acting, alloc, call)
-}
-
-// What a client asks of a world.
-pub(crate) fn call_as(
-    world: &mut World,
-    alloc: Global,
-    actor: u32,
-    clock: u64,
-    call: &Call,
-) -> Result<Answer, Refusal>
-    ensures told { Told (ActorStepped actor clock) (CallFits (counts_of world.old) call.now) world.old result world.new }
-    ensures left { LeavesRecords (CallFits (counts_of world.old) call.now) (book_of actor world.old.books) result (book_of actor world.new.books) }
-{
-    let mut acting = Acting {
-        world,
-        actor,
-        clock,
-    };
-    run(&mut acting, alloc, call)
+    client::call(acting, call)
 }

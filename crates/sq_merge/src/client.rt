@@ -1,18 +1,15 @@
 //! What each call of a client does, over any steps.
-ghost use Rattle.std.specs.Prelude.{◌≡◌, ◌≢◌, ◌⊎◌, ◌<◌, Ok, Err, IfErr, OnOk};
+ghost use Rattle.std.specs.Prelude.{◌≡◌, ◌≢◌, ◌⊎◌, ◌<◌, None, Some, Ok, Err, IfOk, IfErr, OnOk};
 ghost use Rattle.sq_model.specs.declared.replies.HomeReply.{HomeReply};
-ghost use Rattle.sq_history.specs.declared.act.HomeAct.TheVariants.{Configure, Delete, Change};
+ghost use Rattle.sq_history.specs.declared.act.HomeAct.TheVariants.{Configure};
 ghost use Rattle.sq_merge.specs.declared.calls.Answer.TheVariants.{Queue};
-ghost use Rattle.sq_merge.specs.Asks.{IsOnMessage};
+ghost use Rattle.sq_merge.specs.Messages.{act_of};
 ghost use Rattle.sq_merge.specs.Calls.{home_of, given_by, receipt_of, handle_at};
-ghost use Rattle.sq_merge.specs.Fits.{ByName, AtAll, CreateFits, SendAt, ReceiveAt, HandleAt, OneStep, MakesDone, CallFits};
+ghost use Rattle.sq_merge.specs.Fits.{ByName, AtAll, CreateFits, PutAt, ReceiveAt, HandleAt, CallFits};
 ghost use Rattle.sq_merge.specs.GivenValue.{AreReceived};
 ghost use Rattle.sq_merge.specs.Told.{Told, LeavesRecords};
 
-use crate::calls::{
-    Answer, Call, ChangeMessageVisibility, CreateQueue, DeleteMessage, NamedQueue, ReceiveMessage,
-    SendMessage,
-};
+use crate::calls::{Answer, Call, CreateQueue, NamedQueue, ReceiveMessage};
 use crate::digest::Digest;
 use crate::given::Given;
 use crate::lock_steps::LockSteps;
@@ -20,6 +17,7 @@ use sq_base::body::{BODY_LIMIT, Body};
 use sq_base::handle::Handle;
 use sq_base::ids::{HomeId, HomeNo, QueueNo};
 use sq_base::name::QueueName;
+use sq_base::ranges::{Delay, Timeout};
 use sq_base::refusal::Refusal;
 use sq_history::act::HomeAct;
 use sq_model::calls::Receipt;
@@ -27,37 +25,50 @@ use sq_model::directory::QueueSettings;
 use sq_model::replies::HomeReply;
 use sq_model::rows::Rows;
 use sq_sample::sampler::HomeCount;
-use std::alloc::Global;
 
 /// Does a client's call, step by step; steps that were done before a refusal stand.
-pub fn call<S: LockSteps>(steps: &mut S, alloc: Global, call: &Call) -> Result<Answer, Refusal>
+pub fn call<S: LockSteps>(steps: &mut S, call: &Call) -> Result<Answer, Refusal>
     ensures told { Told S.stepped (CallFits (S.counts steps.old) call.now) steps.old result steps.new }
     ensures left { LeavesRecords (CallFits (S.counts steps.old) call.now) (S.book steps.old) result (S.book steps.new) }
 {
+    answer(steps, call)
+}
+
+// The answer to a call, by the steps of its kind. A call on a queue looks it up by its name first.
+fn answer<S: LockSteps>(steps: &mut S, call: &Call) -> Result<Answer, Refusal>
+    ensures { Told S.stepped (CallFits (S.counts steps.old) call.now) steps.old result steps.new }
+{
     match call {
-        Call::CreateQueue(call) => create_queue(steps, alloc, call),
-        Call::SendMessage(call) => send_message(steps, alloc, call),
-        Call::ReceiveMessage(call) => receive_message(steps, alloc, call),
-        Call::DeleteMessage(call) => delete_message(steps, alloc, call),
-        Call::ChangeMessageVisibility(call) => change_message_visibility(steps, alloc, call),
+        Call::CreateQueue(call) => create_queue(steps, call),
+        Call::SendMessage(call) => {
+            let of = steps.resolve(&call.queue)?;
+            let body = Body::new(steps.alloc(), call.body.as_str(), BODY_LIMIT)?;
+            put(steps, &of, body, call.delay)
+        }
+        Call::ReceiveMessage(call) => {
+            let of = steps.resolve(&call.queue)?;
+            receive(steps, &of, call)
+        }
+        Call::DeleteMessage(call) => {
+            on_message(steps, &call.queue, &call.handle, OnMessage::Delete)
+        }
+        Call::ChangeMessageVisibility(call) => {
+            let change = OnMessage::Change(call.timeout);
+            on_message(steps, &call.queue, &call.handle, change)
+        }
     }
 }
 
-fn create_queue<S: LockSteps>(
-    steps: &mut S,
-    alloc: Global,
-    call: &CreateQueue,
-) -> Result<Answer, Refusal>
+fn create_queue<S: LockSteps>(steps: &mut S, call: &CreateQueue) -> Result<Answer, Refusal>
     ensures { Told S.stepped (CreateFits (S.counts steps.old).homes call.now) steps.old result steps.new }
 {
-    let made = steps.create(alloc, &call.name, &call.attributes)?;
-    configure_all(steps, alloc, call.name, &made)
+    let made = steps.create(&call.name, &call.attributes)?;
+    configure_all(steps, call.name, &made)
 }
 
 // Gives all homes of a queue its settings.
 fn configure_all<S: LockSteps>(
     steps: &mut S,
-    alloc: Global,
     name: QueueName,
     made: &QueueSettings,
 ) -> Result<Answer, Refusal>
@@ -70,7 +81,7 @@ fn configure_all<S: LockSteps>(
     };
     for number in 0..steps.homes().get() as u8 {
         let act = HomeAct::Configure(made.settings, made.version);
-        pass_closed(steps.at_home(alloc, &of, HomeNo::of(number), act))?;
+        pass_closed(steps.at_home(&of, HomeNo::of(number), act))?;
     }
     Ok(Answer::Queue(name))
 }
@@ -87,72 +98,43 @@ fn pass_closed(told: Result<HomeReply, Refusal>) -> Result<(), Refusal>
     }
 }
 
-fn send_message<S: LockSteps>(
+// Puts a body last at one of the queue's homes.
+fn put<S: LockSteps>(
     steps: &mut S,
-    alloc: Global,
-    call: &SendMessage,
+    of: &NamedQueue,
+    body: Body,
+    delay: Option<Delay>,
 ) -> Result<Answer, Refusal>
-    ensures { Told S.stepped (ByName call.now.queue (SendAt (S.counts steps.old).homes call.now)) steps.old result steps.new }
+    requires { S.knows steps.old of.now.name of.now.queue }
+    ensures { Told S.stepped (PutAt (S.counts steps.old).homes of.now.name of.now.queue body delay) steps.old result steps.new }
 {
-    let queue = steps.resolve(alloc, &call.queue)?;
-    send_at(steps, alloc, queue, call)
-}
-
-fn send_at<S: LockSteps>(
-    steps: &mut S,
-    alloc: Global,
-    queue: QueueNo,
-    call: &SendMessage,
-) -> Result<Answer, Refusal>
-    requires { S.knows steps.old call.now.queue queue }
-    ensures { Told S.stepped (SendAt (S.counts steps.old).homes call.now queue) steps.old result steps.new }
-{
-    let body = Body::new(alloc, call.body.as_str(), BODY_LIMIT)?;
     let digest = Digest::of(&body);
-    let of = NamedQueue {
-        name: call.queue,
-        queue,
-    };
     let home = steps.pick();
-    match steps.at_home(alloc, &of, home, HomeAct::Send(body, call.delay))? {
+    match steps.at_home(of, home, HomeAct::Send(body, delay))? {
         HomeReply::Sent(sent) => Ok(Answer::Sent(sent.id, digest)),
         _ => unreachable!(),
     }
 }
 
-fn receive_message<S: LockSteps>(
+// Asks distinct homes of the queue, one after another, up to the first that gives messages.
+fn receive<S: LockSteps>(
     steps: &mut S,
-    alloc: Global,
+    of: &NamedQueue,
     call: &ReceiveMessage,
 ) -> Result<Answer, Refusal>
-    ensures { Told S.stepped (ByName call.now.queue (ReceiveAt (S.counts steps.old) call.now)) steps.old result steps.new }
+    requires known { S.knows steps.old of.now.name of.now.queue }
+    requires named { of.now.name ≡ call.now.queue }
+    ensures { Told S.stepped (ReceiveAt (S.counts steps.old) call.now of.now.queue) steps.old result steps.new }
 {
-    let queue = steps.resolve(alloc, &call.queue)?;
-    receive_at(steps, alloc, queue, call)
-}
-
-fn receive_at<S: LockSteps>(
-    steps: &mut S,
-    alloc: Global,
-    queue: QueueNo,
-    call: &ReceiveMessage,
-) -> Result<Answer, Refusal>
-    requires { S.knows steps.old call.now.queue queue }
-    ensures { Told S.stepped (ReceiveAt (S.counts steps.old) call.now queue) steps.old result steps.new }
-{
-    let homes = steps.draw(alloc)?;
-    let of = NamedQueue {
-        name: call.queue,
-        queue,
-    };
+    let homes = steps.draw()?;
     let mut over = false;
     for place in 0..homes.len() {
         let home = homes[place];
         let act = HomeAct::Look(call.max, call.timeout);
-        match steps.at_home(alloc, &of, home, act)? {
+        match steps.at_home(of, home, act)? {
             HomeReply::Looked(rows) => {
                 if rows.len() > 0 {
-                    return Ok(given(queue, home, call, rows));
+                    return Ok(given(of.queue, home, call, rows));
                 }
             }
             HomeReply::Over => over = true,
@@ -162,84 +144,41 @@ fn receive_at<S: LockSteps>(
     if over {
         return Err(Refusal::OverLimit);
     }
-    Ok(given(queue, HomeNo::first(), call, Rows::new(alloc)))
+    let none = Rows::new(steps.alloc());
+    Ok(given(of.queue, HomeNo::first(), call, none))
 }
 
-fn delete_message<S: LockSteps>(
-    steps: &mut S,
-    alloc: Global,
-    call: &DeleteMessage,
-) -> Result<Answer, Refusal>
-    ensures { Told S.stepped (ByName call.now.queue (HandleAt (S.counts steps.old).homes call.now.queue call.now.handle (λ receipt. Delete receipt))) steps.old result steps.new }
-{
-    let queue = steps.resolve(alloc, &call.queue)?;
-    delete_at(steps, alloc, queue, call)
+// What is done to the message of a handle.
+#[derive(Clone, Copy)]
+enum OnMessage {
+    Delete,
+    Change(Timeout),
 }
 
-fn delete_at<S: LockSteps>(
-    steps: &mut S,
-    alloc: Global,
-    queue: QueueNo,
-    call: &DeleteMessage,
-) -> Result<Answer, Refusal>
-    requires { S.knows steps.old call.now.queue queue }
-    ensures { Told S.stepped (HandleAt (S.counts steps.old).homes call.now.queue call.now.handle (λ receipt. Delete receipt) queue) steps.old result steps.new }
-{
-    let Some(handle) = handle_at(steps.homes(), queue, &call.handle) else {
-        return Err(Refusal::ReceiptHandleIsInvalid);
-    };
-    let of = NamedQueue {
-        name: call.queue,
-        queue,
-    };
-    let act = HomeAct::Delete(receipt_of(&handle));
-    at_message(steps, alloc, &of, handle.home, act)
+impl OnMessage {
+    fn act(self, receipt: Receipt) -> HomeAct
+        ensures { result ≡ act_of self receipt }
+    {
+        match self {
+            OnMessage::Delete => HomeAct::Delete(receipt),
+            OnMessage::Change(timeout) => HomeAct::Change(receipt, timeout),
+        }
+    }
 }
 
-fn change_message_visibility<S: LockSteps>(
+// A step on the message of a handle, at its home.
+fn on_message<S: LockSteps>(
     steps: &mut S,
-    alloc: Global,
-    call: &ChangeMessageVisibility,
+    name: &QueueName,
+    handle: &Option<Handle>,
+    what: OnMessage,
 ) -> Result<Answer, Refusal>
-    ensures { Told S.stepped (ByName call.now.queue (HandleAt (S.counts steps.old).homes call.now.queue call.now.handle (λ receipt. Change receipt call.now.timeout))) steps.old result steps.new }
+    ensures { Told S.stepped (ByName name.now (HandleAt (S.counts steps.old).homes name.now handle.now (act_of what))) steps.old result steps.new }
 {
-    let queue = steps.resolve(alloc, &call.queue)?;
-    change_at(steps, alloc, queue, call)
-}
-
-fn change_at<S: LockSteps>(
-    steps: &mut S,
-    alloc: Global,
-    queue: QueueNo,
-    call: &ChangeMessageVisibility,
-) -> Result<Answer, Refusal>
-    requires { S.knows steps.old call.now.queue queue }
-    ensures { Told S.stepped (HandleAt (S.counts steps.old).homes call.now.queue call.now.handle (λ receipt. Change receipt call.now.timeout) queue) steps.old result steps.new }
-{
-    let Some(handle) = handle_at(steps.homes(), queue, &call.handle) else {
-        return Err(Refusal::ReceiptHandleIsInvalid);
-    };
-    let of = NamedQueue {
-        name: call.queue,
-        queue,
-    };
-    let act = HomeAct::Change(receipt_of(&handle), call.timeout);
-    at_message(steps, alloc, &of, handle.home, act)
-}
-
-// A step on a message, at its home.
-fn at_message<S: LockSteps>(
-    steps: &mut S,
-    alloc: Global,
-    of: &NamedQueue,
-    home: HomeNo,
-    act: HomeAct,
-) -> Result<Answer, Refusal>
-    requires known { S.knows steps.old of.now.name of.now.queue }
-    requires message { IsOnMessage act }
-    ensures { Told S.stepped (OneStep of.now.name of.now.queue home act MakesDone) steps.old result steps.new }
-{
-    steps.at_home(alloc, of, home, act)?;
+    let of = steps.resolve(name)?;
+    let handle = handle_at(steps.homes(), of.queue, handle)?;
+    let act = what.act(receipt_of(&handle));
+    steps.at_home(&of, handle.home, act)?;
     Ok(Answer::Done)
 }
 
@@ -253,14 +192,15 @@ fn given(queue: QueueNo, home: HomeNo, call: &ReceiveMessage, rows: Rows) -> Ans
 }
 
 // The handle, where it is one of this queue and of one of its homes.
-fn handle_at(homes: HomeCount, queue: QueueNo, handle: &Option<Handle>) -> Option<Handle>
-    ensures { result ≡ handle_at homes queue handle.now }
+fn handle_at(homes: HomeCount, queue: QueueNo, handle: &Option<Handle>) -> Result<Handle, Refusal>
+    ensures found { IfOk result (λ h. handle_at homes queue handle.now ≡ Some h) }
+    ensures lost { IfErr result (λ e. (handle_at homes queue handle.now ≡ None) × (e ≡ Refusal.ReceiptHandleIsInvalid)) }
 {
     match handle {
         Some(handle) if handle.queue == queue && (handle.home.get() as u32) < homes.get() => {
-            Some(*handle)
+            Ok(*handle)
         }
-        _ => None,
+        _ => Err(Refusal::ReceiptHandleIsInvalid),
     }
 }
 

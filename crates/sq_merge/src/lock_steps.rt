@@ -8,7 +8,7 @@ ghost use Rattle.sq_merge.specs.Asks.{Ask, Resolve, Directed, AtHome, Gave, foun
 ghost use Rattle.sq_merge.specs.Calls.{home_of};
 
 use crate::calls::NamedQueue;
-use sq_base::ids::{HomeNo, QueueNo};
+use sq_base::ids::HomeNo;
 use sq_base::name::QueueName;
 use sq_base::refusal::Refusal;
 use sq_history::act::HomeAct;
@@ -31,25 +31,24 @@ pub trait LockSteps {
     /// What the actor has seen, and its records.
     ghost book: { Self → Book };
 
+    /// Where the memory of a call comes from.
+    fn alloc(&self) -> Global;
+
     /// How many homes a queue has.
     fn homes(&self) -> HomeCount
         ensures { result ≡ (counts self.now).homes };
 
-    /// Reads the number of the queue of this name. Refused as QueueDoesNotExist, NoMemory.
-    fn resolve(&mut self, alloc: Global, name: &QueueName) -> Result<QueueNo, Refusal>
+    /// Looks the queue of this name up. Refused as QueueDoesNotExist, NoMemory.
+    fn resolve(&mut self, name: &QueueName) -> Result<NamedQueue, Refusal>
         ensures did { stepped self.old (Resolve name.now) (found_of result) self.new }
+        ensures named { IfOk result (λ of. of.name ≡ name.now) }
         ensures refusal { IfErr result (MayRefuse (Resolve name.now)) }
-        ensures known { IfOk result (knows self.new name.now) }
+        ensures known { IfOk result (λ of. knows self.new of.name of.queue) }
         ensures same { counts self.new ≡ counts self.old };
 
     /// Makes a queue of this name, or finds the one that has these attributes.
     /// Refused as NoMemory, ClockRange, Worn, QueueNameExists, TableFull.
-    fn create(
-        &mut self,
-        alloc: Global,
-        name: &QueueName,
-        given: &Attributes,
-    ) -> Result<QueueSettings, Refusal>
+    fn create(&mut self, name: &QueueName, given: &Attributes) -> Result<QueueSettings, Refusal>
         ensures did { stepped self.old (Directed (Create name.now given.now)) (made_of result) self.new }
         ensures refusal { IfErr result (MayRefuse (Directed (Create name.now given.now))) }
         ensures known { IfOk result (λ made. knows self.new name.now made.queue) }
@@ -57,13 +56,7 @@ pub trait LockSteps {
 
     /// A step of a home of a queue.
     /// Refused as NoMemory, ClockRange, Worn, QueueDoesNotExist, and then as the home's call.
-    fn at_home(
-        &mut self,
-        alloc: Global,
-        of: &NamedQueue,
-        home: HomeNo,
-        act: HomeAct,
-    ) -> Result<HomeReply, Refusal>
+    fn at_home(&mut self, of: &NamedQueue, home: HomeNo, act: HomeAct) -> Result<HomeReply, Refusal>
         requires known { knows self.old of.now.name of.now.queue }
         ensures did { stepped self.old (AtHome of.now.name (home_of of.now.queue home) act) (replied_of result) self.new }
         ensures reply { IfOk result (IsReplyTo act) }
@@ -77,7 +70,7 @@ pub trait LockSteps {
         ensures same { self.new ≡ self.old };
 
     /// Distinct homes of a queue, so many as a receive asks. Refused for want of memory alone.
-    fn draw(&mut self, alloc: Global) -> Result<Vec<HomeNo>, Refusal>
+    fn draw(&mut self) -> Result<Vec<HomeNo>, Refusal>
         ensures some { 1 ≤ (counts self.old).sample }
         ensures sample { IfOk result (λ drawn. IsSampleOf (counts self.old).homes (counts self.old).sample drawn.items) }
         ensures refused { IfErr result (λ e. e ≡ Refusal.NoMemory) }

@@ -13,7 +13,7 @@ ghost use Rattle.sq_merge.specs.Openings.{IsServed, new_world};
 ghost use Rattle.sq_merge.specs.PartsValue.{parts_of};
 ghost use Rattle.sq_model.specs.Matches.{IsMatched};
 
-use crate::acting::call_as;
+use crate::acting::{Acting, call_at};
 use crate::calls::{Answer, Call};
 use crate::homes::{absent, never_opened_homes};
 use crate::options::Options;
@@ -126,7 +126,13 @@ impl World {
         ensures told { Told (ActorStepped actor now) (CallFits (counts_of self.old) call.now) self.old result self.new }
         ensures left { LeavesRecords (CallFits (counts_of self.old) call.now) (book_of actor self.old.books) result (book_of actor self.new.books) }
     {
-        call_as(self, alloc, actor, now, call)
+        let mut acting = Acting {
+            alloc,
+            world: self,
+            actor,
+            clock: now,
+        };
+        call_at(&mut acting, call)
     }
 
     /// One step after another, and how many were not refused. What is refused changes nothing.

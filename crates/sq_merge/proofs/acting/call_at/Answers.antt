@@ -4,7 +4,7 @@ use Rattle.sq_steps.specs.Books.{book_of}
 use Rattle.sq_merge.specs.Fits.{CallFits}
 use Rattle.sq_merge.specs.Told.{LeavesRecords}
 use Rattle.sq_merge.proofs.PathLaws.{path_inside}
-use Rattle.sq_merge.proofs.acting.run.Goals as goal
+use Rattle.sq_merge.proofs.acting.call_at.Goals as goal
 
 pub returns : goal.returns
 returns c =
