@@ -4,7 +4,7 @@ use Rattle.sq_base.specs.declared.row.Row.{Row}
 use Rattle.sq_model.specs.declared.replies.HomeReply.{HomeReply}
 use Rattle.sq_model.specs.declared.replies.HomeReply.TheVariants.{Looked, Over}
 use Rattle.sq_model.specs.Rows.{ms, trimmed, serials_of, received_if}
-use Rattle.sq_model.specs.Homes.{Home, Serving}
+use Rattle.sq_model.specs.Homes.{Home, Unopened, Serving, Closed}
 
 abbrev pub look_reply : Option (List Row) → HomeReply
 look_reply None = Over
@@ -16,3 +16,9 @@ look_after (Serving s v n rows) m timeout None = Serving s v n (trimmed s m rows
 look_after (Serving s v n rows) m timeout (Some given) =
     Serving s v n (map (received_if s (serials_of given) m (m + ms (unwrap_or timeout s.timeout))) (trimmed s m rows))
 look_after home m timeout given = home
+
+-- the home takes requests
+abbrev pub IsServing : Home → Type 0
+IsServing (Serving s v n rows) = Unit {0}
+IsServing Unopened = ⊥
+IsServing Closed = ⊥

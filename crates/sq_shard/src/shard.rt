@@ -4,7 +4,7 @@ ghost use Rattle.sq_model.specs.Homes.{HomeStep, home_refusal};
 ghost use Rattle.sq_model.specs.Homes.{Unopened as Never, Closed as Gone};
 ghost use Rattle.sq_model.specs.declared.calls.HomeCall.TheVariants.{Configure, Close, Send, Look, Delete, Change, Purge, Count};
 ghost use Rattle.sq_model.specs.declared.replies.HomeReply.TheVariants.{Done, Sent, Counted};
-ghost use Rattle.sq_shard.specs.Looks.{look_reply, look_after};
+ghost use Rattle.sq_shard.specs.Looks.{look_reply, look_after, IsServing};
 ghost use Rattle.sq_model.specs.Rows.{ms};
 
 use crate::rows;
@@ -122,7 +122,7 @@ impl<S: Store> Shard<S> {
     }
 
     /// Puts a message last; without a delay the home's is taken.
-    /// Refused as NoMemory, QueueDoesNotExist (not serving), Worn (no serial is left), OverLimit (full).
+    /// Refused as QueueDoesNotExist (not serving), NoMemory, Worn (no serial is left), OverLimit (full).
     #[tactic(auto, unfolding(sq_model::specs::Homes::HomeStep, sq_model::specs::Homes::home_refusal), using(sq_model::proofs::RowLaws::rises_trimmed, crate::proofs::Few::few_trimmed, sq_model::proofs::RowLaws::rises_push, crate::proofs::Few::few_pushed, crate::proofs::Few::full_refused))]
     pub fn send(
         &mut self,
@@ -133,9 +133,10 @@ impl<S: Store> Shard<S> {
         requires { moment < 4611686018427387904 }
         ensures step { IfOk result (λ sent. HomeStep self.old.site self.old.home moment (Send body delay) (Sent sent) self.new.home) }
         ensures site { self.new.site ≡ self.old.site }
-        ensures refusal { IfErr result (λ e. (e ≡ Refusal.NoMemory) ⊎ (home_refusal self.old.site self.old.home moment (Send body delay) ≡ Some e)) }
+        ensures refusal { IfErr result (λ e. ((e ≡ Refusal.NoMemory) × IsServing self.old.home) ⊎ (home_refusal self.old.site self.old.home moment (Send body delay) ≡ Some e)) }
         ensures err { OnErr result (self.new ≡ self.old) }
     {
+        // The status is checked before a message asks for memory.
         let Status::Serving = self.status else {
             return Err(Refusal::QueueDoesNotExist);
         };
@@ -158,7 +159,7 @@ impl<S: Store> Shard<S> {
 
     /// What a look at this moment gives, as it stands after it, and nothing is changed yet: up to `max` messages,
     /// or none where live messages are there and too many are in flight.
-    /// Refused as NoMemory, QueueDoesNotExist (not serving).
+    /// Refused as QueueDoesNotExist (not serving), NoMemory.
     #[tactic(auto, unfolding(sq_model::specs::Homes::HomeStep, sq_model::specs::Homes::home_refusal), using(sq_model::proofs::RowLaws::rises_trimmed, crate::proofs::Few::few_trimmed, sq_model::proofs::RowLaws::rises_received, crate::proofs::Few::few_mapped))]
     pub fn choose(
         &self,
@@ -169,8 +170,9 @@ impl<S: Store> Shard<S> {
     ) -> Result<Option<Rows>, Refusal>
         requires { moment < 4611686018427387904 }
         ensures step { IfOk result (λ given. HomeStep self.now.site self.now.home moment (Look max timeout) (look_reply given) (look_after self.now.home moment timeout given)) }
-        ensures refusal { IfErr result (λ e. (e ≡ Refusal.NoMemory) ⊎ (home_refusal self.now.site self.now.home moment (Look max timeout) ≡ Some e)) }
+        ensures refusal { IfErr result (λ e. ((e ≡ Refusal.NoMemory) × IsServing self.now.home) ⊎ (home_refusal self.now.site self.now.home moment (Look max timeout) ≡ Some e)) }
     {
+        // The status is checked before a look asks for memory.
         let Status::Serving = self.status else {
             return Err(Refusal::QueueDoesNotExist);
         };
@@ -206,7 +208,7 @@ impl<S: Store> Shard<S> {
     }
 
     /// Receives up to `max` messages, and gives them as they stand then: `choose` and `give` in one.
-    /// Refused as NoMemory, QueueDoesNotExist (not serving).
+    /// Refused as QueueDoesNotExist (not serving), NoMemory.
     pub fn look(
         &mut self,
         alloc: Global,
@@ -217,7 +219,7 @@ impl<S: Store> Shard<S> {
         requires { moment < 4611686018427387904 }
         ensures step { IfOk result (λ given. HomeStep self.old.site self.old.home moment (Look max timeout) (look_reply given) self.new.home) }
         ensures site { self.new.site ≡ self.old.site }
-        ensures refusal { IfErr result (λ e. (e ≡ Refusal.NoMemory) ⊎ (home_refusal self.old.site self.old.home moment (Look max timeout) ≡ Some e)) }
+        ensures refusal { IfErr result (λ e. ((e ≡ Refusal.NoMemory) × IsServing self.old.home) ⊎ (home_refusal self.old.site self.old.home moment (Look max timeout) ≡ Some e)) }
         ensures err { OnErr result (self.new ≡ self.old) }
     {
         let hidden_for = timeout;
