@@ -7,3 +7,4 @@ pub mod ReplayLaws
 pub mod LookLaws
 pub mod SystemLaws
 pub mod RunLaws
+pub mod ReceiveLaws

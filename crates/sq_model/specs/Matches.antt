@@ -1,5 +1,5 @@
 -- When the histories of all parts and the notes of all actors agree, and what may be wrong with them.
-use Rattle.std.specs.Prelude.{◌≡◌, ◌⊎◌, ℕ, ◌<◌, List, slice_get, Option, Some, None}
+use Rattle.std.specs.Prelude.{◌≡◌, ℕ, ◌<◌, List, slice_get, Option, Some, None}
 use Rattle.sq_base.specs.Stamps.{Below}
 use Rattle.sq_base.specs.declared.ids.HomeId.{HomeId}
 use Rattle.sq_model.specs.declared.directory.Attributes.{Attributes}
@@ -8,7 +8,7 @@ use Rattle.sq_model.specs.declared.directory.DirectoryCall.TheVariants.{Create}
 use Rattle.sq_model.specs.declared.directory.DirectoryReply.TheVariants.{Made}
 use Rattle.sq_model.specs.Replays.{HomeEvent}
 use Rattle.sq_model.specs.Systems.{DirectoryEvent}
-use Rattle.sq_model.specs.Notes.{HomeNote, DirectoryNote, Note, OfDirectory, OfHome, place_of, stamp_of, Book, directory_note, home_note}
+use Rattle.sq_model.specs.Notes.{HomeNote, Note, OfDirectory, OfHome, place_of, Book, directory_note, home_note}
 
 -- a home and all that was done to it
 pub record HomeHistory : Type 0 where

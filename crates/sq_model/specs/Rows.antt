@@ -60,6 +60,10 @@ is_distinct (x ∷ xs) = not (list_any (λ y. y == x) xs) && is_distinct xs
 abbrev pub received : ℕ → ℕ → Row → Row
 received m until row = record row { receives = row.receives + 1; last_receive = Some m; visible_from = until }
 
+-- a row that was never received has receive number 0, and no other row has
+abbrev pub IsCounted : Row → Type 0
+IsCounted row = (row.last_receive ≡ None → row.receives ≡ 0) × (row.receives ≡ 0 → row.last_receive ≡ None)
+
 -- exactly n distinct live rows, or all of them where there are fewer, any of them and in any order, as they stand after a receive
 pub record IsLook (s : Settings) (m until n : ℕ) (rows given : List Row) : Type 0 where
   pub exact : length given ≡ min n (count_by (is_live s m) rows)

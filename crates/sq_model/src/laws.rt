@@ -4,7 +4,9 @@ ghost use Rattle.sq_base.specs.declared.message_id.MessageId.{MessageId};
 ghost use Rattle.sq_model.specs.declared.place.Site.{Site};
 ghost use Rattle.sq_model.specs.declared.calls.HomeCall.{HomeCall};
 ghost use Rattle.sq_model.specs.declared.replies.HomeReply.{HomeReply};
-ghost use Rattle.sq_model.specs.Homes.{Home, HomeStep, home_refusal, IsRising, IsIdle, HasSlot};
+ghost use Rattle.std.specs.List.{All};
+ghost use Rattle.sq_model.specs.Rows.{IsCounted};
+ghost use Rattle.sq_model.specs.Homes.{Home, Unopened, HomeStep, home_refusal, IsRising, IsIdle, HasSlot};
 ghost use Rattle.sq_model.specs.Systems.{System, Tag, DirectoryEvent, RunFrom, IsRun, opening, IsOnePlace, HomeGoes, AreDirectory};
 ghost use Rattle.sq_model.specs.Directories.{DirectoryStep};
 ghost use Rattle.sq_model.specs.Replays.{HomeEvent, Replays};
@@ -57,4 +59,9 @@ pub fn merged_histories_are_a_run()
         → ((i : ℕ) → HomeGoes (slice_get (opening places sites).homes i) (history_at homes i) (slice_get after.homes i))
         → AreDirectory directory → Replays DirectoryStep (opening places sites).directory directory after.directory
         → IsRun places sites run after }
+{}
+
+/// In a home that is the replay of its history, the last receive of a row is none exactly where its receive number is 0.
+pub fn receives_are_counted()
+    ensures { (site : Site) (events : List HomeEvent) (home : Home) → Replays (HomeStep site) Unopened events home → All IsCounted (rows_of home) }
 {}
