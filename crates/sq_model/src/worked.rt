@@ -1,4 +1,6 @@
 //! Worked cases: what the model says of one message or two at given moments, each the contract of a function without code.
+#![tactic(auto, unfolding(crate::specs::Homes::HomeStep, crate::specs::Homes::home_refusal))]
+
 ghost use Rattle.std.specs.Prelude.{◌≡◌, ℕ, true, false, List, [], ◌∷◌, Option, Some, None, length};
 ghost use Rattle.sq_base.specs.declared.refusal.Refusal.TheVariants.{InvalidParameterValue, MessageNotInflight, OverLimit, ReceiptHandleIsInvalid};
 ghost use Rattle.sq_base.specs.declared.message_id.MessageId.{MessageId};
