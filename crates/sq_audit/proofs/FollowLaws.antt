@@ -11,11 +11,11 @@ use Rattle.sq_model.specs.declared.calls.HomeCall.TheVariants.{Configure, Close,
 use Rattle.sq_model.specs.declared.replies.HomeReply.{HomeReply}
 use Rattle.sq_model.specs.declared.replies.HomeReply.TheVariants.{Done, Sent, Looked, Over, Counted, Left, NoLiveRow, NoOrigin, SourceClosed, Entered}
 use Rattle.sq_model.specs.Homes.{Home, Unopened, Serving, Closed, HomeStep, IsRising, fresh_id}
-use Rattle.sq_model.specs.Lineages.{Ending, home_ends, home_sends, home_ins, rows_of, same_id, rows_with, ends_with, sends_with}
+use Rattle.sq_model.specs.Lineages.{Ending, home_ends, home_sends, rows_of, same_id, rows_with, ends_with, sends_with}
 use Rattle.sq_model.specs.Places.{place_after, first_end, place_in, run_ends, run_sends}
-use Rattle.sq_model.specs.Systems.{HomeAt, HomeSteps, System, Tag, OfDirectory, OfHome, RunFrom, opening, is_alone, same_home, IsOnePlace}
+use Rattle.sq_model.specs.Systems.{HomeAt, HomeSteps, System, Tag, OfDirectory, OfHome, RunFrom, opening, same_home, IsOnePlace}
 use Rattle.sq_model.proofs.LineageLaws.{home_law}
-use Rattle.sq_model.proofs.SystemLaws.{one_place, sends_append}
+use Rattle.sq_model.proofs.SystemLaws.{none_in, one_place, sends_append}
 use Rattle.sq_audit.specs.declared.tagged.Tagged.{Tagged}
 use Rattle.sq_audit.specs.declared.track.Spot.{Spot}
 use Rattle.sq_audit.specs.declared.track.Spot.TheVariants.{Unsent, Here, Gone}
@@ -89,17 +89,6 @@ other_fits x homes i old k next one fits there here j h ne e =
       | true ↦ (λ also f. absurd (ne (only_place (λ (site : Site). same_home (home_of x) site.home) (sites_of homes) i j old.site h.site (one (home_of x)) (site_there homes i old there) (site_there homes j h e) here also)))
       | false ↦ (λ away f. f)
     ] refl (fits j h e)
-
-none_in : (call : HomeCall) → is_alone call ≡ true → home_ins call ≡ []
-none_in (Configure t w) a = refl
-none_in Close a = refl
-none_in (Send body delay) a = refl
-none_in (Look max timeout) a = refl
-none_in (Delete receipt) a = refl
-none_in (Change receipt timeout) a = refl
-none_in Purge a = refl
-none_in Count a = refl
-none_in call a = absurd cc
 
 -- another home sends other messages
 other_sends : (x : MessageId) (site : Site) (home : Home) (m : ℕ) (call : HomeCall) (reply : HomeReply) (after : Home) → HomeStep site home m call reply after → same_home (home_of x) site.home ≡ false → sends_with x (home_sends reply) ≡ 0

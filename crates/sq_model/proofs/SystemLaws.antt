@@ -52,7 +52,7 @@ none_out site home m Purge reply after h a = elim h [ ]
 none_out site home m Count reply after h a = elim h [ ]
 none_out site home m call reply after h a = absurd cc
 
-none_in : (call : HomeCall) → is_alone call ≡ true → home_ins call ≡ []
+pub none_in : (call : HomeCall) → is_alone call ≡ true → home_ins call ≡ []
 none_in (Configure t w) a = refl
 none_in Close a = refl
 none_in (Send body delay) a = refl
