@@ -7,20 +7,11 @@ use Rattle.std.proofs.Common.{zero, suc, arith, add-one, sym, ap, ◌∙◌, sub
 use Rattle.std.proofs.lemmas.List.Sorted.{sorted_far}
 use Rattle.std.proofs.lemmas.List.Elements.{recursion_from_All}
 use Rattle.sq_model.specs.Merges.{InOrder}
-use Rattle.sq_steps.proofs.FilterLaws.{all_filter}
+use Rattle.sq_steps.proofs.FilterLaws.{all_filter, filter_swap}
 
 order_filter : {X : Type 0} (lt : X → X → Bool) (p : X → Bool) (xs : List X) → InOrder lt xs → InOrder lt (filter p xs)
 order_filter lt p [] h = h
 order_filter lt p (x ∷ xs) h = elim (p x) as (λ v. InOrder lt (cond v (x ∷ filter p xs) (filter p xs))) [ true ↦ (all_filter (λ y. lt y x ≡ false) p xs h.0, order_filter lt p xs h.1) | false ↦ order_filter lt p xs h.1 ]
-
-filter_swap : {X : Type 0} (p q : X → Bool) (xs : List X) → filter p (filter q xs) ≡ filter q (filter p xs)
-filter_swap p q [] = refl
-filter_swap p q (x ∷ xs) =
-    let rest = filter_swap p q xs in
-    elim (p x) as (λ v. p x ≡ v → filter p (cond (q x) (x ∷ filter q xs) (filter q xs)) ≡ filter q (cond v (x ∷ filter p xs) (filter p xs))) [
-      | true ↦ (λ e. elim (q x) as (λ w. q x ≡ w → filter p (cond w (x ∷ filter q xs) (filter q xs)) ≡ filter q (x ∷ filter p xs)) [ true ↦ (λ d. rw (e, d) (ap (λ ys. x ∷ ys) rest)) | false ↦ (λ d. rw d rest) ] refl)
-      | false ↦ (λ e. elim (q x) as (λ w. filter p (cond w (x ∷ filter q xs) (filter q xs)) ≡ filter q (filter p xs)) [ true ↦ rw e rest | false ↦ rest ])
-    ] refl
 
 all_under : {X Y : Type 0} (f : X → Y) (P : Y → Type 0) (xs : List X) → AllByRecursion P (map f xs) → AllByRecursion (λ x. P (f x)) xs
 all_under f P [] h = tt

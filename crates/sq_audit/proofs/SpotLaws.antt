@@ -11,6 +11,7 @@ use Rattle.sq_model.specs.declared.place.Place.{Place}
 use Rattle.sq_model.specs.Rows.{has_serial}
 use Rattle.sq_model.specs.Lineages.{Cause, Expired, Ending, same_id, sends_with}
 use Rattle.sq_model.specs.Places.{place_after, first_end, place_in}
+use Rattle.sq_steps.proofs.FilterLaws.{filter_swap}
 use Rattle.sq_audit.specs.declared.state.RowState.{RowState}
 use Rattle.sq_audit.specs.declared.state.Policy.{Policy}
 use Rattle.sq_audit.specs.declared.track.Spot.{Spot}
@@ -42,15 +43,6 @@ pub place_now : (x : MessageId) (spot : Spot) → place_from x spot [] [] ≡ an
 place_now x Unsent = refl
 place_now x (Here row) = refl
 place_now x (Gone place) = refl
-
-filter_swap : {X : Type 0} (p q : X → Bool) (xs : List X) → filter p (filter q xs) ≡ filter q (filter p xs)
-filter_swap p q [] = refl
-filter_swap p q (x ∷ xs) =
-    let rest = filter_swap p q xs in
-    elim (p x) as (λ v. p x ≡ v → filter p (cond (q x) (x ∷ filter q xs) (filter q xs)) ≡ filter q (cond v (x ∷ filter p xs) (filter p xs))) [
-      | true ↦ (λ e. elim (q x) as (λ w. q x ≡ w → filter p (cond w (x ∷ filter q xs) (filter q xs)) ≡ filter q (x ∷ filter p xs)) [ true ↦ (λ d. rw (e, d) (ap (λ ys. x ∷ ys) rest)) | false ↦ (λ d. rw d rest) ] refl)
-      | false ↦ (λ e. elim (q x) as (λ w. filter p (cond w (x ∷ filter q xs) (filter q xs)) ≡ filter q (filter p xs)) [ true ↦ rw e rest | false ↦ rest ])
-    ] refl
 
 filter_push : {X : Type 0} (p : X → Bool) (xs : List X) (y : X) → filter p (xs ++ y ∷ []) ≡ filter p xs ++ cond (p y) (y ∷ []) []
 filter_push p [] y = refl
