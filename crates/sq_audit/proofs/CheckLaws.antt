@@ -120,6 +120,14 @@ module _ (per_queue : ℕ) (homes : List HistoryValue) (d : List DirectoryEvent)
         h.6,
       )
 
+-- a note is one of its actor
+noted_by : (books : List Book) (b i : ℕ) (book : Book) (n : Note) (P : Note → Type 0) → IsNote books b i book n → P n → IsNoted books book.actor P
+noted_by books b i book n P there p = record { at = b; index = i; book = book; note = n; there = there; of_actor = refl; of_event = p }
+
+-- a note of which one thing is known is one of which another is
+pub noted_as : (books : List Book) (a c : ℕ) (P Q : Note → Type 0) → a ≡ c → ((n : Note) → P n → Q n) → IsNoted books a P → IsNoted books c Q
+noted_as books a c P Q same as_well x = record { at = x.at; index = x.index; book = x.book; note = x.note; there = x.there; of_actor = x.of_actor ∙ same; of_event = as_well x.note x.of_event }
+
 -- a note that stands above its place leaves it out
 place_gap : (d : List DirectoryEvent) (hs : List HomeHistory) (books : List Book) (b i : ℕ) (book : Book) (n : Note) → AreDistinct books → NotesRise book.notes
     → ((j : ℕ) → j < i → NoteFits d hs books b j) → IsNote books b i book n → place_of n ≢ i → Gap books book.actor i
@@ -131,16 +139,8 @@ place_gap d hs books b i book n distinct rise before there ne =
           let up : place_of t.0 < place_of n = (notes_rise book.notes rise (place_of n) i t.0 n less t.1 there.in_notes).0 in
           absurd (omega (arith, own, up)))
       | inr rest ↦ (elim rest [ inl same ↦ absurd (ne same) | inr more ↦ more ])
-    ] in
-    record {
-      at = b;
-      index = i;
-      book = book;
-      note = n;
-      there = there;
-      of_actor = refl;
-      above = above;
-      none = λ m. (
+    ] in (
+      λ m. (
           let same : m.book ≡ book = some_same (sym m.there.in_books ∙ ap (slice_get books) (book_once books distinct m.at b m.book book m.there.in_books there.in_books m.of_actor) ∙ there.in_books) in
           let get : slice_get book.notes m.index ≡ Some m.note = subst (λ (x : Book). slice_get x.notes m.index ≡ Some m.note) same m.there.in_notes in
           elim (nat_compare m.index i) [
@@ -149,14 +149,15 @@ place_gap d hs books b i book n distinct rise before there ne =
               | inl at ↦ (let k : m.note ≡ n = some_same (sym get ∙ ap (slice_get book.notes) at ∙ there.in_notes) in ne (sym (ap place_of k) ∙ m.of_event))
               | inr more ↦ (let up : place_of n < place_of m.note = (notes_rise book.notes rise i m.index n m.note more there.in_notes get).0 in let e : place_of m.note ≡ i = m.of_event in omega (arith, up, e, above))
             ])
-          ]);
-    }
+          ]),
+      noted_by books b i book n (λ m. i < place_of m) there above,
+    )
 
 pub record_wrong : (d : List DirectoryEvent) (hs : List HomeHistory) (books : List Book) (b i : ℕ) (book : Book) (n : Note) (f : AuditFault) → AreDistinct books → NotesRise book.notes
     → ((j : ℕ) → j < i → NoteFits d hs books b j) → IsNote books b i book n → IsRecordFault d hs book.actor i n f → IsWrong d hs books f
 record_wrong d hs books b i book n f distinct rise before there wrong = elim wrong [
   | inl p ↦ subst (λ (x : AuditFault). IsWrong d hs books x) (sym p.1) (inr (inr (place_gap d hs books b i book n distinct rise before there p.0)))
-  | inr p ↦ subst (λ (x : AuditFault). IsWrong d hs books x) (sym p.1) (inr (inl (record { at = b; index = i; book = book; note = n; there = there; of_actor = refl; of_place = refl; alone = p.0 })))
+  | inr p ↦ subst (λ (x : AuditFault). IsWrong d hs books x) (sym p.1) (inr (inl (noted_by books b i book n (λ m. (place_of m ≡ place_of n) × (Happened d hs book.actor m → ⊥)) there (refl, p.0))))
 ]
 
 -- a note that fits
@@ -210,7 +211,7 @@ fits_match d hs books distinct each every all = record {
   full = λ b i book n place h lt. (
       let t = get_below book.notes i place n h.in_notes (let e : place_of n ≡ i = (each b i book n h).0 in omega (arith, lt, e)) in
       let there : IsNote books b place book t.0 = record { in_books = h.in_books; in_notes = t.1 } in
-      record { at = b; index = place; book = book; note = t.0; there = there; of_actor = refl; of_event = (each b place book t.0 there).0 });
+      noted_by books b place book t.0 (λ m. place_of m ≡ place) there (each b place book t.0 there).0);
 }
 
 -- an actor's book is the only one of the actor
@@ -381,11 +382,9 @@ module _ (per_queue : ℕ) (homes : List HistoryValue) (numbered : IsNumbered pe
   module _ (books : List Book) (matched : IsMatched d hs books) where
     noted_of : (a place : ℕ) (s : Spot) → IsBy d hs a place s → IsNoted books a (λ n. (place_of n ≡ place) × NotesSpot s n)
     noted_of a place (InDirectory k) by =
-        let x = matched.directory_noted k by.0 by.1 in
-        record { at = x.at; index = x.index; book = x.book; note = x.note; there = x.there; of_actor = x.of_actor ∙ by.2; of_event = (ap place_of x.of_event ∙ by.3, (by.0, x.of_event)) }
+        noted_as books by.0.actor a (IsOfDirectory k by.0) (λ n. (place_of n ≡ place) × NotesSpot (InDirectory k) n) by.2 (λ n is. (ap place_of is ∙ by.3, (by.0, is))) (matched.directory_noted k by.0 by.1)
     noted_of a place (InHome j k) by =
-        let x = matched.homes_noted j k by.0 by.1 by.2 in
-        record { at = x.at; index = x.index; book = x.book; note = x.note; there = x.there; of_actor = x.of_actor ∙ by.3; of_event = (ap place_of x.of_event.1 ∙ by.4, (by.0, by.1, x.of_event.0, by.2.in_homes, x.of_event.1)) }
+        noted_as books by.1.actor a (IsOfHome by.0.home k by.1) (λ n. (place_of n ≡ place) × NotesSpot (InHome j k) n) by.3 (λ n is. (ap place_of is.1 ∙ by.4, (by.0, by.1, is.0, by.2.in_homes, is.1))) (matched.homes_noted j k by.0 by.1 by.2)
 
     not_two : (a place : ℕ) → TwoEvents d hs a place → ⊥
     not_two a place t =
@@ -406,8 +405,8 @@ module _ (per_queue : ℕ) (homes : List HistoryValue) (numbered : IsNumbered pe
     wrong_refutes (RecordMissing a p) w = elim w [
       | inl e ↦ not_alone a p e.spot e.by e.alone
       | inr v ↦ (elim v [
-        | inl n ↦ n.alone (subst (λ (x : ℕ). Happened d hs x n.note) n.of_actor (matched.happened n.at n.index n.book n.note n.there))
-        | inr g ↦ g.none (subst (λ (x : ℕ). IsNoted books x (λ m. place_of m ≡ p)) g.of_actor (matched.full g.at g.index g.book g.note p g.there g.above))
+        | inl n ↦ n.of_event.1 (subst (λ (x : ℕ). Happened d hs x n.note) n.of_actor (matched.happened n.at n.index n.book n.note n.there))
+        | inr g ↦ g.0 (subst (λ (x : ℕ). IsNoted books x (λ m. place_of m ≡ p)) g.1.of_actor (matched.full g.1.at g.1.index g.1.book g.1.note p g.1.there g.1.of_event))
       ])
     ]
     wrong_refutes (RecordTwice a p) w = not_two a p w

@@ -7,7 +7,7 @@ use Rattle.sq_model.specs.Systems.{DirectoryEvent, Tag, OfDirectory, OfHome, sta
 use Rattle.sq_model.specs.Merges.{history_at, rank_of, IsMerged}
 use Rattle.sq_model.specs.Notes as kept
 use Rattle.sq_model.specs.Notes.{Note, Book, NotesRise}
-use Rattle.sq_model.specs.Matches.{HomeHistory, IsNote, IsMatched}
+use Rattle.sq_model.specs.Matches.{HomeHistory, IsNoted, IsOfDirectory, IsOfHome, IsMatched}
 use Rattle.sq_history.specs.HistoryValue.{HistoryValue}
 use Rattle.sq_history.specs.Histories.{IsKept}
 use Rattle.sq_audit.specs.Actors.{event_actor, event_place, ActorsRise, PartsRise, PlacesAgree, PlacesApart}
@@ -17,7 +17,7 @@ use Rattle.sq_directory.specs.DirectoryHistories.{IsDirectoryKept}
 use Rattle.sq_audit.specs.SystemNow.{events_of}
 use Rattle.sq_audit.specs.HomeIds.{history_of, histories_of, IsNumbered}
 use Rattle.sq_audit.proofs.ActorLaws.{actors_rise, homes_rise, in_directory, in_home, merged_parts_rise}
-use Rattle.sq_audit.proofs.CheckLaws.{nat_compare, notes_rise, home_once}
+use Rattle.sq_audit.proofs.CheckLaws.{nat_compare, notes_rise, home_once, noted_as}
 use Rattle.sq_steps.proofs.BookListLaws.{book_once}
 use Rattle.sq_directory.proofs.ElementLaws.{some_same, get_map}
 
@@ -43,14 +43,8 @@ IsOfPart homes (kept.OfDirectory n) (OfDirectory e) = Unit {0}
 IsOfPart homes (kept.OfHome n) (OfHome j e) = (h : HomeHistory) × (slice_get homes j ≡ Some h) × (n.home ≡ h.home)
 IsOfPart homes n t = ⊥
 
--- the note of an event
-record HasNote (homes : List HomeHistory) (books : List Book) (t : Tag) : Type 0 where
-  at : ℕ
-  index : ℕ
-  book : Book
-  note : Note
-  there : IsNote books at index book note
-  of_actor : book.actor ≡ event_actor t
+-- a note has the number, the stamp and the part of an event
+record IsLike (homes : List HomeHistory) (t : Tag) (note : Note) : Type 0 where
   of_place : kept.place_of note ≡ event_place t
   of_stamp : kept.stamp_of note ≡ stamp_of t
   of_part : IsOfPart homes note t
@@ -62,37 +56,19 @@ module _ (per_queue : ℕ) (d : List DirectoryEvent) (homes : List HistoryValue)
   hs = histories_of homes
 
   -- each event of the run has its note
-  has_note : (i : ℕ) (t : Tag) → slice_get run i ≡ Some t → HasNote hs books t
+  has_note : (i : ℕ) (t : Tag) → slice_get run i ≡ Some t → IsNoted books (event_actor t) (IsLike hs t)
   has_note i (OfDirectory e) is =
       let at = in_directory run i e is in
-      let x = matched.directory_noted at.0 e (rw merged.of_the_directory at at.1) in
-      record {
-        at = x.at;
-        index = x.index;
-        book = x.book;
-        note = x.note;
-        there = x.there;
-        of_actor = x.of_actor;
-        of_place = ap kept.place_of x.of_event;
-        of_stamp = ap kept.stamp_of x.of_event;
-        of_part = subst (λ (n : Note). IsOfPart hs n (OfDirectory e)) (sym x.of_event) tt;
-      }
+      noted_as books e.actor e.actor (IsOfDirectory at.0 e) (IsLike hs (OfDirectory e)) refl
+      (λ n own. subst (IsLike hs (OfDirectory e)) (sym own) (record { of_place = refl; of_stamp = refl; of_part = tt }))
+      (matched.directory_noted at.0 e (rw merged.of_the_directory at at.1))
   has_note i (OfHome j e) is =
       let at = in_home run i j e is in
       let h = event_home homes j at.0 e (rw (merged.of_each_home j) at at.1) in
       let there = get_map history_of homes j h.0 h.1 in
-      let x = matched.homes_noted j at.0 (history_of h.0) e (record { in_homes = there; in_events = h.2 }) in
-      record {
-        at = x.at;
-        index = x.index;
-        book = x.book;
-        note = x.note;
-        there = x.there;
-        of_actor = x.of_actor;
-        of_place = ap kept.place_of x.of_event.1;
-        of_stamp = ap kept.stamp_of x.of_event.1;
-        of_part = subst (λ (n : Note). IsOfPart hs n (OfHome j e)) (sym x.of_event.1) (history_of h.0, there, refl);
-      }
+      noted_as books e.actor e.actor (IsOfHome h.0.site.home at.0 e) (IsLike hs (OfHome j e)) refl
+      (λ n own. subst (IsLike hs (OfHome j e)) (sym own.1) (record { of_place = refl; of_stamp = refl; of_part = (history_of h.0, there, refl) }))
+      (matched.homes_noted j at.0 (history_of h.0) e (record { in_homes = there; in_events = h.2 }))
 
   -- what is of one part with one note is of one part
   one_part : (t u : Tag) (n : Note) → IsOfPart hs n t → IsOfPart hs n u → rank_of t ≡ rank_of u
@@ -111,17 +87,17 @@ module _ (per_queue : ℕ) (d : List DirectoryEvent) (homes : List HistoryValue)
       let at : x.at ≡ y.at = book_once books distinct x.at y.at x.book y.book x.there.in_books y.there.in_books (x.of_actor ∙ actor ∙ sym y.of_actor) in
       let same : x.book ≡ y.book = some_same (sym x.there.in_books ∙ ap (slice_get books) at ∙ y.there.in_books) in
       let there : slice_get x.book.notes y.index ≡ Some y.note = subst (λ (b : Book). slice_get b.notes y.index ≡ Some y.note) (sym same) y.there.in_notes in
-      let lower : kept.place_of x.note < kept.place_of y.note = rw (x.of_place, y.of_place) lt in
-      rw (← x.of_stamp, ← y.of_stamp) (notes_below x.book.notes (rise x.at x.book x.there.in_books) x.index y.index x.note y.note x.there.in_notes there lower)
+      let lower : kept.place_of x.note < kept.place_of y.note = rw (x.of_event.of_place, y.of_event.of_place) lt in
+      rw (← x.of_event.of_stamp, ← y.of_event.of_stamp) (notes_below x.book.notes (rise x.at x.book x.there.in_books) x.index y.index x.note y.note x.there.in_notes there lower)
 
   places_apart : PlacesApart run
   places_apart i j t u ti uj actor place =
       let x = has_note i t ti in
       let y = has_note j u uj in
-      let once = matched.once x.at y.at x.index y.index x.book y.book x.note y.note x.there y.there (x.of_actor ∙ actor ∙ sym y.of_actor) (x.of_place ∙ place ∙ sym y.of_place) in
+      let once = matched.once x.at y.at x.index y.index x.book y.book x.note y.note x.there y.there (x.of_actor ∙ actor ∙ sym y.of_actor) (x.of_event.of_place ∙ place ∙ sym y.of_event.of_place) in
       let same : x.book ≡ y.book = some_same (sym x.there.in_books ∙ ap (slice_get books) once.0 ∙ y.there.in_books) in
       let one : x.note ≡ y.note = some_same (sym x.there.in_notes ∙ ap (λ (z : Book). slice_get z.notes x.index) same ∙ ap (slice_get y.book.notes) once.1 ∙ y.there.in_notes) in
-      (one_part t u y.note (subst (λ (n : Note). IsOfPart hs n t) one x.of_part) y.of_part, sym x.of_stamp ∙ ap kept.stamp_of one ∙ y.of_stamp)
+      (one_part t u y.note (subst (λ (n : Note). IsOfPart hs n t) one x.of_event.of_part) y.of_event.of_part, sym x.of_event.of_stamp ∙ ap kept.stamp_of one ∙ y.of_event.of_stamp)
 
 -- the events of each part stand in their order in the run of them all
 pub kept_parts_rise : (directory : DirectoryHistory) (homes : List HistoryValue) (run : List Tag) → IsMerged directory.events (events_of homes) run → IsDirectoryKept directory → All IsKept homes → PartsRise run

@@ -30,26 +30,12 @@ pub record EventAlone (directory : List DirectoryEvent) (homes : List HomeHistor
   pub alone : IsAlone directory homes books actor spot
 
 -- a note of this actor and number without its event, or without its name's queue
-pub record NoteAlone (directory : List DirectoryEvent) (homes : List HomeHistory) (books : List Book) (actor place : ℕ) : Type 0 where
-  pub at : ℕ
-  pub index : ℕ
-  pub book : Book
-  pub note : Note
-  pub there : IsNote books at index book note
-  pub of_actor : book.actor ≡ actor
-  pub of_place : place_of note ≡ place
-  pub alone : Happened directory homes actor note → ⊥
+abbrev pub NoteAlone : List DirectoryEvent → List HomeHistory → List Book → ℕ → ℕ → Type 0
+NoteAlone directory homes books actor place = IsNoted books actor (λ n. (place_of n ≡ place) × (Happened directory homes actor n → ⊥))
 
 -- no note of this number, but one of a higher number
-pub record Gap (books : List Book) (actor place : ℕ) : Type 0 where
-  pub at : ℕ
-  pub index : ℕ
-  pub book : Book
-  pub note : Note
-  pub there : IsNote books at index book note
-  pub of_actor : book.actor ≡ actor
-  pub above : place < place_of note
-  pub none : IsNoted books actor (λ m. place_of m ≡ place) → ⊥
+abbrev pub Gap : List Book → ℕ → ℕ → Type 0
+Gap books actor place = (IsNoted books actor (λ n. place_of n ≡ place) → ⊥) × IsNoted books actor (λ n. place < place_of n)
 
 -- two events of this actor and number
 pub record TwoEvents (directory : List DirectoryEvent) (homes : List HomeHistory) (actor place : ℕ) : Type 0 where
