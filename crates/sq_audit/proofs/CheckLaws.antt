@@ -17,7 +17,7 @@ use Rattle.sq_audit.specs.HomeIds.{history_of, histories_of, home_id, IsNumbered
 use Rattle.sq_steps.specs.Books.{AreDistinct, NotesRiseAt, is_of, new_book, book_of}
 use Rattle.sq_audit.specs.declared.check.AuditFault.{AuditFault}
 use Rattle.sq_audit.specs.declared.check.AuditFault.TheVariants.{NoMemory, RecordMissing, RecordTwice}
-use Rattle.sq_audit.specs.Faults.{Spot, InDirectory, InHome, IsBy, IsAlone, Gap, TwoEvents, FaultHolds, IsWrong, NoteFits, DirectoryFits, HomeFits, IsRecordFault, IsAt, IsNotedAt, IsEventFault}
+use Rattle.sq_audit.specs.Faults.{Spot, InDirectory, InHome, IsBy, IsAlone, Gap, TwoEvents, FaultHolds, IsWrong, NoteFits, DirectoryFits, HomeFits, IsRecordFault, IsAt, IsNotedAt, EventFits, HasEventFault}
 use Rattle.sq_history.specs.Events.{HasHomeEvent}
 use Rattle.sq_steps.specs.declared.record.Record.{Record}
 use Rattle.sq_steps.specs.Records.{note_of, notes_of}
@@ -190,14 +190,6 @@ wrong_holds d hs books (RecordTwice a p) w = w
 pub wrong_other : (d : List DirectoryEvent) (hs : List HomeHistory) (books : List Book) (f : AuditFault) → IsWrong d hs books f → f ≢ NoMemory
 wrong_other d hs books f w e = subst (λ (x : AuditFault). IsWrong d hs books x) e w
 
-pub all_events : (d : List DirectoryEvent) (books : List Book) → ((k : ℕ) → k < length d → DirectoryFits d books k) → (k : ℕ) → DirectoryFits d books k
-all_events d books each k e there = each k (slice_get_within d k e there) e there
-
-pub all_home : (hs : List HomeHistory) (books : List Book) (j : ℕ) (x : HomeHistory) → slice_get hs j ≡ Some x → ((k : ℕ) → k < length x.events → HomeFits hs books j k) → (k : ℕ) → HomeFits hs books j k
-all_home hs books j x at each k h e there =
-    let same : h ≡ x = some_same (sym there.in_homes ∙ at) in
-    each k (slice_get_within x.events k e (subst (λ (y : HomeHistory). slice_get y.events k ≡ Some e) same there.in_events)) h e there
-
 pub all_homes : (homes : List HistoryValue) (books : List Book) → ((j : ℕ) → j < length homes → (k : ℕ) → HomeFits (histories_of homes) books j k) → (j k : ℕ) → HomeFits (histories_of homes) books j k
 all_homes homes books each j k h e there = let t = get_mapped history_of homes j h there.in_homes in each j (slice_get_within homes j t.0 t.1) k h e there
 
@@ -319,14 +311,13 @@ module _ (per_queue : ℕ) (homes : List HistoryValue) (numbered : IsNumbered pe
         let s = spot_of a place x.note (subst (λ (y : ℕ). Happened d hs y x.note) x.of_actor f.1) f.0 in
         record { one = s.spot; other = other; differ = differ s; first = s.by; second = by }
 
-    pub directory_fits : (k : ℕ) (e : DirectoryEvent) → slice_get d k ≡ Some e → IsNotedAt books e.actor e.place (IsAt per_queue None k) → DirectoryFits d books k
-    directory_fits k e there x e2 too =
-        let same : e ≡ e2 = some_same (sym there ∙ too) in
-        subst (λ (y : DirectoryEvent). IsNoted books y.actor (IsOfDirectory k y)) same
-        (noted e.actor e.place (IsAt per_queue None k) (IsOfDirectory k e) x (of_directory x.book.actor k e x.note x.of_event (fit x.at e.place x.book x.note x.there).1 there))
+    pub directory_fits : ((k : ℕ) → EventFits per_queue books None d k) → (k : ℕ) → DirectoryFits d books k
+    directory_fits all k e there =
+        let x = all k e there in
+        noted e.actor e.place (IsAt per_queue None k) (IsOfDirectory k e) x (of_directory x.book.actor k e x.note x.of_event (fit x.at e.place x.book x.note x.there).1 there)
 
-    pub directory_wrong : (k : ℕ) (e : DirectoryEvent) (f : AuditFault) → slice_get d k ≡ Some e → IsEventFault per_queue books e.actor e.place None k f → IsWrong d hs books f
-    directory_wrong k e f there wrong = elim wrong [
+    pub directory_wrong : (f : AuditFault) → HasEventFault per_queue books None d f → IsWrong d hs books f
+    directory_wrong f (k, e, there, wrong) = elim wrong [
       | inl p ↦ subst (λ (x : AuditFault). IsWrong d hs books x) (sym p.1) (inl (record {
         spot = InDirectory k;
         by = (e, there, refl, refl);
@@ -336,16 +327,14 @@ module _ (per_queue : ℕ) (homes : List HistoryValue) (numbered : IsNumbered pe
           (two_events e.actor e.place (InDirectory k) (λ n. IsAt per_queue None k n → ⊥) p.0 (e, there, refl, refl) (λ s q. p.0.of_event (s.in_directory k q)))
     ]
 
-    pub home_fits : (j k : ℕ) (h : HomeHistory) (e : HomeEvent) → IsHomeEvent hs j k h e → IsNotedAt books e.actor e.place (IsAt per_queue (Some j) k) → HomeFits hs books j k
-    home_fits j k h e there x h2 e2 too =
-        let home : h ≡ h2 = some_same (sym there.in_homes ∙ too.in_homes) in
-        let same : e ≡ e2 = some_same (sym there.in_events ∙ ap (λ (y : HomeHistory). slice_get y.events k) home ∙ too.in_events) in
-        subst (λ (y : HomeHistory). IsNoted books e2.actor (IsOfHome y.home k e2)) home
-        (subst (λ (y : HomeEvent). IsNoted books y.actor (IsOfHome h.home k y)) same
-        (noted e.actor e.place (IsAt per_queue (Some j) k) (IsOfHome h.home k e) x (of_home x.book.actor j k h e x.note x.of_event (fit x.at e.place x.book x.note x.there).1 there)))
+    pub home_fits : (j : ℕ) (h : HomeHistory) → slice_get hs j ≡ Some h → ((k : ℕ) → EventFits per_queue books (Some j) h.events k) → (k : ℕ) → HomeFits hs books j k
+    home_fits j h at all k h2 e there =
+        let same : h2 ≡ h = some_same (sym there.in_homes ∙ at) in
+        let x = all k e (subst (λ (y : HomeHistory). slice_get y.events k ≡ Some e) same there.in_events) in
+        noted e.actor e.place (IsAt per_queue (Some j) k) (IsOfHome h2.home k e) x (of_home x.book.actor j k h2 e x.note x.of_event (fit x.at e.place x.book x.note x.there).1 there)
 
-    pub home_wrong : (j k : ℕ) (h : HomeHistory) (e : HomeEvent) (f : AuditFault) → IsHomeEvent hs j k h e → IsEventFault per_queue books e.actor e.place (Some j) k f → IsWrong d hs books f
-    home_wrong j k h e f there wrong = elim wrong [
+    pub home_wrong : (j : ℕ) (h : HomeHistory) (f : AuditFault) → slice_get hs j ≡ Some h → HasEventFault per_queue books (Some j) h.events f → IsWrong d hs books f
+    home_wrong j h f at (k, e, own, wrong) = let there : IsHomeEvent hs j k h e = record { in_homes = at; in_events = own } in elim wrong [
       | inl p ↦ subst (λ (x : AuditFault). IsWrong d hs books x) (sym p.1) (inl (record {
         spot = InHome j k;
         by = (h, e, there, refl, refl);

@@ -1,5 +1,6 @@
 -- What may be wrong with histories and notes, and what each fault says.
 use Rattle.std.specs.Prelude.{◌≡◌, ◌≢◌, ◌⊎◌, ℕ, ◌<◌, List, slice_get, Option, Some, None}
+use Rattle.sq_model.specs.declared.event.Event.{Event}
 use Rattle.sq_model.specs.Replays.{HomeEvent}
 use Rattle.sq_model.specs.Systems.{DirectoryEvent}
 use Rattle.sq_model.specs.Notes.{Note, OfDirectory, OfHome, place_of, Book}
@@ -94,3 +95,11 @@ abbrev pub IsEventFault : ℕ → List Book → ℕ → ℕ → Option ℕ → �
 IsEventFault per_queue books actor place home k f =
     ((IsNotedAt books actor place (λ n. Unit {0}) → ⊥) × (f ≡ RecordMissing actor place))
     ⊎ (IsNotedAt books actor place (λ n. IsAt per_queue home k n → ⊥) × (f ≡ RecordTwice actor place))
+
+-- an event of the directory, or of the home at a place, is named by its actor's note of its number
+abbrev pub EventFits : {K R : Type 0} → ℕ → List Book → Option ℕ → List (Event K R) → ℕ → Type 0
+EventFits {K} {R} per_queue books home events k = (e : Event K R) → slice_get events k ≡ Some e → IsNotedAt books e.actor e.place (IsAt per_queue home k)
+
+-- what may be wrong with one of its events
+abbrev pub HasEventFault : {K R : Type 0} → ℕ → List Book → Option ℕ → List (Event K R) → AuditFault → Type 0
+HasEventFault {K} {R} per_queue books home events f = (k : ℕ) × (e : Event K R) × (slice_get events k ≡ Some e) × IsEventFault per_queue books e.actor e.place home k f

@@ -5,7 +5,7 @@ ghost use Rattle.sq_model.specs.Matches.{Happened, IsMatched};
 ghost use Rattle.sq_steps.specs.Records.{note_of};
 ghost use Rattle.sq_steps.specs.Books.{NotesRiseAt, AreDistinct};
 ghost use Rattle.sq_audit.specs.HomeIds.{histories_of, home_id};
-ghost use Rattle.sq_audit.specs.Faults.{FaultHolds, IsWrong, NoteFits, DirectoryFits, HomeFits, IsRecordFault, IsAt, IsNotedAt, IsEventFault};
+ghost use Rattle.sq_audit.specs.Faults.{FaultHolds, IsWrong, NoteFits, DirectoryFits, HomeFits, IsRecordFault, IsAt, IsNotedAt, IsEventFault, EventFits, HasEventFault};
 
 use crate::homes::{Homes, home_place};
 use sq_base::ids::HomeId;
@@ -15,6 +15,7 @@ use sq_directory::names::has_name;
 use sq_history::events::has_home_event;
 use sq_history::record::HomeRecord;
 use sq_history::recorded::Home;
+use sq_model::event::Event;
 use sq_sample::sampler::HomeCount;
 use sq_steps::book::Book;
 use sq_steps::books::book_at;
@@ -173,13 +174,7 @@ fn check_directory(evidence: &Evidence<'_>) -> Result<(), AuditFault>
     ensures ok { OnOk result ((k : ℕ) → DirectoryFits evidence.now.directory evidence.now.books k) }
     ensures fault { IfErr result (λ f. IsWrong evidence.now.directory evidence.now.homes evidence.now.books f) }
 {
-    let made = evidence.directory.events();
-    for index in 0..made.len() {
-        let event = &made[index];
-        let by = (event.actor, event.place);
-        check_event(evidence, by, None, index)?;
-    }
-    Ok(())
+    check_events(evidence, None, evidence.directory.events())
 }
 
 // All events of all homes.
@@ -190,25 +185,26 @@ fn check_homes(evidence: &Evidence<'_>) -> Result<(), AuditFault>
 {
     let homes = evidence.homes;
     for place in 0..homes.len() {
-        check_home(evidence, place)?;
+        let home = &homes[place];
+        check_events(evidence, Some(place), home.events())?;
     }
     Ok(())
 }
 
-// All events of one home.
-fn check_home(evidence: &Evidence<'_>, place: usize) -> Result<(), AuditFault>
-    requires within { place < length evidence.now.homes }
-    requires fit { (b i : ℕ) → NoteFits evidence.now.directory evidence.now.homes evidence.now.books b i }
-    ensures ok { OnOk result ((k : ℕ) → HomeFits evidence.now.homes evidence.now.books place k) }
-    ensures fault { IfErr result (λ f. IsWrong evidence.now.directory evidence.now.homes evidence.now.books f) }
+// All events of the directory, or of the home at a place.
+fn check_events<K, R>(
+    evidence: &Evidence<'_>,
+    home: Option<usize>,
+    events: &[Event<K, R>],
+) -> Result<(), AuditFault>
+    requires within { IfSome home (λ j. j < length evidence.now.homes) }
+    ensures ok { OnOk result ((k : ℕ) → EventFits evidence.now.per_queue evidence.now.books home events.now k) }
+    ensures fault { IfErr result (HasEventFault evidence.now.per_queue evidence.now.books home events.now) }
 {
-    let homes = evidence.homes;
-    let home = &homes[place];
-    let done = home.events();
-    for index in 0..done.len() {
-        let event = &done[index];
+    for index in 0..events.len() {
+        let event = &events[index];
         let by = (event.actor, event.place);
-        check_event(evidence, by, Some(place), index)?;
+        check_event(evidence, by, home, index)?;
     }
     Ok(())
 }
