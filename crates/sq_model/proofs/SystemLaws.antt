@@ -31,37 +31,14 @@ sum_set f (x ∷ xs) (suc i) old new h = rw (sum_by-cons f x (slice_set xs i new
 -- a call of a home alone takes nothing out into transit and brings nothing in
 none_out : (site : Site) (home : Home) (m : ℕ) (call : HomeCall) (reply : HomeReply) (after : Home) → HomeStep site home m call reply after → is_alone call ≡ true → home_outs reply ≡ []
 unfolding HomeStep
-none_out site Unopened m (Configure t w) Done after h a = refl
-none_out site (Serving s v n rows) m (Configure t w) Done after h a = refl
-none_out site Unopened m Close Done after h a = refl
-none_out site (Serving s v n rows) m Close Done after h a = refl
-none_out site (Serving s v n rows) m (Send body delay) (Sent sent) after h a = refl
-none_out site (Serving s v n rows) m (Look max timeout) (Looked given) after h a = refl
-none_out site (Serving s v n rows) m (Look max timeout) Over after h a = refl
-none_out site (Serving s v n rows) m (Delete receipt) Done after h a = refl
-none_out site (Serving s v n rows) m (Change receipt timeout) Done after h a = refl
-none_out site (Serving s v n rows) m Purge Done after h a = refl
-none_out site (Serving s v n rows) m Count (Counted counts) after h a = refl
-none_out site home m (Configure t w) reply after h a = elim h [ ]
-none_out site home m Close reply after h a = elim h [ ]
-none_out site home m (Send body delay) reply after h a = elim h [ ]
-none_out site home m (Look max timeout) reply after h a = elim h [ ]
-none_out site home m (Delete receipt) reply after h a = elim h [ ]
-none_out site home m (Change receipt timeout) reply after h a = elim h [ ]
-none_out site home m Purge reply after h a = elim h [ ]
-none_out site home m Count reply after h a = elim h [ ]
-none_out site home m call reply after h a = absurd cc
+none_out site Closed m Close (Left item) after h a = elim h [ ]
+none_out site home m Close (Left item) after h a = elim h [ ]
+none_out site home m call (Left item) after h a = search
+none_out site home m call reply after h a = refl
 
 pub none_in : (call : HomeCall) → is_alone call ≡ true → home_ins call ≡ []
-none_in (Configure t w) a = refl
 none_in Close a = refl
-none_in (Send body delay) a = refl
-none_in (Look max timeout) a = refl
-none_in (Delete receipt) a = refl
-none_in (Change receipt timeout) a = refl
-none_in Purge a = refl
-none_in Count a = refl
-none_in call a = absurd cc
+none_in call a = cc
 
 -- at the end of a step: rows + endings = rows before + sends
 step_law : (x : MessageId) (before : System) (t : Tag) (after : System) (h : IsStep before t after)
