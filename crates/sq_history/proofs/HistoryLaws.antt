@@ -10,21 +10,15 @@ use Rattle.sq_model.specs.Replays.{StampsRise}
 use Rattle.sq_model.specs.Systems.{is_alone}
 use Rattle.sq_model.proofs.ReplayLaws.{replays_push}
 use Rattle.sq_history.specs.declared.act.HomeAct.{HomeAct}
-use Rattle.sq_history.specs.declared.act.HomeAct.TheVariants.{Configure, Close, Send, Look, Delete, Change, Purge, Count}
+use Rattle.sq_history.specs.declared.act.HomeAct.TheVariants.{Close}
 use Rattle.sq_history.specs.Acts.{call_of}
 use Rattle.sq_history.specs.HistoryValue.{HistoryValue}
 use Rattle.sq_history.specs.Histories.{Records, IsKept, event_of}
 
 -- an act is a call that is a home's alone
 acts_are_alone : (act : HomeAct) → is_alone (call_of act) ≡ true
-acts_are_alone (Configure t w) = refl
 acts_are_alone Close = refl
-acts_are_alone (Send body delay) = refl
-acts_are_alone (Look max timeout) = refl
-acts_are_alone (Delete receipt) = refl
-acts_are_alone (Change receipt timeout) = refl
-acts_are_alone Purge = refl
-acts_are_alone Count = refl
+acts_are_alone act = refl
 
 pub kept_more : (old new : HistoryValue) (by : Actor) (now : ℕ) (name : Option (List ℕ)) (act : HomeAct) (note : HomeNote)
     → IsKept old → StampsRise start new.events new.last → Records old new by now name (call_of act) note → IsKept new
