@@ -7,10 +7,10 @@ use Rattle.std.proofs.lemmas.List.Sums.{sum_by-cons}
 use Rattle.sq_base.specs.declared.message_id.MessageId.{MessageId}
 use Rattle.sq_model.specs.declared.place.Site.{Site}
 use Rattle.sq_model.specs.declared.calls.HomeCall.{HomeCall}
-use Rattle.sq_model.specs.declared.calls.HomeCall.TheVariants.{Configure, Close, Send, Look, Delete, Change, Purge, Count, LeaveDead, LeaveTask, Enter, TurnBack, GiveBack, GiveUp}
+use Rattle.sq_model.specs.declared.calls.HomeCall.TheVariants.{Close, Send}
 use Rattle.sq_model.specs.declared.replies.HomeReply.{HomeReply}
-use Rattle.sq_model.specs.declared.replies.HomeReply.TheVariants.{Done, Sent, Looked, Over, Counted, Left, NoLiveRow, NoOrigin, SourceClosed, Entered}
-use Rattle.sq_model.specs.Homes.{Home, Unopened, Serving, Closed, HomeStep, IsRising, fresh_id}
+use Rattle.sq_model.specs.declared.replies.HomeReply.TheVariants.{Sent}
+use Rattle.sq_model.specs.Homes.{Home, Unopened, Serving, HomeStep, IsRising, fresh_id}
 use Rattle.sq_model.specs.Lineages.{Ending, home_ends, home_sends, rows_of, same_id, rows_with, ends_with, sends_with}
 use Rattle.sq_model.specs.Places.{place_after, first_end, place_in, run_ends, run_sends}
 use Rattle.sq_model.specs.Systems.{HomeAt, HomeSteps, System, Tag, OfDirectory, OfHome, RunFrom, opening, same_home, IsOnePlace}
@@ -94,26 +94,9 @@ other_fits x homes i old k next one fits there here j h ne e =
 other_sends : (x : MessageId) (site : Site) (home : Home) (m : ℕ) (call : HomeCall) (reply : HomeReply) (after : Home) → HomeStep site home m call reply after → same_home (home_of x) site.home ≡ false → sends_with x (home_sends reply) ≡ 0
 unfolding HomeStep
 other_sends x site (Serving s v n rows) m (Send body delay) (Sent sent) after h e = rw (h.1, sends_first x (fresh_id site.home n) [], e) refl
-other_sends x site Unopened m (Configure t w) Done after h e = refl
-other_sends x site (Serving s v n rows) m (Configure t w) Done after h e = refl
-other_sends x site Unopened m Close Done after h e = refl
-other_sends x site (Serving s v n rows) m Close Done after h e = refl
-other_sends x site (Serving s v n rows) m (Look max timeout) (Looked given) after h e = refl
-other_sends x site (Serving s v n rows) m (Look max timeout) Over after h e = refl
-other_sends x site (Serving s v n rows) m (Delete receipt) Done after h e = refl
-other_sends x site (Serving s v n rows) m (Change receipt timeout) Done after h e = refl
-other_sends x site (Serving s v n rows) m Purge Done after h e = refl
-other_sends x site (Serving s v n rows) m Count (Counted counts) after h e = refl
-other_sends x site (Serving s v n rows) m LeaveDead (Left item) after h e = refl
-other_sends x site (Serving s v n rows) m (LeaveTask task) (Left item) after h e = refl
-other_sends x site (Serving s v n rows) m (LeaveTask task) NoLiveRow after h e = refl
-other_sends x site (Serving s v n rows) m (LeaveTask task) (NoOrigin serial) after h e = refl
-other_sends x site Closed m (LeaveTask task) SourceClosed after h e = refl
-other_sends x site (Serving s v n rows) m (Enter item) (Entered slot) after h e = refl
-other_sends x site Closed m (TurnBack item) Done after h e = refl
-other_sends x site (Serving s v n rows) m (GiveBack item) (Entered slot) after h e = refl
-other_sends x site Closed m (GiveUp item) Done after h e = refl
-other_sends x site home m call reply after h e = elim h [ ]
+other_sends x site home m Close (Sent sent) after h e = elim h [ ]
+other_sends x site home m call (Sent sent) after h e = elim h [ ]
+other_sends x site home m call reply after h e = refl
 
 -- what ends others does not matter
 first_other : (x : MessageId) (es fs : List Ending) → ends_with x es ≡ 0 → first_end x (es ++ fs) ≡ first_end x fs
