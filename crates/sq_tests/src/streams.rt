@@ -17,6 +17,16 @@ struct Piecewise<'a> {
     fails_at: u32,
 }
 
+impl<'a> Piecewise<'a> {
+    fn new(bytes: &'a [u8], fails_at: u32) -> Piecewise<'a> {
+        Piecewise {
+            bytes,
+            calls: 0,
+            fails_at,
+        }
+    }
+}
+
 impl Read for Piecewise<'_> {
     fn read(&mut self, buf: &mut [u8]) -> io::Result<usize> {
         self.calls = self.calls.saturating_add(1);
@@ -82,11 +92,7 @@ const REFUSED: &[u8] = b"{\"Error\":{\"Code\":\"InvalidRequest\",\"Number\":4}}\
 
 #[test]
 fn stops_where_a_read_fails(rt: HostRuntime) -> Result<(), Fail> {
-    let mut reader = Counted::new(Piecewise {
-        bytes: b"one\ntwo\n",
-        calls: 0,
-        fails_at: 2,
-    });
+    let mut reader = Counted::new(Piecewise::new(b"one\ntwo\n", 2));
     let mut writer = Counted::new(Vec::new(rt.alloc()));
     let done = served(rt.alloc(), &mut reader, &mut writer)?;
     assert!(rt; done == Err(ServeFault::Read(1)));
@@ -97,11 +103,7 @@ fn stops_where_a_read_fails(rt: HostRuntime) -> Result<(), Fail> {
 
 #[test]
 fn keeps_what_was_read_before_a_fault(rt: HostRuntime) -> Result<(), Fail> {
-    let mut reader = Counted::new(Piecewise {
-        bytes: b"a line of ten words\nmore",
-        calls: 0,
-        fails_at: 3,
-    });
+    let mut reader = Counted::new(Piecewise::new(b"a line of ten words\nmore", 3));
     let mut lines = Lines::new(rt.alloc())?;
     assert!(rt;
         matches!(

@@ -1,5 +1,6 @@
 //! Steps of several actors at several homes, and the one order of it all.
 use crate::setup::{at, configure, create, look, merged, options, send, stepped};
+use sq_audit::parts::Parts;
 use sq_audit::tagged::Tagged;
 use sq_base::refusal::Refusal;
 use sq_merge::world::World;
@@ -18,11 +19,10 @@ fn opened(alloc: Global) -> Result<World, Refusal> {
     stepped(alloc, options(2, 10, 16), &steps)
 }
 
-// The part of each event, 0 for the directory and then one more for each home, with its moment and its count.
-fn listed(alloc: Global, world: World) -> Result<Vec<(u32, u64, u64)>, Refusal> {
-    let parts = world.parts();
-    let run = merged(alloc, &parts)?;
-    let mut list = Vec::new(alloc);
+// The part of each event, 0 for the directory and then one more for each home, at its moment and its count.
+fn listed(alloc: Global, parts: &Parts) -> Result<String, Refusal> {
+    let run = merged(alloc, parts)?;
+    let mut list = String::new(alloc);
     for at in 0..run.len() {
         let event = run.event(at).ok_or(Refusal::UnsupportedOperation)?;
         let part = match event {
@@ -30,14 +30,14 @@ fn listed(alloc: Global, world: World) -> Result<Vec<(u32, u64, u64)>, Refusal> 
             Tagged::Home(place, _) => place.saturating_add(1),
         };
         let stamp = event.stamp();
-        list.push((part, stamp.moment, stamp.count))?;
+        let word = format!(in alloc; " {part}@{}.{}", stamp.moment, stamp.count)?;
+        list.push_str(&word)?;
     }
     Ok(list)
 }
 
 // The stamps that an actor noted, in the order of its steps.
-fn noted(alloc: Global, world: World, actor: u32) -> Result<Vec<(u64, u64)>, Refusal> {
-    let parts = world.parts();
+fn noted(alloc: Global, parts: &Parts, actor: u32) -> Result<Vec<(u64, u64)>, Refusal> {
     let mut stamps = Vec::new(alloc);
     for book in parts.records.as_slice() {
         if book.actor() == actor {
@@ -51,7 +51,7 @@ fn noted(alloc: Global, world: World, actor: u32) -> Result<Vec<(u64, u64)>, Ref
 }
 
 #[test]
-fn steps_of_three_actors_have_one_order(rt: HostRuntime) -> Result<(), Fail> {
+fn steps_of_three_actors_have_one_order_and_are_noted(rt: HostRuntime) -> Result<(), Fail> {
     let mut world = opened(rt.alloc())?;
     let looks = [
         at(1, 0, 0, look()),
@@ -60,30 +60,10 @@ fn steps_of_three_actors_have_one_order(rt: HostRuntime) -> Result<(), Fail> {
         at(2, 0, 0, look()),
     ];
     assert_eq!(rt; world.run(rt.alloc(), &looks), 4);
-    let listed = listed(rt.alloc(), world)?;
-    let wanted = [
-        (0, 0, 1),
-        (1, 0, 2),
-        (1, 0, 3),
-        (2, 0, 3),
-        (2, 0, 4),
-        (1, 0, 5),
-        (2, 0, 5),
-    ];
-    assert!(rt; listed.as_slice() == wanted.as_slice());
-    Ok(())
-}
-
-#[test]
-fn an_actor_notes_the_stamps_of_its_steps(rt: HostRuntime) -> Result<(), Fail> {
-    let mut world = opened(rt.alloc())?;
-    let looks = [
-        at(1, 0, 0, look()),
-        at(2, 0, 1, look()),
-        at(1, 0, 1, look()),
-    ];
-    assert_eq!(rt; world.run(rt.alloc(), &looks), 3);
-    let noted = noted(rt.alloc(), world, 1)?;
+    let parts = world.parts();
+    let wanted = " 0@0.1 1@0.2 1@0.3 2@0.3 2@0.4 1@0.5 2@0.5";
+    assert!(rt; listed(rt.alloc(), &parts)?.as_str() == wanted);
+    let noted = noted(rt.alloc(), &parts, 1)?;
     assert!(rt; noted.as_slice() == [(0, 3), (0, 5)].as_slice());
     Ok(())
 }
@@ -125,8 +105,8 @@ fn a_refused_step_leaves_no_event(rt: HostRuntime) -> Result<(), Fail> {
     ] {
         assert!(rt; refusal(world.step(rt.alloc(), &step)) == Some(wanted));
     }
-    let listed = listed(rt.alloc(), world)?;
-    assert!(rt; listed.as_slice() == [(0, 0, 1), (1, 0, 2), (2, 0, 3)].as_slice());
+    let parts = world.parts();
+    assert!(rt; listed(rt.alloc(), &parts)?.as_str() == " 0@0.1 1@0.2 2@0.3");
     Ok(())
 }
 
@@ -169,17 +149,7 @@ fn events_are_listed_by_stamp(rt: HostRuntime) -> Result<(), Fail> {
         at(7, 3000, 1, HomeAct::Purge),
     ];
     let world = stepped(rt.alloc(), options(2, 10, 16), &steps)?;
-    let listed = listed(rt.alloc(), world)?;
-    let want = [
-        (0, 1000, 0),
-        (1, 1000, 0),
-        (2, 1000, 0),
-        (2, 1500, 0),
-        (1, 2000, 0),
-        (2, 2000, 0),
-        (1, 2000, 1),
-        (2, 3000, 0),
-    ];
-    assert!(rt; listed.as_slice() == want.as_slice());
+    let wanted = " 0@1000.0 1@1000.0 2@1000.0 2@1500.0 1@2000.0 2@2000.0 1@2000.1 2@3000.0";
+    assert!(rt; listed(rt.alloc(), &world.parts())?.as_str() == wanted);
     Ok(())
 }
