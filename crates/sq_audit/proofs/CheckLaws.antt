@@ -1,6 +1,6 @@
 -- Where all records and events fit, all is matched; and what is wrong excludes that.
-use Rattle.std.proofs.Common.{◌≡◌, ◌≢◌, ◌⊎◌, ℕ, zero, suc, ◌+◌, ◌*◌, ◌/◌, ◌%◌, ◌<◌, ◌≤◌, List, [], ◌∷◌, length, refl, ap, sym, ◌∙◌, subst, inl, inr, arith, Option, Some, None, slice_get, true, false}
-use Rattle.std.specs.Prelude.{nat_eq, ◌==◌, if◌then◌else◌, position}
+use Rattle.std.proofs.Common.{◌≡◌, ◌≢◌, ◌⊎◌, ℕ, zero, suc, ◌+◌, ◌*◌, ◌/◌, ◌%◌, ◌<◌, ◌≤◌, List, [], ◌∷◌, length, refl, ap, sym, ◌∙◌, subst, inl, inr, arith, Option, Some, None, slice_get, true}
+use Rattle.std.specs.Prelude.{nat_eq, position}
 use Rattle.std.specs.List.{slice_index_or}
 use Rattle.std.proofs.lemmas.Bool.{eqb-true}
 use Rattle.std.proofs.Math.Nat.{mod-add-div}
@@ -14,7 +14,7 @@ use Rattle.sq_model.specs.Notes.{HomeNote, DirectoryNote, Note, OfDirectory, OfH
 use Rattle.sq_model.specs.Matches.{HomeHistory, IsHomeEvent, IsNote, IsNamed, Happened, IsNoted, IsOfDirectory, IsOfHome, IsMatched}
 use Rattle.sq_history.specs.HistoryValue.{HistoryValue}
 use Rattle.sq_audit.specs.HomeIds.{history_of, histories_of, home_id, IsNumbered, home_place}
-use Rattle.sq_steps.specs.Books.{AreDistinct, NotesRiseAt, is_of, new_book, book_of}
+use Rattle.sq_steps.specs.Books.{AreDistinct, NotesRiseAt, is_of}
 use Rattle.sq_audit.specs.declared.check.AuditFault.{AuditFault}
 use Rattle.sq_audit.specs.declared.check.AuditFault.TheVariants.{NoMemory, RecordMissing, RecordTwice}
 use Rattle.sq_audit.specs.Faults.{Spot, InDirectory, InHome, IsBy, IsAlone, Gap, TwoEvents, FaultHolds, IsWrong, NoteFits, DirectoryFits, HomeFits, IsRecordFault, IsAt, IsNotedAt, EventFits, HasEventFault}
@@ -22,7 +22,7 @@ use Rattle.sq_history.specs.Events.{HasHomeEvent}
 use Rattle.sq_steps.specs.declared.record.Record.{Record}
 use Rattle.sq_steps.specs.Records.{note_of, notes_of}
 use Rattle.sq_directory.proofs.ElementLaws.{some_same, get_map, get_mapped, all_get}
-use Rattle.sq_steps.proofs.BookListLaws.{book_own, lost_there, differ, found_is, book_once, same_place}
+use Rattle.sq_steps.proofs.BookListLaws.{book_own, differ, found_is, book_once, same_place}
 use Rattle.sq_audit.proofs.HomeIdLaws.{place_found, place_back, place_none}
 
 differing : (j i : ℕ) → j ≢ i → (j < i) ⊎ (j ≡ i) ⊎ (i < j)
@@ -124,9 +124,9 @@ module _ (per_queue : ℕ) (homes : List HistoryValue) (d : List DirectoryEvent)
 noted_by : (books : List Book) (b i : ℕ) (book : Book) (n : Note) (P : Note → Type 0) → IsNote books b i book n → P n → IsNoted books book.actor P
 noted_by books b i book n P there p = record { at = b; index = i; book = book; note = n; there = there; of_actor = refl; of_event = p }
 
--- a note of which one thing is known is one of which another is
-pub noted_as : (books : List Book) (a c : ℕ) (P Q : Note → Type 0) → a ≡ c → ((n : Note) → P n → Q n) → IsNoted books a P → IsNoted books c Q
-noted_as books a c P Q same as_well x = record { at = x.at; index = x.index; book = x.book; note = x.note; there = x.there; of_actor = x.of_actor ∙ same; of_event = as_well x.note x.of_event }
+-- a note of which something else is known
+pub noted_as : (books : List Book) (a c : ℕ) (P Q : Note → Type 0) (x : IsNoted books a P) → a ≡ c → Q x.note → IsNoted books c Q
+noted_as books a c P Q x same q = record { at = x.at; index = x.index; book = x.book; note = x.note; there = x.there; of_actor = x.of_actor ∙ same; of_event = q }
 
 -- a note that stands above its place leaves it out
 place_gap : (d : List DirectoryEvent) (hs : List HomeHistory) (books : List Book) (b i : ℕ) (book : Book) (n : Note) → AreDistinct books → NotesRise book.notes
@@ -206,23 +206,6 @@ fits_match d hs books distinct each every all = record {
       noted_by books b place book t.0 (λ m. place_of m ≡ place) there (each b place book t.0 there).0);
 }
 
--- an actor's book is the only one of the actor
-book_first : (books : List Book) → AreDistinct books → (actor b : ℕ) (x : Book) → slice_get books b ≡ Some x → x.actor ≡ actor → book_of actor books ≡ x
-book_first [] distinct actor b x h own = absurd cc
-book_first (z ∷ zs) distinct actor zero x h own =
-    elim (z.actor == actor) as (λ v. z.actor == actor ≡ v → (if v then z else book_of actor zs) ≡ x)
-    [ true ↦ (λ e. some_same h) | false ↦ (λ e. absurd (differ z.actor actor e (sym own ∙ sym (ap (λ (y : Book). y.actor) (some_same h))))) ] refl
-book_first (z ∷ zs) distinct actor (suc b) x h own =
-    elim (z.actor == actor) as (λ v. z.actor == actor ≡ v → (if v then z else book_of actor zs) ≡ x)
-    [ true ↦ (λ e. absurd (all_get _ zs distinct.0 b x h (own ∙ sym (eqb-true _ _ e)))) | false ↦ (λ e. book_first zs distinct.1 actor b x h own) ] refl
-
--- an actor that has no book has no note
-pub no_book : (books : List Book) (actor place : ℕ) → AreDistinct books → position (is_of actor) books ≡ None → IsNotedAt books actor place (λ n. Unit {0}) → ⊥
-no_book books actor place distinct none x =
-    let is : x.book ≡ new_book actor = sym (book_first books distinct actor x.at x.book x.there.in_books x.of_actor) ∙ lost_there actor books none in
-    let h : slice_get (new_book actor).notes place ≡ Some x.note = subst (λ (b : Book). slice_get b.notes place ≡ Some x.note) is x.there.in_notes in
-    absurd cc
-
 module _ (books : List Book) (actor at : ℕ) (book : Book) (records : List Record) (place : ℕ) (pos : position (is_of actor) books ≡ Some at) (lt : at < length books) (is : book ≡ slice_index_or books at book) (notes : notes_of records ≡ book.notes) where
   book_is : slice_get books at ≡ Some book
   book_is = slice_get_read books (length books) at book refl lt is
@@ -232,21 +215,17 @@ module _ (books : List Book) (actor at : ℕ) (book : Book) (records : List Reco
 
   -- a book has no note past its end
   pub no_note : AreDistinct books → length records ≤ place → IsNotedAt books actor place (λ n. Unit {0}) → ⊥
-  no_note distinct past x =
+  no_note distinct past (x, here) =
       let same : x.book ≡ book = some_same (sym x.there.in_books ∙ ap (slice_get books) (book_once books distinct x.at at x.book book x.there.in_books book_is (x.of_actor ∙ sym actor_is)) ∙ book_is) in
-      let h : slice_get (notes_of records) place ≡ Some x.note = rw notes (subst (λ (b : Book). slice_get b.notes place ≡ Some x.note) same x.there.in_notes) in
-      let t = get_mapped note_of records place x.note h in
-      omega (arith, past, slice_get_within records place t.0 t.1)
+      let h : slice_get (notes_of records) x.index ≡ Some x.note = rw notes (subst (λ (b : Book). slice_get b.notes x.index ≡ Some x.note) same x.there.in_notes) in
+      let t = get_mapped note_of records x.index x.note h in
+      omega (arith, past, here, slice_get_within records x.index t.0 t.1)
 
   pub note_there : (kept : Record) (P : Note → Type 0) → place < length records → kept ≡ slice_index_or records place kept → P (note_of kept) → IsNotedAt books actor place P
-  note_there kept P within own p = record {
-    at = at;
-    book = book;
-    note = note_of kept;
-    there = record { in_books = book_is; in_notes = subst (λ (ns : List Note). slice_get ns place ≡ Some (note_of kept)) notes (get_map note_of records place kept (slice_get_read records (length records) place kept refl within own)) };
-    of_actor = actor_is;
-    of_event = p;
-  }
+  unfolding noted_by
+  note_there kept P within own p =
+      let there = read_note books at place book records kept lt is notes within own in
+      (subst (λ (a : ℕ). IsNoted books a P) actor_is (noted_by books at place book (note_of kept) P there p), refl)
 
 -- an event's note, at the number of the event
 module _ (per_queue : ℕ) (homes : List HistoryValue) (numbered : IsNumbered per_queue homes) (d : List DirectoryEvent) where
@@ -292,29 +271,20 @@ module _ (per_queue : ℕ) (homes : List HistoryValue) (numbered : IsNumbered pe
   }
 
   module _ (books : List Book) (fit : (b i : ℕ) → NoteFits d hs books b i) where
-    noted : (a place : ℕ) (P Q : Note → Type 0) (x : IsNotedAt books a place P) → Q x.note → IsNoted books a Q
-    noted a place P Q x q = record { at = x.at; index = place; book = x.book; note = x.note; there = x.there; of_actor = x.of_actor; of_event = q }
-
     noted_at : (a place : ℕ) (P : Note → Type 0) (x : IsNoted books a P) → place_of x.note ≡ place → IsNotedAt books a place (λ n. Unit {0})
-    noted_at a place P x e = record {
-      at = x.at;
-      book = x.book;
-      note = x.note;
-      there = subst (λ (i : ℕ). IsNote books x.at i x.book x.note) (sym (fit x.at x.index x.book x.note x.there).0 ∙ e) x.there;
-      of_actor = x.of_actor;
-      of_event = tt;
-    }
+    unfolding noted_as
+    noted_at a place P x e = (noted_as books a a P (λ n. Unit {0}) x refl tt, sym (fit x.at x.index x.book x.note x.there).0 ∙ e)
 
-    two_events : (a place : ℕ) (other : Spot) (P : Note → Type 0) (x : IsNotedAt books a place P) → IsBy d hs a place other → ((s : HasSpot a place x.note) → s.spot ≡ other → ⊥) → TwoEvents d hs a place
-    two_events a place other P x by differ =
-        let f = fit x.at place x.book x.note x.there in
-        let s = spot_of a place x.note (subst (λ (y : ℕ). Happened d hs y x.note) x.of_actor f.1) f.0 in
+    two_events : (a place : ℕ) (other : Spot) (P : Note → Type 0) (x : IsNotedAt books a place P) → IsBy d hs a place other → ((s : HasSpot a place x.0.note) → s.spot ≡ other → ⊥) → TwoEvents d hs a place
+    two_events a place other P (x, here) by differ =
+        let f = fit x.at x.index x.book x.note x.there in
+        let s = spot_of a place x.note (subst (λ (y : ℕ). Happened d hs y x.note) x.of_actor f.1) (f.0 ∙ here) in
         record { one = s.spot; other = other; differ = differ s; first = s.by; second = by }
 
     pub directory_fits : ((k : ℕ) → EventFits per_queue books None d k) → (k : ℕ) → DirectoryFits d books k
     directory_fits all k e there =
-        let x = all k e there in
-        noted e.actor e.place (IsAt per_queue None k) (IsOfDirectory k e) x (of_directory x.book.actor k e x.note x.of_event (fit x.at e.place x.book x.note x.there).1 there)
+        let x = (all k e there).0 in
+        noted_as books e.actor e.actor (IsAt per_queue None k) (IsOfDirectory k e) x refl (of_directory x.book.actor k e x.note x.of_event (fit x.at x.index x.book x.note x.there).1 there)
 
     pub directory_wrong : (f : AuditFault) → HasEventFault per_queue books None d f → IsWrong d hs books f
     directory_wrong f (k, e, there, wrong) = elim wrong [
@@ -324,14 +294,14 @@ module _ (per_queue : ℕ) (homes : List HistoryValue) (numbered : IsNumbered pe
         alone = λ e2 too x. p.0 (noted_at e.actor e.place (IsOfDirectory k e2) x (ap place_of x.of_event ∙ ap (λ (y : DirectoryEvent). y.place) (some_same (sym too ∙ there))));
       }))
       | inr p ↦ subst (λ (x : AuditFault). IsWrong d hs books x) (sym p.1)
-          (two_events e.actor e.place (InDirectory k) (λ n. IsAt per_queue None k n → ⊥) p.0 (e, there, refl, refl) (λ s q. p.0.of_event (s.in_directory k q)))
+          (two_events e.actor e.place (InDirectory k) (λ n. IsAt per_queue None k n → ⊥) p.0 (e, there, refl, refl) (λ s q. p.0.0.of_event (s.in_directory k q)))
     ]
 
     pub home_fits : (j : ℕ) (h : HomeHistory) → slice_get hs j ≡ Some h → ((k : ℕ) → EventFits per_queue books (Some j) h.events k) → (k : ℕ) → HomeFits hs books j k
     home_fits j h at all k h2 e there =
         let same : h2 ≡ h = some_same (sym there.in_homes ∙ at) in
-        let x = all k e (subst (λ (y : HomeHistory). slice_get y.events k ≡ Some e) same there.in_events) in
-        noted e.actor e.place (IsAt per_queue (Some j) k) (IsOfHome h2.home k e) x (of_home x.book.actor j k h2 e x.note x.of_event (fit x.at e.place x.book x.note x.there).1 there)
+        let x = (all k e (subst (λ (y : HomeHistory). slice_get y.events k ≡ Some e) same there.in_events)).0 in
+        noted_as books e.actor e.actor (IsAt per_queue (Some j) k) (IsOfHome h2.home k e) x refl (of_home x.book.actor j k h2 e x.note x.of_event (fit x.at x.index x.book x.note x.there).1 there)
 
     pub home_wrong : (j : ℕ) (h : HomeHistory) (f : AuditFault) → slice_get hs j ≡ Some h → HasEventFault per_queue books (Some j) h.events f → IsWrong d hs books f
     home_wrong j h f at (k, e, own, wrong) = let there : IsHomeEvent hs j k h e = record { in_homes = at; in_events = own } in elim wrong [
@@ -344,7 +314,7 @@ module _ (per_queue : ℕ) (homes : List HistoryValue) (numbered : IsNumbered pe
             p.0 (noted_at e.actor e.place (IsOfHome h2.home k e2) x (ap place_of x.of_event.1 ∙ ap (λ (y : HomeEvent). y.place) same)));
       }))
       | inr p ↦ subst (λ (x : AuditFault). IsWrong d hs books x) (sym p.1)
-          (two_events e.actor e.place (InHome j k) (λ n. IsAt per_queue (Some j) k n → ⊥) p.0 (h, e, there, refl, refl) (λ s q. p.0.of_event (s.in_home j k q)))
+          (two_events e.actor e.place (InHome j k) (λ n. IsAt per_queue (Some j) k n → ⊥) p.0 (h, e, there, refl, refl) (λ s q. p.0.0.of_event (s.in_home j k q)))
     ]
 
   -- the note is of the event there
@@ -371,9 +341,11 @@ module _ (per_queue : ℕ) (homes : List HistoryValue) (numbered : IsNumbered pe
   module _ (books : List Book) (matched : IsMatched d hs books) where
     noted_of : (a place : ℕ) (s : Spot) → IsBy d hs a place s → IsNoted books a (λ n. (place_of n ≡ place) × NotesSpot s n)
     noted_of a place (InDirectory k) by =
-        noted_as books by.0.actor a (IsOfDirectory k by.0) (λ n. (place_of n ≡ place) × NotesSpot (InDirectory k) n) by.2 (λ n is. (ap place_of is ∙ by.3, (by.0, is))) (matched.directory_noted k by.0 by.1)
+        let x = matched.directory_noted k by.0 by.1 in
+        noted_as books by.0.actor a (IsOfDirectory k by.0) (λ n. (place_of n ≡ place) × NotesSpot (InDirectory k) n) x by.2 (ap place_of x.of_event ∙ by.3, (by.0, x.of_event))
     noted_of a place (InHome j k) by =
-        noted_as books by.1.actor a (IsOfHome by.0.home k by.1) (λ n. (place_of n ≡ place) × NotesSpot (InHome j k) n) by.3 (λ n is. (ap place_of is.1 ∙ by.4, (by.0, by.1, is.0, by.2.in_homes, is.1))) (matched.homes_noted j k by.0 by.1 by.2)
+        let x = matched.homes_noted j k by.0 by.1 by.2 in
+        noted_as books by.1.actor a (IsOfHome by.0.home k by.1) (λ n. (place_of n ≡ place) × NotesSpot (InHome j k) n) x by.3 (ap place_of x.of_event.1 ∙ by.4, (by.0, by.1, x.of_event.0, by.2.in_homes, x.of_event.1))
 
     not_two : (a place : ℕ) → TwoEvents d hs a place → ⊥
     not_two a place t =

@@ -59,16 +59,16 @@ module _ (per_queue : ℕ) (d : List DirectoryEvent) (homes : List HistoryValue)
   has_note : (i : ℕ) (t : Tag) → slice_get run i ≡ Some t → IsNoted books (event_actor t) (IsLike hs t)
   has_note i (OfDirectory e) is =
       let at = in_directory run i e is in
-      noted_as books e.actor e.actor (IsOfDirectory at.0 e) (IsLike hs (OfDirectory e)) refl
-      (λ n own. subst (IsLike hs (OfDirectory e)) (sym own) (record { of_place = refl; of_stamp = refl; of_part = tt }))
-      (matched.directory_noted at.0 e (rw merged.of_the_directory at at.1))
+      let x = matched.directory_noted at.0 e (rw merged.of_the_directory at at.1) in
+      noted_as books e.actor e.actor (IsOfDirectory at.0 e) (IsLike hs (OfDirectory e)) x refl
+      (subst (IsLike hs (OfDirectory e)) (sym x.of_event) (record { of_place = refl; of_stamp = refl; of_part = tt }))
   has_note i (OfHome j e) is =
       let at = in_home run i j e is in
       let h = event_home homes j at.0 e (rw (merged.of_each_home j) at at.1) in
       let there = get_map history_of homes j h.0 h.1 in
-      noted_as books e.actor e.actor (IsOfHome h.0.site.home at.0 e) (IsLike hs (OfHome j e)) refl
-      (λ n own. subst (IsLike hs (OfHome j e)) (sym own.1) (record { of_place = refl; of_stamp = refl; of_part = (history_of h.0, there, refl) }))
-      (matched.homes_noted j at.0 (history_of h.0) e (record { in_homes = there; in_events = h.2 }))
+      let x = matched.homes_noted j at.0 (history_of h.0) e (record { in_homes = there; in_events = h.2 }) in
+      noted_as books e.actor e.actor (IsOfHome h.0.site.home at.0 e) (IsLike hs (OfHome j e)) x refl
+      (subst (IsLike hs (OfHome j e)) (sym x.of_event.1) (record { of_place = refl; of_stamp = refl; of_part = (history_of h.0, there, refl) }))
 
   -- what is of one part with one note is of one part
   one_part : (t u : Tag) (n : Note) → IsOfPart hs n t → IsOfPart hs n u → rank_of t ≡ rank_of u

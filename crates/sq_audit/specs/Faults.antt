@@ -82,13 +82,8 @@ IsAt per_queue (Some j) k (OfHome n) = (n.home ≡ home_id per_queue j) × (n.in
 IsAt per_queue home k n = ⊥
 
 -- an actor has such a note at this index
-pub record IsNotedAt (books : List Book) (actor index : ℕ) (IsOf : Note → Type 0) : Type 0 where
-  pub at : ℕ
-  pub book : Book
-  pub note : Note
-  pub there : IsNote books at index book note
-  pub of_actor : book.actor ≡ actor
-  pub of_event : IsOf note
+abbrev pub IsNotedAt : List Book → ℕ → ℕ → (Note → Type 0) → Type 0
+IsNotedAt books actor index IsOf = (x : IsNoted books actor IsOf) × (x.index ≡ index)
 
 -- what may be wrong with an event of this actor and number
 abbrev pub IsEventFault : ℕ → List Book → ℕ → ℕ → Option ℕ → ℕ → AuditFault → Type 0

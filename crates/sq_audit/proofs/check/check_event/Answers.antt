@@ -3,13 +3,14 @@ use Rattle.std.specs.Prelude.{position}
 use Rattle.sq_steps.specs.Books.{is_of}
 use Rattle.sq_audit.specs.EvidenceValue.{EvidenceValue}
 use Rattle.sq_audit.specs.Faults.{IsAt, IsNotedAt}
-use Rattle.sq_audit.proofs.CheckLaws.{no_book, no_note, note_there}
+use Rattle.sq_steps.proofs.DropLaws.{noted_lost}
+use Rattle.sq_audit.proofs.CheckLaws.{no_note, note_there}
 use Rattle.sq_audit.proofs.check.check_event.Goals as goal
 
 pub returns-in_default-clause-fault : goal.returns-in_default-clause-fault
 returns-in_default-clause-fault c =
     let none : position (is_of c.args.by.0) c.evidence.inside.books.now ≡ None = search rules in
-    rw (← c.evidence.view_is) (inl (no_book c.evidence.inside.books.now c.args.by.0 c.args.by.1 c.evidence.invariant.distinct none, refl))
+    rw (← c.evidence.view_is) (inl (λ x. noted_lost c.args.by.0 c.evidence.inside.books.now (λ n. Unit {0}) none x.0, refl))
 
 pub returns-then-place-records-clause-fault : goal.returns-then-place-records-clause-fault
 returns-then-place-records-clause-fault c =
