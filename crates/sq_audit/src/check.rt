@@ -245,9 +245,9 @@ fn is_at(evidence: &Evidence<'_>, home: Option<usize>, index: usize, kept: &Reco
     ensures { result ≡ true ↔ IsAt evidence.now.per_queue home index (note_of kept.now) }
 {
     match (home, kept) {
-        (None, Record::Directory(kept)) => kept.index() == index as u64,
+        (None, Record::Directory(kept)) => kept.step().index == index as u64,
         (Some(place), Record::Home(kept)) => {
-            is_home_at(evidence, place, kept.home()) && kept.index() == index as u64
+            is_home_at(evidence, place, kept.home()) && kept.step().index == index as u64
         }
         _ => false,
     }

@@ -92,14 +92,12 @@ impl Directory {
         let stamp = self.log.begin(by, now)?;
         let made = self.queues.create(name, given)?;
         let told = made;
-        let call = DirectoryCall::Create(*name, *given);
-        let reply = DirectoryReply::Made(made);
-        let kept_call = call;
-        let kept_reply = reply;
-        let index = self
-            .log
-            .add(stamp, by, Component::Directory, kept_call, kept_reply);
-        let record = DirectoryRecord::new(&stamp, by, index, &call, &reply);
-        Ok((told, record))
+        let kept = (
+            DirectoryCall::Create(*name, *given),
+            DirectoryReply::Made(made),
+        );
+        let noted = kept;
+        let step = self.log.add(stamp, by, Component::Directory, kept, noted);
+        Ok((told, DirectoryRecord::new(step)))
     }
 }

@@ -68,7 +68,7 @@ fn is_named_by(
 ) -> bool
     ensures { result ≡ true ↔ (Below event.now.stamp kept.now.stamp × IsCreate event.now name.now kept.now.home.queue) }
 {
-    event.stamp.is_below(kept.stamp()) && is_create(event, name, kept)
+    event.stamp.is_below(kept.step().stamp) && is_create(event, name, kept)
 }
 
 // Whether an event made the queue of a record by this name, or found it.

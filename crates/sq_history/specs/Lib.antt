@@ -3,4 +3,5 @@ pub mod Logs
 pub mod Acts
 pub mod HistoryValue
 pub mod Histories
+pub mod Records
 pub mod Events

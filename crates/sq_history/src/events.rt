@@ -1,32 +1,43 @@
-//! Whether a home's history has the event of a record.
-ghost use Rattle.std.specs.Prelude.{◌≡◌, ◌↔◌, ◌<◌, true};
-ghost use Rattle.sq_model.specs.Notes.{home_note};
-ghost use Rattle.sq_history.specs.Events.{HasHomeEvent};
+//! Whether a history has the event of a record.
+ghost use Rattle.std.specs.Prelude.{◌≡◌, ◌↔◌, true, IfSome, IsSome};
+ghost use Rattle.sq_model.specs.declared.event.Event.{Event as Done};
+ghost use Rattle.sq_history.specs.Events.{IsEventOf, HasHomeEvent};
 
 use crate::record::HomeRecord;
 use crate::recorded::Home;
-use sq_model::calls::HomeCall;
-use sq_model::event::Event;
-use sq_model::replies::HomeReply;
+use sq_model::event::{Event, StepRecord};
 use sq_model::same::{is_same_call, is_same_reply};
+
+/// The event that this actor's record is of, in the history of its part: the one at its index, where the place and the
+/// stamp are the same. It does not compare call and reply.
+pub fn event_of<'a, K, R>(
+    events: &'a [Event<K, R>],
+    actor: u32,
+    kept: &StepRecord<K, R>,
+) -> Option<&'a Event<K, R>>
+    ensures found { IfSome result (λ e. IsEventOf events.now actor kept.now e.now) }
+    ensures none { (e : Done K R) → IsEventOf events.now actor kept.now e → IsSome result }
+{
+    if kept.index >= events.len() as u64 {
+        return None;
+    }
+    let event = &events[kept.index as usize];
+    if event.actor == actor && event.place == kept.place && event.stamp == kept.stamp {
+        Some(event)
+    } else {
+        None
+    }
+}
 
 /// Whether a home's history has the event of this actor's record.
 pub fn has_home_event(home: &Home, actor: u32, kept: &HomeRecord) -> bool
     ensures { result ≡ true ↔ HasHomeEvent home.now.events actor kept.now }
 {
-    let events = home.events();
-    if kept.index() >= events.len() as u64 {
-        return false;
+    let step = kept.step();
+    match event_of(home.events(), actor, step) {
+        Some(event) => {
+            is_same_call(&event.call, &step.call) && is_same_reply(&event.reply, &step.reply)
+        }
+        None => false,
     }
-    is_home_event(&events[kept.index() as usize], actor, kept)
-}
-
-fn is_home_event(event: &Event<HomeCall, HomeReply>, actor: u32, kept: &HomeRecord) -> bool
-    ensures { result ≡ true ↔ ((event.now.actor ≡ actor) × (kept.now ≡ home_note kept.now.home kept.now.index kept.now.name event.now)) }
-{
-    event.actor == actor
-        && event.place == kept.place()
-        && event.stamp == kept.stamp()
-        && is_same_call(&event.call, kept.call())
-        && is_same_reply(&event.reply, kept.reply())
 }

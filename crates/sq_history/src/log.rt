@@ -6,7 +6,7 @@ ghost use Rattle.sq_history.specs.Logs.{event_by, IsFull, IsUnready};
 
 use sq_base::refusal::Refusal;
 use sq_base::stamp::Stamp;
-use sq_model::event::{Actor, Event};
+use sq_model::event::{Actor, Event, StepRecord};
 use sq_model::place::Component;
 use std::alloc::Global;
 use std::marker::Model;
@@ -83,16 +83,25 @@ impl<K: Drop, R: Drop> Log<K, R> {
         Stamp::after(self.last, by.seen, now)
     }
 
-    /// Adds the event of a step, where there is room for it, and tells its number: from 0 upwards.
-    pub fn add(&mut self, stamp: Stamp, by: &Actor, component: Component, call: K, reply: R) -> u64
+    /// Adds the event of a step, where there is room for it, with the call and reply that are kept. Gives the actor's
+    /// record of it, with those that are noted.
+    pub fn add(
+        &mut self,
+        stamp: Stamp,
+        by: &Actor,
+        component: Component,
+        kept: (K, R),
+        noted: (K, R),
+    ) -> StepRecord<K, R>
         requires room { 0 < self.old.room }
         requires above { Below self.old.last stamp }
         ensures last { self.new.last ≡ stamp }
-        ensures events { self.new.events ≡ self.old.events ++ event_by stamp by.now component call reply ∷ [] }
+        ensures events { self.new.events ≡ self.old.events ++ event_by stamp by.now component kept.0 kept.1 ∷ [] }
         ensures rising { StampsRise start self.new.events self.new.last }
-        ensures index { result ≡ length self.old.events }
+        ensures noted { result ≡ record { place = by.now.place; stamp = stamp; index = length self.old.events; call = noted.0; reply = noted.1 } }
     {
         let index = self.events.len() as u64;
+        let (call, reply) = kept;
         let event = Event {
             stamp,
             actor: by.number,
@@ -103,6 +112,13 @@ impl<K: Drop, R: Drop> Log<K, R> {
         };
         let _ = self.events.push(event);
         self.last = stamp;
-        index
+        let (call, reply) = noted;
+        StepRecord {
+            place: by.place,
+            stamp,
+            index,
+            call,
+            reply,
+        }
     }
 }

@@ -96,8 +96,11 @@ impl<S: Store> Recorded<S> {
         let noted_call = act.call()?;
         let Answer { kept, noted, told } = act.ask(alloc, &mut self.shard, stamp.moment)?;
         let home = self.shard.site().home;
-        let index = self.log.add(stamp, by, Component::Home(home), call, kept);
-        let record = HomeRecord::new(&stamp, by, &home, index, (noted_call, noted), name);
+        let part = Component::Home(home);
+        let step = self
+            .log
+            .add(stamp, by, part, (call, kept), (noted_call, noted));
+        let record = HomeRecord::new(step, &home, name);
         Ok((told, record))
     }
 

@@ -9,6 +9,7 @@ use Rattle.sq_model.specs.declared.replies.HomeReply.{HomeReply}
 use Rattle.sq_model.specs.declared.directory.DirectoryCall.{DirectoryCall}
 use Rattle.sq_model.specs.declared.directory.DirectoryReply.{DirectoryReply}
 use Rattle.sq_model.specs.declared.event.Actor.{Actor}
+use Rattle.sq_model.specs.declared.event.StepRecord.{StepRecord}
 use Rattle.sq_model.specs.Replays.{HomeEvent}
 use Rattle.sq_model.specs.Systems.{DirectoryEvent}
 
@@ -23,12 +24,8 @@ pub record HomeNote : Type 0 where
   pub name : Option (List ℕ)
 
 -- of a step of the directory
-pub record DirectoryNote : Type 0 where
-  pub place : ℕ
-  pub stamp : StampValue
-  pub index : ℕ
-  pub call : DirectoryCall
-  pub reply : DirectoryReply
+abbrev pub DirectoryNote : Type 0
+DirectoryNote = StepRecord DirectoryCall DirectoryReply
 
 pub data Note : Type 0 where
   OfDirectory : DirectoryNote → Note

@@ -16,6 +16,18 @@ pub struct Event<K, R> {
     pub reply: R,
 }
 
+/// What an actor keeps of a step that it did.
+#[derive(Drop)]
+pub struct StepRecord<K, R> {
+    /// The number of the step among its actor's, from 0 upwards.
+    pub place: u64,
+    pub stamp: Stamp,
+    /// The number of its event in the history of its part, from 0 upwards.
+    pub index: u64,
+    pub call: K,
+    pub reply: R,
+}
+
 /// Who does a step: its number, how many steps it did before, and the last stamp that it saw.
 #[derive(Clone, Copy, PartialEq, Eq, Debug)]
 pub struct Actor {

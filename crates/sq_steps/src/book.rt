@@ -145,7 +145,7 @@ pub fn home_step(
     let by = book.by();
     let (reply, record) = home.step(alloc, &by, now, name, act)?;
     book.next += 1;
-    book.seen = record.stamp();
+    book.seen = record.step().stamp;
     put(&mut book.records, Record::Home(record));
     Ok(reply)
 }
@@ -171,7 +171,7 @@ pub fn create_step(
     let by = book.by();
     let (made, record) = directory.create(&by, now, name, given)?;
     book.next += 1;
-    book.seen = record.stamp();
+    book.seen = record.step().stamp;
     put(&mut book.records, Record::Directory(record));
     Ok(made)
 }

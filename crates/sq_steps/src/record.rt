@@ -20,17 +20,18 @@ impl Record {
         ensures { result ≡ place_of (note_of self.now) }
     {
         match self {
-            Record::Directory(record) => record.place(),
-            Record::Home(record) => record.place(),
+            Record::Directory(record) => record.step().place,
+            Record::Home(record) => record.step().place,
         }
     }
 
+    /// The stamp of its event.
     pub fn stamp(&self) -> Stamp
         ensures { result ≡ stamp_of (note_of self.now) }
     {
         match self {
-            Record::Directory(record) => record.stamp(),
-            Record::Home(record) => record.stamp(),
+            Record::Directory(record) => record.step().stamp,
+            Record::Home(record) => record.step().stamp,
         }
     }
 }

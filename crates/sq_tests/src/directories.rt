@@ -18,7 +18,7 @@ fn made(
         ..NONE_GIVEN
     };
     let (made, record) = directory.create(&actor(3, place), 1000, &named(name)?, &attributes)?;
-    let DirectoryReply::Made(queue) = record.reply();
+    let DirectoryReply::Made(queue) = &record.step().reply;
     if made == *queue {
         Ok(made.queue.get())
     } else {

@@ -79,7 +79,7 @@ fn call(
     act: Act,
 ) -> Result<HomeRecord, Refusal> {
     let (reply, record) = home.step(alloc, by, now, None, act_of(alloc, act)?)?;
-    if is_same_reply(&reply, record.reply()) {
+    if is_same_reply(&reply, &record.step().reply) {
         Ok(record)
     } else {
         Err(Refusal::UnsupportedOperation)
@@ -110,8 +110,8 @@ fn step(home: &mut Home, alloc: Global, now: u64, act: Act) -> Told {
     let events = home.events().len();
     let last = home.last();
     match call(home, alloc, &actor(7, events as u64), now, act) {
-        Ok(record) if home.events().len() > events && home.last() == record.stamp() => {
-            told_by(record.reply())
+        Ok(record) if home.events().len() > events && home.last() == record.step().stamp => {
+            told_by(&record.step().reply)
         }
         Err(e) if home.events().len() == events && home.last() == last => Told::Refused(e),
         _ => Told::Other,
@@ -328,10 +328,10 @@ fn is_at(event: &Event<HomeCall, HomeReply>, place: u64, stamp: Stamp) -> bool {
 
 // Whether the record is of the event at its index.
 fn is_of(record: &HomeRecord, events: &[Event<HomeCall, HomeReply>]) -> bool {
-    match events.get(record.index() as usize) {
+    let step = record.step();
+    match events.get(step.index as usize) {
         Some(event) => {
-            is_at(event, record.place(), record.stamp())
-                && is_same_reply(record.reply(), &event.reply)
+            is_at(event, step.place, step.stamp) && is_same_reply(&step.reply, &event.reply)
         }
         None => false,
     }
@@ -350,14 +350,15 @@ fn is_of_the_look(record: &HomeRecord) -> bool {
     record.home().queue.get() == 1
         && record.home().home.get() == 0
         && record.name().is_none()
-        && matches!(record.call(), HomeCall::Look(_, None))
+        && matches!(record.step().call, HomeCall::Look(_, None))
 }
 
 #[test]
 fn a_record_is_of_its_event(rt: HostRuntime) -> Result<(), Fail> {
     let mut home = with_hello(rt.alloc());
     let record = call(&mut home, rt.alloc(), &actor(7, 2), 1000, Act::Look(None))?;
-    assert!(rt; record.place() == 2 && record.index() == 2 && record.stamp() == stamp(1000, 1));
+    let step = record.step();
+    assert!(rt; step.place == 2 && step.index == 2 && step.stamp == stamp(1000, 1));
     assert!(rt; is_of_the_look(&record));
     assert!(rt; is_of(&record, home.events()));
     Ok(())
@@ -369,7 +370,7 @@ fn each_call_has_its_event(rt: HostRuntime) -> Result<(), Fail> {
     let mut ahead = actor(7, 2);
     ahead.seen = stamp(5000, 3);
     let deleted = call(&mut home, rt.alloc(), &ahead, 2000, Act::Delete(0, 1))?;
-    assert!(rt; matches!(deleted.reply(), HomeReply::Done));
+    assert!(rt; matches!(deleted.step().reply, HomeReply::Done));
     let wanted = [(0, stamp(0, 1)), (1, stamp(1000, 0)), (2, stamp(5000, 4))];
     assert!(rt; are_at(home.events(), &wanted));
     Ok(())

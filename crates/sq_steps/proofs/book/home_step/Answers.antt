@@ -5,5 +5,5 @@ use Rattle.sq_steps.proofs.book.home_step.Goals as goal
 
 pub invariant_of-book-3 : goal.invariant_of-book-3
 invariant_of-book-3 c =
-    rw (c.put.ensures, c.try_reserve.ensures.items, map-append note_of c.book.inside.records.items, c.stamp-book-inside.ensures)
+    rw (c.put.ensures, c.try_reserve.ensures.items, map-append note_of c.book.inside.records.items, c.step-2.ensures)
     (home_book_more _ _ _ c.args.now c.args.name _ c.in_ok-reply.record c.book.invariant (rw c.by-by.ensures at c.in_ok-reply.ensures.recorded))

@@ -8,7 +8,7 @@ use Rattle.sq_history.proofs.log.Log.add.Goals as goal
 
 rises : (g : given.Over) (c : goal.After-stamp-1 g) → StampsRise start c.push.new.self.items c.args.stamp
 rises g c =
-    let event = event_by c.args.stamp c.args.by.now c.args.component c.args.call c.args.reply in
+    let event = event_by c.args.stamp c.args.by.now c.args.component c.args.kept.0 c.args.kept.1 in
     let events = c.self.inside.events.items in
     let pushed : c.push.new.self.items ≡ events ++ event ∷ [] = search rules in
     rw pushed (rise_push start events c.self.inside.last event c.self.invariant (rw (← c.self.view_is) at c.requires.above))
