@@ -1,7 +1,7 @@
 //! What an actor has seen, and the records of its steps; a step with its record.
-ghost use Rattle.std.specs.Prelude.{◌≡◌, ◌==◌, IfOk, IfErr, OnErr};
+ghost use Rattle.std.specs.Prelude.{◌≡◌, ◌≢◌, ◌⊎◌, ◌==◌, ◌+◌, ◌<◌, ◌++◌, ◌∷◌, [], IfOk, IfErr, OnOk, OnErr, vec_len, vec_capacity};
 ghost use Rattle.std.specs.List.{list_any};
-ghost use Rattle.sq_model.specs.Notes.{NotesRise, actor_of, place_of};
+ghost use Rattle.sq_model.specs.Notes.{NotesRise, place_of, stamp_of};
 ghost use Rattle.sq_model.specs.declared.directory.DirectoryCall.TheVariants.{Create};
 ghost use Rattle.sq_model.specs.declared.directory.DirectoryReply.TheVariants.{Made};
 ghost use Rattle.sq_history.specs.Acts.{call_of};
@@ -28,9 +28,7 @@ const CLOCK_END: u64 = 4_611_686_018_427_387_904;
 /// later one has the higher number and the higher stamp.
 #[derive(Drop)]
 pub struct Book {
-    actor: u32,
-    next: u64,
-    seen: Stamp,
+    by: Actor,
     records: Vec<Record>,
 }
 
@@ -41,9 +39,9 @@ impl Model for Book {
 
     ghost Value = { Book };
 
-    ghost view = { λ b. record { actor = b.actor; next = b.next; seen = b.seen; notes = notes_of b.records.items } };
+    ghost view = { λ b. record { actor = b.by.number; next = b.by.place; seen = b.by.seen; notes = notes_of b.records.items } };
 
-    ghost invariant = { λ b. IsBook (record { actor = b.actor; next = b.next; seen = b.seen; notes = notes_of b.records.items }) };
+    ghost invariant = { λ b. IsBook (record { actor = b.by.number; next = b.by.place; seen = b.by.seen; notes = notes_of b.records.items }) };
 }
 
 impl Book {
@@ -52,9 +50,11 @@ impl Book {
         ensures { result ≡ new_book actor }
     {
         Book {
-            actor,
-            next: 0,
-            seen: Stamp::start(),
+            by: Actor {
+                number: actor,
+                place: 0,
+                seen: Stamp::start(),
+            },
             records: Vec::new(alloc),
         }
     }
@@ -63,7 +63,7 @@ impl Book {
     pub fn actor(&self) -> u32
         ensures { result ≡ self.now.actor }
     {
-        self.actor
+        self.by.number
     }
 
     /// The records of its steps, the first first.
@@ -74,23 +74,12 @@ impl Book {
         self.records.as_slice()
     }
 
-    /// Who does its next step.
-    fn by(&self) -> Actor
-        ensures { result ≡ actor_of self.now }
-    {
-        Actor {
-            number: self.actor,
-            place: self.next,
-            seen: self.seen,
-        }
-    }
-
     /// The actor has read a part of the system whose last stamp is this.
     pub fn see(&mut self, stamp: Stamp)
         ensures { self.new ≡ having_seen self.old stamp }
     {
-        if self.seen < stamp {
-            self.seen = stamp;
+        if self.by.seen < stamp {
+            self.by.seen = stamp;
         }
     }
 
@@ -123,6 +112,33 @@ fn worn_at(now: u64) -> Refusal
     }
 }
 
+// Makes room for the record of an actor's next step. Refused where the count of its steps is at its end, and then as
+// NoMemory.
+fn ready(by: &Actor, records: &mut Vec<Record>, now: u64) -> Result<(), Refusal>
+    ensures items { records.new.items ≡ records.old.items }
+    ensures room { OnOk result (vec_len records.new < vec_capacity records.new) }
+    ensures more { OnOk result (by.now.place < last_place) }
+    ensures refused { IfErr result (λ e. ((by.now.place ≡ last_place) × (e ≡ worn_at now)) ⊎ ((by.now.place ≢ last_place) × (e ≡ Refusal.NoMemory))) }
+{
+    if by.place == u64::MAX {
+        return Err(worn_at(now));
+    }
+    records.try_reserve(1)?;
+    Ok(())
+}
+
+// Counts an actor's step that was done, and keeps the record of it.
+fn keep(by: &mut Actor, records: &mut Vec<Record>, kept: Record)
+    requires more { by.old.place < last_place }
+    requires room { vec_len records.old < vec_capacity records.old }
+    ensures counted { by.new ≡ record { number = by.old.number; place = by.old.place + 1; seen = stamp_of (note_of kept) } }
+    ensures kept { records.new.items ≡ records.old.items ++ kept ∷ [] }
+{
+    by.place += 1;
+    by.seen = kept.stamp();
+    put(records, kept);
+}
+
 /// A step of a home that is lent, by an actor that is lent; all that grows does so before it. A clock reading is in ms.
 /// Refused as NoMemory, ClockRange, Worn, and then as the home's call.
 pub fn home_step(
@@ -138,15 +154,9 @@ pub fn home_step(
     ensures home_err { OnErr result (home.new ≡ home.old) }
     ensures book_err { OnErr result (book.new ≡ book.old) }
 {
-    if book.next == u64::MAX {
-        return Err(worn_at(now));
-    }
-    book.records.try_reserve(1)?;
-    let by = book.by();
-    let (reply, record) = home.step(alloc, &by, now, name, act)?;
-    book.next += 1;
-    book.seen = record.step().stamp;
-    put(&mut book.records, Record::Home(record));
+    ready(&book.by, &mut book.records, now)?;
+    let (reply, record) = home.step(alloc, &book.by, now, name, act)?;
+    keep(&mut book.by, &mut book.records, Record::Home(record));
     Ok(reply)
 }
 
@@ -164,14 +174,8 @@ pub fn create_step(
     ensures directory_err { OnErr result (directory.new ≡ directory.old) }
     ensures book_err { OnErr result (book.new ≡ book.old) }
 {
-    if book.next == u64::MAX {
-        return Err(worn_at(now));
-    }
-    book.records.try_reserve(1)?;
-    let by = book.by();
-    let (made, record) = directory.create(&by, now, name, given)?;
-    book.next += 1;
-    book.seen = record.step().stamp;
-    put(&mut book.records, Record::Directory(record));
+    ready(&book.by, &mut book.records, now)?;
+    let (made, record) = directory.create(&book.by, now, name, given)?;
+    keep(&mut book.by, &mut book.records, Record::Directory(record));
     Ok(made)
 }

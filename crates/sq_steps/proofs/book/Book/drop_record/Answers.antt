@@ -21,4 +21,4 @@ returns-clause-told c = rw (← c.self.view_is) ((rw c.deref.ensures.value at c.
 pub returns-clause-dropped : goal.returns-clause-dropped
 returns-clause-dropped c =
     rw (← c.self.view_is)
-    (ap (λ (ns : List Note). record { actor = c.self.inside.actor; next = c.self.inside.next; seen = c.self.inside.seen; notes = ns }) (left c))
+    (ap (λ (ns : List Note). record { actor = c.self.inside.by.number; next = c.self.inside.by.place; seen = c.self.inside.by.seen; notes = ns }) (left c))
