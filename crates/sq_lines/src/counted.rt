@@ -14,6 +14,7 @@ pub struct Counted<T> {
 }
 
 impl<T> Counted<T> {
+    /// A reader or writer of which no call failed yet.
     pub fn new(inner: T) -> Counted<T>
         ensures inner { result.inner ≡ inner }
         ensures none { result.failed ≡ 0 }
@@ -21,12 +22,14 @@ impl<T> Counted<T> {
         Counted { inner, failed: 0 }
     }
 
+    /// The reader or writer itself.
     pub fn inner(&self) -> &T
         ensures { result.now ≡ self.now.inner }
     {
         &self.inner
     }
 
+    /// How many of its calls failed, up to the greatest u64.
     pub fn failed(&self) -> u64
         ensures { result ≡ self.now.failed }
     {

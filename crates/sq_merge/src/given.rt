@@ -27,6 +27,7 @@ impl Model for Given {
 }
 
 impl Given {
+    /// These rows of a home; each was received.
     pub fn new(attributes: AskedAttributes, home: HomeId, rows: Rows) -> Given
         requires { AreReceived rows }
         ensures { result ≡ record { attributes = attributes; home = home; rows = rows } }
@@ -38,18 +39,21 @@ impl Given {
         }
     }
 
+    /// What of their attributes is told.
     pub fn attributes(&self) -> &AskedAttributes
         ensures { result.now ≡ self.now.attributes }
     {
         &self.attributes
     }
 
+    /// The home that gave them.
     pub fn home(&self) -> &HomeId
         ensures { result.now ≡ self.now.home }
     {
         &self.home
     }
 
+    /// The rows, as they stand in their home.
     pub fn rows(&self) -> &[Row]
         ensures rows { result.now ≡ self.now.rows }
         ensures received { AreReceived result.now }
