@@ -42,7 +42,19 @@ is_newer (Some policy) version = nat_lt policy.version version
 
 abbrev pub next_policy : Option Policy → HomeCall → Option Policy
 next_policy policy (call.Configure settings version) = if is_newer policy version then Some (record { retention = settings.retention; version = version }) else policy
-next_policy policy call = policy
+next_policy policy call.Close = policy
+next_policy policy (call.Send body delay) = policy
+next_policy policy (call.Look max timeout) = policy
+next_policy policy (call.Delete receipt) = policy
+next_policy policy (call.Change receipt timeout) = policy
+next_policy policy call.Purge = policy
+next_policy policy call.Count = policy
+next_policy policy call.LeaveDead = policy
+next_policy policy (call.LeaveTask task) = policy
+next_policy policy (call.Enter item) = policy
+next_policy policy (call.TurnBack item) = policy
+next_policy policy (call.GiveBack item) = policy
+next_policy policy (call.GiveUp item) = policy
 
 -- what an event does to the rows, after the trim
 pub data Effect : Type 0 where
@@ -51,13 +63,31 @@ pub data Effect : Type 0 where
   Looks : List Row → Effect
   Leaves : (RowState → Bool) → Cause → Effect
 
+-- a send puts a message in, and a look receives messages, as their replies say
+abbrev pub sent_by : HomeReply → Effect
+sent_by (reply.Sent sent) = Arrives sent
+sent_by other = Stays
+
+abbrev pub looked_by : HomeReply → Effect
+looked_by (reply.Looked given) = Looks given
+looked_by other = Stays
+
+-- The calls that a home shares with the ledger stand in no history yet.
 abbrev pub effect_of : HomeCall → HomeReply → Effect
-effect_of (call.Send body delay) (reply.Sent sent) = Arrives sent
-effect_of (call.Look max timeout) (reply.Looked given) = Looks given
-effect_of (call.Delete receipt) reply = Leaves (is_named receipt) Deleted
-effect_of call.Purge reply = Leaves (λ row. true) Purged
+effect_of (call.Configure settings version) reply = Stays
 effect_of call.Close reply = Leaves (λ row. true) ClosedAway
-effect_of call reply = Stays
+effect_of (call.Send body delay) reply = sent_by reply
+effect_of (call.Look max timeout) reply = looked_by reply
+effect_of (call.Delete receipt) reply = Leaves (is_named receipt) Deleted
+effect_of (call.Change receipt timeout) reply = Stays
+effect_of call.Purge reply = Leaves (λ row. true) Purged
+effect_of call.Count reply = Stays
+effect_of call.LeaveDead reply = Stays
+effect_of (call.LeaveTask task) reply = Stays
+effect_of (call.Enter item) reply = Stays
+effect_of (call.TurnBack item) reply = Stays
+effect_of (call.GiveBack item) reply = Stays
+effect_of (call.GiveUp item) reply = Stays
 
 abbrev pub effect_sends : Effect → List MessageId
 effect_sends (Arrives sent) = sent.id ∷ []

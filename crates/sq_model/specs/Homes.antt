@@ -192,7 +192,14 @@ IsRising Closed = Unit {0}
 abbrev pub HasSlot : HomeReply → Type 0
 HasSlot (Sent sent) = sent.slot < slots
 HasSlot (Entered slot) = slot < slots
-HasSlot reply = Unit {0}
+HasSlot Done = Unit {0}
+HasSlot (Looked given) = Unit {0}
+HasSlot Over = Unit {0}
+HasSlot (Counted counts) = Unit {0}
+HasSlot (Left item) = Unit {0}
+HasSlot NoLiveRow = Unit {0}
+HasSlot (NoOrigin serial) = Unit {0}
+HasSlot SourceClosed = Unit {0}
 
 -- no dead row is there to leave
 abbrev pub IsIdle : Home → ℕ → HomeCall → Type 0

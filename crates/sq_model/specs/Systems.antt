@@ -5,7 +5,7 @@ use Rattle.sq_base.specs.declared.ids.HomeId.{HomeId}
 use Rattle.sq_model.specs.declared.place.Site.{Site}
 use Rattle.sq_model.specs.declared.place.Component.TheVariants as part
 use Rattle.sq_model.specs.declared.calls.HomeCall.{HomeCall}
-use Rattle.sq_model.specs.declared.calls.HomeCall.TheVariants.{Configure, Close, Send, Look, Delete, Change, Purge, Count}
+use Rattle.sq_model.specs.declared.calls.HomeCall.TheVariants.{Configure, Close, Send, Look, Delete, Change, Purge, Count, LeaveDead, LeaveTask, Enter, TurnBack, GiveBack, GiveUp}
 use Rattle.sq_model.specs.declared.event.Event.{Event}
 use Rattle.sq_model.specs.declared.directory.DirectoryCall.{DirectoryCall}
 use Rattle.sq_model.specs.declared.directory.DirectoryReply.{DirectoryReply}
@@ -44,7 +44,12 @@ is_alone (Delete receipt) = true
 is_alone (Change receipt timeout) = true
 is_alone Purge = true
 is_alone Count = true
-is_alone call = false
+is_alone LeaveDead = false
+is_alone (LeaveTask task) = false
+is_alone (Enter item) = false
+is_alone (TurnBack item) = false
+is_alone (GiveBack item) = false
+is_alone (GiveUp item) = false
 
 -- the event is a step of the directory, and the homes stay
 pub record DirectorySteps (before : System) (e : DirectoryEvent) (after : System) : Type 0 where
