@@ -17,7 +17,7 @@ use std::marker::Model;
 pub const BODY_LIMIT: usize = 262_144;
 
 /// The text of a message.
-#[derive(Drop)]
+#[derive(Clone, Drop)]
 pub struct Body {
     text: String,
 }
@@ -64,9 +64,7 @@ impl Body {
         ensures value { IfOk result (λ b. b ≡ self.now) }
         ensures refused { IfErr result (λ e. e ≡ NoMemory) }
     {
-        Ok(Body {
-            text: self.text.clone()?,
-        })
+        Ok(self.clone()?)
     }
 
     /// The text of the body.

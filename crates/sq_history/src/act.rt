@@ -19,7 +19,7 @@ use std::alloc::Global;
 use std::marker::Model;
 
 /// What is done at one home. A step that a home shares with another part of the system is none of these.
-#[derive(Drop)]
+#[derive(Clone, Drop)]
 pub enum HomeAct {
     /// Takes settings of this version, where it is above the home's own, and opens a home that was never opened.
     Configure(Settings, u64),
@@ -47,16 +47,7 @@ impl HomeAct {
         ensures copy { IfOk result (λ copy. copy ≡ self.now) }
         ensures refused { IfErr result (λ e. e ≡ Refusal.NoMemory) }
     {
-        Ok(match self {
-            HomeAct::Configure(settings, version) => HomeAct::Configure(*settings, *version),
-            HomeAct::Close => HomeAct::Close,
-            HomeAct::Send(body, delay) => HomeAct::Send(body.copy()?, *delay),
-            HomeAct::Look(max, timeout) => HomeAct::Look(*max, *timeout),
-            HomeAct::Delete(receipt) => HomeAct::Delete(*receipt),
-            HomeAct::Change(receipt, timeout) => HomeAct::Change(*receipt, *timeout),
-            HomeAct::Purge => HomeAct::Purge,
-            HomeAct::Count => HomeAct::Count,
-        })
+        Ok(self.clone()?)
     }
 
     // Its call, for an event or a record. Refused for want of memory alone.
