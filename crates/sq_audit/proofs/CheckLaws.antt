@@ -22,7 +22,7 @@ use Rattle.sq_history.specs.Events.{HasHomeEvent}
 use Rattle.sq_steps.specs.declared.record.Record.{Record}
 use Rattle.sq_steps.specs.Records.{note_of, notes_of}
 use Rattle.sq_directory.proofs.ElementLaws.{some_same, get_map, get_mapped, all_get}
-use Rattle.sq_steps.proofs.BookListLaws.{book_own, differ, found_is, book_once, same_place}
+use Rattle.sq_steps.proofs.BookListLaws.{book_own, found_is, book_once, same_place}
 use Rattle.sq_audit.proofs.HomeIdLaws.{place_found, place_back, place_none}
 
 differing : (j i : ℕ) → j ≢ i → (j < i) ⊎ (j ≡ i) ⊎ (i < j)
@@ -184,8 +184,7 @@ all_rise_at books each b x there = each b (slice_get_within books b x there) x t
 
 pub wrong_holds : (d : List DirectoryEvent) (hs : List HomeHistory) (books : List Book) (f : AuditFault) → IsWrong d hs books f → FaultHolds d hs books f
 wrong_holds d hs books NoMemory w = absurd w
-wrong_holds d hs books (RecordMissing a p) w = w
-wrong_holds d hs books (RecordTwice a p) w = w
+wrong_holds d hs books f w = w
 
 pub wrong_other : (d : List DirectoryEvent) (hs : List HomeHistory) (books : List Book) (f : AuditFault) → IsWrong d hs books f → f ≢ NoMemory
 wrong_other d hs books f w e = subst (λ (x : AuditFault). IsWrong d hs books x) e w

@@ -46,11 +46,16 @@ pub record TwoEvents (directory : List DirectoryEvent) (homes : List HomeHistory
   pub first : IsBy directory homes actor place one
   pub second : IsBy directory homes actor place other
 
--- what a fault says is so
+-- what a fault says is so, and it is not for want of memory
+abbrev pub IsWrong : List DirectoryEvent → List HomeHistory → List Book → AuditFault → Type 0
+IsWrong directory homes books NoMemory = ⊥
+IsWrong directory homes books (RecordMissing actor place) = EventAlone directory homes books actor place ⊎ NoteAlone directory homes books actor place ⊎ Gap books actor place
+IsWrong directory homes books (RecordTwice actor place) = TwoEvents directory homes actor place
+
+-- what a fault says is so; want of memory says nothing
 abbrev pub FaultHolds : List DirectoryEvent → List HomeHistory → List Book → AuditFault → Type 0
 FaultHolds directory homes books NoMemory = Unit {0}
-FaultHolds directory homes books (RecordMissing actor place) = EventAlone directory homes books actor place ⊎ NoteAlone directory homes books actor place ⊎ Gap books actor place
-FaultHolds directory homes books (RecordTwice actor place) = TwoEvents directory homes actor place
+FaultHolds directory homes books fault = IsWrong directory homes books fault
 
 -- a note has the number of its place, and its event
 abbrev pub NoteFits : List DirectoryEvent → List HomeHistory → List Book → ℕ → ℕ → Type 0
@@ -62,12 +67,6 @@ DirectoryFits directory books k = (e : DirectoryEvent) → slice_get directory k
 
 abbrev pub HomeFits : List HomeHistory → List Book → ℕ → ℕ → Type 0
 HomeFits homes books j k = (h : HomeHistory) (e : HomeEvent) → IsHomeEvent homes j k h e → IsNoted books e.actor (IsOfHome h.home k e)
-
--- what a fault says is so, and it is not for want of memory
-abbrev pub IsWrong : List DirectoryEvent → List HomeHistory → List Book → AuditFault → Type 0
-IsWrong directory homes books NoMemory = ⊥
-IsWrong directory homes books (RecordMissing actor place) = EventAlone directory homes books actor place ⊎ NoteAlone directory homes books actor place ⊎ Gap books actor place
-IsWrong directory homes books (RecordTwice actor place) = TwoEvents directory homes actor place
 
 -- what may be wrong with the note at an index of an actor's list
 abbrev pub IsRecordFault : List DirectoryEvent → List HomeHistory → ℕ → ℕ → Note → AuditFault → Type 0
