@@ -17,7 +17,7 @@ use Rattle.sq_audit.specs.HomeIds.{history_of, histories_of, home_id, IsNumbered
 use Rattle.sq_steps.specs.Books.{AreDistinct, NotesRiseAt, is_of}
 use Rattle.sq_audit.specs.declared.check.AuditFault.{AuditFault}
 use Rattle.sq_audit.specs.declared.check.AuditFault.TheVariants.{NoMemory, RecordMissing, RecordTwice}
-use Rattle.sq_audit.specs.Faults.{Spot, InDirectory, InHome, IsBy, IsAlone, Gap, TwoEvents, FaultHolds, IsWrong, NoteFits, DirectoryFits, HomeFits, IsRecordFault, IsAt, IsNotedAt, EventFits, HasEventFault}
+use Rattle.sq_audit.specs.Faults.{Spot, InDirectory, InHome, IsBy, IsAlone, Gap, TwoEvents, IsWrong, NoteFits, DirectoryFits, HomeFits, IsRecordFault, IsAt, IsNotedAt, EventFits, HasEventFault}
 use Rattle.sq_history.specs.Events.{HasHomeEvent}
 use Rattle.sq_steps.specs.declared.record.Record.{Record}
 use Rattle.sq_steps.specs.Records.{note_of, notes_of}
@@ -181,13 +181,6 @@ rise_at books b book there rise x too = subst (λ (y : Book). NotesRise y.notes)
 
 pub all_rise_at : (books : List Book) → ((b : ℕ) → b < length books → NotesRiseAt books b) → (b : ℕ) → NotesRiseAt books b
 all_rise_at books each b x there = each b (slice_get_within books b x there) x there
-
-pub wrong_holds : (d : List DirectoryEvent) (hs : List HomeHistory) (books : List Book) (f : AuditFault) → IsWrong d hs books f → FaultHolds d hs books f
-wrong_holds d hs books NoMemory w = absurd w
-wrong_holds d hs books f w = w
-
-pub wrong_other : (d : List DirectoryEvent) (hs : List HomeHistory) (books : List Book) (f : AuditFault) → IsWrong d hs books f → f ≢ NoMemory
-wrong_other d hs books f w e = subst (λ (x : AuditFault). IsWrong d hs books x) e w
 
 pub all_homes : (homes : List HistoryValue) (books : List Book) → ((j : ℕ) → j < length homes → (k : ℕ) → HomeFits (histories_of homes) books j k) → (j k : ℕ) → HomeFits (histories_of homes) books j k
 all_homes homes books each j k h e there = let t = get_mapped history_of homes j h there.in_homes in each j (slice_get_within homes j t.0 t.1) k h e there
