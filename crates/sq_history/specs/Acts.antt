@@ -13,3 +13,14 @@ call_of (Delete receipt) = call.Delete receipt
 call_of (Change receipt timeout) = call.Change receipt timeout
 call_of Purge = call.Purge
 call_of Count = call.Count
+
+-- a copy of the act takes memory
+abbrev pub HasBytes : HomeAct → Type 0
+HasBytes (Send body delay) = Unit {0}
+HasBytes (Configure settings version) = ⊥
+HasBytes Close = ⊥
+HasBytes (Look max timeout) = ⊥
+HasBytes (Delete receipt) = ⊥
+HasBytes (Change receipt timeout) = ⊥
+HasBytes Purge = ⊥
+HasBytes Count = ⊥

@@ -4,7 +4,7 @@ ghost use Rattle.sq_model.specs.Homes.{HomeStep, home_refusal};
 ghost use Rattle.sq_model.specs.declared.calls.HomeCall.TheVariants.{Look as AsLook};
 ghost use Rattle.sq_model.specs.declared.replies.HomeReply.TheVariants.{Done, Sent, Counted};
 ghost use Rattle.sq_shard.specs.Looks.{look_reply};
-ghost use Rattle.sq_history.specs.Acts.{call_of};
+ghost use Rattle.sq_history.specs.Acts.{call_of, HasBytes};
 
 use sq_base::body::Body;
 use sq_base::ranges::{Delay, MaxMessages, Timeout};
@@ -19,7 +19,7 @@ use std::alloc::Global;
 use std::marker::Model;
 
 /// What is done at one home. A step that a home shares with another part of the system is none of these.
-#[derive(Clone, Drop)]
+#[derive(Drop)]
 pub enum HomeAct {
     /// Takes settings of this version, where it is above the home's own, and opens a home that was never opened.
     Configure(Settings, u64),
@@ -42,18 +42,27 @@ pub enum HomeAct {
 }
 
 impl HomeAct {
-    /// The same act. Refused for want of memory alone.
+    /// The same act. Refused as NoMemory, of a send alone.
     pub fn copy(&self) -> Result<HomeAct, Refusal>
         ensures copy { IfOk result (λ copy. copy ≡ self.now) }
-        ensures refused { IfErr result (λ e. e ≡ Refusal.NoMemory) }
+        ensures refused { IfErr result (λ e. (e ≡ Refusal.NoMemory) × HasBytes self.now) }
     {
-        Ok(self.clone()?)
+        Ok(match self {
+            HomeAct::Configure(settings, version) => HomeAct::Configure(*settings, *version),
+            HomeAct::Close => HomeAct::Close,
+            HomeAct::Send(body, delay) => HomeAct::Send(body.copy()?, *delay),
+            HomeAct::Look(max, timeout) => HomeAct::Look(*max, *timeout),
+            HomeAct::Delete(receipt) => HomeAct::Delete(*receipt),
+            HomeAct::Change(receipt, timeout) => HomeAct::Change(*receipt, *timeout),
+            HomeAct::Purge => HomeAct::Purge,
+            HomeAct::Count => HomeAct::Count,
+        })
     }
 
-    // Its call, for an event or a record. Refused for want of memory alone.
+    // Its call, for an event or a record. Refused as NoMemory, of a send alone.
     pub(crate) fn call(&self) -> Result<HomeCall, Refusal>
         ensures call { IfOk result (λ call. call ≡ call_of self.now) }
-        ensures refused { IfErr result (λ e. e ≡ Refusal.NoMemory) }
+        ensures refused { IfErr result (λ e. (e ≡ Refusal.NoMemory) × HasBytes self.now) }
     {
         Ok(match self {
             HomeAct::Configure(settings, version) => HomeCall::Configure(*settings, *version),

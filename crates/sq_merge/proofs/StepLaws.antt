@@ -70,14 +70,21 @@ refused_opened old actor now id call e place before mine numbered least found th
 new_is_not_worn : (actor : ℕ) → (new_book actor).next ≢ last_place
 new_is_not_worn actor e = omega (arith, e)
 
+-- some home is there
+pub home_there : (old : WorldValue) (id : HomeId) (place : ℕ) → IsNumbered old.per_queue old.homes → 1 ≤ id.queue → home_place old.per_queue (length old.homes) id ≡ Some place
+    → (at : ℕ) × (h : HistoryValue) × IsHomeOf old id at h
+home_there old id place numbered least found =
+    let t = place_found old.per_queue (length old.homes) id place least found in
+    let home = get_within old.homes place t.0 in
+    (place, home.0, record { there = home.1; is = numbered place home.0 home.1 ∙ t.1 })
+
 -- no memory was found for a new actor
 pub refused_unmade : (old : WorldValue) (actor now : ℕ) (id : HomeId) (call : HomeCall) (place : ℕ)
     → IsNumbered old.per_queue old.homes → 1 ≤ id.queue → home_place old.per_queue (length old.homes) id ≡ Some place → position (is_of actor) old.books ≡ None
     → HomeRefused old actor now id call NoMemory
 refused_unmade old actor now id call place numbered least found pos =
-    let t = place_found old.per_queue (length old.homes) id place least found in
-    let home = get_within old.homes place t.0 in
-    inr (place, home.0, record { there = home.1; is = numbered place home.0 home.1 ∙ t.1 }, subst (λ (b : Book). IsHomeRefused home.0 b now call NoMemory) (sym (lost_there actor old.books pos)) (inr (new_is_not_worn actor, inl refl)))
+    let home = home_there old id place numbered least found in
+    inr (home.0, home.1, home.2, subst (λ (b : Book). IsHomeRefused home.1 b now call NoMemory) (sym (lost_there actor old.books pos)) (inr (new_is_not_worn actor, inl refl)))
 
 pub create_unmade : (old : WorldValue) (actor now : ℕ) (name : List ℕ) (given : Attributes) → position (is_of actor) old.books ≡ None → CreateRefused old actor now name given NoMemory
 create_unmade old actor now name given pos =

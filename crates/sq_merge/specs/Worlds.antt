@@ -21,7 +21,8 @@ use Rattle.sq_steps.specs.declared.act.Act.TheVariants as act
 use Rattle.sq_steps.specs.declared.act.Outcome.{Outcome}
 use Rattle.sq_steps.specs.declared.act.Outcome.TheVariants as told
 use Rattle.sq_steps.specs.declared.act.Step.{Step}
-use Rattle.sq_history.specs.Acts.{call_of}
+use Rattle.sq_history.specs.declared.act.HomeAct.{HomeAct}
+use Rattle.sq_history.specs.Acts.{call_of, HasBytes}
 use Rattle.sq_steps.specs.Books.{is_of, book_of, put_book, having_seen, HomeMoves, DirectoryMoves, IsHomeRefused, IsCreateRefused, AreDistinct}
 use Rattle.sq_directory.specs.DirectoryHistory.{DirectoryHistory}
 use Rattle.sq_merge.specs.WorldValue.{WorldValue}
@@ -76,11 +77,15 @@ NameRefused w actor name e =
     ((number_of name w.directory.directory.queues ≡ None) × (e ≡ QueueDoesNotExist))
     ⊎ (((queue : ℕ) × (number_of name w.directory.directory.queues ≡ Some queue)) × (position (is_of actor) w.books ≡ None) × (e ≡ NoMemory))
 
--- why a step is refused; what is done at a home is copied first, which takes memory
+-- a home that is there is sent a body; its copy takes memory
+abbrev pub IsSentTo : WorldValue → HomeId → HomeAct → Type 0
+IsSentTo w id act = HasBytes act × ((at : ℕ) × (h : HistoryValue) × IsHomeOf w id at h)
+
+-- why a step is refused
 abbrev pub StepRefused : WorldValue → ℕ → ℕ → Act → Refusal → Type 0
 StepRefused w actor now (act.Create name given) e = CreateRefused w actor now name given e
 StepRefused w actor now (act.Resolve name) e = NameRefused w actor name e
-StepRefused w actor now (act.Home id what) e = (e ≡ NoMemory) ⊎ HomeRefused w actor now id (call_of what) e
+StepRefused w actor now (act.Home id what) e = ((e ≡ NoMemory) × IsSentTo w id what) ⊎ HomeRefused w actor now id (call_of what) e
 
 -- Of these steps so many were done, one after another, and the others changed nothing.
 abbrev pub Schedule : WorldValue → List Step → ℕ → WorldValue → Type 0

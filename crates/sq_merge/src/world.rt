@@ -103,6 +103,10 @@ impl World {
                 Ok(Outcome::Resolved(queue))
             }
             Act::Home(id, act) => {
+                // A home that is not there is told before memory is asked for.
+                let Some(_) = home_place(self.per_queue, self.homes.len(), id) else {
+                    return Err(absent(step.clock));
+                };
                 let act = act.copy()?;
                 let reply = self.at_home(alloc, step.actor, step.clock, None, id, act)?;
                 Ok(Outcome::Home(reply))
