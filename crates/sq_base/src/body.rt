@@ -17,7 +17,7 @@ use std::marker::Model;
 pub const BODY_LIMIT: usize = 262_144;
 
 /// The text of a message.
-#[derive(Clone, Drop)]
+#[derive(Drop)]
 pub struct Body {
     text: String,
 }
@@ -64,7 +64,9 @@ impl Body {
         ensures value { IfOk result (λ b. b ≡ self.now) }
         ensures refused { IfErr result (λ e. e ≡ NoMemory) }
     {
-        Ok(self.clone()?)
+        Ok(Body {
+            text: self.text.clone()?,
+        })
     }
 
     /// The text of the body.
