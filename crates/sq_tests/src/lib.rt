@@ -8,6 +8,8 @@ mod calls;
 #[cfg(test)]
 mod directories;
 #[cfg(test)]
+mod examples;
+#[cfg(test)]
 mod homes;
 #[cfg(test)]
 mod places;
