@@ -9,7 +9,7 @@ use sq_base::stamp::Stamp;
 use sq_merge::world::World;
 use sq_model::place::Place;
 use sq_steps::act::{HomeAct, Step};
-use sq_wire::audit::{audit_text, audit_world, place_name, stamp_text};
+use sq_wire::audit::{audit_world, place_name, stamp_text};
 use std::alloc::Global;
 use std::test::Fail;
 
@@ -103,12 +103,13 @@ fn all_places_are_told(rt: HostRuntime) -> Result<(), Fail> {
 
 #[test]
 fn audits_have_their_words(rt: HostRuntime) -> Result<(), Fail> {
-    let places = [(id(1), Place::InTransit), (id(0), Place::Dropped)];
-    let told = audit_text(rt.alloc(), &[], &places)?;
-    let want =
-        r#"{"Merged":[],"Places":[["00000000-0001-8000-8000-000000000001","transit"],["00000000-0001-8000-8000-000000000000","dropped"]]}"#;
-    assert!(rt; told.as_bytes() == want.as_bytes());
-    assert!(rt; place_name(Place::InHome) == "home");
+    for (place, want) in [
+        (Place::InHome, "home"),
+        (Place::InTransit, "transit"),
+        (Place::Dropped, "dropped"),
+    ] {
+        assert!(rt; place_name(place) == want);
+    }
     for (stamp, want) in [
         (Stamp::start(), "0.0"),
         (

@@ -7,6 +7,7 @@ use Rattle.sq_base.specs.StampValue.{StampValue}
 use Rattle.sq_base.specs.declared.message_id.MessageId.{MessageId}
 use Rattle.sq_model.specs.declared.place.Place.{Place}
 use Rattle.sq_model.specs.declared.place.Place.TheVariants.{InHome, InTransit, Deleted, Expired, Purged, ClosedAway, Dropped}
+use Rattle.sq_model.specs.Lineages.{Ending}
 use Rattle.sq_model.specs.Matches.{IsMatched}
 use Rattle.sq_model.specs.Merges.{IsMerged}
 use Rattle.sq_model.specs.Places.{run_ends, run_sends}
@@ -49,13 +50,16 @@ places_data places = array (items_of (map placed_data places))
 abbrev pub audit_data : List Tag → List (MessageId × Place) → Data
 audit_data run places = object (member (codes "Merged") (events_data run) (member (codes "Places") (places_data places) no_members))
 
+-- the text tells the stamps of a run in their order, and of each message that was sent in it, by these endings of the run, where it is
+abbrev pub TellsRun : List Tag → List Ending → List ℕ → Type 0
+TellsRun run ends text = (told : List (MessageId × Place)) × ArePlaces (run_sends run) ends told × (text ≡ compact_text (audit_data run told))
+
 -- The text tells one run of the whole system. Its events are those of the directory and of all homes and no others, sorted by
 -- stamp; each is a step of the sequential system, from its opening to what the world is; those of each actor stand in its
 -- order, and so do those of each part. Homes stand by queue and number, each once, so that the law of one place is true of the
 -- run. Each event has its record, and each record its event. Each message that was sent is told once, with where it is.
 pub record IsAudit (w : WorldValue) (text : List ℕ) : Type 0 where
   pub run : List Tag
-  pub told : List (MessageId × Place)
   pub matched : IsMatched w.directory.events (histories_of w.homes) w.books
   pub merged : IsMerged w.directory.events (events_of w.homes) run
   pub is_run : IsRun w.directory.directory.places (map (λ h. h.site) w.homes) run (system_now w.directory w.homes)
@@ -63,5 +67,4 @@ pub record IsAudit (w : WorldValue) (text : List ℕ) : Type 0 where
   pub parts : PartsRise run
   pub numbered : IsNumbered w.per_queue w.homes
   pub apart : IsOnePlace (map (λ h. h.site) w.homes)
-  pub places : ArePlaces (run_sends run) (run_ends (opening w.directory.directory.places (map (λ h. h.site) w.homes)) run (system_now w.directory w.homes) is_run.steps) told
-  pub is_text : text ≡ compact_text (audit_data run told)
+  pub tells : TellsRun run (run_ends (opening w.directory.directory.places (map (λ h. h.site) w.homes)) run (system_now w.directory w.homes) is_run.steps) text

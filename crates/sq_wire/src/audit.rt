@@ -1,17 +1,21 @@
 //! The text of an audit.
-ghost use Rattle.std.specs.Prelude.{◌≡◌, IfOk, IfErr, string_bytes};
+ghost use Rattle.std.specs.Prelude.{◌≡◌, ℕ, List, IfOk, IfErr, string_bytes};
 ghost use Rattle.serde_json.specs.View.{view};
 ghost use Rattle.serde_json.specs.Written.{compact_text};
 ghost use Rattle.sq_audit.specs.Tags.{tags_of};
-ghost use Rattle.sq_wire.specs.Audits.{stamp_text, place_name, placed_data, events_data, places_data, audit_data, IsAudit};
+ghost use Rattle.sq_model.specs.Places.{run_ends};
+ghost use Rattle.sq_model.specs.Systems.{System, RunFrom, opening, IsOnePlace};
+ghost use Rattle.sq_model.specs.declared.place.Site.{Site};
+ghost use Rattle.sq_wire.specs.Audits.{stamp_text, place_name, placed_data, events_data, places_data, audit_data, IsAudit, TellsRun};
 
 use crate::reply::id_text;
 use crate::text::Text;
 use serde_json::{Value, json};
 use sq_base::message_id::MessageId;
+use sq_base::refusal::Refusal;
 use sq_base::stamp::Stamp;
 use sq_merge::world::World;
-use sq_merge::{AuditFault, Tagged, merge, places_of};
+use sq_merge::{AuditFault, Run, Tagged, merge, places_of};
 use sq_model::place::Place;
 use std::alloc::{AllocError, Global};
 use uuid::Uuid;
@@ -24,25 +28,21 @@ pub fn audit_world(alloc: Global, world: World) -> Result<Text, AuditFault>
 {
     let parts = world.parts();
     let run = merge(alloc, &parts)?;
-    let Ok(places) = places_of(alloc, &run) else {
-        return Err(AuditFault::NoMemory);
-    };
-    match audit_text(alloc, run.events(), &places) {
+    match audit_text(alloc, &run) {
         Ok(text) => Ok(text),
         Err(_) => Err(AuditFault::NoMemory),
     }
 }
 
-/// The line that tells a run and where its messages are, without its line feed: the stamps of its events and the places
-/// of its messages, each list in the order given.
-pub fn audit_text(
-    alloc: Global,
-    run: &[Tagged<'_>],
-    places: &[(MessageId, Place)],
-) -> Result<Text, AllocError>
-    ensures { IfOk result (λ text. text ≡ compact_text (audit_data (tags_of run.now) places.now)) }
+/// The line that tells a run, without its line feed: the stamps of its events in their order, and where each message is
+/// that was sent in it. Refused for want of memory alone.
+pub fn audit_text(alloc: Global, run: &Run<'_>) -> Result<Text, Refusal>
+    ensures told { (places : ℕ) (sites : List Site) (after : System) (r : RunFrom (opening places sites) run.now after) → IsOnePlace sites
+        → IfOk result (TellsRun run.now (run_ends (opening places sites) run.now after r)) }
+    ensures memory { IfErr result (λ e. e ≡ Refusal.NoMemory) }
 {
-    Ok(Text::made(audit_string(alloc, run, places)?))
+    let places = places_of(alloc, run)?;
+    Ok(Text::made(audit_string(alloc, run.events(), &places)?))
 }
 
 fn audit_string(

@@ -1,15 +1,13 @@
-use Rattle.std.proofs.Common.{map, ◌∙◌, ap₂}
-use Rattle.serde_json.specs.Written.{compact_text}
+use Rattle.std.proofs.Common.{map}
 use Rattle.sq_model.specs.Matches.{IsMatched}
 use Rattle.sq_model.specs.Merges.{IsMerged}
 use Rattle.sq_model.specs.Systems.{IsRun, IsOnePlace}
 use Rattle.sq_audit.specs.SystemNow.{events_of, system_now}
 use Rattle.sq_audit.specs.HomeIds.{histories_of, IsNumbered}
-use Rattle.sq_wire.specs.Audits.{audit_data}
 use Rattle.sq_wire.proofs.audit.audit_world.Goals as goal
 
-pub returns-in-Ok-audit_text-clause-told : goal.returns-in-Ok-audit_text-clause-told
-returns-in-Ok-audit_text-clause-told c =
+pub returns-in-Ok-clause-told : goal.returns-in-Ok-clause-told
+returns-in-Ok-clause-told c =
     let w = c.args.world in
     let matched : IsMatched w.directory.events (histories_of w.homes) w.books = rw c.parts-parts.ensures.parts at c.in_ok-run.ensures.matched in
     let merged : IsMerged w.directory.events (events_of w.homes) c.in_ok-run.run' = rw c.parts-parts.ensures.parts at c.in_ok-run.ensures.merged in
@@ -18,7 +16,6 @@ returns-in-Ok-audit_text-clause-told c =
     let numbered : IsNumbered w.per_queue w.homes = rw c.parts-parts.ensures.parts at c.in_ok-run.ensures.numbered in
     record {
       run = c.in_ok-run.run';
-      told = c.in-Ok.places.items;
       matched = matched;
       merged = merged;
       is_run = is_run;
@@ -26,6 +23,5 @@ returns-in-Ok-audit_text-clause-told c =
       parts = c.in_ok-run.ensures.parts;
       numbered = numbered;
       apart = apart;
-      places = c.in-Ok.ensures.places w.directory.directory.places (map (λ h. h.site) w.homes) (system_now w.directory w.homes) is_run.steps apart;
-      is_text = c.in-Ok-audit_text.ensures ∙ ap₂ (λ run told. compact_text (audit_data run told)) c.events.ensures c.deref.ensures.value;
+      tells = c.in-Ok.ensures.told w.directory.directory.places (map (λ h. h.site) w.homes) (system_now w.directory w.homes) is_run.steps apart;
     }
