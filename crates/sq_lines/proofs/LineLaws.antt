@@ -5,7 +5,7 @@ use Rattle.std.specs.Io.KnownBytes.{Consumes, Keeps, IsAtEnd}
 use Rattle.std.proofs.lemmas.Bool.{eqb-true}
 use Rattle.std.proofs.lemmas.List.{append-nil}
 use Rattle.memchr.specs.Find.{Nowhere, Passes, is_byte, IsFirstByte}
-use Rattle.sq_lines.specs.Lines.{longer, lines_of, lines_left, has_feed, FirstIsOver, FirstIsWithin}
+use Rattle.sq_lines.specs.Lines.{longer, lines_of, lines_left, has_feed, FirstIsOver, FirstIsWithin, GoesOn}
 
 -- one with none before and none in the rest
 no_feed_with : (b : ℕ) (bs : List ℕ) → (b == 10) ≡ false → has_feed bs ≡ false → has_feed (b ∷ bs) ≡ false
@@ -275,3 +275,16 @@ within_same n a b c d e h = rw (e.0, e.1) h
 
 pub over_same : (n : ℕ) (a b c d : List ℕ) → (a ≡ c) × (b ≡ d) → FirstIsOver n (lines_of (c ++ d)) → FirstIsOver n (lines_of (a ++ b))
 over_same n a b c d e h = rw (e.0, e.1) h
+
+-- bytes that go on with a line
+goes_on : (b : ℕ) (bs : List ℕ) → has_feed (b ∷ bs) ≡ false → GoesOn (b ∷ bs)
+goes_on b bs none = let f = free_of b bs none in f.first
+
+pub goes_on_all : (ahead left : List ℕ) → has_feed ahead ≡ false → 0 < length ahead → left ≡ ahead → GoesOn left
+goes_on_all [] left none lt same = absurd (omega arith)
+goes_on_all (b ∷ ahead) left none lt same = rw same (goes_on b ahead none)
+
+pub goes_on_cut : (ahead left : List ℕ) (at : ℕ) → IsCut ahead at → 0 < at → left ≡ ahead → GoesOn left
+goes_on_cut ahead left zero c lt same = absurd (omega arith)
+goes_on_cut [] left (suc at) c lt same = absurd (let e = c.within in omega (arith, e))
+goes_on_cut (b ∷ ahead) left (suc at) c lt same = rw same (goes_on b (take at ahead) c.front)

@@ -15,6 +15,17 @@ lines_of (b ∷ bs) = if b == 10 then [] ∷ lines_of bs else longer b (lines_of
 abbrev pub lines_left : List ℕ → Option (List ℕ) → Option (List (List ℕ))
 lines_left read known = option_map (λ xs. lines_of (read ++ xs)) known
 
+-- what was read and not yet given out: the front of the next line, and what was read behind it
+pub record LinesValue : Type 0 where
+  pub begun : List ℕ
+  pub ahead : List ℕ
+
+abbrev pub read_of : LinesValue → List ℕ
+read_of l = l.begun ++ l.ahead
+
+abbrev pub none_read : LinesValue
+none_read = record { begun = []; ahead = [] }
+
 -- whether a line feed is among the bytes
 unfoldable pub has_feed : List ℕ → Bool
 has_feed [] = false
@@ -29,6 +40,11 @@ FirstIsOver n (line ∷ lines) = n < length line
 abbrev pub FirstIsWithin : ℕ → List (List ℕ) → Type 0
 FirstIsWithin n [] = ⊥
 FirstIsWithin n (line ∷ lines) = length line ≤ n
+
+-- a line that was begun goes on with these bytes: the first of them is there, and no line feed
+abbrev pub GoesOn : List ℕ → Type 0
+GoesOn [] = ⊥
+GoesOn (b ∷ bs) = (b == 10) ≡ false
 
 -- a count of failed calls is one more, or stands at its end
 abbrev pub OneMore : ℕ → ℕ → Type 0

@@ -22,12 +22,13 @@ pub struct Buffer {
 
 impl Model for Buffer {
     ghost use Rattle.std.specs.Prelude.{ℕ, List, ◌≡◌, ◌≤◌, take, drop, vec_len};
+    ghost use Rattle.sq_lines.specs.declared.buffer.TheConstants.{CHUNK};
 
     ghost Value = { List ℕ };
 
     ghost view = { λ b. drop b.at (take b.end b.bytes.items) };
 
-    ghost invariant = { λ b. (b.at ≤ b.end) × (b.end ≤ vec_len b.bytes) × (vec_len b.bytes ≡ 65536) };
+    ghost invariant = { λ b. (b.at ≤ b.end) × (b.end ≤ vec_len b.bytes) × (vec_len b.bytes ≡ CHUNK) };
 }
 
 impl Buffer {
@@ -62,7 +63,7 @@ impl Buffer {
         requires { self.old ≡ [] }
         ensures bytes { MatchResult result (λ _. Consumes (R.remaining reader.old.inner) (R.remaining reader.new.inner) self.new) (λ _. Keeps (R.remaining reader.old.inner) (R.remaining reader.new.inner)) }
         ensures count { IfOk result (λ n. n ≡ length self.new) }
-        ensures bound { length self.new ≤ 65536 }
+        ensures bound { length self.new ≤ CHUNK }
         ensures end { IfOk result (λ n. n ≡ 0 → IsAtEnd (R.remaining reader.new.inner)) }
         ensures fault { OnErr result (self.new ≡ []) }
         ensures same { OnOk result (reader.new.failed ≡ reader.old.failed) }

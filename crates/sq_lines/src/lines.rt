@@ -1,6 +1,6 @@
 //! Reading a line.
 ghost use Rattle.std.specs.Prelude.{◌≡◌, ◌≢◌, ◌∷◌, ◌++◌, [], IfOk, IfErr, IfSome, MatchOption, option_map, Some, OnOk, OnErr, ◌<◌, ◌≤◌, ◌+◌, take, drop, length, vec_len, vec_capacity};
-ghost use Rattle.sq_lines.specs.Lines.{lines_left, lines_of, FirstIsOver, FirstIsWithin, OneMore};
+ghost use Rattle.sq_lines.specs.Lines.{lines_left, lines_of, read_of, none_read, FirstIsOver, FirstIsWithin, GoesOn, OneMore};
 ghost use Rattle.sq_lines.specs.declared.lines.LineFault.TheVariants.{TooLong, Read, NoMemory};
 
 use crate::buffer::Buffer;
@@ -43,14 +43,15 @@ pub struct Lines {
 }
 
 impl Model for Lines {
-    ghost use Rattle.std.specs.Prelude.{ℕ, List, ◌≡◌, ◌≤◌, ◌++◌, false, vec_len};
-    ghost use Rattle.sq_lines.specs.Lines.{has_feed};
+    ghost use Rattle.std.specs.Prelude.{◌≡◌, ◌≤◌, false, vec_len};
+    ghost use Rattle.sq_lines.specs.Lines.{has_feed, LinesValue};
+    ghost use Rattle.sq_lines.specs.declared.lines.TheConstants.{LIMIT};
 
-    ghost Value = { List ℕ };
+    ghost Value = { LinesValue };
 
-    ghost view = { λ l. l.begun.items ++ l.ahead };
+    ghost view = { λ l. record { begun = l.begun.items; ahead = l.ahead } };
 
-    ghost invariant = { λ l. (has_feed l.begun.items ≡ false) × (vec_len l.begun ≤ 4194304) };
+    ghost invariant = { λ l. (has_feed l.begun.items ≡ false) × (vec_len l.begun ≤ LIMIT) };
 }
 
 // Ends the line that was begun before the line feed at a place of what was read ahead.
@@ -61,15 +62,16 @@ fn end_line(
     at: usize,
 ) -> Result<Vec<u8>, LineFault>
     requires place { at < length ahead.old }
-    requires limit { length begun.old.items ≤ 4194304 }
+    requires limit { length begun.old.items ≤ LIMIT }
     ensures line { IfOk result (λ line. line.items ≡ begun.old.items ++ take at ahead.old) }
-    ensures within { IfOk result (λ line. length line.items ≤ 4194304) }
+    ensures within { IfOk result (λ line. length line.items ≤ LIMIT) }
     ensures rest { OnOk result (ahead.new ≡ drop (at + 1) ahead.old) }
     ensures none { OnOk result (begun.new.items ≡ []) }
     ensures kept { OnErr result ((begun.new.items ≡ begun.old.items) × (ahead.new ≡ ahead.old)) }
-    ensures long { IfErr result (λ e. e ≡ TooLong → 4194304 < length begun.old.items + at) }
-    // It tells want of memory only of a line that is within the limit and does not fit where it begins.
-    ensures fits { IfErr result (λ e. e ≡ NoMemory → length begun.old.items + at ≤ 4194304) }
+    ensures long { IfErr result (λ e. e ≡ TooLong → LIMIT < length begun.old.items + at) }
+    // It tells want of memory only of bytes that are within the limit and do not fit.
+    ensures some { IfErr result (λ e. e ≡ NoMemory → 0 < at) }
+    ensures fits { IfErr result (λ e. e ≡ NoMemory → length begun.old.items + at ≤ LIMIT) }
     ensures room { IfErr result (λ e. e ≡ NoMemory → vec_capacity begun.old < vec_len begun.old + at) }
     ensures other { IfErr result (λ e. e ≡ Read → ⊥) }
 {
@@ -83,15 +85,15 @@ fn end_line(
 
 // Adds what was read ahead to the line that was begun.
 fn add_ahead(begun: &mut Vec<u8>, ahead: &mut Buffer) -> Result<(), LineFault>
-    requires limit { length begun.old.items ≤ 4194304 }
+    requires limit { length begun.old.items ≤ LIMIT }
     ensures line { OnOk result (begun.new.items ≡ begun.old.items ++ ahead.old) }
-    ensures within { length begun.new.items ≤ 4194304 }
+    ensures within { length begun.new.items ≤ LIMIT }
     ensures rest { OnOk result (ahead.new ≡ []) }
     ensures kept { OnErr result ((begun.new.items ≡ begun.old.items) × (ahead.new ≡ ahead.old)) }
-    ensures long { IfErr result (λ e. e ≡ TooLong → 4194304 < length begun.old.items + length ahead.old) }
+    ensures long { IfErr result (λ e. e ≡ TooLong → LIMIT < length begun.old.items + length ahead.old) }
     // It tells want of memory only of bytes that are within the limit and do not fit.
     ensures some { IfErr result (λ e. e ≡ NoMemory → 0 < length ahead.old) }
-    ensures fits { IfErr result (λ e. e ≡ NoMemory → length begun.old.items + length ahead.old ≤ 4194304) }
+    ensures fits { IfErr result (λ e. e ≡ NoMemory → length begun.old.items + length ahead.old ≤ LIMIT) }
     ensures room { IfErr result (λ e. e ≡ NoMemory → vec_capacity begun.old < vec_len begun.old + length ahead.old) }
     ensures other { IfErr result (λ e. e ≡ Read → ⊥) }
 {
@@ -118,7 +120,7 @@ fn last_line(alloc: Global, begun: &mut Vec<u8>) -> Option<Vec<u8>>
 
 impl Lines {
     pub fn new(alloc: Global) -> Result<Lines, AllocError>
-        ensures { IfOk result (λ l. l ≡ []) }
+        ensures { IfOk result (λ l. l ≡ none_read) }
     {
         Ok(Lines {
             begun: Vec::new(alloc),
@@ -133,15 +135,16 @@ impl Lines {
         alloc: Global,
         reader: &mut Counted<R>,
     ) -> Result<Option<Vec<u8>>, LineFault>
-        ensures taken { IfOk result (λ next. IfSome (lines_left self.old (R.remaining reader.old.inner)) (λ lines.
-            MatchOption next (lines ≡ []) (λ line. option_map (λ rest. line.items ∷ rest) (lines_left self.new (R.remaining reader.new.inner)) ≡ Some lines))) }
-        ensures within { IfOk result (λ next. IfSome next (λ line. length line.items ≤ 4194304)) }
-        ensures kept { OnErr result (IfSome (lines_left self.old (R.remaining reader.old.inner)) (λ lines. lines_left self.new (R.remaining reader.new.inner) ≡ Some lines)) }
-        ensures long { IfErr result (λ e. e ≡ TooLong → FirstIsOver 4194304 (lines_of self.new)) }
-        ensures long_line { IfErr result (λ e. e ≡ TooLong → IfSome (lines_left self.old (R.remaining reader.old.inner)) (λ lines. FirstIsOver 4194304 lines)) }
-        // It tells want of memory only of a line that is there, and of which no more than the limit is read.
-        ensures memory { IfErr result (λ e. e ≡ NoMemory → FirstIsWithin 4194304 (lines_of self.new)) }
-        ensures memory_line { IfErr result (λ e. e ≡ NoMemory → IfSome (lines_left self.old (R.remaining reader.old.inner)) (λ lines. 0 < length lines)) }
+        ensures taken { IfOk result (λ next. IfSome (lines_left (read_of self.old) (R.remaining reader.old.inner)) (λ lines.
+            MatchOption next (lines ≡ []) (λ line. option_map (λ rest. line.items ∷ rest) (lines_left (read_of self.new) (R.remaining reader.new.inner)) ≡ Some lines))) }
+        ensures within { IfOk result (λ next. IfSome next (λ line. length line.items ≤ LIMIT)) }
+        ensures kept { OnErr result (IfSome (lines_left (read_of self.old) (R.remaining reader.old.inner)) (λ lines. lines_left (read_of self.new) (R.remaining reader.new.inner) ≡ Some lines)) }
+        ensures long { IfErr result (λ e. e ≡ TooLong → FirstIsOver LIMIT (lines_of (read_of self.new))) }
+        ensures long_line { IfErr result (λ e. e ≡ TooLong → IfSome (lines_left (read_of self.old) (R.remaining reader.old.inner)) (λ lines. FirstIsOver LIMIT lines)) }
+        // It tells want of memory only of bytes that were to be put to a line, of which no more than the limit is read.
+        ensures wanted { IfErr result (λ e. e ≡ NoMemory → GoesOn self.new.ahead) }
+        ensures memory { IfErr result (λ e. e ≡ NoMemory → FirstIsWithin LIMIT (lines_of (read_of self.new))) }
+        ensures memory_line { IfErr result (λ e. e ≡ NoMemory → IfSome (lines_left (read_of self.old) (R.remaining reader.old.inner)) (λ lines. 0 < length lines)) }
         ensures same { OnOk result (reader.new.failed ≡ reader.old.failed) }
         ensures count { IfErr result (λ e. e ≡ Read → OneMore reader.old.failed reader.new.failed) }
         ensures other { IfErr result (λ e. e ≢ Read → reader.new.failed ≡ reader.old.failed) }

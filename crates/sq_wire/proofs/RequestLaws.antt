@@ -1,5 +1,5 @@
 -- Reading a request.
-use Rattle.std.proofs.Common.{◌≡◌, ℕ, Bool, true, false, not, List, [], ◌∷◌, length, refl, arith, ap, sym, ◌∙◌, ◌≤◌, Err, Result, inl, inr, ◌⊎◌, ◌<◌, suc}
+use Rattle.std.proofs.Common.{◌≡◌, ℕ, Bool, true, false, not, List, [], ◌∷◌, length, refl, arith, ap, sym, ◌∙◌, ◌≤◌, Ok, Err, Result, Some, None, inl, inr, ◌⊎◌, ◌<◌, suc}
 use Rattle.std.specs.Prelude.{String, nat_lt, ◌||◌, ◌==◌}
 use Rattle.sq_base.specs.declared.refusal.Refusal.{Refusal}
 use Rattle.sq_base.specs.declared.refusal.Refusal.TheVariants.{NoMemory}
@@ -7,13 +7,36 @@ use Rattle.std.proofs.lemmas.Bool.{lt-ltb, le-ltb}
 use Rattle.std.specs.declared.alloc.Global.{Global}
 use Rattle.serde_json.specs.declared.value.Value.{Value}
 use Rattle.serde_json.specs.View.{members_view}
+use Rattle.json.specs.Json.{value}
+use Rattle.json.specs.Lex.{lex, punctuate}
+use Rattle.serde_json.specs.Data.{Data}
+use Rattle.serde_json.specs.Read.{read}
+use Rattle.std.specs.Str.{is_utf8}
 use Rattle.sq_wire.specs.Reading.{Reads}
+use Rattle.sq_wire.specs.Requests.{line_request, request_of, ReadsLine}
+use Rattle.sq_wire.specs.declared.request.Request.{Request}
 use Rattle.sq_wire.specs.Members.{is_empty}
 
 -- what is refused reads so
 pub reads_refused : {A : Type 0} (e : Refusal) (read : Result A Refusal) → read ≡ Err e → Reads (Err e) read
-reads_refused NoMemory read h = tt
+reads_refused NoMemory read h = rw h refl
 reads_refused e read h = h
+
+-- a line that is read has a byte
+none_read : read [] ≡ None
+unfolding lex punctuate value
+none_read = refl
+
+some_byte : (line : List ℕ) (d : Data) → read line ≡ Some d → 0 < length line
+some_byte [] d e = absurd (let none = none_read in cc)
+some_byte (b ∷ line) d e = omega arith
+
+-- what was read of a line's value is what was read of the line
+pub reads_line : (line : List ℕ) (d : Data) (r : Result Request Refusal) → is_utf8 line ≡ true → read line ≡ Some d → Reads r (request_of d) → ReadsLine r line
+unfolding line_request
+reads_line line d (Ok request) utf8 e h = rw (utf8, e) h
+reads_line line d (Err NoMemory) utf8 e h = some_byte line d e
+reads_line line d (Err refusal) utf8 e h = rw (utf8, e) h
 
 -- an object is empty where it has no entries
 pub empty_by : (es : List (String Global × Value)) (b : Bool) → (b ≡ true → length es ≡ 0) × (length es ≡ 0 → b ≡ true) → not b ≡ not (is_empty (members_view es))

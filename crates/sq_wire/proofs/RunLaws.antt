@@ -3,7 +3,8 @@ use Rattle.std.proofs.Common.{inl, inr, ◌≡◌, ℕ, zero, suc, ◌+◌, ◌<
 use Rattle.std.specs.Prelude.{IfSome, option_map, slice_get}
 use Rattle.std.specs.Io.KnownBytes.{Appends}
 use Rattle.sq_wire.specs.Scripts.{ScriptValue, Gives, Loses}
-use Rattle.sq_lines.specs.Lines.{FirstIsOver}
+use Rattle.sq_lines.specs.Lines.{LinesValue, read_of, lines_of, lines_left, FirstIsOver, FirstIsWithin, GoesOn}
+use Rattle.sq_lines.specs.declared.lines.TheConstants.{LIMIT}
 use Rattle.sq_merge.specs.WorldValue.{WorldValue}
 use Rattle.sq_wire.specs.Scripts.{script_at}
 use Rattle.sq_wire.specs.declared.run.ServeFault.{ServeFault}
@@ -17,7 +18,7 @@ answers_more world (l ∷ ls) out mid line text after a g =
     let rest = answers_more a.1 ls a.2 mid line text after a.5 g in
     (a.0, a.1, a.2 ++ (text ++ 10 ∷ []), a.3, ap (λ (o : List ℕ). o ++ (text ++ 10 ∷ [])) a.4 ∙ append_assoc a.0 (10 ∷ a.2) (text ++ 10 ∷ []), rest)
 
-within_more : (lines : List (List ℕ)) (line : List ℕ) → AllWithin lines → length line ≤ 4194304 → AllWithin (lines ++ line ∷ [])
+within_more : (lines : List (List ℕ)) (line : List ℕ) → AllWithin lines → length line ≤ LIMIT → AllWithin (lines ++ line ∷ [])
 within_more [] line w le = (le, tt)
 within_more (l ∷ ls) line w le = (w.0, within_more ls line w.1 le)
 
@@ -67,7 +68,7 @@ so_far_done (Some lines) left old new world now n h e =
 
 -- one line more is answered
 pub so_far_more : (all left rest : Option (List (List ℕ))) (old new newer : Option (List ℕ)) (world now after : ScriptValue) (n : ℕ) (line text : List ℕ) → IsSoFar all left old new world now n
-    → IfSome left (λ lines. option_map (λ more. line ∷ more) rest ≡ Some lines) → length line ≤ 4194304 → Gives now line text after → Appends new newer (text ++ 10 ∷ []) → IsSoFar all rest old newer world after (n + 1)
+    → IfSome left (λ lines. option_map (λ more. line ∷ more) rest ≡ Some lines) → length line ≤ LIMIT → Gives now line text after → Appends new newer (text ++ 10 ∷ []) → IsSoFar all rest old newer world after (n + 1)
 so_far_more None left rest old new newer world now after n line text h e lt g w = tt
 so_far_more (Some lines) left rest old new newer world now after n line text h e lt g w =
     let first : option_map (λ more. line ∷ more) rest ≡ Some (drop n lines) = subst (λ (o : Option (List (List ℕ))). IfSome o (λ l. option_map (λ more. line ∷ more) rest ≡ Some l)) h.left_is e in
@@ -85,9 +86,9 @@ so_far_more (Some lines) left rest old new newer world now after n line text h e
 
 -- a front of the next answer is written
 pub so_far_part : (all left rest : Option (List (List ℕ))) (old new newer : Option (List ℕ)) (world now after : ScriptValue) (n : ℕ) (line text : List ℕ) (part : ℕ) → IsSoFar all left old new world now n
-    → IfSome left (λ lines. option_map (λ more. line ∷ more) rest ≡ Some lines) → Gives now line text after → Appends new newer (take part (text ++ 10 ∷ [])) → IfSome all (λ lines. WritesPart old newer world lines n after)
-so_far_part None left rest old new newer world now after n line text part h e g w = tt
-so_far_part (Some lines) left rest old new newer world now after n line text part h e g w =
+    → IfSome left (λ lines. option_map (λ more. line ∷ more) rest ≡ Some lines) → length line ≤ LIMIT → Gives now line text after → Appends new newer (take part (text ++ 10 ∷ [])) → IfSome all (λ lines. WritesPart old newer world lines n after)
+so_far_part None left rest old new newer world now after n line text part h e le g w = tt
+so_far_part (Some lines) left rest old new newer world now after n line text part h e le g w =
     let first : option_map (λ more. line ∷ more) rest ≡ Some (drop n lines) = subst (λ (o : Option (List (List ℕ))). IfSome o (λ l. option_map (λ more. line ∷ more) rest ≡ Some l)) h.left_is e in
     let r = next_left lines n line rest first in
     record {
@@ -101,6 +102,7 @@ so_far_part (Some lines) left rest old new newer world now after n line text par
       gives = g;
       appends = appends_more old new newer h.writes.out (take part (text ++ 10 ∷ [])) h.writes.appends w;
       within = h.writes.within;
+      line_within = le;
     }
 
 -- what was written so far
@@ -115,31 +117,34 @@ some_left (l ∷ ls) zero lt = omega arith
 some_left (l ∷ ls) (suc n) lt = let r = some_left ls n lt in omega (arith, r)
 
 -- there was no memory for the next line
-pub so_far_lost : (all left : Option (List (List ℕ))) (old new : Option (List ℕ)) (world now : ScriptValue) (n : ℕ) → IsSoFar all left old new world now n → IfSome left (λ lines. 0 < length lines) → IfSome all (λ lines. WritesNoMore old new world lines n now)
-so_far_lost None left old new world now n h e = tt
-so_far_lost (Some lines) left old new world now n h e =
-    let some : 0 < length (drop n lines) = subst (λ (o : Option (List (List ℕ))). IfSome o (λ l. 0 < length l)) h.left_is e in
-    record { mid = now; writes = h.writes; there = inl (some_left lines n some); last = inl refl }
-
--- there was none before the first line
-pub so_far_lost_first : (all : Option (List (List ℕ))) (old : Option (List ℕ)) (world : ScriptValue) → IfSome all (λ lines. WritesNoMore old old world lines 0 world)
-so_far_lost_first None old world = tt
-so_far_lost_first (Some lines) old world = record { mid = world; writes = record { out = []; answers = (refl, refl); appends = appends_none old; within = tt }; there = inr refl; last = inl refl }
+pub so_far_lost : (all left : Option (List (List ℕ))) (coming old new : Option (List ℕ)) (world now : ScriptValue) (n : ℕ) (read : LinesValue) → IsSoFar all left old new world now n
+    → IfSome left (λ lines. 0 < length lines) → IfSome left (λ lines. lines_left (read_of read) coming ≡ Some lines) → FirstIsWithin LIMIT (lines_of (read_of read)) → GoesOn read.ahead
+    → IfSome all (λ lines. WritesNoMore old new world lines coming n now)
+so_far_lost None left coming old new world now n read h some kept within on = tt
+so_far_lost (Some lines) left coming old new world now n read h some kept within on =
+    let there : 0 < length (drop n lines) = subst (λ (o : Option (List (List ℕ))). IfSome o (λ l. 0 < length l)) h.left_is some in
+    let left_is : lines_left (read_of read) coming ≡ Some (drop n lines) = subst (λ (o : Option (List (List ℕ))). IfSome o (λ l. lines_left (read_of read) coming ≡ Some l)) h.left_is kept in
+    record {
+      mid = now;
+      writes = h.writes;
+      there = some_left lines n there;
+      last = inl (refl, record { read = read; left_is = left_is; within = within; goes_on = on });
+    }
 
 -- there was none for the answer to the next line
-pub so_far_loses : (all left rest : Option (List (List ℕ))) (old new : Option (List ℕ)) (world now after : ScriptValue) (n : ℕ) (line : List ℕ) → IsSoFar all left old new world now n
-    → IfSome left (λ lines. option_map (λ more. line ∷ more) rest ≡ Some lines) → Loses now line after → IfSome all (λ lines. WritesNoMore old new world lines n after)
-so_far_loses None left rest old new world now after n line h e g = tt
-so_far_loses (Some lines) left rest old new world now after n line h e g =
+pub so_far_loses : (all left rest : Option (List (List ℕ))) (coming old new : Option (List ℕ)) (world now after : ScriptValue) (n : ℕ) (line : List ℕ) → IsSoFar all left old new world now n
+    → IfSome left (λ lines. option_map (λ more. line ∷ more) rest ≡ Some lines) → length line ≤ LIMIT → Loses now line after → IfSome all (λ lines. WritesNoMore old new world lines coming n after)
+so_far_loses None left rest coming old new world now after n line h e le g = tt
+so_far_loses (Some lines) left rest coming old new world now after n line h e le g =
     let first : option_map (λ more. line ∷ more) rest ≡ Some (drop n lines) = subst (λ (o : Option (List (List ℕ))). IfSome o (λ l. option_map (λ more. line ∷ more) rest ≡ Some l)) h.left_is e in
     let r = next_left lines n line rest first in
-    record { mid = now; writes = h.writes; there = inl r.2.within; last = inr (record { line = line; next = r.2.found; loses = g }) }
+    record { mid = now; writes = h.writes; there = r.2.within; last = inr (record { line = line; next = r.2.found; within = le; loses = g }) }
 
 -- the next line is too long
-pub so_far_over : (all left : Option (List (List ℕ))) (old new : Option (List ℕ)) (world now : ScriptValue) (n : ℕ) → IsSoFar all left old new world now n → IfSome left (λ lines. FirstIsOver 4194304 lines)
-    → IfSome all (λ lines. Writes old new world (take n lines) now × FirstIsOver 4194304 (drop n lines))
+pub so_far_over : (all left : Option (List (List ℕ))) (old new : Option (List ℕ)) (world now : ScriptValue) (n : ℕ) → IsSoFar all left old new world now n → IfSome left (λ lines. FirstIsOver LIMIT lines)
+    → IfSome all (λ lines. Writes old new world (take n lines) now × FirstIsOver LIMIT (drop n lines))
 so_far_over None left old new world now n h e = tt
-so_far_over (Some lines) left old new world now n h e = (h.writes, subst (λ (o : Option (List (List ℕ))). IfSome o (λ l. FirstIsOver 4194304 l)) h.left_is e)
+so_far_over (Some lines) left old new world now n h e = (h.writes, subst (λ (o : Option (List (List ℕ))). IfSome o (λ l. FirstIsOver LIMIT l)) h.left_is e)
 
 -- the reading of the last line is some reading
 pub done_at : (all : Option (List (List ℕ))) (n : ℕ) (old new : Option (List ℕ)) (start : ScriptValue) (world : WorldValue) (clock : ℕ)
@@ -147,7 +152,7 @@ pub done_at : (all : Option (List (List ℕ))) (n : ℕ) (old new : Option (List
 done_at None n old new start world clock h = tt
 done_at (Some lines) n old new start world clock h = (clock, h.0, h.1)
 
-pub stops_at : (all : Option (List (List ℕ))) (f : ServeFault) (old new : Option (List ℕ)) (start : ScriptValue) (world : WorldValue) (clock : ℕ)
-    → IfSome all (λ lines. StopsAt f lines old new start (script_at world clock)) → IfSome all (λ lines. (c : ℕ) × StopsAt f lines old new start (script_at world c))
-stops_at None f old new start world clock h = tt
-stops_at (Some lines) f old new start world clock h = (clock, h)
+pub stops_at : (all : Option (List (List ℕ))) (f : ServeFault) (coming old new : Option (List ℕ)) (start : ScriptValue) (world : WorldValue) (clock : ℕ)
+    → IfSome all (λ lines. StopsAt f lines coming old new start (script_at world clock)) → IfSome all (λ lines. (c : ℕ) × StopsAt f lines coming old new start (script_at world c))
+stops_at None f coming old new start world clock h = tt
+stops_at (Some lines) f coming old new start world clock h = (clock, h)

@@ -13,8 +13,13 @@ abbrev pub shown : {X Y E : Type 0} → (X → Y) → Result X E → Result Y E
 shown f (Ok x) = Ok (f x)
 shown f (Err e) = Err e
 
--- what was read is what reading gives, unless memory ran out
+-- reading gives a value, and no refusal but want of memory
+abbrev pub IsUnrefused : {A : Type 0} → Result A Refusal → Type 0
+IsUnrefused {A} (Ok r) = Unit {0}
+IsUnrefused {A} (Err e) = e ≡ NoMemory
+
+-- what was read is what reading gives, unless memory ran out, and then nothing else refused it
 abbrev pub Reads : {A : Type 0} → Result A Refusal → Result A Refusal → Type 0
 Reads {A} (Ok r) read = read ≡ Ok r
-Reads {A} (Err NoMemory) read = Unit {0}
+Reads {A} (Err NoMemory) read = IsUnrefused read
 Reads {A} (Err e) read = read ≡ Err e

@@ -1,11 +1,11 @@
 -- What a line asks.
-use Rattle.std.specs.Prelude.{ℕ, List, if◌then◌else◌, Option, Some, None, Result, Ok, Err, codes, is_some, nat_lt}
+use Rattle.std.specs.Prelude.{◌≡◌, ◌<◌, ℕ, List, length, if◌then◌else◌, Option, Some, None, Result, Ok, Err, codes, is_some, nat_lt}
 use Rattle.std.specs.Str.{bytes_eq, is_utf8}
 use Rattle.serde_json.specs.Data.{Data, Num, unsigned, negative, float}
 use Rattle.serde_json.specs.Find.{get, as_number, as_object}
 use Rattle.serde_json.specs.Read.{read}
 use Rattle.sq_base.specs.declared.refusal.Refusal.{Refusal}
-use Rattle.sq_base.specs.declared.refusal.Refusal.TheVariants.{InvalidRequest, UnsupportedOperation}
+use Rattle.sq_base.specs.declared.refusal.Refusal.TheVariants.{InvalidRequest, NoMemory, UnsupportedOperation}
 use Rattle.sq_wire.specs.Reading.{◌>>=◌}
 use Rattle.sq_wire.specs.Members.{text_at}
 use Rattle.sq_wire.specs.Actions.{create_of, send_of, receive_of, delete_of, change_of}
@@ -66,3 +66,9 @@ if_read (Some d) = request_of d
 -- a line is text that is read as a request
 unfoldable pub line_request : List ℕ → Result Request Refusal
 line_request line = if is_utf8 line then if_read (read line) else Err InvalidRequest
+
+-- what was read of a line is what it asks, or why it is refused, unless memory ran out, as it does of a line that has a byte
+abbrev pub ReadsLine : Result Request Refusal → List ℕ → Type 0
+ReadsLine (Ok request) line = line_request line ≡ Ok request
+ReadsLine (Err NoMemory) line = 0 < length line
+ReadsLine (Err e) line = line_request line ≡ Err e

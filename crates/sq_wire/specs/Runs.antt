@@ -2,7 +2,9 @@
 use Rattle.std.specs.Prelude.{ℕ, List, [], ◌∷◌, ◌++◌, ◌≡◌, ◌<◌, ◌≤◌, ◌⊎◌, length, take, drop, Option, slice_get, Some}
 use Rattle.std.specs.Io.KnownBytes.{Appends}
 use Rattle.sq_wire.specs.Scripts.{ScriptValue, Gives, Loses}
-use Rattle.sq_lines.specs.Lines.{OneMore, FirstIsOver}
+use Rattle.sq_lines.specs.Lines.{LinesValue, read_of, lines_of, lines_left, OneMore, FirstIsOver, FirstIsWithin, GoesOn}
+use Rattle.sq_lines.specs.declared.lines.TheConstants.{LIMIT}
+use Rattle.sq_wire.specs.declared.run.TheConstants.{TURNS}
 use Rattle.sq_wire.specs.declared.run.ServeFault.{ServeFault}
 use Rattle.sq_wire.specs.declared.run.ServeFault.TheVariants.{Read, Write, NoMemory, TooLong}
 
@@ -14,7 +16,7 @@ Answers world (line ∷ lines) out after = (text : List ℕ) × (mid : ScriptVal
 -- no line is too long
 abbrev pub AllWithin : List (List ℕ) → Type 0
 AllWithin [] = Unit {0}
-AllWithin (line ∷ lines) = (length line ≤ 4194304) × AllWithin lines
+AllWithin (line ∷ lines) = (length line ≤ LIMIT) × AllWithin lines
 
 -- the answers to these lines were written
 pub record Writes (old new : Option (List ℕ)) (world : ScriptValue) (lines : List (List ℕ)) (after : ScriptValue) : Type 0 where
@@ -35,30 +37,39 @@ pub record WritesPart (old new : Option (List ℕ)) (world : ScriptValue) (lines
   pub gives : Gives mid line text after
   pub appends : Appends old new (out ++ take part (text ++ 10 ∷ []))
   pub within : AllWithin (take n lines)
+  pub line_within : length line ≤ LIMIT
+
+-- there was no memory for the next line: it goes on in bytes that were read, and is within the limit as far as it was read
+pub record LacksNext (left : List (List ℕ)) (coming : Option (List ℕ)) : Type 0 where
+  pub read : LinesValue
+  pub left_is : lines_left (read_of read) coming ≡ Some left
+  pub within : FirstIsWithin LIMIT (lines_of (read_of read))
+  pub goes_on : GoesOn read.ahead
 
 -- the next line was asked, and there was no memory for its answer
 pub record LosesNext (world : ScriptValue) (lines : List (List ℕ)) (n : ℕ) (after : ScriptValue) : Type 0 where
   pub line : List ℕ
   pub next : slice_get lines n ≡ Some line
+  pub within : length line ≤ LIMIT
   pub loses : Loses world line after
 
--- the answers to the first n lines were written, and of the next one nothing; it is there, or no line was asked for
-pub record WritesNoMore (old new : Option (List ℕ)) (world : ScriptValue) (lines : List (List ℕ)) (n : ℕ) (after : ScriptValue) : Type 0 where
+-- the answers to the first n lines were written, and of the next one, which is there, nothing
+pub record WritesNoMore (old new : Option (List ℕ)) (world : ScriptValue) (lines : List (List ℕ)) (coming : Option (List ℕ)) (n : ℕ) (after : ScriptValue) : Type 0 where
   pub mid : ScriptValue
   pub writes : Writes old new world (take n lines) mid
-  pub there : (n < length lines) ⊎ (n ≡ 0)
-  pub last : (after ≡ mid) ⊎ LosesNext mid lines n after
+  pub there : n < length lines
+  pub last : ((after ≡ mid) × LacksNext (drop n lines) coming) ⊎ LosesNext mid lines n after
 
--- what a fault says of what was written
-abbrev pub StopsAt : ServeFault → List (List ℕ) → Option (List ℕ) → Option (List ℕ) → ScriptValue → ScriptValue → Type 0
-StopsAt (Read n) lines old new world after = Writes old new world (take n lines) after × (n ≤ length lines)
-StopsAt (TooLong n) lines old new world after = Writes old new world (take n lines) after × FirstIsOver 4194304 (drop n lines)
-StopsAt (NoMemory n) lines old new world after = WritesNoMore old new world lines n after
-StopsAt (Write n) lines old new world after = WritesPart old new world lines n after
+-- what a fault says of what was written, where so much of the input is still to come
+abbrev pub StopsAt : ServeFault → List (List ℕ) → Option (List ℕ) → Option (List ℕ) → Option (List ℕ) → ScriptValue → ScriptValue → Type 0
+StopsAt (Read n) lines coming old new world after = Writes old new world (take n lines) after × (n ≤ length lines)
+StopsAt (TooLong n) lines coming old new world after = Writes old new world (take n lines) after × FirstIsOver LIMIT (drop n lines)
+StopsAt (NoMemory n) lines coming old new world after = WritesNoMore old new world lines coming n after
+StopsAt (Write n) lines coming old new world after = WritesPart old new world lines n after
 
--- a fault of reading or writing is one failed call, but for one of reading after 2^40 lines; no other call failed
+-- a fault of reading or writing is one failed call, but for one of reading after all lines that are answered at most; no other call failed
 abbrev pub IsOfCall : ServeFault → ℕ → ℕ → ℕ → ℕ → Type 0
-IsOfCall (Read n) r r2 w w2 = (OneMore r r2 ⊎ ((n ≡ 1099511627776) × (r2 ≡ r))) × (w2 ≡ w)
+IsOfCall (Read n) r r2 w w2 = (OneMore r r2 ⊎ ((n ≡ TURNS) × (r2 ≡ r))) × (w2 ≡ w)
 IsOfCall (Write n) r r2 w w2 = (r2 ≡ r) × OneMore w w2
 IsOfCall (NoMemory n) r r2 w w2 = (r2 ≡ r) × (w2 ≡ w)
 IsOfCall (TooLong n) r r2 w w2 = (r2 ≡ r) × (w2 ≡ w)

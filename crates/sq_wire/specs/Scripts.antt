@@ -1,5 +1,5 @@
 -- What a line does to a world, and what is told of it.
-use Rattle.std.specs.Prelude.{◌≡◌, ◌⊎◌, ℕ, List, Result, Ok, Err, unwrap_or}
+use Rattle.std.specs.Prelude.{◌≡◌, ◌⊎◌, ◌<◌, ℕ, List, length, Result, Ok, Err, unwrap_or}
 use Rattle.sq_base.specs.declared.refusal.Refusal.{Refusal}
 use Rattle.sq_base.specs.declared.refusal.Refusal.TheVariants.{NoMemory}
 use Rattle.sq_merge.specs.WorldValue.{WorldValue}
@@ -19,10 +19,10 @@ pub record ScriptValue : Type 0 where
 abbrev pub script_at : WorldValue → ℕ → ScriptValue
 script_at world clock = record { world = world; clock = clock }
 
--- A line that is no request is refused, and one that is has its call done by its actor at its reading, or at the last one. Where no memory was found to read it, it is refused as well.
+-- A line that is no request is refused, and one that is has its call done by its actor at its reading, or at the last one. One that has a byte is refused as well where no memory was found to read it.
 abbrev pub LineTold : ScriptValue → List ℕ → Result Answer Refusal → ScriptValue → Type 0
 LineTold s line told after =
-    ((after ≡ s) × ((told ≡ Err NoMemory) ⊎ ((e : Refusal) × (line_request line ≡ Err e) × (told ≡ Err e))))
+    ((after ≡ s) × (((told ≡ Err NoMemory) × (0 < length line)) ⊎ ((e : Refusal) × (line_request line ≡ Err e) × (told ≡ Err e))))
     ⊎ ((request : Request) × (line_request line ≡ Ok request) × (after.clock ≡ unwrap_or request.clock s.clock)
     × Told (ActorStepped request.actor (unwrap_or request.clock s.clock)) (CallFits (counts_of s.world) request.call) s.world told after.world)
 

@@ -2,7 +2,7 @@
 ghost use Rattle.std.specs.Prelude.{◌≡◌};
 ghost use Rattle.serde_json.specs.View.{view};
 ghost use Rattle.sq_wire.specs.Reading.{Reads};
-ghost use Rattle.sq_wire.specs.Requests.{clock_at, actor_at, call_of, request_of, line_request};
+ghost use Rattle.sq_wire.specs.Requests.{clock_at, actor_at, call_of, request_of, line_request, ReadsLine};
 
 use crate::actions::{change_of, create_of, delete_of, receive_of, send_of};
 use crate::members::text_at;
@@ -77,10 +77,10 @@ fn request_of(alloc: Global, value: &Value) -> Result<Request, Refusal>
 
 /// What a line asks, or the first reason in order why it is refused: InvalidRequest (not an object, a member of a
 /// wrong type or missing), UnsupportedOperation, InvalidAddress, InvalidAttributeName, InvalidAttributeValue,
-/// InvalidParameterValue; NoMemory where a growth was refused.
+/// InvalidParameterValue; NoMemory where a growth was refused, and so of no empty line.
 #[tactic(auto, unfolding(crate::specs::Requests::line_request))]
 pub fn read_request(alloc: Global, line: &[u8]) -> Result<Request, Refusal>
-    ensures { Reads result (line_request line.now) }
+    ensures { ReadsLine result line.now }
 {
     match Value::from_slice(alloc, line) {
         Ok(value) => request_of(alloc, &value),

@@ -1,5 +1,5 @@
 //! A reply for each line.
-ghost use Rattle.std.specs.Prelude.{◌≡◌, ℕ, [], OnOk, IfOk, IfErr, IfSome, length};
+ghost use Rattle.std.specs.Prelude.{◌≡◌, ◌⊎◌, ℕ, [], OnOk, IfOk, IfErr, IfSome, length};
 ghost use Rattle.sq_lines.specs.Lines.{lines_left};
 ghost use Rattle.sq_wire.specs.Scripts.{script_at};
 ghost use Rattle.sq_wire.specs.Runs.{Writes, StopsAt, IsOfCall};
@@ -39,9 +39,10 @@ pub fn run_script<R: Read, W: Write>(
     // For each line in order the text of a call on it, and nothing else.
     ensures ok { IfOk result (λ n. IfSome (lines_left [] (R.remaining reader.old.inner)) (λ lines.
         (clock : ℕ) × (n ≡ length lines) × Writes (W.contents writer.old.inner) (W.contents writer.new.inner) (script_at world.old 0) lines (script_at world.new clock))) }
-    // Up to a fault.
-    ensures err { IfErr result (λ f. IfSome (lines_left [] (R.remaining reader.old.inner)) (λ lines.
-        (clock : ℕ) × StopsAt f lines (W.contents writer.old.inner) (W.contents writer.new.inner) (script_at world.old 0) (script_at world.new clock))) }
+    // Up to a fault; or there was no memory to begin, and nothing was touched.
+    ensures err { IfErr result (λ f. ((f ≡ ServeFault.NoMemory 0) × (reader.new ≡ reader.old) × (writer.new ≡ writer.old) × (world.new ≡ world.old))
+        ⊎ IfSome (lines_left [] (R.remaining reader.old.inner)) (λ lines.
+        (clock : ℕ) × StopsAt f lines (R.remaining reader.new.inner) (W.contents writer.old.inner) (W.contents writer.new.inner) (script_at world.old 0) (script_at world.new clock))) }
     // No failed call goes unnoticed.
     ensures same { OnOk result ((reader.new.failed ≡ reader.old.failed) × (writer.new.failed ≡ writer.old.failed)) }
     // A fault of reading or writing is one failed call.

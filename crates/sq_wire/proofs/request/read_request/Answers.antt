@@ -4,6 +4,7 @@ use Rattle.std.proofs.lemmas.Str.{is_utf8-from_IsUtf8, IsUtf8-from_is_utf8}
 use Rattle.serde_json.specs.Read.{read}
 use Rattle.sq_base.specs.declared.refusal.Refusal.TheVariants.{InvalidRequest}
 use Rattle.sq_wire.specs.Requests.{line_request}
+use Rattle.sq_wire.proofs.RequestLaws.{reads_line}
 use Rattle.sq_wire.proofs.request.read_request.Goals as goal
 
 refused_if : (line : List ℕ) (b : Bool) → is_utf8 line ≡ b → (IsUtf8 line → read line ≡ None) → line_request line ≡ Err InvalidRequest
@@ -12,10 +13,9 @@ refused_if line true e none = rw (e, none (IsUtf8-from_is_utf8 line e)) refl
 refused_if line false e none = rw e refl
 
 pub returns-in-Ok : goal.returns-in-Ok
-unfolding line_request
 returns-in-Ok c =
     let utf8 = is_utf8-from_IsUtf8 c.args.line.now c.in-Ok.ensures.ok.0 in
-    rw (utf8, c.in-Ok.ensures.ok.1) c.request_of.ensures
+    reads_line _ _ _ utf8 c.in-Ok.ensures.ok.1 c.request_of.ensures
 
 pub returns-in-Err-2 : goal.returns-in-Err-2
 returns-in-Err-2 c = refused_if c.args.line.now (is_utf8 c.args.line.now) refl (c.in-Err-2.ensures.err (λ h. let e : c.is_memory.result ≡ true = search (rules, h) in cc))

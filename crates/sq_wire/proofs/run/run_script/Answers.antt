@@ -1,6 +1,7 @@
-use Rattle.std.proofs.Common.{arith, rules, ◌≡◌}
-use Rattle.sq_wire.proofs.RunLaws.{done_at, stops_at, so_far_done, so_far_more, so_far_part, so_far_stops, so_far_lost, so_far_loses}
+use Rattle.std.proofs.Common.{arith, rules, refl, inr, None, ◌≡◌}
+use Rattle.sq_wire.proofs.RunLaws.{done_at, stops_at, so_far_none, so_far_done, so_far_more, so_far_part, so_far_stops, so_far_lost, so_far_loses}
 use Rattle.sq_lines.proofs.WriteLaws.{appends_whole, appends_keeps}
+use Rattle.sq_wire.specs.declared.run.TheConstants.{TURNS}
 use Rattle.sq_wire.specs.declared.run.ServeFault.TheVariants as fault
 use Rattle.sq_wire.proofs.run.run_script.Goals as goal
 
@@ -10,26 +11,29 @@ returns-in-Ok-None-clause-ok g c =
 
 pub returns-clause-err : goal.returns-clause-err
 returns-clause-err g c =
-    let end : c.loop-answered.answered ≡ 1099511627776 = omega arith in
-    stops_at _ (fault.Read 1099511627776) _ _ _ _ _ (so_far_stops _ _ _ _ _ _ _ _ c.loop-answered.invariant.so_far end)
+    let end : c.loop-answered.answered ≡ TURNS = omega arith in
+    inr (stops_at _ (fault.Read TURNS) None _ _ _ _ _ (so_far_stops _ _ _ _ _ _ _ _ c.loop-answered.invariant.so_far end))
 
 pub returns-in_default-answer-clause-err : goal.returns-in_default-answer-clause-err
 returns-in_default-answer-clause-err g c =
-    stops_at _ (fault.NoMemory c.loop-answered.answered) _ _ _ _ _
-    (so_far_loses _ _ _ _ _ _ _ _ _ _ c.loop-answered.invariant.so_far (rw c.in-Ok-Some.field-0-is at c.in-Ok-Some.ensures.taken) (rw c.deref.ensures.value at c.in_default-answer.ensures.err))
+    inr (stops_at _ (fault.NoMemory c.loop-answered.answered) _ _ _ _ _ _
+    (so_far_loses _ _ _ _ _ _ _ _ _ _ _ c.loop-answered.invariant.so_far (rw c.in-Ok-Some.field-0-is at c.in-Ok-Some.ensures.taken) (rw c.in-Ok-Some.field-0-is at c.in-Ok-Some.ensures.within)
+    (rw c.deref.ensures.value at c.in_default-answer.ensures.err)))
 
 pub returns-in-Err-clause-err : goal.returns-in-Err-clause-err
 returns-in-Err-clause-err g c =
-    stops_at _ (fault.Write c.loop-answered.answered) _ _ _ _ _
+    inr (stops_at _ (fault.Write c.loop-answered.answered) None _ _ _ _ _
     (so_far_part _ _ _ _ _ _ _ _ _ _ _ _ c.in-Err._part
-    c.loop-answered.invariant.so_far (rw c.in-Ok-Some.field-0-is at c.in-Ok-Some.ensures.taken) (rw c.deref.ensures.value at c.in-Ok-answer.ensures.ok) (rw c.as_bytes.ensures at c.in-Err.ensures.err))
+    c.loop-answered.invariant.so_far (rw c.in-Ok-Some.field-0-is at c.in-Ok-Some.ensures.taken) (rw c.in-Ok-Some.field-0-is at c.in-Ok-Some.ensures.within)
+    (rw c.deref.ensures.value at c.in-Ok-answer.ensures.ok) (rw c.as_bytes.ensures at c.in-Err.ensures.err)))
 
 pub returns-in_default-flush-clause-err : goal.returns-in_default-flush-clause-err
 returns-in_default-flush-clause-err g c =
-    stops_at _ (fault.Write c.loop-answered.answered) _ _ _ _ _
+    inr (stops_at _ (fault.Write c.loop-answered.answered) None _ _ _ _ _
     (so_far_part _ _ _ _ _ _ _ _ _ _ _ _ _
-    c.loop-answered.invariant.so_far (rw c.in-Ok-Some.field-0-is at c.in-Ok-Some.ensures.taken) (rw c.deref.ensures.value at c.in-Ok-answer.ensures.ok)
-    (appends_whole _ _ _ (appends_keeps _ _ _ _ (rw c.as_bytes.ensures at c.in_default-put_line.ensures.ok) c.flush.ensures.bytes)))
+    c.loop-answered.invariant.so_far (rw c.in-Ok-Some.field-0-is at c.in-Ok-Some.ensures.taken) (rw c.in-Ok-Some.field-0-is at c.in-Ok-Some.ensures.within)
+    (rw c.deref.ensures.value at c.in-Ok-answer.ensures.ok)
+    (appends_whole _ _ _ (appends_keeps _ _ _ _ (rw c.as_bytes.ensures at c.in_default-put_line.ensures.ok) c.flush.ensures.bytes))))
 
 pub loop-answered-preserved : goal.loop-answered-preserved
 loop-answered-preserved g c = record {
@@ -42,5 +46,10 @@ loop-answered-preserved g c = record {
 
 pub returns-in-Err-NoMemory-clause-err : goal.returns-in-Err-NoMemory-clause-err
 returns-in-Err-NoMemory-clause-err g c =
-    stops_at _ (fault.NoMemory c.loop-answered.answered) _ _ _ _ _
-    (so_far_lost _ _ _ _ _ _ _ c.loop-answered.invariant.so_far (c.in-Err-NoMemory.ensures.memory_line c.in-Err-NoMemory.field-0-is))
+    let next = c.in-Err-NoMemory.ensures in
+    let is = c.in-Err-NoMemory.field-0-is in
+    inr (stops_at _ (fault.NoMemory c.loop-answered.answered) _ _ _ _ _ _
+    (so_far_lost _ _ _ _ _ _ _ _ c.next_line.new.self c.loop-answered.invariant.so_far (next.memory_line is) next.kept (next.memory is) (next.wanted is)))
+
+pub loop-answered-init : goal.loop-answered-init
+loop-answered-init g c = record { so_far = rw c.in-Ok.ensures (so_far_none _ _ _); reads = refl; writes = refl }

@@ -1,7 +1,7 @@
 use Rattle.std.proofs.Common.{◌≡◌, ◌++◌, rules, arith, refl, sym, subst, [], List, ℕ, false}
 use Rattle.sq_lines.specs.Lines.{has_feed}
 use Rattle.std.proofs.lemmas.List.{nil_from_length}
-use Rattle.sq_lines.proofs.LineLaws.{IsDone, no_feed_none, no_feed_found, no_feed_all, cut_found, line_cut, line_end, lines_kept, lines_on, lines_left_some, over_cut, over_all, over_here, over_left, over_same, within_cut, within_all, within_same}
+use Rattle.sq_lines.proofs.LineLaws.{IsDone, no_feed_none, no_feed_found, no_feed_all, cut_found, line_cut, line_end, lines_kept, lines_on, lines_left_some, over_cut, over_all, over_here, over_left, over_same, goes_on_all, goes_on_cut, within_cut, within_all, within_same}
 use Rattle.sq_lines.proofs.lines.Lines.next_line.Goals as goal
 
 pub invariant_of-self : goal.invariant_of-self
@@ -74,3 +74,11 @@ pub returns-in-Err-add_ahead-clause-memory : goal.returns-in-Err-add_ahead-claus
 returns-in-Err-add_ahead-clause-memory g c e =
     within_same _ _ _ _ _ c.in-Err-add_ahead.ensures.kept
     (within_all _ _ _ c.loop-at.invariant.plain (no_feed_found _ _ _ c.memchr.ensures (search rules) c.bytes.ensures) (c.in-Err-add_ahead.ensures.some e) (c.in-Err-add_ahead.ensures.fits e))
+
+pub returns-in-Err-clause-wanted : goal.returns-in-Err-clause-wanted
+returns-in-Err-clause-wanted g c e =
+    goes_on_cut _ _ _ (cut_found _ _ (rw c.bytes.ensures at c.in-Some.ensures)) (c.in-Err.ensures.some e) c.in-Err.ensures.kept.1
+
+pub returns-in-Err-add_ahead-clause-wanted : goal.returns-in-Err-add_ahead-clause-wanted
+returns-in-Err-add_ahead-clause-wanted g c e =
+    goes_on_all _ _ (no_feed_found _ _ _ c.memchr.ensures (search rules) c.bytes.ensures) (c.in-Err-add_ahead.ensures.some e) c.in-Err-add_ahead.ensures.kept.1
