@@ -1,50 +1,74 @@
--- A run that ends before its first line, and an audit that is written in part.
-use Rattle.std.proofs.Common.{◌≡◌, ℕ, List, [], ◌∷◌, ◌++◌, length, take, Option, Some, None, Result, Ok, Err, OnOk, OnErr, IfErr, IfSome, is_err, true, false, refl, subst, inl, inr}
+-- How a run ends, from how its parts did.
+use Rattle.std.proofs.Common.{◌≡◌, ◌≤◌, ℕ, zero, suc, ◌+◌, true, false, Some, None, List, [], ◌∷◌, ◌++◌, length, take, Option, IfSome, Ok, Err, refl, ap, inr, arith, zero-add}
 use Rattle.std.specs.Io.KnownBytes.{Appends, Keeps}
-use Rattle.sq_wire.specs.Audits.{IsAudit}
-use Rattle.sq_lines.specs.Lines.{OneMore}
-use Rattle.sq_wire.specs.Runs.{StopsAt}
-use Rattle.sq_wire.specs.Scripts.{ScriptValue, script_at}
-use Rattle.sq_lines.proofs.WriteLaws.{appends_keeps, appends_none, appends_whole}
-use Rattle.sq_merge.specs.Openings.{new_world}
+use Rattle.std.proofs.Math.Nat.{suc-add}
+use Rattle.clap.specs.Words.{Text}
+use Rattle.clap.specs.declared.error.Error.{Error}
+use Rattle.sq_lines.specs.declared.counted.Counted.{Counted}
+use Rattle.sq_lines.proofs.WriteLaws.{appends_front, appends_keeps, appends_more, appends_whole}
+use Rattle.sq_merge.specs.Openings.{new_world, IsServed}
 use Rattle.sq_merge.specs.WorldValue.{WorldValue}
 use Rattle.sq_merge.specs.declared.options.Options.{Options}
-use Rattle.sq_wire.specs.declared.run.ServeFault.TheVariants.{NoMemory}
-use Rattle.sqd.specs.Endings.{Shown, Stopped, TellsAuditInPart}
+use Rattle.sq_wire.specs.Runs.{Writes}
+use Rattle.sq_wire.specs.Scripts.{script_at}
+use Rattle.sqd.specs.Endings.{Stream, stream, Ends, EndsFor, EndsShown, HasNoFault, HasReplies, IsAuditLine, IsHelp, IsUntouched, lines_in}
+use Rattle.sqd.specs.declared.flags.Mode.TheVariants.{Script}
+use Rattle.sqd.specs.declared.flags.Refused.TheVariants as refused
+use Rattle.sqd.specs.declared.flags.ScriptMode.{ScriptMode}
 
-stops_first : (options : Options) (all : Option (List (List ℕ))) (held : Option (List ℕ))
-    → IfSome all (λ lines. (after : ScriptValue) × StopsAt (NoMemory 0) lines held held (script_at (new_world options) 0) after)
-stops_first options None held = tt
-stops_first options (Some lines) held = (
-  script_at (new_world options) 0,
-  record {
-    mid = script_at (new_world options) 0;
-    writes = record { out = []; answers = (refl, refl); appends = appends_none held; within = tt };
-    last = inl refl;
-    there = inr refl;
-  },
-)
+-- ---- a text and its end, written in part
 
--- there was no memory for a world
-pub stopped_first : (options : Options) (all : Option (List (List ℕ))) (held : Option (List ℕ)) (r w : ℕ) → Stopped options all held held r r w w
-stopped_first options all held r w = (NoMemory 0, (refl, refl), stops_first options all held)
+-- a front that ends in the second part
+front_past : (text end : List ℕ) (n : ℕ) → take (length text + n) (text ++ end) ≡ text ++ take n end
+front_past [] end n = ap (λ (k : ℕ). take k end) (zero-add n)
+front_past (b ∷ text) end n = rw suc-add (ap (λ (r : List ℕ). b ∷ r) (front_past text end n))
 
-pub of_failed : {T E : Type 0} (P : Type 0) (r : Result T E) → OnErr r P → is_err r ≡ true → P
-of_failed P (Ok x) h failed = absurd (cc)
-of_failed P (Err e) h failed = h
+abbrev PutsPart : Option (List ℕ) → Option (List ℕ) → List ℕ → Type 0
+PutsPart old new all = (part : ℕ) × Appends old new (take part all)
 
--- a write of the audit failed
-pub audit_cut : {T : Type 0} (world : WorldValue) (text : List ℕ) (old new : Option (List ℕ)) (w w2 : ℕ) (r : Result T ℕ) → IsAudit world text
-    → IfErr r (λ n. Appends old new (take n (text ++ 10 ∷ []))) → IfErr r (λ _. OneMore w w2) → is_err r ≡ true → TellsAuditInPart world old new w w2
-audit_cut world text old new w w2 (Ok x) audit part count failed = absurd (cc)
-audit_cut world text old new w w2 (Err n) audit part count failed = inr (text, n, audit, part, count)
+-- the write of the text failed
+pub part_of_text : (old new : Option (List ℕ)) (text end : List ℕ) (n : ℕ) → n ≤ length text → Appends old new (take n text) → PutsPart old new (text ++ end)
+part_of_text old new text end n le p = (n, appends_front old new text end n le p)
 
--- or its flush
-pub audit_not_handed_on : {T : Type 0} (world : WorldValue) (text : List ℕ) (old mid new : Option (List ℕ)) (w v w2 : ℕ) (r : Result T ℕ) → IsAudit world text
-    → OnOk r (Appends old mid (text ++ 10 ∷ [])) → OnOk r (v ≡ w) → is_err r ≡ false → Keeps mid new → OneMore v w2 → TellsAuditInPart world old new w w2
-audit_not_handed_on world text old mid new w v w2 (Ok x) audit whole same passed kept one =
-    inr (text, length (text ++ 10 ∷ []), audit, appends_whole old new (text ++ 10 ∷ []) (appends_keeps old mid new (text ++ 10 ∷ []) whole kept), subst (λ (n : ℕ). OneMore n w2) same one)
-audit_not_handed_on world text old mid new w v w2 (Err n) audit whole same passed kept one = absurd (cc)
+-- or of its end
+pub part_of_end : (old mid new : Option (List ℕ)) (text end : List ℕ) (n : ℕ) → Appends old mid text → Appends mid new (take n end) → PutsPart old new (text ++ end)
+part_of_end old mid new text end n p q = (length text + n, rw front_past (appends_more old mid new text (take n end) p q))
 
-pub nothing_shown : (held : Option (List ℕ)) → Shown held held
-nothing_shown held = ([], appends_none held)
+-- or the flush behind them
+pub part_unflushed : (old mid held new : Option (List ℕ)) (text end : List ℕ) → Appends old mid text → Appends mid held end → Keeps held new → PutsPart old new (text ++ end)
+part_unflushed old mid held new text end p q k =
+    (length (text ++ end), appends_whole old new (text ++ end) (appends_keeps old held new (text ++ end) (appends_more old mid held text end p q) k))
+
+-- ---- the whole program
+
+-- what the words ask for was shown
+pub ends_shown : {R W : Type 0} (error : Error) (input : Stream R) (output : Stream W) (status : ℕ) → IsUntouched input → EndsShown IsHelp output status → Ends (Err (refused.Text error)) input output status
+ends_shown error input output zero same h = (same, h)
+ends_shown error input output (suc zero) same h = (same, h)
+ends_shown error input output (suc (suc n)) same h = absurd h
+
+-- all lines have their replies, and no audit was asked for
+pub ends_answered : {R W : Type 0} (mode : ScriptMode) (input : Stream R) (output : Stream W) (world : WorldValue) → mode.audit ≡ false → IsServed mode.options → HasNoFault input → HasNoFault output
+    → HasReplies mode.options (lines_in input) (output.bytes output.before.inner) (output.bytes output.after.inner) world → Ends (Ok (Script mode)) input output 0
+ends_answered mode input output world none served r w replies = (served, (world, output.after, r, w, replies, rw none refl))
+
+-- or one was asked for, and ended so
+pub ends_audited : {R W : Type 0} (mode : ScriptMode) (input : Stream R) (output : Stream W) (world : WorldValue) (mid : Counted W) (status : ℕ) → mode.audit ≡ true → IsServed mode.options → HasNoFault input
+    → HasNoFault (stream output.bytes output.before mid) → HasReplies mode.options (lines_in input) (output.bytes output.before.inner) (output.bytes mid.inner) world
+    → EndsShown (IsAuditLine world) (stream output.bytes mid output.after) status → Ends (Ok (Script mode)) input output status
+ends_audited mode input output world mid zero asked served r w replies told = (served, (world, mid, r, w, replies, rw asked told))
+ends_audited mode input output world mid (suc zero) asked served r w replies told = (served, inr (inr (world, mid, r, w, replies, rw asked told)))
+ends_audited mode input output world mid (suc (suc n)) asked served r w replies told = absurd told
+
+-- the replies to all lines, where their number is told too
+pub replies_to_all : (options : Options) (all : Option (List (List ℕ))) (n : ℕ) (old new : Option (List ℕ)) (world : WorldValue)
+    → IfSome all (λ lines. (clock : ℕ) × (n ≡ length lines) × Writes old new (script_at (new_world options) 0) lines (script_at world clock)) → HasReplies options all old new world
+replies_to_all options None n old new world h = tt
+replies_to_all options (Some lines) n old new world h = (h.0, h.2)
+
+-- the status is one of three
+pub status_within : {R W : Type 0} (words : List Text) (input : Stream R) (output : Stream W) (status : ℕ) → EndsFor words input output status → status ≤ 2
+status_within words input output zero h = omega arith
+status_within words input output (suc zero) h = omega arith
+status_within words input output (suc (suc zero)) h = omega arith
+status_within words input output (suc (suc (suc n))) h = absurd h.ends

@@ -1,5 +1,5 @@
 -- The flags that were found, and the words.
-use Rattle.std.proofs.Common.{◌≡◌, ◌∙◌, ℕ, Bool, Option, Some, None, Result, Ok, Err, IfErr, true, false, refl, sym, subst, ap, min, codes}
+use Rattle.std.proofs.Common.{◌≡◌, ◌∙◌, ℕ, Bool, Option, Some, None, Result, Ok, Err, IfErr, true, refl, sym, subst, ap, min, codes}
 use Rattle.clap.specs.Words.{Text, is_simple, is_simple_and_free}
 use Rattle.clap.proofs.OnLiterals.{clap_on_literals}
 use Rattle.sq_merge.specs.declared.options.Options.{Options}
@@ -41,30 +41,9 @@ no_sample given homes default found is refused o h =
     let same : min o.homes 2 ≡ default = ap (λ x. min x 2) (one_number _ _ _ _ _ _ h.homes found) ∙ sym is in
     refused o.sample (subst (λ (d : ℕ). IsNumberOf (given (codes "sample")) 1 16 d o.sample) same h.sample)
 
--- and the flags give one set of options
-pub one_set : (given : Text → Option Text) (a b : Options) → AreOptionsOf given a → AreOptionsOf given b → a ≡ b
-one_set given a b x y =
-    let homes : a.homes ≡ b.homes = one_number _ _ _ _ _ _ x.homes y.homes in
-    let sample_of : IsNumberOf (given (codes "sample")) 1 16 (min a.homes 2) b.sample =
-    subst (λ (h : ℕ). IsNumberOf (given (codes "sample")) 1 16 (min h 2) b.sample) (sym homes) y.sample in
-    let sample : a.sample ≡ b.sample = one_number _ _ _ _ _ _ x.sample sample_of in
-    let queues : a.queues ≡ b.queues = one_number _ _ _ _ _ _ x.queues y.queues in
-    let rows : a.rows ≡ b.rows = one_number _ _ _ _ _ _ x.rows y.rows in
-    let flights : a.flights ≡ b.flights = one_number _ _ _ _ _ _ x.flights y.flights in
-    let transit : a.transit ≡ b.transit = one_number _ _ _ _ _ _ x.transit y.transit in
-    let seed : a.seed ≡ b.seed = one_number _ _ _ _ _ _ x.seed y.seed in
-    λ i. record { homes = homes i; sample = sample i; queues = queues i; rows = rows i; flights = flights i; transit = transit i; seed = seed i }
-
 -- two ways to tell the text of a flag without a value
 pub same_flag : (a b : Option Text) (there : Bool) → a ≡ b → IsFlagOf a there → IsFlagOf b there
 same_flag a b there e h = subst (λ (g : Option Text). IsFlagOf g there) e h
-
--- and it is there or not
-pub one_flag : (given : Option Text) (a b : Bool) → IsFlagOf given a → IsFlagOf given b → a ≡ b
-one_flag given true true x y = refl
-one_flag given false false x y = refl
-one_flag given true false x y = sym (y.1 (x.0 refl))
-one_flag given false true x y = x.1 (y.0 refl)
 
 -- no options at all are those of the flags
 pub no_options : {T E : Type 0} (given : Text → Option Text) → ((o : Options) → ¬ AreOptionsOf given o) → (r : Result T E) → IfErr r (λ _. (o : Options) → ¬ AreOptionsOf given o)

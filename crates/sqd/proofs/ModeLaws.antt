@@ -1,11 +1,11 @@
 -- What the words ask for, from what clap found in them.
-use Rattle.std.proofs.Common.{◌≡◌, ◌≢◌, ◌∙◌, ◌⊎◌, ℕ, List, [], ◌∷◌, Option, Some, None, Result, Ok, Err, IfErr, true, refl, sym, subst, ap, ap₂, option_map, unwrap_or, codes, inl, inr, arith}
+use Rattle.std.proofs.Common.{◌≡◌, ◌∙◌, ◌⊎◌, List, [], ◌∷◌, Option, Some, None, Result, Ok, Err, true, sym, subst, ap, ap₂, option_map, unwrap_or, codes, inl, inr}
 use Rattle.std.specs.Result.{IsErrAnd}
 use Rattle.clap.specs.Words.{App, HasKind, HasMatchesOf, IsAmong, Kinds, Row, Text, app_of, fault_of, first_of, first_value, found_of, is_simple, is_simple_and_free, kind_of, rows_of, subcommand_name_of, subcommand_of, subcommand_rows, subcommand_rows_of}
 use Rattle.clap.specs.declared.builder.command.Command.{Command}
 use Rattle.clap.specs.declared.error.Error.{Error}
 use Rattle.clap.specs.declared.error.kind.ErrorKind.{ErrorKind}
-use Rattle.clap.specs.declared.error.kind.ErrorKind.TheVariants.{DisplayHelp, DisplayVersion}
+use Rattle.clap.specs.declared.error.kind.ErrorKind.TheVariants.{DisplayHelp, DisplayVersion, OutOfMemory}
 use Rattle.clap.specs.declared.parser.matches.ArgMatches.{ArgMatches}
 use Rattle.clap.specs.declared.parser.matches.ArgMatches.TheViews.{out-ArgMatches, out-SubCommand}
 use Rattle.clap.specs.declared.parser.matches.SubCommand.{SubCommand}
@@ -14,13 +14,12 @@ use Rattle.std.specs.Prelude.{Box}
 use Rattle.clap.proofs.WalkLemmas.{first_value-rows}
 use Rattle.sq_merge.specs.declared.options.Options.{Options}
 use Rattle.sqd.specs.CommandLine.{program_app}
-use Rattle.sqd.specs.Flags.{AreOptionsOf, AsksForScript, AsksForText, IsFlagOf, IsKindFor, IsModeOf, IsRefusalOf, Refuses}
+use Rattle.sqd.specs.Flags.{AreOptionsOf, AsksForScript, Asks, HasMistake, IsFlagOf, IsMistake, IsRefusalOf}
 use Rattle.sqd.specs.declared.flags.ScriptMode.{ScriptMode}
 use Rattle.sqd.specs.declared.flags.Mode.{Mode}
-use Rattle.sqd.specs.declared.flags.Mode.TheVariants.{Script}
 use Rattle.sqd.specs.declared.flags.Refused.{Refused}
-use Rattle.sqd.specs.declared.flags.Refused.TheVariants.{NoMemory, Usage}
-use Rattle.sqd.proofs.FlagLaws.{program_is_free, one_flag, one_set, program_is_simple, same_flag, same_options}
+use Rattle.sqd.specs.declared.flags.Refused.TheVariants as refused
+use Rattle.sqd.proofs.FlagLaws.{program_is_free, program_is_simple, same_flag, same_options}
 
 -- ---- what clap says of the program's command
 
@@ -83,80 +82,53 @@ asks_for_no_options words m found walked rows none mode h =
     let given : AreOptionsOf (λ id. first_of id (rows_of (found_of found))) o = subst (λ (r : List Row). AreOptionsOf (λ id. first_of id r) o) same h.given in
     none o (same_options (λ id. first_of id (rows_of (found_of found))) (first_value (found_of found)) o (λ id. sym (first_value-rows (found_of found) id)) given)
 
--- words ask for one mode at most
-pub asks_for_one : (words : List Text) (mode : Mode) (asked : ScriptMode) → IsModeOf words mode → AsksForScript words asked → mode ≡ Script asked
-asks_for_one words (Script a) b x y =
-    let same : x.rows ≡ y.rows = ap (λ p. p.1) (some_same _ _ (sym x.named ∙ y.named)) in
-    let given : AreOptionsOf (λ id. first_of id y.rows) a.options = subst (λ (r : List Row). AreOptionsOf (λ id. first_of id r) a.options) same x.given in
-    let flag : IsFlagOf (first_of (codes "audit") y.rows) a.audit = subst (λ (r : List Row). IsFlagOf (first_of (codes "audit") r) a.audit) same x.audit in
-    let options : a.options ≡ b.options = one_set (λ id. first_of id y.rows) a.options b.options given y.given in
-    let audit : a.audit ≡ b.audit = one_flag _ _ _ flag y.audit in
-    ap Script (λ i. record { options = options i; audit = audit i })
-
 -- ---- refusals
-
-among : (kinds : Kinds) (kind : ErrorKind) → IsAmong kind kinds → IsKindFor kinds kind
-among [] kind h = absurd h
-among (k ∷ ks) kind h = h
-
-own : (kinds : Kinds) (kind : ErrorKind) → kinds ≡ [] → kind ≢ DisplayHelp → kind ≢ DisplayVersion → IsKindFor kinds kind
-own kinds kind e help version = subst (λ (ks : Kinds). IsKindFor ks kind) (sym e) (help, version)
 
 no_kind : (kinds : Kinds) (kind : ErrorKind) → IsAmong kind kinds → kinds ≡ [] → ⊥
 no_kind kinds kind h e = subst (λ (ks : Kinds). IsAmong kind ks) e h
 
-pub refuses_for_memory : (words : List Text) (e : Refused) → e ≡ NoMemory → Refuses words e
-refuses_for_memory words e is = subst (λ (r : Refused). Refuses words r) (sym is) tt
+mistake_among : (kinds : Kinds) (kind : ErrorKind) → IsMistake kind → IsAmong kind kinds → HasMistake kinds
+mistake_among [] kind mistake h = tt
+mistake_among (k ∷ ks) kind mistake h = (kind, mistake, h)
 
-pub refuses_for_clap : (words : List Text) (error : Error) (e : Refused) → HasKind (fault_of program_app words) error → IsRefusalOf error e → Refuses words e
-refuses_for_clap words error NoMemory h is = tt
-refuses_for_clap words error (Usage e) h is = elim h [
+text_among : (kinds : Kinds) (kind : ErrorKind) → (kind ≡ DisplayHelp) ⊎ (kind ≡ DisplayVersion) → IsAmong kind kinds → IsAmong DisplayHelp kinds ⊎ IsAmong DisplayVersion kinds
+text_among kinds kind (inl help) h = inl (subst (λ (k : ErrorKind). IsAmong k kinds) help h)
+text_among kinds kind (inr version) h = inr (subst (λ (k : ErrorKind). IsAmong k kinds) version h)
+
+no_text : (kind : ErrorKind) → (kind ≡ DisplayHelp) ⊎ (kind ≡ DisplayVersion) → kind ≡ OutOfMemory → ⊥
+no_text kind (inl help) memory = absurd (cc)
+no_text kind (inr version) memory = absurd (cc)
+
+refuses_for_memory : (words : List Text) (e : Refused) → e ≡ refused.NoMemory → Asks words (Err e)
+refuses_for_memory words e is = subst (λ (r : Refused). Asks words (Err r)) (sym is) tt
+
+refuses_for_clap : (words : List Text) (error : Error) (e : Refused) → HasKind (fault_of program_app words) error → IsRefusalOf error e → Asks words (Err e)
+refuses_for_clap words error refused.NoMemory h is = tt
+refuses_for_clap words error (refused.Text e) h is = elim h [
+  | inl memory ↦ absurd (no_text (kind_of error) is.1 memory)
+  | inr kind ↦ text_among (fault_of program_app words) (kind_of error) is.1 kind
+]
+refuses_for_clap words error (refused.Mistake e) h is = elim h [
   | inl memory ↦ absurd (is.1 memory)
-  | inr kind ↦ subst (λ (x : Error). Refuses words (Usage x)) (sym is.0) (λ mode asked. no_kind _ _ kind asked.taken, among _ _ kind)
+  | inr kind ↦ (λ mode asked. no_kind _ _ kind asked.taken, mistake_among _ _ is.2 kind)
 ]
 
-pub refuses_for_own : (words : List Text) (error : Error) (e : Refused) → fault_of program_app words ≡ [] → kind_of error ≢ DisplayHelp → kind_of error ≢ DisplayVersion
-    → ((mode : ScriptMode) → ¬ AsksForScript words mode) → IsRefusalOf error e → Refuses words e
-refuses_for_own words error NoMemory taken help version none is = tt
-refuses_for_own words error (Usage e) taken help version none is =
-    subst (λ (x : Error). Refuses words (Usage x)) (sym is.0) (none, own _ _ taken help version)
+pub refuses_for_own : (words : List Text) (error : Error) (e : Refused) → fault_of program_app words ≡ [] → IsMistake (kind_of error)
+    → ((mode : ScriptMode) → ¬ AsksForScript words mode) → IsRefusalOf error e → Asks words (Err e)
+refuses_for_own words error refused.NoMemory taken mistake none is = tt
+refuses_for_own words error (refused.Text e) taken mistake none is = elim is.1 [
+  | inl help ↦ absurd (mistake.0 help)
+  | inr version ↦ absurd (mistake.1 version)
+]
+refuses_for_own words error (refused.Mistake e) taken mistake none is = (none, subst (λ (ks : Kinds). HasMistake ks) (sym taken) tt)
 
 -- an error that was passed up
-pub passed_up : {T : Type 0} (P Q : Refused → Type 0) → ((e : Refused) → P e → Q e) → (r : Result T Refused) → IsErrAnd r P → IfErr r Q
-passed_up P Q f (Ok x) h = tt
-passed_up P Q f (Err e) h = f e h
+passed_up : (words : List Text) (P : Refused → Type 0) → ((e : Refused) → P e → Asks words (Err e)) → (r : Result Mode Refused) → IsErrAnd r P → Asks words r
+passed_up words P f (Ok mode) h = absurd h
+passed_up words P f (Err e) h = f e h
 
--- ---- the texts that words ask for
+pub passed_up_for_memory : (words : List Text) (r : Result Mode Refused) → IsErrAnd r (λ e. e ≡ refused.NoMemory) → Asks words r
+passed_up_for_memory words r h = passed_up words (λ e. e ≡ refused.NoMemory) (refuses_for_memory words) r h
 
-kind_is : (kind : ErrorKind) → (kind ≡ DisplayHelp) ⊎ ((kind ≡ DisplayVersion) ⊎ ((kind ≢ DisplayHelp) × (kind ≢ DisplayVersion)))
-kind_is DisplayHelp = inl refl
-kind_is DisplayVersion = inr (inl refl)
-kind_is other = inr (inr (λ e. cc, λ e. cc))
-
-help_among : (kinds : Kinds) → IsKindFor kinds DisplayHelp → IsAmong DisplayHelp kinds
-help_among [] h = absurd (h.0 refl)
-help_among (k ∷ ks) h = h
-
-version_among : (kinds : Kinds) → IsKindFor kinds DisplayVersion → IsAmong DisplayVersion kinds
-version_among [] h = absurd (h.1 refl)
-version_among (k ∷ ks) h = h
-
-asks_for_help : (words : List Text) (kind : ErrorKind) → IsKindFor (fault_of program_app words) kind → kind ≡ DisplayHelp → AsksForText words
-asks_for_help words kind h e = inl (help_among _ (subst (λ (k : ErrorKind). IsKindFor (fault_of program_app words) k) e h))
-
-asks_for_version : (words : List Text) (kind : ErrorKind) → IsKindFor (fault_of program_app words) kind → kind ≡ DisplayVersion → AsksForText words
-asks_for_version words kind h e = inr (version_among _ (subst (λ (k : ErrorKind). IsKindFor (fault_of program_app words) k) e h))
-
--- a text was shown, and no mistake
-pub shown_for : (words : List Text) (kind : ErrorKind) (status : ℕ) → IsKindFor (fault_of program_app words) kind
-    → (kind ≢ DisplayHelp → kind ≢ DisplayVersion → status ≡ 2) → status ≡ 0 → AsksForText words
-shown_for words kind status h two zero = elim (kind_is kind) [
-  | inl e ↦ asks_for_help words kind h e
-  | inr (inl e) ↦ asks_for_version words kind h e
-  | inr (inr other) ↦
-      let bad : ◌≡◌ {A = ℕ} 2 0 = sym (two other.0 other.1) ∙ zero in
-      absurd (omega arith)
-]
-
-pub mistaken : (words : List Text) (kind : ErrorKind) → IsKindFor (fault_of program_app words) kind → ¬ AsksForText words → (kind ≢ DisplayHelp) × (kind ≢ DisplayVersion)
-mistaken words kind h other = (λ e. other (asks_for_help words kind h e), λ e. other (asks_for_version words kind h e))
+pub passed_up_for_clap : (words : List Text) (error : Error) (r : Result Mode Refused) → HasKind (fault_of program_app words) error → IsErrAnd r (IsRefusalOf error) → Asks words r
+passed_up_for_clap words error r fails h = passed_up words (IsRefusalOf error) (λ e. refuses_for_clap words error e fails) r h

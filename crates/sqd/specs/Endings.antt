@@ -1,42 +1,135 @@
--- How a run of the program ends, over the lines of its input and what its output held before and after.
-use Rattle.std.specs.Prelude.{ℕ, List, [], ◌∷◌, ◌++◌, ◌≡◌, ◌⊎◌, take, Option, IfSome}
+-- How the program ends, by its exit status, over what its words ask for and what becomes of its input and its output.
+use Rattle.std.specs.Prelude.{ℕ, zero, suc, Bool, true, false, List, [], ◌∷◌, ◌++◌, ◌≡◌, ◌⊎◌, take, Option, IfSome, Result, Ok, Err}
 use Rattle.std.specs.Io.KnownBytes.{Appends}
-use Rattle.sq_wire.specs.Audits.{IsAudit}
-use Rattle.sq_wire.specs.Scripts.{ScriptValue, script_at}
-use Rattle.sq_merge.specs.Openings.{new_world}
+use Rattle.clap.specs.Words.{Text}
+use Rattle.sq_lines.specs.Lines.{lines_left, OneMore}
+use Rattle.sq_lines.specs.declared.counted.Counted.{Counted}
+use Rattle.sq_merge.specs.Openings.{new_world, IsServed}
 use Rattle.sq_merge.specs.WorldValue.{WorldValue}
 use Rattle.sq_merge.specs.declared.options.Options.{Options}
-use Rattle.sq_lines.specs.Lines.{OneMore}
+use Rattle.sq_wire.specs.Audits.{IsAudit}
 use Rattle.sq_wire.specs.Runs.{Writes, StopsAt, IsOfCall}
+use Rattle.sq_wire.specs.Scripts.{ScriptValue, script_at}
 use Rattle.sq_wire.specs.declared.run.ServeFault.{ServeFault}
+use Rattle.sqd.specs.Flags.{Asks}
+use Rattle.sqd.specs.declared.flags.Mode.{Mode}
+use Rattle.sqd.specs.declared.flags.Mode.TheVariants.{Script}
+use Rattle.sqd.specs.declared.flags.Refused.{Refused}
+use Rattle.sqd.specs.declared.flags.Refused.TheVariants as refused
+use Rattle.sqd.specs.declared.program.TheConstants.{TITLE}
 
--- each line has the answer of a world that begins without queues
-abbrev pub Answered : Options → Option (List (List ℕ)) → Option (List ℕ) → Option (List ℕ) → Type 0
-Answered options all old new = IfSome all (λ lines. (after : ScriptValue) × Writes old new (script_at (new_world options) 0) lines after)
+-- A stream before and after: what tells its bytes, those to come of an input and those that went out of an output, and its
+-- value at both moments, which counts its failed calls.
+pub record Stream (T : Type 0) : Type 0 where
+  pub bytes : T → Option (List ℕ)
+  pub before : Counted T
+  pub after : Counted T
 
--- the text of an audit of the world was written, and a line feed
-abbrev pub TellsAudit : WorldValue → Option (List ℕ) → Option (List ℕ) → Type 0
-TellsAudit world old new = (text : List ℕ) × IsAudit world text × Appends old new (text ++ 10 ∷ [])
+abbrev pub stream : {T : Type 0} → (T → Option (List ℕ)) → Counted T → Counted T → Stream T
+stream bytes before after = record { bytes = bytes; before = before; after = after }
 
--- nothing was written, and no call of the output failed; or a front of such a text and a line feed, and one call failed
-abbrev pub TellsAuditInPart : WorldValue → Option (List ℕ) → Option (List ℕ) → ℕ → ℕ → Type 0
-TellsAuditInPart world old new w w2 = ((new ≡ old) × (w2 ≡ w)) ⊎ ((text : List ℕ) × (part : ℕ) × IsAudit world text × Appends old new (take part (text ++ 10 ∷ [])) × OneMore w w2)
+-- it is as it was
+abbrev pub IsUntouched : {T : Type 0} → Stream T → Type 0
+IsUntouched s = s.after ≡ s.before
 
--- each line has its answer, and after them comes the audit of what they left
-abbrev pub Audited : Options → Option (List (List ℕ)) → Option (List ℕ) → Option (List ℕ) → Type 0
-Audited options all old new = IfSome all (λ lines.
-    (after : ScriptValue) × (mid : Option (List ℕ)) × Writes old mid (script_at (new_world options) 0) lines after × TellsAudit after.world mid new)
+-- none of its calls failed
+abbrev pub HasNoFault : {T : Type 0} → Stream T → Type 0
+HasNoFault s = s.after.failed ≡ s.before.failed
 
--- Each line has its answer, and of the audit after them no more than a front was written. Of the calls of the input, that had failed r times, none failed more, and of those of the output, that had failed w times, at most one.
-abbrev pub AuditedInPart : Options → Option (List (List ℕ)) → Option (List ℕ) → Option (List ℕ) → ℕ → ℕ → ℕ → ℕ → Type 0
-AuditedInPart options all old new r r2 w w2 = (r2 ≡ r) × ((w2 ≡ w) ⊎ OneMore w w2) × IfSome all (λ lines.
-    (after : ScriptValue) × (mid : Option (List ℕ)) × Writes old mid (script_at (new_world options) 0) lines after × TellsAuditInPart after.world mid new w w2)
+-- one of its calls failed
+abbrev pub HasOneFault : {T : Type 0} → Stream T → Type 0
+HasOneFault s = OneMore s.before.failed s.after.failed
 
--- the lines before a fault have theirs, and the fault is of a call that failed, or of none
-abbrev pub Stopped : Options → Option (List (List ℕ)) → Option (List ℕ) → Option (List ℕ) → ℕ → ℕ → ℕ → ℕ → Type 0
-Stopped options all old new r r2 w w2 =
-    (fault : ServeFault) × IsOfCall fault r r2 w w2 × IfSome all (λ lines. (after : ScriptValue) × StopsAt fault lines old new (script_at (new_world options) 0) after)
+-- these bytes went out, and no others
+abbrev pub PutsOut : {W : Type 0} → Stream W → List ℕ → Type 0
+PutsOut output text = Appends (output.bytes output.before.inner) (output.bytes output.after.inner) text
 
--- a text was shown, or a front of one
-abbrev pub Shown : Option (List ℕ) → Option (List ℕ) → Type 0
-Shown old new = (text : List ℕ) × Appends old new text
+-- the lines of an input, where they are known
+abbrev pub lines_in : {R : Type 0} → Stream R → Option (List (List ℕ))
+lines_in input = lines_left [] (input.bytes input.before.inner)
+
+-- a text of this kind went out
+abbrev pub ShownWhole : {W : Type 0} → (List ℕ → Type 0) → Stream W → Type 0
+ShownWhole IsShown output = HasNoFault output × ((text : List ℕ) × IsShown text × PutsOut output text)
+
+-- there was no memory for such a text and nothing went out, or a call failed and a front of it did
+abbrev pub ShownInPart : {W : Type 0} → (List ℕ → Type 0) → Stream W → Type 0
+ShownInPart IsShown output = IsUntouched output ⊎ (HasOneFault output × ((text : List ℕ) × (part : ℕ) × IsShown text × PutsOut output (take part text)))
+
+-- by the status, such a text was shown
+abbrev pub EndsShown : {W : Type 0} → (List ℕ → Type 0) → Stream W → ℕ → Type 0
+EndsShown IsShown output zero = ShownWhole IsShown output
+EndsShown IsShown output (suc zero) = ShownInPart IsShown output
+EndsShown IsShown output (suc (suc n)) = ⊥
+
+-- the program's title, and what else clap tells
+abbrev pub IsHelp : List ℕ → Type 0
+IsHelp text = (told : List ℕ) × (text ≡ TITLE.now ++ told)
+
+-- the audit of a world, and a line feed
+abbrev pub IsAuditLine : WorldValue → List ℕ → Type 0
+IsAuditLine world text = (audit : List ℕ) × IsAudit world audit × (text ≡ audit ++ 10 ∷ [])
+
+-- after the replies comes the audit where it was asked for, and else nothing
+abbrev pub AuditTold : {W : Type 0} → Bool → WorldValue → Stream W → Type 0
+AuditTold true world output = ShownWhole (IsAuditLine world) output
+AuditTold false world output = IsUntouched output
+
+-- or it was asked for, and was not told whole
+abbrev pub AuditCut : {W : Type 0} → Bool → WorldValue → Stream W → Type 0
+AuditCut true world output = ShownInPart (IsAuditLine world) output
+AuditCut false world output = ⊥
+
+-- each line, where they are known, has its reply, in order, of a world that began without queues and is this one now
+abbrev pub HasReplies : Options → Option (List (List ℕ)) → Option (List ℕ) → Option (List ℕ) → WorldValue → Type 0
+HasReplies options all old new world = IfSome all (λ lines. (clock : ℕ) × Writes old new (script_at (new_world options) 0) lines (script_at world clock))
+
+-- all lines have their replies, and no call failed up to there; then the output went on so
+abbrev pub AnswersAll : {R W : Type 0} → Options → Stream R → Stream W → (WorldValue → Stream W → Type 0) → Type 0
+AnswersAll {R} {W} options input output GoesOn =
+    (world : WorldValue) × (mid : Counted W) × HasNoFault input × HasNoFault (stream output.bytes output.before mid)
+    × HasReplies options (lines_in input) (output.bytes output.before.inner) (output.bytes mid.inner) world
+    × GoesOn world (stream output.bytes mid output.after)
+
+-- the lines before a fault have their replies, and the fault is of a call that failed, or of none
+abbrev pub StopsEarly : {R W : Type 0} → Options → Stream R → Stream W → Type 0
+StopsEarly options input output =
+    (fault : ServeFault) × IsOfCall fault input.before.failed input.after.failed output.before.failed output.after.failed × IfSome (lines_in input) (λ lines. (after : ScriptValue)
+    × StopsAt fault lines (input.bytes input.after.inner) (output.bytes output.before.inner) (output.bytes output.after.inner) (script_at (new_world options) 0) after)
+
+-- Status 0: what was asked for is done. A script has served options, a reply to each line, and its audit where one was asked
+-- for; a text was shown whole, and nothing was read.
+abbrev pub EndsWell : {R W : Type 0} → Result Mode Refused → Stream R → Stream W → Type 0
+EndsWell (Ok (Script mode)) input output = IsServed mode.options × AnswersAll mode.options input output (AuditTold mode.audit)
+EndsWell (Err (refused.Text error)) input output = IsUntouched input × ShownWhole IsHelp output
+EndsWell (Err (refused.Mistake error)) input output = ⊥
+EndsWell (Err refused.NoMemory) input output = ⊥
+
+-- Status 1: a fault. A script has served options, and there was no memory to begin it, or it stopped at a line, or its audit
+-- was cut short; a text was shown in part, and nothing was read; or there was no memory to see what the words ask for.
+abbrev pub EndsByFault : {R W : Type 0} → Result Mode Refused → Stream R → Stream W → Type 0
+EndsByFault (Ok (Script mode)) input output =
+    IsServed mode.options × ((IsUntouched input × IsUntouched output) ⊎ (StopsEarly mode.options input output ⊎ AnswersAll mode.options input output (AuditCut mode.audit)))
+EndsByFault (Err (refused.Text error)) input output = IsUntouched input × ShownInPart IsHelp output
+EndsByFault (Err (refused.Mistake error)) input output = ⊥
+EndsByFault (Err refused.NoMemory) input output = IsUntouched input × IsUntouched output
+
+-- Status 2: what was asked for cannot be done, since the options are not served or the words are mistaken; nothing was touched.
+abbrev pub EndsRefused : {R W : Type 0} → Result Mode Refused → Stream R → Stream W → Type 0
+EndsRefused (Ok (Script mode)) input output = (¬ IsServed mode.options) × IsUntouched input × IsUntouched output
+EndsRefused (Err (refused.Text error)) input output = ⊥
+EndsRefused (Err (refused.Mistake error)) input output = IsUntouched input × IsUntouched output
+EndsRefused (Err refused.NoMemory) input output = ⊥
+
+-- no other status is there
+abbrev pub Ends : {R W : Type 0} → Result Mode Refused → Stream R → Stream W → ℕ → Type 0
+Ends asked input output zero = EndsWell asked input output
+Ends asked input output (suc zero) = EndsByFault asked input output
+Ends asked input output (suc (suc zero)) = EndsRefused asked input output
+Ends asked input output (suc (suc (suc n))) = ⊥
+
+-- the words ask for something, and the program ends as is right for it
+pub record EndsFor {R W : Type 0} (words : List Text) (input : Stream R) (output : Stream W) (status : ℕ) : Type 0 where
+  pub asked : Result Mode Refused
+  pub asks : Asks words asked
+  pub ends : Ends asked input output status

@@ -1,5 +1,5 @@
 -- The numbers of flags, their bounds and their defaults, and the flag without a value.
-use Rattle.std.specs.Prelude.{ℕ, Bool, IsTrue, ◌≡◌, ◌≢◌, ◌≤◌, ◌⊎◌, ◌↔◌, ⊤, List, [], ◌∷◌, Option, Some, None, min, codes}
+use Rattle.std.specs.Prelude.{ℕ, Bool, IsTrue, ◌≡◌, ◌≢◌, ◌≤◌, ◌⊎◌, ◌↔◌, ⊤, List, [], ◌∷◌, Option, Some, None, Result, Ok, Err, min, codes}
 use Rattle.std.specs.Str.Parse.{IsNumeral, digits_value, without_leading_plus}
 use Rattle.clap.specs.Words.{IsAmong, Kinds, Row, Text, fault_of, first_of, kind_of, subcommand_of}
 use Rattle.clap.specs.declared.error.kind.ErrorKind.{ErrorKind}
@@ -11,7 +11,7 @@ use Rattle.sqd.specs.declared.flags.ScriptMode.{ScriptMode}
 use Rattle.sqd.specs.declared.flags.Mode.{Mode}
 use Rattle.sqd.specs.declared.flags.Mode.TheVariants.{Script}
 use Rattle.sqd.specs.declared.flags.Refused.{Refused}
-use Rattle.sqd.specs.declared.flags.Refused.TheVariants.{NoMemory, Usage}
+use Rattle.sqd.specs.declared.flags.Refused.TheVariants as refused
 
 -- a text is decimal digits, perhaps behind a plus, and n is their value
 pub record IsWhole (text : List ℕ) (n : ℕ) : Type 0 where
@@ -56,17 +56,28 @@ IsModeOf words (Script mode) = AsksForScript words mode
 abbrev pub AsksForText : List Text → Type 0
 AsksForText words = IsAmong DisplayHelp (fault_of program_app words) ⊎ IsAmong DisplayVersion (fault_of program_app words)
 
--- an error has a kind that clap finds in the words, or is the program's own where clap finds none
-abbrev pub IsKindFor : Kinds → ErrorKind → Type 0
-IsKindFor [] kind = (kind ≢ DisplayHelp) × (kind ≢ DisplayVersion)
-IsKindFor (k ∷ ks) kind = IsAmong kind (k ∷ ks)
+-- a kind of error that is a mistake, and no text that was asked for
+abbrev pub IsMistake : ErrorKind → Type 0
+IsMistake kind = (kind ≢ DisplayHelp) × (kind ≢ DisplayVersion)
 
--- why the words ask for no run, or that there was no memory
-abbrev pub Refuses : List Text → Refused → Type 0
-Refuses words NoMemory = ⊤
-Refuses words (Usage error) = ((mode : ScriptMode) → ¬ AsksForScript words mode) × IsKindFor (fault_of program_app words) (kind_of error)
+-- clap finds a mistake, or leaves it to the program
+abbrev pub HasMistake : Kinds → Type 0
+HasMistake [] = ⊤
+HasMistake (k ∷ ks) = (kind : ErrorKind) × IsMistake kind × IsAmong kind (k ∷ ks)
+
+-- the words ask for no run, and have a mistake
+abbrev pub AreMistaken : List Text → Type 0
+AreMistaken words = ((mode : ScriptMode) → ¬ AsksForScript words mode) × HasMistake (fault_of program_app words)
+
+-- what the words ask for, or that there was no memory to tell
+abbrev pub Asks : List Text → Result Mode Refused → Type 0
+Asks words (Ok mode) = IsModeOf words mode
+Asks words (Err (refused.Text error)) = AsksForText words
+Asks words (Err (refused.Mistake error)) = AreMistaken words
+Asks words (Err refused.NoMemory) = ⊤
 
 -- an error of clap as a refusal
 abbrev pub IsRefusalOf : Error → Refused → Type 0
-IsRefusalOf error NoMemory = kind_of error ≡ OutOfMemory
-IsRefusalOf error (Usage e) = (e ≡ error) × (kind_of error ≢ OutOfMemory)
+IsRefusalOf error refused.NoMemory = kind_of error ≡ OutOfMemory
+IsRefusalOf error (refused.Text e) = (e ≡ error) × ((kind_of error ≡ DisplayHelp) ⊎ (kind_of error ≡ DisplayVersion))
+IsRefusalOf error (refused.Mistake e) = (e ≡ error) × (kind_of error ≢ OutOfMemory) × IsMistake (kind_of error)

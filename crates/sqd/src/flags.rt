@@ -6,7 +6,7 @@ ghost use Rattle.clap.specs.declared.Command.TheViews.{out-Command as fields_of}
 ghost use Rattle.sqd.specs.CommandLine.{audit_rule, number_rule, numbers_app, program_app, script_app, with_audit, with_number};
 ghost use Rattle.sq_merge.specs.declared.options.Options.{Options as OptionsValue};
 ghost use Rattle.sqd.specs.declared.flags.Refused.TheVariants.{NoMemory as RefusedNoMemory};
-ghost use Rattle.sqd.specs.Flags.{IsWhole, IsNumberOf, IsFlagOf, AreOptionsOf, IsModeOf, IsRefusalOf, Refuses};
+ghost use Rattle.sqd.specs.Flags.{IsWhole, IsNumberOf, IsFlagOf, AreOptionsOf, IsRefusalOf, Asks};
 
 use clap::builder::ValueParser;
 use clap::error::ErrorKind;
@@ -33,8 +33,10 @@ pub enum Mode {
 #[derive(Drop)]
 pub enum Refused {
     NoMemory,
-    /// A mistake in the words, or a request for help.
-    Usage(Error),
+    /// It asks for a text: help, or the version.
+    Text(Error),
+    /// A mistake in the words.
+    Mistake(Error),
 }
 
 impl From<AllocError> for Refused {
@@ -51,8 +53,10 @@ impl From<Error> for Refused {
     fn from(error: Error) -> Refused {
         if error.kind() == ErrorKind::OutOfMemory {
             Refused::NoMemory
+        } else if error.use_stderr() {
+            Refused::Mistake(error)
         } else {
-            Refused::Usage(error)
+            Refused::Text(error)
         }
     }
 }
@@ -170,7 +174,6 @@ fn program_command<'a>(alloc: Global) -> Result<Command<'a>, AllocError>
         "Answers each line of the standard input, a request in JSON, with a line",
     );
     let program = Command::new(alloc, "sqd").subcommand_required(true);
-    let program = program.about("A queue service in the manner of Amazon SQS standard queues");
     let program = program.after_help(SCRIPT_FLAGS);
     program.subcommand(script)
 }
@@ -249,8 +252,7 @@ fn usage(alloc: Global, command: &mut Command<'_>, name: &str) -> Result<Error, 
 
 /// What words ask for. The first of them is the program's own name.
 pub fn flags<'a>(alloc: Global, words: &'a [&'a str]) -> Result<Mode, Refused>
-    ensures ok { IfOk result (λ mode. IsModeOf (map (λ word. word.now) words.entry.now) mode) }
-    ensures err { IfErr result (λ e. Refuses (map (λ word. word.now) words.entry.now) e) }
+    ensures { Asks (map (λ word. word.now) words.entry.now) result }
 {
     let mut command = program_command(alloc)?;
     let matches = command.try_get_matches_from_mut(words)?;

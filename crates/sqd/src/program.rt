@@ -1,22 +1,15 @@
 //! The program as a function of its words, its input and its outputs.
-ghost use Rattle.std.specs.Prelude.{◌≡◌, ◌≤◌, ◌⊎◌, [], ◌∷◌, ◌≢◌, map, true, false};
-ghost use Rattle.clap.specs.Words.{fault_of, kind_of};
-ghost use Rattle.clap.specs.declared.error.kind.ErrorKind.{ErrorKind};
-ghost use Rattle.clap.specs.declared.error.kind.ErrorKind.TheVariants.{DisplayHelp, DisplayVersion};
+ghost use Rattle.std.specs.Prelude.{◌≡◌, ◌≢◌, ◌++◌, ℕ, map, take, OnOk, OnErr};
 ghost use Rattle.std.specs.Io.KnownBytes.{Appends};
-ghost use Rattle.sq_lines.specs.Lines.{lines_left, OneMore};
-ghost use Rattle.sq_merge.specs.Openings.{IsServed};
-ghost use Rattle.sqd.specs.CommandLine.{program_app};
-ghost use Rattle.sqd.specs.Endings.{Answered, Audited, AuditedInPart, Stopped, Shown, TellsAudit, TellsAuditInPart};
-ghost use Rattle.sqd.specs.Flags.{IsModeOf, AsksForText};
-ghost use Rattle.sqd.specs.declared.flags.ScriptMode.{ScriptMode};
+ghost use Rattle.sq_lines.specs.Lines.{OneMore};
+ghost use Rattle.sqd.specs.Endings.{stream, EndsFor, Ends, EndsShown, IsHelp, IsAuditLine};
 ghost use Rattle.sqd.specs.declared.flags.Mode.TheVariants.{Script as ByScript};
 
 use crate::flags::{Mode, Refused, ScriptMode, flags};
 use clap::Error;
 use sq_base::refusal::Refusal;
 use sq_lines::counted::Counted;
-use sq_lines::put::{put, put_line};
+use sq_lines::put::put;
 use sq_merge::AuditFault;
 use sq_merge::world::World;
 use sq_wire::audit::audit_world;
@@ -24,8 +17,13 @@ use sq_wire::run::{ServeFault, run_script};
 use std::alloc::Global;
 use std::io::{Read, Write};
 
+/// What the text of help begins with.
+const TITLE: &str = "A queue service in the manner of Amazon SQS standard queues\n\n";
+
 // Tells why a run ended early. Nobody can be told that this failed.
-fn report<E: Write>(errors: &mut E, fault: ServeFault) {
+fn report<E: Write>(errors: &mut E, fault: ServeFault) -> u8
+    ensures { result ≡ 1 }
+{
     let (name, count) = match fault {
         ServeFault::Read(count) => ("read failed", count),
         ServeFault::Write(count) => ("write failed", count),
@@ -34,14 +32,14 @@ fn report<E: Write>(errors: &mut E, fault: ServeFault) {
     };
     let _ = writeln!(errors, "sqd: {name} after {count} requests");
     let _ = errors.flush();
+    1
 }
 
 /// Tells that there was no memory before the first request.
 pub fn no_memory<E: Write>(errors: &mut E) -> u8
     ensures { result ≡ 1 }
 {
-    report(errors, ServeFault::NoMemory(0));
-    1
+    report(errors, ServeFault::NoMemory(0))
 }
 
 /// Tells that the words are no text.
@@ -53,45 +51,53 @@ pub fn no_text<E: Write>(errors: &mut E) -> u8
     2
 }
 
-// Shows a text that was asked for.
-fn show<W: Write, E: Write>(output: &mut Counted<W>, errors: &mut E, text: &str) -> u8
-    ensures bound { result ≤ 1 }
-    ensures done { result ≡ 0 → Appends (W.contents output.old.inner) (W.contents output.new.inner) text.now }
-    ensures same { result ≡ 0 → output.new.failed ≡ output.old.failed }
-    ensures fault { result ≡ 1 → OneMore output.old.failed output.new.failed }
-    ensures shown { Shown (W.contents output.old.inner) (W.contents output.new.inner) }
+// A write or a flush failed.
+struct Unwritten;
+
+// Writes a text and its end, and hands them on.
+fn put_out<W: Write>(output: &mut Counted<W>, text: &[u8], end: &[u8]) -> Result<(), Unwritten>
+    ensures ok { OnOk result (Appends (W.contents output.old.inner) (W.contents output.new.inner) (text.now ++ end.now)) }
+    ensures err { OnErr result ((part : ℕ) × Appends (W.contents output.old.inner) (W.contents output.new.inner) (take part (text.now ++ end.now))) }
+    ensures same { OnOk result (output.new.failed ≡ output.old.failed) }
+    ensures count { OnErr result (OneMore output.old.failed output.new.failed) }
 {
-    if put(output, text.as_bytes()).is_err() || output.flush().is_err() {
-        report(errors, ServeFault::Write(0));
-        return 1;
+    if let Err(_count) = put(output, text) {
+        return Err(Unwritten);
     }
-    0
+    if let Err(_count) = put(output, end) {
+        return Err(Unwritten);
+    }
+    match output.flush() {
+        Ok(()) => Ok(()),
+        Err(_) => Err(Unwritten),
+    }
 }
 
-// Answers bad words, or a request for help.
-fn explain<W: Write, E: Write>(
+// Shows a text that was asked for.
+fn show<W: Write, E: Write>(
     alloc: Global,
     error: &Error,
     output: &mut Counted<W>,
     errors: &mut E,
 ) -> u8
-    ensures bound { result ≤ 2 }
-    ensures help { kind_of error.now ≡ DisplayHelp → result ≤ 1 }
-    ensures version { kind_of error.now ≡ DisplayVersion → result ≤ 1 }
-    ensures mistake { kind_of error.now ≢ DisplayHelp → kind_of error.now ≢ DisplayVersion → (result ≡ 2) × (output.new ≡ output.old) }
-    ensures same { result ≡ 0 → output.new.failed ≡ output.old.failed }
-    ensures fault { result ≡ 1 → (output.new ≡ output.old) ⊎ OneMore output.old.failed output.new.failed }
-    ensures shown { Shown (W.contents output.old.inner) (W.contents output.new.inner) }
+    ensures { EndsShown IsHelp (stream W.contents output.old output.new) result }
 {
-    if error.use_stderr() {
-        let _ = write!(errors, "{error}");
-        let _ = errors.flush();
-        return 2;
-    }
     let Ok(text) = format!(in alloc; "{error}") else {
         return no_memory(errors);
     };
-    show(output, errors, text.as_str())
+    match put_out(output, TITLE.as_bytes(), text.as_bytes()) {
+        Ok(()) => 0,
+        Err(Unwritten) => report(errors, ServeFault::Write(0)),
+    }
+}
+
+// Tells a mistake in the words.
+fn explain<E: Write>(error: &Error, errors: &mut E) -> u8
+    ensures { result ≡ 2 }
+{
+    let _ = write!(errors, "{error}");
+    let _ = errors.flush();
+    2
 }
 
 /// Tells why there is no audit.
@@ -117,20 +123,16 @@ fn tell_audit<W: Write, E: Write>(
     output: &mut Counted<W>,
     errors: &mut E,
 ) -> u8
-    ensures bound { result ≤ 1 }
-    ensures done { result ≡ 0 → TellsAudit world (W.contents output.old.inner) (W.contents output.new.inner) }
-    ensures same { result ≡ 0 → output.new.failed ≡ output.old.failed }
-    ensures fault { result ≡ 1 → TellsAuditInPart world (W.contents output.old.inner) (W.contents output.new.inner) output.old.failed output.new.failed }
+    ensures { EndsShown (IsAuditLine world) (stream W.contents output.old output.new) result }
 {
     let text = match audit_world(alloc, world) {
         Ok(text) => text,
         Err(fault) => return audit_fault(errors, fault),
     };
-    if put_line(output, text.as_bytes()).is_err() || output.flush().is_err() {
-        report(errors, ServeFault::Write(answered));
-        return 1;
+    match put_out(output, text.as_bytes(), b"\n") {
+        Ok(()) => 0,
+        Err(Unwritten) => report(errors, ServeFault::Write(answered)),
     }
-    0
 }
 
 // Answers each line of the input over a world of its own, and tells its audit where one is asked for.
@@ -141,15 +143,7 @@ fn script<R: Read, W: Write, E: Write>(
     output: &mut Counted<W>,
     errors: &mut E,
 ) -> u8
-    ensures bound { result ≤ 2 }
-    ensures done { result ≡ 0 → mode.audit ≡ false → Answered mode.options (lines_left [] (R.remaining input.old.inner)) (W.contents output.old.inner) (W.contents output.new.inner) }
-    ensures audited { result ≡ 0 → mode.audit ≡ true → Audited mode.options (lines_left [] (R.remaining input.old.inner)) (W.contents output.old.inner) (W.contents output.new.inner) }
-    ensures fault { result ≡ 1 → mode.audit ≡ false → Stopped mode.options (lines_left [] (R.remaining input.old.inner)) (W.contents output.old.inner) (W.contents output.new.inner) input.old.failed input.new.failed output.old.failed output.new.failed }
-    ensures cut { result ≡ 1 → mode.audit ≡ true → Stopped mode.options (lines_left [] (R.remaining input.old.inner)) (W.contents output.old.inner) (W.contents output.new.inner) input.old.failed input.new.failed output.old.failed output.new.failed ⊎ AuditedInPart mode.options (lines_left [] (R.remaining input.old.inner)) (W.contents output.old.inner) (W.contents output.new.inner) input.old.failed input.new.failed output.old.failed output.new.failed }
-    ensures same { result ≡ 0 → (input.new.failed ≡ input.old.failed) × (output.new.failed ≡ output.old.failed) }
-    ensures served { result ≤ 1 → IsServed mode.options }
-    ensures bad { result ≡ 2 → ¬ IsServed mode.options }
-    ensures kept { result ≡ 2 → (input.new ≡ input.old) × (output.new ≡ output.old) }
+    ensures { Ends (Ok (ByScript mode)) (stream R.remaining input.old input.new) (stream W.contents output.old output.new) result }
 {
     let mut world = match World::new(alloc, mode.options) {
         Ok(world) => world,
@@ -163,14 +157,30 @@ fn script<R: Read, W: Write, E: Write>(
     match run_script(alloc, input, output, &mut world) {
         Ok(_) if !mode.audit => 0,
         Ok(answered) => tell_audit(alloc, world, answered, output, errors),
-        Err(fault) => {
-            report(errors, fault);
-            1
-        }
+        Err(fault) => report(errors, fault),
     }
 }
 
-/// The whole program. Its status is 0, 1 for a fault and 2 for bad words or options.
+// Does what was asked for.
+fn carry_out<R: Read, W: Write, E: Write>(
+    alloc: Global,
+    asked: Result<Mode, Refused>,
+    input: &mut Counted<R>,
+    output: &mut Counted<W>,
+    errors: &mut E,
+) -> u8
+    ensures { Ends asked (stream R.remaining input.old input.new) (stream W.contents output.old output.new) result }
+{
+    match asked {
+        Ok(Mode::Script(mode)) => script(alloc, mode, input, output, errors),
+        Err(Refused::Text(error)) => show(alloc, &error, output, errors),
+        Err(Refused::Mistake(error)) => explain(&error, errors),
+        Err(Refused::NoMemory) => no_memory(errors),
+    }
+}
+
+/// The whole program, over the words of its command line. Its status is 0 where what they ask for is done, 1 for a
+/// fault, and 2 for bad words or options.
 pub fn run<R: Read, W: Write, E: Write>(
     alloc: Global,
     words: &[&str],
@@ -178,26 +188,8 @@ pub fn run<R: Read, W: Write, E: Write>(
     output: &mut Counted<W>,
     errors: &mut E,
 ) -> u8
-    ensures bound { result ≤ 2 }
-    // Where a run was asked for.
-    ensures done { (mode : ScriptMode) → IsModeOf (map (λ word. word.now) words.now) (ByScript mode) → result ≡ 0 → mode.audit ≡ false → Answered mode.options (lines_left [] (R.remaining input.old.inner)) (W.contents output.old.inner) (W.contents output.new.inner) }
-    ensures audited { (mode : ScriptMode) → IsModeOf (map (λ word. word.now) words.now) (ByScript mode) → result ≡ 0 → mode.audit ≡ true → Audited mode.options (lines_left [] (R.remaining input.old.inner)) (W.contents output.old.inner) (W.contents output.new.inner) }
-    ensures fault { (mode : ScriptMode) → IsModeOf (map (λ word. word.now) words.now) (ByScript mode) → result ≡ 1 → mode.audit ≡ false → Stopped mode.options (lines_left [] (R.remaining input.old.inner)) (W.contents output.old.inner) (W.contents output.new.inner) input.old.failed input.new.failed output.old.failed output.new.failed }
-    ensures cut { (mode : ScriptMode) → IsModeOf (map (λ word. word.now) words.now) (ByScript mode) → result ≡ 1 → mode.audit ≡ true → Stopped mode.options (lines_left [] (R.remaining input.old.inner)) (W.contents output.old.inner) (W.contents output.new.inner) input.old.failed input.new.failed output.old.failed output.new.failed ⊎ AuditedInPart mode.options (lines_left [] (R.remaining input.old.inner)) (W.contents output.old.inner) (W.contents output.new.inner) input.old.failed input.new.failed output.old.failed output.new.failed }
-    ensures served { (mode : ScriptMode) → IsModeOf (map (λ word. word.now) words.now) (ByScript mode) → result ≡ 0 → IsServed mode.options }
-    ensures bad { (mode : ScriptMode) → IsModeOf (map (λ word. word.now) words.now) (ByScript mode) → result ≡ 2 → ¬ IsServed mode.options }
-    // No failed call goes unnoticed.
-    ensures same { result ≡ 0 → (input.new.failed ≡ input.old.failed) × (output.new.failed ≡ output.old.failed) }
-    // Where none was: a text that was asked for, or a mistake.
-    ensures shown { result ≡ 0 → ((mode : ScriptMode) × IsModeOf (map (λ word. word.now) words.now) (ByScript mode)) ⊎ (AsksForText (map (λ word. word.now) words.now) × (input.new ≡ input.old) × Shown (W.contents output.old.inner) (W.contents output.new.inner)) }
-    ensures told { result ≡ 1 → ((mode : ScriptMode) × IsModeOf (map (λ word. word.now) words.now) (ByScript mode)) ⊎ ((input.new ≡ input.old) × ((output.new ≡ output.old) ⊎ OneMore output.old.failed output.new.failed) × Shown (W.contents output.old.inner) (W.contents output.new.inner)) }
-    ensures help { fault_of program_app (map (λ word. word.now) words.now) ≡ DisplayHelp ∷ [] → result ≤ 1 }
-    ensures mistake { ((mode : ScriptMode) → ¬ IsModeOf (map (λ word. word.now) words.now) (ByScript mode)) → ¬ AsksForText (map (λ word. word.now) words.now) → (1 ≤ result) × (input.new ≡ input.old) × (output.new ≡ output.old) }
-    ensures kept { result ≡ 2 → (input.new ≡ input.old) × (output.new ≡ output.old) }
+    ensures { EndsFor (map (λ word. word.now) words.now) (stream R.remaining input.old input.new) (stream W.contents output.old output.new) result }
 {
-    match flags(alloc, words) {
-        Ok(Mode::Script(mode)) => script(alloc, mode, input, output, errors),
-        Err(Refused::Usage(error)) => explain(alloc, &error, output, errors),
-        Err(Refused::NoMemory) => no_memory(errors),
-    }
+    let asked = flags(alloc, words);
+    carry_out(alloc, asked, input, output, errors)
 }

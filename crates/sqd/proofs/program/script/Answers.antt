@@ -1,16 +1,20 @@
-use Rattle.std.proofs.Common.{rules, arith, inl}
-use Rattle.sqd.proofs.EndingLaws.{stopped_first}
+use Rattle.std.proofs.Common.{◌≡◌, rules, true, false}
+use Rattle.sqd.specs.Endings.{stream}
+use Rattle.sqd.proofs.EndingLaws.{ends_answered, ends_audited, replies_to_all}
 use Rattle.sqd.proofs.program.script.Goals as goal
 
-pub returns-in-Err : goal.returns-in-Err
-returns-in-Err g c = record {
-  bound = omega arith;
-  done = λ e no_audit. absurd (omega (arith, e));
-  audited = λ e audit. absurd (omega (arith, e));
-  fault = λ e no_audit. stopped_first _ _ _ _ _;
-  cut = λ e audit. inl (stopped_first _ _ _ _ _);
-  bad = λ e. absurd (omega (arith, e));
-  kept = λ e. absurd (omega (arith, e));
-  same = λ e. absurd (omega (arith, e));
-  served = λ e. search rules;
-}
+pub returns-in-Ok-run_script : goal.returns-in-Ok-run_script
+returns-in-Ok-run_script g c =
+    let none : c.args.mode.audit ≡ false = search rules in
+    let input = stream g.R.Read.remaining c.args.input.now c.run_script.new.reader in
+    let output = stream g.W.Write.contents c.args.output.now c.run_script.new.writer in
+    let all = c.in-Ok-run_script.ensures in
+    ends_answered c.args.mode input output c.run_script.new.world none c.in-Ok.ensures.served all.same.0 all.same.1 (replies_to_all _ _ _ _ _ _ (rw c.in-Ok.ensures.ok at all.ok))
+
+pub returns-in-Ok-2 : goal.returns-in-Ok-2
+returns-in-Ok-2 g c =
+    let asked : c.args.mode.audit ≡ true = search rules in
+    let input = stream g.R.Read.remaining c.args.input.now c.run_script.new.reader in
+    let output = stream g.W.Write.contents c.args.output.now c.tell_audit.new.output in
+    let all = c.in-Ok-2.ensures in
+    ends_audited c.args.mode input output c.run_script.new.world c.run_script.new.writer c.tell_audit.result asked c.in-Ok.ensures.served all.same.0 all.same.1 (replies_to_all _ _ _ _ _ _ (rw c.in-Ok.ensures.ok at all.ok)) c.tell_audit.ensures
