@@ -174,9 +174,12 @@ fn fault(alloc: Global, parts: &Parts) -> Option<AuditFault> {
 fn a_long_run_is_audited(rt: HostRuntime) -> Result<(), Fail> {
     let (mut parts, told) = ran(rt.alloc(), 100_000)?;
     let wanted = (told.events, told.sends, told.sends);
-    assert!(rt; counts(rt.alloc(), &parts) == Ok(wanted));
+    assert_eq!(rt; counts(rt.alloc(), &parts), Ok(wanted));
     assert!(rt; parts.drop_record(0, 0));
-    assert!(rt; fault(rt.alloc(), &parts) == Some(AuditFault::RecordMissing(0, 0)));
+    assert_eq!(rt;
+        fault(rt.alloc(), &parts),
+        Some(AuditFault::RecordMissing(0, 0))
+    );
     assert!(rt; !parts.drop_record(0, 0));
     Ok(())
 }
@@ -191,7 +194,10 @@ fn each_record_that_is_taken_out_is_told(rt: HostRuntime) -> Result<(), Fail> {
         for place in 0..books[at].records().len() as u64 {
             let (mut parts, _) = ran(rt.alloc(), 150)?;
             assert!(rt; parts.drop_record(actor, place));
-            assert!(rt; fault(rt.alloc(), &parts) == Some(AuditFault::RecordMissing(actor, place)));
+            assert_eq!(rt;
+                fault(rt.alloc(), &parts),
+                Some(AuditFault::RecordMissing(actor, place))
+            );
             assert!(rt; !parts.drop_record(actor, place));
             dropped = dropped.saturating_add(1);
         }
@@ -211,7 +217,7 @@ fn a_record_that_is_not_there_is_not_taken_out(rt: HostRuntime) -> Result<(), Fa
         assert!(rt; !parts.drop_record(actor, 150));
         assert!(rt; !parts.drop_record(actor, u64::MAX));
     }
-    assert!(rt; fault(rt.alloc(), &parts) == None);
+    assert_eq!(rt; fault(rt.alloc(), &parts), None);
     Ok(())
 }
 
@@ -245,9 +251,9 @@ fn falsified(alloc: Global) -> Result<[Option<AuditFault>; 3], Refusal> {
 
 #[test]
 fn false_evidence_is_told(rt: HostRuntime) -> Result<(), Fail> {
-    assert!(rt; fault(rt.alloc(), &made(rt.alloc())?) == None);
+    assert_eq!(rt; fault(rt.alloc(), &made(rt.alloc())?), None);
     let missing = Some(AuditFault::RecordMissing(3, 0));
     let want = [missing, missing, Some(AuditFault::RecordTwice(3, 0))];
-    assert!(rt; falsified(rt.alloc())? == want);
+    assert_eq!(rt; falsified(rt.alloc())?, want);
     Ok(())
 }

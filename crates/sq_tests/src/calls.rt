@@ -118,7 +118,7 @@ fn full_homes_are_told(rt: HostRuntime) -> Result<(), Fail> {
         }
     }
     assert!(rt; all <= 2);
-    assert!(rt; last == Some(Refusal::OverLimit));
+    assert_eq!(rt; last, Some(Refusal::OverLimit));
     assert!(rt; is_merged(rt.alloc(), world));
     Ok(())
 }
@@ -127,7 +127,7 @@ fn full_homes_are_told(rt: HostRuntime) -> Result<(), Fail> {
 fn a_queue_without_messages_gives_none(rt: HostRuntime) -> Result<(), Fail> {
     let mut world = opened(rt.alloc(), homes(3))?;
     let (count, _) = given(rt.alloc(), &mut world, 0)?;
-    assert!(rt; count == 0);
+    assert_eq!(rt; count, 0);
     Ok(())
 }
 
@@ -141,14 +141,14 @@ fn a_handle_goes_to_its_home(rt: HostRuntime) -> Result<(), Fail> {
     });
     assert!(rt; world.call(rt.alloc(), 0, 1000, &change).is_ok());
     let (count, _) = given(rt.alloc(), &mut world, 31_000)?;
-    assert!(rt; count == 0);
+    assert_eq!(rt; count, 0);
     let delete = Call::DeleteMessage(DeleteMessage {
         queue: named("q")?,
         handle,
     });
     assert!(rt; world.call(rt.alloc(), 0, 31_000, &delete).is_ok());
     let (count, _) = given(rt.alloc(), &mut world, 200_000)?;
-    assert!(rt; count == 0);
+    assert_eq!(rt; count, 0);
     assert!(rt; is_merged(rt.alloc(), world));
     Ok(())
 }
@@ -165,7 +165,7 @@ fn a_home_past_the_last_has_no_handle(rt: HostRuntime) -> Result<(), Fail> {
         handle: past,
     });
     let told = world.call(rt.alloc(), 0, 0, &delete);
-    assert!(rt; told.err() == Some(Refusal::ReceiptHandleIsInvalid));
+    assert_eq!(rt; told.err(), Some(Refusal::ReceiptHandleIsInvalid));
     Ok(())
 }
 
@@ -185,7 +185,10 @@ fn homes_are_chosen_from_the_seed(rt: HostRuntime) -> Result<(), Fail> {
         seed: 8,
         ..homes(16)
     };
-    assert!(rt; chosen(rt.alloc(), homes(16))? == chosen(rt.alloc(), homes(16))?);
+    assert_eq!(rt;
+        chosen(rt.alloc(), homes(16))?,
+        chosen(rt.alloc(), homes(16))?
+    );
     assert!(rt; chosen(rt.alloc(), homes(16))? != chosen(rt.alloc(), other)?);
     Ok(())
 }
@@ -211,7 +214,7 @@ fn each_home_is_reached(rt: HostRuntime) -> Result<(), Fail> {
         let (count, _) = given(rt.alloc(), &mut world, 0)?;
         all = count.saturating_add(all);
     }
-    assert!(rt; all == 40);
+    assert_eq!(rt; all, 40);
     assert!(rt; is_merged(rt.alloc(), world));
     Ok(())
 }
@@ -225,9 +228,9 @@ fn a_closed_home_is_passed_over_and_refuses(rt: HostRuntime) -> Result<(), Fail>
     }
     assert!(rt; world.call(rt.alloc(), 0, 0, &create()?).is_ok());
     let told = world.call(rt.alloc(), 0, 0, &send(rt.alloc(), "hello")?);
-    assert!(rt; told.err() == Some(Refusal::QueueDoesNotExist));
+    assert_eq!(rt; told.err(), Some(Refusal::QueueDoesNotExist));
     let told = world.call(rt.alloc(), 0, 0, &receive()?);
-    assert!(rt; told.err() == Some(Refusal::QueueDoesNotExist));
+    assert_eq!(rt; told.err(), Some(Refusal::QueueDoesNotExist));
     assert!(rt; is_merged(rt.alloc(), world));
     Ok(())
 }

@@ -83,6 +83,6 @@ fn a_message_is_sent_received_and_deleted(rt: HostRuntime) -> Result<(), Fail> {
     // All that was done is one run of the sequential queue, and the message is where it was left.
     let parts = world.parts();
     let run = merge(alloc, &parts).map_err(|_| Refusal::UnsupportedOperation)?;
-    assert!(rt; place_of(&run, &id) == Some(Place::Deleted));
+    assert_eq!(rt; place_of(&run, &id), Some(Place::Deleted));
     Ok(())
 }

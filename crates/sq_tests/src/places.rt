@@ -93,11 +93,11 @@ fn all_places_are_told(rt: HostRuntime) -> Result<(), Fail> {
         (2, Place::Purged),
         (3, Place::ClosedAway),
     ];
-    assert!(rt; all_places(rt.alloc())?.as_slice() == want.as_slice());
+    assert_eq!(rt; all_places(rt.alloc())?.as_slice(), want.as_slice());
     let text = audit_world(rt.alloc(), lived(rt.alloc(), 13)?).expect(&rt, "memory");
     let want =
         r#"{"Merged":["0.1","0.2","1000.0","1000.1","2000.0","3000.0","32000.0","32000.1","33000.0","345600999.0","345601000.0","345601000.1","345601000.2"],"Places":[["00000000-0001-8000-8000-000000000000","deleted"],["00000000-0001-8000-8000-000000000001","expired"],["00000000-0001-8000-8000-000000000002","purged"],["00000000-0001-8000-8000-000000000003","closed"]]}"#;
-    assert!(rt; text.as_bytes() == want.as_bytes());
+    assert_eq!(rt; text.as_bytes(), want.as_bytes());
     Ok(())
 }
 
@@ -108,7 +108,7 @@ fn audits_have_their_words(rt: HostRuntime) -> Result<(), Fail> {
         (Place::InTransit, "transit"),
         (Place::Dropped, "dropped"),
     ] {
-        assert!(rt; place_name(place) == want);
+        assert_eq!(rt; place_name(place), want);
     }
     for (stamp, want) in [
         (Stamp::start(), "0.0"),
@@ -117,7 +117,7 @@ fn audits_have_their_words(rt: HostRuntime) -> Result<(), Fail> {
             "4611686018427387903.10",
         ),
     ] {
-        assert!(rt; stamp_text(rt.alloc(), stamp)?.as_str() == want);
+        assert_eq!(rt; stamp_text(rt.alloc(), stamp)?.as_str(), want);
     }
     Ok(())
 }

@@ -64,7 +64,10 @@ fn one_seed_gives_one_choice(rt: HostRuntime) -> Result<(), Fail> {
     let mut first = Sampler::new(11);
     let mut second = Sampler::new(11);
     for _ in 0..1000 {
-        assert!(rt; first.pick(HomeCount::of(16)) == second.pick(HomeCount::of(16)));
+        assert_eq!(rt;
+            first.pick(HomeCount::of(16)),
+            second.pick(HomeCount::of(16))
+        );
     }
     let all = first.draw(rt.alloc(), HomeCount::of(1), HomeCount::of(1))?;
     assert_eq!(rt; all.len(), 1);

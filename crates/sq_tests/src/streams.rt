@@ -95,9 +95,9 @@ fn stops_where_a_read_fails(rt: HostRuntime) -> Result<(), Fail> {
     let mut reader = Counted::new(Piecewise::new(b"one\ntwo\n", 2));
     let mut writer = Counted::new(Vec::new(rt.alloc()));
     let done = served(rt.alloc(), &mut reader, &mut writer)?;
-    assert!(rt; done == Err(ServeFault::Read(1)));
-    assert!(rt; writer.inner().as_slice() == REFUSED);
-    assert!(rt; reader.failed() == 1);
+    assert_eq!(rt; done, Err(ServeFault::Read(1)));
+    assert_eq!(rt; writer.inner().as_slice(), REFUSED);
+    assert_eq!(rt; reader.failed(), 1);
     Ok(())
 }
 
@@ -143,7 +143,7 @@ fn stops_where_a_write_fails(rt: HostRuntime) -> Result<(), Fail> {
             writer.inner().written.as_slice() == wanted.as_slice(),
             "at {fails_at}"
         );
-        assert!(rt; writer.failed() == 1);
+        assert_eq!(rt; writer.failed(), 1);
     }
     Ok(())
 }
@@ -153,8 +153,8 @@ fn flushes_each_line(rt: HostRuntime) -> Result<(), Fail> {
     let mut reader = Counted::new(b"one\ntwo\n".as_slice());
     let mut writer = Counted::new(Bytewise::new(rt.alloc(), 0));
     let done = served(rt.alloc(), &mut reader, &mut writer)?;
-    assert!(rt; done == Ok(2));
-    assert!(rt; writer.inner().written.len() == 2 * REFUSED.len());
-    assert!(rt; writer.inner().flushes == 2);
+    assert_eq!(rt; done, Ok(2));
+    assert_eq!(rt; writer.inner().written.len(), 2 * REFUSED.len());
+    assert_eq!(rt; writer.inner().flushes, 2);
     Ok(())
 }

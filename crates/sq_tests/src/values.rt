@@ -41,13 +41,13 @@ fn handles_have_their_texts(rt: HostRuntime) {
         (b"ffffffffffff-00f-ffffffff-3fffffffffffffff-ffffffff", last),
     ] {
         assert!(rt; handle.is_some());
-        assert!(rt; read_handle(text) == handle);
+        assert_eq!(rt; read_handle(text), handle);
         let mut written = [0u8; 51];
         if let Some(h) = &handle {
             h.fits();
             write_handle(h, &mut written);
         }
-        assert!(rt; &written == text);
+        assert_eq!(rt; &written, text);
     }
 }
 
@@ -97,8 +97,8 @@ fn ids_have_their_uuids(rt: HostRuntime) {
         if let Some(id) = id {
             id.fits();
             let mut buffer = Uuid::encode_buffer();
-            assert!(rt; id.to_uuid().hyphenated().encode_lower(&mut buffer) == text);
-            assert!(rt; MessageId::from_uuid(&id.to_uuid()) == Some(id));
+            assert_eq!(rt; id.to_uuid().hyphenated().encode_lower(&mut buffer), text);
+            assert_eq!(rt; MessageId::from_uuid(&id.to_uuid()), Some(id));
         }
     }
 }
@@ -139,7 +139,7 @@ fn bodies_are_checked(rt: HostRuntime) {
         ),
     ];
     for (text, limit, want) in bodies {
-        assert!(rt; Body::check(text, limit) == want);
+        assert_eq!(rt; Body::check(text, limit), want);
     }
 }
 
@@ -148,7 +148,7 @@ fn bodies_are_kept(rt: HostRuntime) -> Result<(), Fail> {
     let body = hello(rt.alloc())?;
     let copy = body.copy()?;
     assert!(rt; copy.as_str() == "hello");
-    assert!(rt; copy.len() == 5);
+    assert_eq!(rt; copy.len(), 5);
     assert!(rt; &body_md5(&copy) == b"5d41402abc4b2a76b9719d911017c592");
     assert!(rt; Body::new(rt.alloc(), "", BODY_LIMIT).is_err());
     Ok(())
@@ -158,9 +158,12 @@ fn bodies_are_kept(rt: HostRuntime) -> Result<(), Fail> {
 fn bodies_have_a_limit(rt: HostRuntime) -> Result<(), Fail> {
     let letters = vec![in rt.alloc(); b'a'; BODY_LIMIT + 1]?;
     let most = str::from_utf8(&letters[1..])?;
-    assert!(rt; Body::check(most, BODY_LIMIT) == Ok(()));
+    assert_eq!(rt; Body::check(most, BODY_LIMIT), Ok(()));
     let more = str::from_utf8(&letters)?;
-    assert!(rt; Body::check(more, BODY_LIMIT) == Err(Refusal::InvalidParameterValue));
+    assert_eq!(rt;
+        Body::check(more, BODY_LIMIT),
+        Err(Refusal::InvalidParameterValue)
+    );
     Ok(())
 }
 
@@ -182,7 +185,7 @@ fn stamps_follow(rt: HostRuntime) {
         (stamp(5, LAST), start, u64::MAX, Err(Refusal::ClockRange)),
     ];
     for (a, b, now, want) in steps {
-        assert!(rt; Stamp::after(a, b, now) == want);
+        assert_eq!(rt; Stamp::after(a, b, now), want);
     }
     derived_order();
     assert!(rt; stamp(5, 9).is_below(stamp(6, 0)) && !stamp(5, 9).is_below(stamp(5, 9)));
@@ -206,10 +209,10 @@ fn names_are_checked(rt: HostRuntime) {
     ];
     for (text, want) in names {
         let name = QueueName::new(text);
-        assert!(rt; name.is_some() == want);
+        assert_eq!(rt; name.is_some(), want);
         if let Some(name) = name {
-            assert!(rt; name.as_bytes() == text);
-            assert!(rt; name.as_str().as_bytes() == text);
+            assert_eq!(rt; name.as_bytes(), text);
+            assert_eq!(rt; name.as_str().as_bytes(), text);
         }
     }
     names_in_byte_order();
@@ -244,8 +247,8 @@ fn refusals_have_names(rt: HostRuntime) -> Result<(), Fail> {
             "ResourceNotFoundException",
         ),
     ] {
-        assert!(rt; refusal.number() == number);
-        assert!(rt; refusal.name() == name);
+        assert_eq!(rt; refusal.number(), number);
+        assert_eq!(rt; refusal.name(), name);
     }
     // No line is told these.
     for (refusal, want) in [
@@ -256,7 +259,7 @@ fn refusals_have_names(rt: HostRuntime) -> Result<(), Fail> {
         (Refusal::Worn, r#"{"Error":{"Code":"Worn","Number":3}}"#),
     ] {
         let told = reply_text(rt.alloc(), &Err(refusal))?;
-        assert!(rt; told.as_bytes() == want.as_bytes());
+        assert_eq!(rt; told.as_bytes(), want.as_bytes());
     }
     Ok(())
 }

@@ -62,9 +62,9 @@ fn steps_of_three_actors_have_one_order_and_are_noted(rt: HostRuntime) -> Result
     assert_eq!(rt; world.run(rt.alloc(), &looks), 4);
     let parts = world.parts();
     let wanted = " 0@0.1 1@0.2 1@0.3 2@0.3 2@0.4 1@0.5 2@0.5";
-    assert!(rt; listed(rt.alloc(), &parts)?.as_str() == wanted);
+    assert_eq!(rt; listed(rt.alloc(), &parts)?.as_str(), wanted);
     let noted = noted(rt.alloc(), &parts, 1)?;
-    assert!(rt; noted.as_slice() == [(0, 3), (0, 5)].as_slice());
+    assert_eq!(rt; noted.as_slice(), [(0, 3), (0, 5)].as_slice());
     Ok(())
 }
 
@@ -82,7 +82,7 @@ fn a_message_is_given_where_it_is(rt: HostRuntime) -> Result<(), Fail> {
     assert!(rt; matches!(sent, Outcome::Home(HomeReply::Sent(_))));
     for (number, wanted) in [(0, 0), (1, 1), (1, 0)] {
         let outcome = world.step(rt.alloc(), &at(2, 1000, number, look()))?;
-        assert!(rt; gave(&outcome) == Some(wanted));
+        assert_eq!(rt; gave(&outcome), Some(wanted));
     }
     Ok(())
 }
@@ -103,7 +103,7 @@ fn a_refused_step_leaves_no_event(rt: HostRuntime) -> Result<(), Fail> {
         (at(5, end, 2, look()), Refusal::ClockRange),
         (at(5, end, 0, look()), Refusal::ClockRange),
     ] {
-        assert!(rt; refusal(world.step(rt.alloc(), &step)) == Some(wanted));
+        assert_eq!(rt; refusal(world.step(rt.alloc(), &step)), Some(wanted));
     }
     let parts = world.parts();
     assert!(rt; listed(rt.alloc(), &parts)?.as_str() == " 0@0.1 1@0.2 2@0.3");
@@ -131,7 +131,7 @@ fn a_run_goes_on_after_a_refusal(rt: HostRuntime) -> Result<(), Fail> {
         at(0, 0, 2, HomeAct::Purge),
         at(0, 0, 1, HomeAct::Purge),
     ];
-    assert!(rt; world.run(rt.alloc(), &purges) == 2);
+    assert_eq!(rt; world.run(rt.alloc(), &purges), 2);
     Ok(())
 }
 
@@ -150,6 +150,6 @@ fn events_are_listed_by_stamp(rt: HostRuntime) -> Result<(), Fail> {
     ];
     let world = stepped(rt.alloc(), options(2, 10, 16), &steps)?;
     let wanted = " 0@1000.0 1@1000.0 2@1000.0 2@1500.0 1@2000.0 2@2000.0 1@2000.1 2@3000.0";
-    assert!(rt; listed(rt.alloc(), &world.parts())?.as_str() == wanted);
+    assert_eq!(rt; listed(rt.alloc(), &world.parts())?.as_str(), wanted);
     Ok(())
 }
