@@ -6,7 +6,8 @@ ghost use Rattle.sq_base.specs.Stamps as stamps;
 use crate::refusal::Refusal;
 use std::marker::Model;
 
-const END: u64 = 4_611_686_018_427_387_904;
+/// No moment and no count of a stamp is this or above; no clock reading that is served either, in ms. Own.
+pub const STAMP_END: u64 = 4_611_686_018_427_387_904;
 
 /// A moment in ms, and the place among what has this moment; both are below 2^62. Own.
 #[derive(Clone, Copy, PartialEq, Eq, PartialOrd, Ord, Debug)]
@@ -18,6 +19,7 @@ pub struct Stamp {
 impl Model for Stamp {
     ghost use Rattle.std.specs.Prelude.{ℕ, ◌<◌};
     ghost use Rattle.sq_base.specs.StampValue.{StampValue};
+    ghost use Rattle.sq_base.specs.Stamps.{stamp_end};
 
     ghost Value = { StampValue };
 
@@ -25,7 +27,7 @@ impl Model for Stamp {
 
     ghost inverse = { λ v. record { moment = v.moment; count = v.count } };
 
-    ghost invariant = { λ s. (s.moment < 4611686018427387904) × (s.count < 4611686018427387904) };
+    ghost invariant = { λ s. (s.moment < stamp_end) × (s.count < stamp_end) };
 }
 
 impl Stamp {
@@ -44,12 +46,12 @@ impl Stamp {
     pub fn after(a: Stamp, b: Stamp, now: u64) -> Result<Stamp, Refusal>
         ensures { result ≡ stamps.after a b now }
     {
-        if now >= END {
+        if now >= STAMP_END {
             return Err(Refusal::ClockRange);
         }
         let moment = a.moment.max(b.moment).max(now);
         let count = next_at(a, moment).max(next_at(b, moment));
-        if count >= END {
+        if count >= STAMP_END {
             return Err(Refusal::Worn);
         }
         Ok(Stamp { moment, count })

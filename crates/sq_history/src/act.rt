@@ -1,5 +1,6 @@
 //! What may be asked of a home alone, and what its rows answer.
 ghost use Rattle.std.specs.Prelude.{◌≡◌, ◌⊎◌, ◌<◌, Some, IfOk, IfErr, OnErr};
+ghost use Rattle.sq_base.specs.Stamps.{stamp_end};
 ghost use Rattle.sq_model.specs.Homes.{HomeStep, home_refusal};
 ghost use Rattle.sq_model.specs.declared.calls.HomeCall.TheVariants.{Look as AsLook};
 ghost use Rattle.sq_model.specs.declared.replies.HomeReply.TheVariants.{Done, Sent, Counted};
@@ -83,7 +84,7 @@ impl HomeAct {
         shard: &mut Shard<S>,
         moment: u64,
     ) -> Result<Answer, Refusal>
-        requires { moment < 4611686018427387904 }
+        requires { moment < stamp_end }
         ensures step { IfOk result (λ reply. HomeStep shard.old.site shard.old.home moment (call_of self) reply shard.new.home) }
         ensures site { shard.new.site ≡ shard.old.site }
         ensures refusal { IfErr result (λ e. (e ≡ Refusal.NoMemory) ⊎ (home_refusal shard.old.site shard.old.home moment (call_of self) ≡ Some e)) }
@@ -178,7 +179,7 @@ fn look<S: Store>(
     max: MaxMessages,
     timeout: Option<Timeout>,
 ) -> Result<Answer, Refusal>
-    requires { moment < 4611686018427387904 }
+    requires { moment < stamp_end }
     ensures step { IfOk result (λ reply. HomeStep shard.old.site shard.old.home moment (AsLook max timeout) reply shard.new.home) }
     ensures site { shard.new.site ≡ shard.old.site }
     ensures refusal { IfErr result (λ e. (e ≡ Refusal.NoMemory) ⊎ (home_refusal shard.old.site shard.old.home moment (AsLook max timeout) ≡ Some e)) }

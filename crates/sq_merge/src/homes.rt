@@ -6,6 +6,7 @@ ghost use Rattle.sq_merge.specs.Openings.{never_opened, never_opened_homes};
 
 use sq_base::ids::{HomeId, HomeNo, QueueNo};
 use sq_base::refusal::Refusal;
+use sq_base::stamp::STAMP_END;
 use sq_history::recorded::{Home, Recorded};
 use sq_model::place::{Limits, Site};
 use sq_sample::sampler::HomeCount;
@@ -13,13 +14,11 @@ use sq_shard::plain::PlainStore;
 use sq_shard::shard::Shard;
 use std::alloc::Global;
 
-const CLOCK_END: u64 = 4_611_686_018_427_387_904;
-
 /// Why a step of a home that is not there is refused.
 pub(crate) fn absent(now: u64) -> Refusal
     ensures { result ≡ (if nat_le stamp_end now then ClockRange else QueueDoesNotExist) }
 {
-    if now >= CLOCK_END {
+    if now >= STAMP_END {
         Refusal::ClockRange
     } else {
         Refusal::QueueDoesNotExist

@@ -1,5 +1,6 @@
 //! One home: its status, its settings and its rows.
 ghost use Rattle.std.specs.Prelude.{◌≡◌, ◌⊎◌, ◌↔◌, ◌<◌, ◌+◌, true, Some, None, IfOk, IfErr, OnOk, OnErr, []};
+ghost use Rattle.sq_base.specs.Stamps.{stamp_end};
 ghost use Rattle.sq_model.specs.Homes.{HomeStep, home_refusal};
 ghost use Rattle.sq_model.specs.Homes.{Unopened as Never, Closed as Gone};
 ghost use Rattle.sq_model.specs.declared.calls.HomeCall.TheVariants.{Configure, Close, Send, Look, Delete, Change, Purge, Count};
@@ -23,7 +24,7 @@ use std::marker::Model;
 
 // So many seconds after a moment.
 fn after_seconds(moment: u64, seconds: u32) -> u64
-    requires { moment < 4611686018427387904 }
+    requires { moment < stamp_end }
     ensures { result ≡ moment + ms seconds }
 {
     moment + seconds as u64 * 1000
@@ -130,7 +131,7 @@ impl<S: Store> Shard<S> {
         body: Body,
         delay: Option<Delay>,
     ) -> Result<SentMessage, Refusal>
-        requires { moment < 4611686018427387904 }
+        requires { moment < stamp_end }
         ensures step { IfOk result (λ sent. HomeStep self.old.site self.old.home moment (Send body delay) (Sent sent) self.new.home) }
         ensures site { self.new.site ≡ self.old.site }
         ensures refusal { IfErr result (λ e. ((e ≡ Refusal.NoMemory) × IsServing self.old.home) ⊎ (home_refusal self.old.site self.old.home moment (Send body delay) ≡ Some e)) }
@@ -168,7 +169,7 @@ impl<S: Store> Shard<S> {
         max: MaxMessages,
         timeout: Option<Timeout>,
     ) -> Result<Option<Rows>, Refusal>
-        requires { moment < 4611686018427387904 }
+        requires { moment < stamp_end }
         ensures step { IfOk result (λ given. HomeStep self.now.site self.now.home moment (Look max timeout) (look_reply given) (look_after self.now.home moment timeout given)) }
         ensures refusal { IfErr result (λ e. ((e ≡ Refusal.NoMemory) × IsServing self.now.home) ⊎ (home_refusal self.now.site self.now.home moment (Look max timeout) ≡ Some e)) }
     {
@@ -190,7 +191,7 @@ impl<S: Store> Shard<S> {
     /// Receives the live rows that were chosen; without a timeout the home's is taken.
     #[tactic(auto, using(sq_model::proofs::RowLaws::rises_trimmed, crate::proofs::Few::few_trimmed, sq_model::proofs::RowLaws::rises_received, crate::proofs::Few::few_mapped))]
     pub fn give(&mut self, moment: u64, timeout: Option<Timeout>, given: &Option<Rows>)
-        requires { moment < 4611686018427387904 }
+        requires { moment < stamp_end }
         ensures home { self.new.home ≡ look_after self.old.home moment timeout given.now }
         ensures site { self.new.site ≡ self.old.site }
     {
@@ -216,7 +217,7 @@ impl<S: Store> Shard<S> {
         max: MaxMessages,
         timeout: Option<Timeout>,
     ) -> Result<Option<Rows>, Refusal>
-        requires { moment < 4611686018427387904 }
+        requires { moment < stamp_end }
         ensures step { IfOk result (λ given. HomeStep self.old.site self.old.home moment (Look max timeout) (look_reply given) self.new.home) }
         ensures site { self.new.site ≡ self.old.site }
         ensures refusal { IfErr result (λ e. ((e ≡ Refusal.NoMemory) × IsServing self.old.home) ⊎ (home_refusal self.old.site self.old.home moment (Look max timeout) ≡ Some e)) }
@@ -255,7 +256,7 @@ impl<S: Store> Shard<S> {
     /// (later than these 12 hours).
     #[tactic(auto, unfolding(sq_model::specs::Homes::HomeStep, sq_model::specs::Homes::home_refusal), using(sq_model::proofs::RowLaws::rises_trimmed, crate::proofs::Few::few_trimmed, sq_model::proofs::RowLaws::rises_changed, crate::proofs::Few::few_mapped))]
     pub fn change(&mut self, moment: u64, receipt: Receipt, timeout: Timeout) -> Result<(), Refusal>
-        requires { moment < 4611686018427387904 }
+        requires { moment < stamp_end }
         ensures step { OnOk result (HomeStep self.old.site self.old.home moment (Change receipt timeout) Done self.new.home) }
         ensures site { self.new.site ≡ self.old.site }
         ensures refusal { IfErr result (λ e. home_refusal self.old.site self.old.home moment (Change receipt timeout) ≡ Some e) }

@@ -13,7 +13,7 @@ use crate::record::Record;
 use crate::room::put;
 use sq_base::name::QueueName;
 use sq_base::refusal::Refusal;
-use sq_base::stamp::Stamp;
+use sq_base::stamp::{STAMP_END, Stamp};
 use sq_directory::directory::Directory;
 use sq_history::recorded::Home;
 use sq_model::directory::{Attributes, QueueSettings};
@@ -21,8 +21,6 @@ use sq_model::event::Actor;
 use sq_model::replies::HomeReply;
 use std::alloc::Global;
 use std::marker::Model;
-
-const CLOCK_END: u64 = 4_611_686_018_427_387_904;
 
 /// An actor: the number of its next step, the last stamp that it saw, and the records of its steps. Of two records the
 /// later one has the higher number and the higher stamp.
@@ -105,7 +103,7 @@ fn has_place(records: &[Record], place: u64) -> bool
 fn worn_at(now: u64) -> Refusal
     ensures { result ≡ worn_at now }
 {
-    if now >= CLOCK_END {
+    if now >= STAMP_END {
         Refusal::ClockRange
     } else {
         Refusal::Worn

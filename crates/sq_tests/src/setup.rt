@@ -1,5 +1,6 @@
 //! What several tests begin with: names, bodies, actors, worlds, and steps at their homes.
 ghost use Rattle.std.specs.Prelude.{◌<◌};
+ghost use Rattle.sq_base.specs.Stamps.{stamp_end};
 
 use sq_audit::merge::merge;
 use sq_audit::parts::Parts;
@@ -37,7 +38,7 @@ pub fn hello(alloc: Global) -> Result<Body, Refusal> {
 }
 
 pub fn stamp(moment: u64, count: u64) -> Stamp
-    requires { (moment < 4611686018427387904) × (count < 4611686018427387904) }
+    requires { (moment < stamp_end) × (count < stamp_end) }
 {
     Stamp { moment, count }
 }
