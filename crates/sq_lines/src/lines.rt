@@ -1,6 +1,6 @@
 //! Reading a line.
-ghost use Rattle.std.specs.Prelude.{◌≡◌, ◌≢◌, ◌∷◌, ◌++◌, [], IfOk, IfErr, IfSome, MatchOption, option_map, Some, OnOk, OnErr, ◌<◌, ◌≤◌, ◌+◌, take, drop, length, vec_len, vec_capacity};
-ghost use Rattle.sq_lines.specs.Lines.{lines_left, lines_of, read_of, none_read, FirstIsOver, FirstIsWithin, GoesOn, OneMore};
+ghost use Rattle.std.specs.Prelude.{false, ◌≡◌, ◌≢◌, ◌∷◌, ◌++◌, [], IfOk, IfErr, IfSome, MatchOption, option_map, Some, OnOk, OnErr, ◌<◌, ◌≤◌, ◌+◌, take, drop, length, vec_len, vec_capacity};
+ghost use Rattle.sq_lines.specs.Lines.{lines_left, lines_of, read_of, none_read, has_feed, FirstIsOver, FirstIsWithin, GoesOn, OneMore};
 ghost use Rattle.sq_lines.specs.declared.lines.LineFault.TheVariants.{TooLong, Read, NoMemory};
 
 use crate::buffer::Buffer;
@@ -137,6 +137,7 @@ impl Lines {
     ) -> Result<Option<Vec<u8>>, LineFault>
         ensures taken { IfOk result (λ next. IfSome (lines_left (read_of self.old) (R.remaining reader.old.inner)) (λ lines.
             MatchOption next (lines ≡ []) (λ line. option_map (λ rest. line.items ∷ rest) (lines_left (read_of self.new) (R.remaining reader.new.inner)) ≡ Some lines))) }
+        ensures unbroken { has_feed self.new.begun ≡ false }
         ensures within { IfOk result (λ next. IfSome next (λ line. length line.items ≤ LIMIT)) }
         ensures kept { OnErr result (IfSome (lines_left (read_of self.old) (R.remaining reader.old.inner)) (λ lines. lines_left (read_of self.new) (R.remaining reader.new.inner) ≡ Some lines)) }
         ensures long { IfErr result (λ e. e ≡ TooLong → FirstIsOver LIMIT (lines_of (read_of self.new))) }

@@ -1,9 +1,9 @@
 -- One line more is answered.
 use Rattle.std.proofs.Common.{inl, inr, ◌≡◌, ℕ, zero, suc, ◌+◌, ◌<◌, ◌≤◌, List, [], ◌∷◌, ◌++◌, length, take, drop, Option, Some, None, refl, sym, ap, subst, ◌∙◌, append_assoc, arith, add-one}
-use Rattle.std.specs.Prelude.{IfSome, option_map, slice_get}
+use Rattle.std.specs.Prelude.{false, IfSome, option_map, slice_get}
 use Rattle.std.specs.Io.KnownBytes.{Appends}
 use Rattle.sq_wire.specs.Scripts.{ScriptValue, Gives, Loses}
-use Rattle.sq_lines.specs.Lines.{LinesValue, read_of, lines_of, lines_left, FirstIsOver, FirstIsWithin, GoesOn}
+use Rattle.sq_lines.specs.Lines.{LinesValue, read_of, lines_of, lines_left, has_feed, FirstIsOver, FirstIsWithin, GoesOn}
 use Rattle.sq_lines.specs.declared.lines.TheConstants.{LIMIT}
 use Rattle.sq_merge.specs.WorldValue.{WorldValue}
 use Rattle.sq_wire.specs.Scripts.{script_at}
@@ -118,17 +118,17 @@ some_left (l ∷ ls) (suc n) lt = let r = some_left ls n lt in omega (arith, r)
 
 -- there was no memory for the next line
 pub so_far_lost : (all left : Option (List (List ℕ))) (coming old new : Option (List ℕ)) (world now : ScriptValue) (n : ℕ) (read : LinesValue) → IsSoFar all left old new world now n
-    → IfSome left (λ lines. 0 < length lines) → IfSome left (λ lines. lines_left (read_of read) coming ≡ Some lines) → FirstIsWithin LIMIT (lines_of (read_of read)) → GoesOn read.ahead
+    → IfSome left (λ lines. 0 < length lines) → IfSome left (λ lines. lines_left (read_of read) coming ≡ Some lines) → has_feed read.begun ≡ false → FirstIsWithin LIMIT (lines_of (read_of read)) → GoesOn read.ahead
     → IfSome all (λ lines. WritesNoMore old new world lines coming n now)
-so_far_lost None left coming old new world now n read h some kept within on = tt
-so_far_lost (Some lines) left coming old new world now n read h some kept within on =
+so_far_lost None left coming old new world now n read h some kept unbroken within on = tt
+so_far_lost (Some lines) left coming old new world now n read h some kept unbroken within on =
     let there : 0 < length (drop n lines) = subst (λ (o : Option (List (List ℕ))). IfSome o (λ l. 0 < length l)) h.left_is some in
     let left_is : lines_left (read_of read) coming ≡ Some (drop n lines) = subst (λ (o : Option (List (List ℕ))). IfSome o (λ l. lines_left (read_of read) coming ≡ Some l)) h.left_is kept in
     record {
       mid = now;
       writes = h.writes;
       there = some_left lines n there;
-      last = inl (refl, record { read = read; left_is = left_is; within = within; goes_on = on });
+      last = inl (refl, record { read = read; left_is = left_is; unbroken = unbroken; within = within; goes_on = on });
     }
 
 -- there was none for the answer to the next line

@@ -50,6 +50,10 @@ places_data places = array (items_of (map placed_data places))
 abbrev pub audit_data : List Tag → List (MessageId × Place) → Data
 audit_data run places = object (member (codes "Merged") (events_data run) (member (codes "Places") (places_data places) no_members))
 
+-- the text is that of the stamps of a run in their order, and of some places
+abbrev pub TellsPlaces : List Tag → List ℕ → Type 0
+TellsPlaces run text = (told : List (MessageId × Place)) × (text ≡ compact_text (audit_data run told))
+
 -- the text tells the stamps of a run in their order, and of each message that was sent in it, by these endings of the run, where it is
 abbrev pub TellsRun : List Tag → List Ending → List ℕ → Type 0
 TellsRun run ends text = (told : List (MessageId × Place)) × ArePlaces (run_sends run) ends told × (text ≡ compact_text (audit_data run told))

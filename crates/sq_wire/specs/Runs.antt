@@ -1,10 +1,9 @@
 -- A world that is asked line after line.
-use Rattle.std.specs.Prelude.{ℕ, List, [], ◌∷◌, ◌++◌, ◌≡◌, ◌<◌, ◌≤◌, ◌⊎◌, length, take, drop, Option, slice_get, Some}
+use Rattle.std.specs.Prelude.{ℕ, List, [], ◌∷◌, ◌++◌, ◌≡◌, ◌<◌, ◌≤◌, ◌⊎◌, false, length, take, drop, Option, slice_get, Some}
 use Rattle.std.specs.Io.KnownBytes.{Appends}
 use Rattle.sq_wire.specs.Scripts.{ScriptValue, Gives, Loses}
-use Rattle.sq_lines.specs.Lines.{LinesValue, read_of, lines_of, lines_left, OneMore, FirstIsOver, FirstIsWithin, GoesOn}
+use Rattle.sq_lines.specs.Lines.{LinesValue, read_of, lines_of, lines_left, OneMore, FirstIsOver, FirstIsWithin, GoesOn, has_feed}
 use Rattle.sq_lines.specs.declared.lines.TheConstants.{LIMIT}
-use Rattle.sq_wire.specs.declared.run.TheConstants.{TURNS}
 use Rattle.sq_wire.specs.declared.run.ServeFault.{ServeFault}
 use Rattle.sq_wire.specs.declared.run.ServeFault.TheVariants.{Read, Write, NoMemory, TooLong}
 
@@ -43,6 +42,7 @@ pub record WritesPart (old new : Option (List ℕ)) (world : ScriptValue) (lines
 pub record LacksNext (left : List (List ℕ)) (coming : Option (List ℕ)) : Type 0 where
   pub read : LinesValue
   pub left_is : lines_left (read_of read) coming ≡ Some left
+  pub unbroken : has_feed read.begun ≡ false
   pub within : FirstIsWithin LIMIT (lines_of (read_of read))
   pub goes_on : GoesOn read.ahead
 
@@ -69,7 +69,7 @@ StopsAt (Write n) lines coming old new world after = WritesPart old new world li
 
 -- a fault of reading or writing is one failed call, but for one of reading after all lines that are answered at most; no other call failed
 abbrev pub IsOfCall : ServeFault → ℕ → ℕ → ℕ → ℕ → Type 0
-IsOfCall (Read n) r r2 w w2 = (OneMore r r2 ⊎ ((n ≡ TURNS) × (r2 ≡ r))) × (w2 ≡ w)
+IsOfCall (Read n) r r2 w w2 = (OneMore r r2 ⊎ ((n ≡ 1099511627776) × (r2 ≡ r))) × (w2 ≡ w)
 IsOfCall (Write n) r r2 w w2 = (r2 ≡ r) × OneMore w w2
 IsOfCall (NoMemory n) r r2 w w2 = (r2 ≡ r) × (w2 ≡ w)
 IsOfCall (TooLong n) r r2 w w2 = (r2 ≡ r) × (w2 ≡ w)

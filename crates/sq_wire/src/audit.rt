@@ -6,7 +6,7 @@ ghost use Rattle.sq_audit.specs.Tags.{tags_of};
 ghost use Rattle.sq_model.specs.Places.{run_ends};
 ghost use Rattle.sq_model.specs.Systems.{System, RunFrom, opening, IsOnePlace};
 ghost use Rattle.sq_model.specs.declared.place.Site.{Site};
-ghost use Rattle.sq_wire.specs.Audits.{stamp_text, place_name, placed_data, events_data, places_data, audit_data, IsAudit, TellsRun};
+ghost use Rattle.sq_wire.specs.Audits.{TellsPlaces, stamp_text, place_name, placed_data, events_data, places_data, audit_data, IsAudit, TellsRun};
 
 use crate::reply::id_text;
 use crate::text::Text;
@@ -39,6 +39,7 @@ pub fn audit_world(alloc: Global, world: World) -> Result<Text, AuditFault>
 pub fn audit_text(alloc: Global, run: &Run<'_>) -> Result<Text, Refusal>
     ensures told { (places : ℕ) (sites : List Site) (after : System) (r : RunFrom (opening places sites) run.now after) → IsOnePlace sites
         → IfOk result (TellsRun run.now (run_ends (opening places sites) run.now after r)) }
+    ensures text { IfOk result (TellsPlaces run.now) }
     ensures memory { IfErr result (λ e. e ≡ Refusal.NoMemory) }
 {
     let places = places_of(alloc, run)?;

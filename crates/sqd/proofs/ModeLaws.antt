@@ -14,7 +14,7 @@ use Rattle.std.specs.Prelude.{Box}
 use Rattle.clap.proofs.WalkLemmas.{first_value-rows}
 use Rattle.sq_merge.specs.declared.options.Options.{Options}
 use Rattle.sqd.specs.CommandLine.{program_app}
-use Rattle.sqd.specs.Flags.{AreOptionsOf, AsksForScript, Asks, HasMistake, IsFlagOf, IsMistake, IsRefusalOf}
+use Rattle.sqd.specs.Flags.{AreOptionsOf, AsksForScript, Asks, IsFlagOf, IsKindFor, IsMistake, IsRefusalOf}
 use Rattle.sqd.specs.declared.flags.ScriptMode.{ScriptMode}
 use Rattle.sqd.specs.declared.flags.Mode.{Mode}
 use Rattle.sqd.specs.declared.flags.Refused.{Refused}
@@ -87,13 +87,9 @@ asks_for_no_options words m found walked rows none mode h =
 no_kind : (kinds : Kinds) (kind : ErrorKind) → IsAmong kind kinds → kinds ≡ [] → ⊥
 no_kind kinds kind h e = subst (λ (ks : Kinds). IsAmong kind ks) e h
 
-mistake_among : (kinds : Kinds) (kind : ErrorKind) → IsMistake kind → IsAmong kind kinds → HasMistake kinds
-mistake_among [] kind mistake h = tt
-mistake_among (k ∷ ks) kind mistake h = (kind, mistake, h)
-
-text_among : (kinds : Kinds) (kind : ErrorKind) → (kind ≡ DisplayHelp) ⊎ (kind ≡ DisplayVersion) → IsAmong kind kinds → IsAmong DisplayHelp kinds ⊎ IsAmong DisplayVersion kinds
-text_among kinds kind (inl help) h = inl (subst (λ (k : ErrorKind). IsAmong k kinds) help h)
-text_among kinds kind (inr version) h = inr (subst (λ (k : ErrorKind). IsAmong k kinds) version h)
+found_kind : (kinds : Kinds) (kind : ErrorKind) → IsAmong kind kinds → IsKindFor kinds kind
+found_kind [] kind h = tt
+found_kind (k ∷ ks) kind h = h
 
 no_text : (kind : ErrorKind) → (kind ≡ DisplayHelp) ⊎ (kind ≡ DisplayVersion) → kind ≡ OutOfMemory → ⊥
 no_text kind (inl help) memory = absurd (cc)
@@ -104,14 +100,14 @@ refuses_for_memory words e is = subst (λ (r : Refused). Asks words (Err r)) (sy
 
 refuses_for_clap : (words : List Text) (error : Error) (e : Refused) → HasKind (fault_of program_app words) error → IsRefusalOf error e → Asks words (Err e)
 refuses_for_clap words error refused.NoMemory h is = tt
-refuses_for_clap words error (refused.Text e) h is = elim h [
+refuses_for_clap words error (refused.Text e) h is = rw is.0 (elim h [
   | inl memory ↦ absurd (no_text (kind_of error) is.1 memory)
-  | inr kind ↦ text_among (fault_of program_app words) (kind_of error) is.1 kind
-]
-refuses_for_clap words error (refused.Mistake e) h is = elim h [
+  | inr kind ↦ (is.1, kind)
+])
+refuses_for_clap words error (refused.Mistake e) h is = rw is.0 (elim h [
   | inl memory ↦ absurd (is.1 memory)
-  | inr kind ↦ (λ mode asked. no_kind _ _ kind asked.taken, mistake_among _ _ is.2 kind)
-]
+  | inr kind ↦ (λ mode asked. no_kind _ _ kind asked.taken, is.2, found_kind _ _ kind)
+])
 
 pub refuses_for_own : (words : List Text) (error : Error) (e : Refused) → fault_of program_app words ≡ [] → IsMistake (kind_of error)
     → ((mode : ScriptMode) → ¬ AsksForScript words mode) → IsRefusalOf error e → Asks words (Err e)
@@ -120,7 +116,7 @@ refuses_for_own words error (refused.Text e) taken mistake none is = elim is.1 [
   | inl help ↦ absurd (mistake.0 help)
   | inr version ↦ absurd (mistake.1 version)
 ]
-refuses_for_own words error (refused.Mistake e) taken mistake none is = (none, subst (λ (ks : Kinds). HasMistake ks) (sym taken) tt)
+refuses_for_own words error (refused.Mistake e) taken mistake none is = rw is.0 (none, is.2, subst (λ (ks : Kinds). IsKindFor ks (kind_of error)) (sym taken) tt)
 
 -- an error that was passed up
 passed_up : (words : List Text) (P : Refused → Type 0) → ((e : Refused) → P e → Asks words (Err e)) → (r : Result Mode Refused) → IsErrAnd r P → Asks words r

@@ -52,32 +52,36 @@ pub record AsksForScript (words : List Text) (mode : ScriptMode) : Type 0 where
 abbrev pub IsModeOf : List Text → Mode → Type 0
 IsModeOf words (Script mode) = AsksForScript words mode
 
--- the words ask for a text, help or the version as clap means them
-abbrev pub AsksForText : List Text → Type 0
-AsksForText words = IsAmong DisplayHelp (fault_of program_app words) ⊎ IsAmong DisplayVersion (fault_of program_app words)
+-- help or the version
+abbrev pub IsTextKind : ErrorKind → Type 0
+IsTextKind kind = (kind ≡ DisplayHelp) ⊎ (kind ≡ DisplayVersion)
 
 -- a kind of error that is a mistake, and no text that was asked for
 abbrev pub IsMistake : ErrorKind → Type 0
 IsMistake kind = (kind ≢ DisplayHelp) × (kind ≢ DisplayVersion)
 
--- clap finds a mistake, or leaves it to the program
-abbrev pub HasMistake : Kinds → Type 0
-HasMistake [] = ⊤
-HasMistake (k ∷ ks) = (kind : ErrorKind) × IsMistake kind × IsAmong kind (k ∷ ks)
+-- the words ask for a text, which the error tells: help or the version as clap finds them in the words
+abbrev pub AsksForText : List Text → Error → Type 0
+AsksForText words error = IsTextKind (kind_of error) × IsAmong (kind_of error) (fault_of program_app words)
 
--- the words ask for no run, and have a mistake
-abbrev pub AreMistaken : List Text → Type 0
-AreMistaken words = ((mode : ScriptMode) → ¬ AsksForScript words mode) × HasMistake (fault_of program_app words)
+-- a kind is one that clap finds in the words, or the program's own where clap finds none
+abbrev pub IsKindFor : Kinds → ErrorKind → Type 0
+IsKindFor [] kind = ⊤
+IsKindFor (k ∷ ks) kind = IsAmong kind (k ∷ ks)
+
+-- the words ask for no run, and the error tells a mistake of theirs
+abbrev pub AreMistaken : List Text → Error → Type 0
+AreMistaken words error = ((mode : ScriptMode) → ¬ AsksForScript words mode) × IsMistake (kind_of error) × IsKindFor (fault_of program_app words) (kind_of error)
 
 -- what the words ask for, or that there was no memory to tell
 abbrev pub Asks : List Text → Result Mode Refused → Type 0
 Asks words (Ok mode) = IsModeOf words mode
-Asks words (Err (refused.Text error)) = AsksForText words
-Asks words (Err (refused.Mistake error)) = AreMistaken words
+Asks words (Err (refused.Text error)) = AsksForText words error
+Asks words (Err (refused.Mistake error)) = AreMistaken words error
 Asks words (Err refused.NoMemory) = ⊤
 
 -- an error of clap as a refusal
 abbrev pub IsRefusalOf : Error → Refused → Type 0
 IsRefusalOf error refused.NoMemory = kind_of error ≡ OutOfMemory
-IsRefusalOf error (refused.Text e) = (e ≡ error) × ((kind_of error ≡ DisplayHelp) ⊎ (kind_of error ≡ DisplayVersion))
+IsRefusalOf error (refused.Text e) = (e ≡ error) × IsTextKind (kind_of error)
 IsRefusalOf error (refused.Mistake e) = (e ≡ error) × (kind_of error ≢ OutOfMemory) × IsMistake (kind_of error)

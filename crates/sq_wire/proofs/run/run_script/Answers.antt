@@ -49,7 +49,7 @@ returns-in-Err-NoMemory-clause-err g c =
     let next = c.in-Err-NoMemory.ensures in
     let is = c.in-Err-NoMemory.field-0-is in
     inr (stops_at _ (fault.NoMemory c.loop-answered.answered) _ _ _ _ _ _
-    (so_far_lost _ _ _ _ _ _ _ _ c.next_line.new.self c.loop-answered.invariant.so_far (next.memory_line is) next.kept (next.memory is) (next.wanted is)))
+    (so_far_lost _ _ _ _ _ _ _ _ c.next_line.new.self c.loop-answered.invariant.so_far (next.memory_line is) next.kept next.unbroken (next.memory is) (next.wanted is)))
 
 pub loop-answered-init : goal.loop-answered-init
 loop-answered-init g c = record { so_far = rw c.in-Ok.ensures (so_far_none _ _ _); reads = refl; writes = refl }

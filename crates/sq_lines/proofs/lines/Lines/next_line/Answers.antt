@@ -82,3 +82,13 @@ returns-in-Err-clause-wanted g c e =
 pub returns-in-Err-add_ahead-clause-wanted : goal.returns-in-Err-add_ahead-clause-wanted
 returns-in-Err-add_ahead-clause-wanted g c e =
     goes_on_all _ _ (no_feed_found _ _ _ c.memchr.ensures (search rules) c.bytes.ensures) (c.in-Err-add_ahead.ensures.some e) c.in-Err-add_ahead.ensures.kept.1
+
+pub returns-in-Ok-clause-unbroken : goal.returns-in-Ok-clause-unbroken
+returns-in-Ok-clause-unbroken g c = subst (λ (x : List ℕ). has_feed x ≡ false) (sym c.in-Ok.ensures.none) no_feed_none
+
+pub returns-in_default-fill-clause-unbroken : goal.returns-in_default-fill-clause-unbroken
+returns-in_default-fill-clause-unbroken g c =
+    no_feed_all _ _ _ c.loop-at.invariant.plain (no_feed_found _ _ _ c.memchr.ensures (search rules) c.bytes.ensures) c.in_default-add_ahead.ensures.line
+
+pub returns-then-count-eq0-clause-unbroken : goal.returns-then-count-eq0-clause-unbroken
+returns-then-count-eq0-clause-unbroken g c = subst (λ (x : List ℕ). has_feed x ≡ false) (sym c.last_line.ensures.none) no_feed_none
