@@ -1,13 +1,12 @@
 //! Runs of steps chosen at random, what the audit says of them, and of each record that is taken out.
 ghost use Rattle.std.specs.Prelude.{◌<◌, ◌≤◌};
 
-use crate::setup::{NONE_GIVEN, create, hello, home, merged, named, options, receipt, stepped};
+use crate::setup::{NONE_GIVEN, hello, home, named, options, receipt};
 use sq_audit::check::AuditFault;
 use sq_audit::merge::merge;
 use sq_audit::parts::Parts;
 use sq_audit::places::places_of;
 use sq_base::ids::{HomeId, HomeNo, QueueNo};
-use sq_base::name::QueueName;
 use sq_base::ranges::{MaxMessages, Retention, Timeout};
 use sq_base::refusal::Refusal;
 use sq_base::row::Row;
@@ -19,7 +18,7 @@ use sq_model::replies::HomeReply;
 use sq_steps::act::{Act, HomeAct, Outcome, Step};
 use sq_steps::book::{Book, create_step};
 use std::alloc::Global;
-use std::test::Fail;
+use std::process::Abort;
 
 // Each choice follows from the one before.
 #[derive(Drop)]
@@ -47,50 +46,46 @@ impl Choices {
     }
 
     // A third name finds no room.
-    fn name(&mut self) -> Result<QueueName, Refusal> {
+    fn name(&mut self) -> &'static str {
         let names = ["a", "b", "c"];
-        named(names[self.below(3) as usize])
+        names[self.below(3) as usize]
     }
 
-    fn home_act(&mut self, alloc: Global, receipt: &Receipt) -> Result<HomeAct, Refusal> {
-        Ok(match self.below(100) {
-            0..=4 => HomeAct::Configure(short(), self.below(1000)),
-            5..=44 => HomeAct::Send(hello(alloc)?, None),
-            45..=69 => HomeAct::Look(MaxMessages::of(3), None),
-            70..=89 => HomeAct::Delete(*receipt),
-            90..=94 => HomeAct::Change(*receipt, Timeout::of(10)),
-            95 => HomeAct::Purge,
-            96 => self.close_or_count(),
+    // A home closes one time in 40,000.
+    fn home_act(&mut self, alloc: Global, receipt: Receipt) -> Result<HomeAct, Refusal> {
+        Ok(match self.below(40_000) {
+            0 => HomeAct::Close,
+            1..2_000 => HomeAct::Configure(short(), self.below(1000)),
+            2_000..18_000 => HomeAct::Send(hello(alloc)?, None),
+            18_000..28_000 => HomeAct::Look(MaxMessages::of(3), None),
+            28_000..36_000 => HomeAct::Delete(receipt),
+            36_000..38_000 => HomeAct::Change(receipt, Timeout::of(10)),
+            38_000..38_400 => HomeAct::Purge,
             _ => HomeAct::Count,
         })
     }
 
-    // Closes one time in 400.
-    fn close_or_count(&mut self) -> HomeAct {
-        if self.below(400) == 0 {
-            HomeAct::Close
-        } else {
-            HomeAct::Count
+    // Half of the acts at homes are where the last message was received.
+    fn act(&mut self, alloc: Global, held: &Held) -> Result<Act, Refusal> {
+        let place = self.below(50);
+        if place == 0 {
+            return Ok(Act::Create(named(self.name())?, NONE_GIVEN));
         }
-    }
-
-    fn act(&mut self, alloc: Global, told: &Told) -> Result<Act, Refusal> {
-        Ok(match self.below(50) {
-            0 => Act::Create(self.name()?, NONE_GIVEN),
-            1 => Act::Resolve(self.name()?),
-            2..=25 => Act::Home(told.home, self.home_act(alloc, &told.receipt)?),
-            _ => Act::Home(self.home(), self.home_act(alloc, &told.receipt)?),
-        })
+        if place == 1 {
+            return Ok(Act::Resolve(named(self.name())?));
+        }
+        let at = if place < 26 { held.home } else { self.home() };
+        Ok(Act::Home(at, self.home_act(alloc, held.receipt)?))
     }
 
     // The clock goes forward by 100 ms a step, and is up to five seconds ahead.
-    fn step(&mut self, alloc: Global, number: u64, told: &Told) -> Result<Step, Refusal>
+    fn step(&mut self, alloc: Global, number: u64, held: &Held) -> Result<Step, Refusal>
         requires { number < 100000 }
     {
         Ok(Step {
             actor: self.below(8) as u32,
             clock: number * 100 + self.below(5000),
-            act: self.act(alloc, told)?,
+            act: self.act(alloc, held)?,
         })
     }
 }
@@ -104,17 +99,17 @@ fn short() -> Settings {
 }
 
 // How many events and sends were told, and the last message that was received, with its home.
-#[derive(Drop)]
-struct Told {
+#[derive(Clone, Copy)]
+struct Held {
     events: usize,
     sends: usize,
     home: HomeId,
     receipt: Receipt,
 }
 
-impl Told {
-    fn new() -> Told {
-        Told {
+impl Held {
+    fn new() -> Held {
+        Held {
             events: 0,
             sends: 0,
             home: home(0),
@@ -143,117 +138,145 @@ impl Told {
 }
 
 // The parts that so many steps leave, and what was told of them: the same each time.
-fn ran(alloc: Global, steps: u64) -> Result<(Parts, Told), Refusal>
+fn ran(rt: &impl Abort, alloc: Global, steps: u64) -> (Parts, Held)
     requires { steps ≤ 100000 }
 {
-    let mut world = World::new(alloc, options(2, 40, 20))?;
+    let mut world = World::new(alloc, options(2, 40, 20)).expect(rt, "memory");
     let mut choices = Choices { state: 1 };
-    let mut told = Told::new();
+    let mut held = Held::new();
     for number in 0..steps {
-        let step = choices.step(alloc, number, &told)?;
+        let step = choices.step(alloc, number, &held).expect(rt, "memory");
         if let Ok(outcome) = world.step(alloc, &step) {
-            told.note(&step.act, &outcome);
+            held.note(&step.act, &outcome);
         }
     }
-    Ok((world.parts(), told))
+    (world.parts(), held)
 }
 
-// How many events the run has, how many messages were sent in it, and how many places are told.
-fn counts(alloc: Global, parts: &Parts) -> Result<(usize, usize, usize), Refusal> {
-    let run = merged(alloc, parts)?;
-    let sent = run.lineages(alloc)?;
-    let places = places_of(alloc, &run)?;
-    Ok((run.len(), sent.len(), places.len()))
+// How many events so many steps make, how many messages are sent in them, and how many places are told; and how many events and
+// sends were told.
+fn counted(rt: &impl Abort, alloc: Global, steps: u64) -> ([usize; 3], [usize; 2])
+    requires { steps ≤ 100000 }
+{
+    let (parts, held) = ran(rt, alloc, steps);
+    let run = merge(alloc, &parts).expect(rt, "one run");
+    let sent = run.lineages(alloc).expect(rt, "memory");
+    let places = places_of(alloc, &run).expect(rt, "memory");
+    (
+        [run.len(), sent.len(), places.len()],
+        [held.events, held.sends],
+    )
+}
+
+#[test]
+fn a_long_run_is_audited(rt: HostRuntime) {
+    let (counts, [events, sends]) = counted(&rt, rt.alloc(), 100_000);
+    assert_eq!(rt; counts, [events, sends, sends]);
 }
 
 fn fault(alloc: Global, parts: &Parts) -> Option<AuditFault> {
     merge(alloc, parts).err()
 }
 
-#[test]
-fn a_long_run_is_audited(rt: HostRuntime) -> Result<(), Fail> {
-    let (mut parts, told) = ran(rt.alloc(), 100_000)?;
-    let wanted = (told.events, told.sends, told.sends);
-    assert_eq!(rt; counts(rt.alloc(), &parts), Ok(wanted));
-    assert!(rt; parts.drop_record(0, 0));
-    assert_eq!(rt;
-        fault(rt.alloc(), &parts),
-        Some(AuditFault::RecordMissing(0, 0))
-    );
-    assert!(rt; !parts.drop_record(0, 0));
-    Ok(())
-}
-
-#[test]
-fn each_record_that_is_taken_out_is_told(rt: HostRuntime) -> Result<(), Fail> {
-    let (whole, told) = ran(rt.alloc(), 150)?;
-    let books = whole.records.as_slice();
-    let mut dropped = 0usize;
-    for at in 0..books.len() {
-        let actor = books[at].actor();
-        for place in 0..books[at].records().len() as u64 {
-            let (mut parts, _) = ran(rt.alloc(), 150)?;
-            assert!(rt; parts.drop_record(actor, place));
-            assert_eq!(rt;
-                fault(rt.alloc(), &parts),
-                Some(AuditFault::RecordMissing(actor, place))
-            );
-            assert!(rt; !parts.drop_record(actor, place));
-            dropped = dropped.saturating_add(1);
+// How many records each actor has after so many steps, and how many events were told.
+fn noted(rt: &impl Abort, alloc: Global, steps: u64) -> ([u64; 9], u64)
+    requires { steps ≤ 100000 }
+{
+    let (parts, held) = ran(rt, alloc, steps);
+    let mut counts = [0; 9];
+    for book in parts.records.as_slice() {
+        if let Some(count) = counts.get_mut(book.actor() as usize) {
+            *count = book.records().len() as u64;
         }
     }
-    assert!(rt; dropped == told.events && 50 < dropped);
-    // The directory's records are among them.
-    assert!(rt; 1 <= whole.directory.events().len());
-    Ok(())
+    (counts, held.events as u64)
 }
 
+// Takes a record out of what so many steps leave, and again: whether it was there, and what the audit says.
+fn without(
+    rt: &impl Abort,
+    alloc: Global,
+    steps: u64,
+    actor: u32,
+    place: u64,
+) -> (bool, bool, Option<AuditFault>)
+    requires { steps ≤ 100000 }
+{
+    let (mut parts, _) = ran(rt, alloc, steps);
+    let first = parts.drop_record(actor, place);
+    let second = parts.drop_record(actor, place);
+    (first, second, fault(alloc, &parts))
+}
+
+// The actors are 0 to 7.
 #[test]
-fn a_record_that_is_not_there_is_not_taken_out(rt: HostRuntime) -> Result<(), Fail> {
-    let (mut parts, _) = ran(rt.alloc(), 150)?;
-    // The actors are 0 to 7, and none has so many records.
-    assert!(rt; !parts.drop_record(8, 0));
-    for actor in 0..8 {
-        assert!(rt; !parts.drop_record(actor, 150));
-        assert!(rt; !parts.drop_record(actor, u64::MAX));
+fn each_record_that_is_taken_out_is_told(rt: HostRuntime) {
+    let (counts, events) = noted(&rt, rt.alloc(), 150);
+    let mut dropped = 0u64;
+    for (actor, count) in (0u32..).zip(&counts) {
+        for place in 0..*count {
+            let told = without(&rt, rt.alloc(), 150, actor, place);
+            assert_eq!(rt;
+                told,
+                (true, false, Some(AuditFault::RecordMissing(actor, place)))
+            );
+            dropped = dropped.saturating_add(1);
+        }
+        for place in [*count, u64::MAX] {
+            let told = without(&rt, rt.alloc(), 150, actor, place);
+            assert_eq!(rt; told, (false, false, None));
+        }
     }
-    assert_eq!(rt; fault(rt.alloc(), &parts), None);
-    Ok(())
+    assert_eq!(rt; dropped, events);
+    assert!(rt; 50 < dropped, "{dropped}");
 }
 
-// The parts of a world in which an actor made two queues.
-fn made(alloc: Global) -> Result<Parts, Refusal> {
-    let steps = [create(3, 1000, "a")?, create(3, 1000, "b")?];
-    Ok(stepped(alloc, options(1, 10, 10), &steps)?.parts())
+// The parts of a world in which an actor made queues of these names.
+fn made(rt: &impl Abort, alloc: Global, names: &[&str]) -> Parts {
+    let mut world = World::new(alloc, options(1, 10, 10)).expect(rt, "memory");
+    for name in names {
+        let step = Step {
+            actor: 3,
+            clock: 1000,
+            act: Act::Create(named(name).expect(rt, "a name"), NONE_GIVEN),
+        };
+        let _ = world.step(alloc, &step).expect(rt, "memory");
+    }
+    world.parts()
 }
 
-// With another directory, with no actor, and after a queue that another actor of the same number made.
-fn falsified(alloc: Global) -> Result<[Option<AuditFault>; 3], Refusal> {
-    let mut unmade = made(alloc)?;
-    unmade.directory = Directory::new(alloc, 2);
-    let mut unnoted = made(alloc)?;
-    unnoted.records = stepped(alloc, options(1, 10, 10), &[])?.parts().records;
-    let mut twice = made(alloc)?;
+fn with_another_directory(rt: &impl Abort, alloc: Global) -> Option<AuditFault> {
+    let mut parts = made(rt, alloc, &["a", "b"]);
+    parts.directory = Directory::new(alloc, 2);
+    fault(alloc, &parts)
+}
+
+fn with_no_actor(rt: &impl Abort, alloc: Global) -> Option<AuditFault> {
+    let mut parts = made(rt, alloc, &["a", "b"]);
+    parts.records = made(rt, alloc, &[]).records;
+    fault(alloc, &parts)
+}
+
+// After a queue that another actor of the same number made.
+fn with_an_actor_twice(rt: &impl Abort, alloc: Global) -> Option<AuditFault> {
+    let mut parts = made(rt, alloc, &["a", "b"]);
     let mut other = Book::new(alloc, 3);
-    create_step(
-        &mut twice.directory,
-        &mut other,
-        1000,
-        &named("a")?,
-        &NONE_GIVEN,
-    )?;
-    Ok([
-        fault(alloc, &unmade),
-        fault(alloc, &unnoted),
-        fault(alloc, &twice),
-    ])
+    let name = named("a").expect(rt, "a name");
+    let _ = create_step(&mut parts.directory, &mut other, 1000, &name, &NONE_GIVEN).expect(
+        rt, "memory",
+    );
+    fault(alloc, &parts)
 }
 
 #[test]
-fn false_evidence_is_told(rt: HostRuntime) -> Result<(), Fail> {
-    assert_eq!(rt; fault(rt.alloc(), &made(rt.alloc())?), None);
+fn false_evidence_is_told(rt: HostRuntime) {
     let missing = Some(AuditFault::RecordMissing(3, 0));
-    let want = [missing, missing, Some(AuditFault::RecordTwice(3, 0))];
-    assert_eq!(rt; falsified(rt.alloc())?, want);
-    Ok(())
+    let twice = Some(AuditFault::RecordTwice(3, 0));
+    assert_eq!(rt;
+        fault(rt.alloc(), &made(&rt, rt.alloc(), &["a", "b"])),
+        None
+    );
+    assert_eq!(rt; with_another_directory(&rt, rt.alloc()), missing);
+    assert_eq!(rt; with_no_actor(&rt, rt.alloc()), missing);
+    assert_eq!(rt; with_an_actor_twice(&rt, rt.alloc()), twice);
 }

@@ -2,6 +2,7 @@
 use sq_audit::merge::merge;
 use sq_audit::track::place_of;
 use sq_base::handle::Handle;
+use sq_base::message_id::MessageId;
 use sq_base::name::QueueName;
 use sq_base::ranges::{MaxMessages, Receives};
 use sq_base::refusal::Refusal;
@@ -13,27 +14,24 @@ use sq_merge::options::Options;
 use sq_merge::world::World;
 use sq_model::directory::Attributes;
 use sq_model::place::Place;
-use std::test::Fail;
 
 #[test]
-fn a_message_is_sent_received_and_deleted(rt: HostRuntime) -> Result<(), Fail> {
+fn a_message_is_sent_received_and_deleted(rt: HostRuntime) {
     let alloc = rt.alloc();
-    let mut world = World::new(
-        alloc,
-        Options {
-            homes: 4,
-            sample: 4,
-            queues: 64,
-            rows: 1000,
-            flights: 100,
-            transit: 10,
-            seed: 0,
-        },
-    )?;
-    let orders = QueueName::new(b"orders").ok_or(Refusal::InvalidParameterValue)?;
+    let options = Options {
+        homes: 4,
+        sample: 4,
+        queues: 64,
+        rows: 1000,
+        flights: 100,
+        transit: 10,
+        seed: 0,
+    };
+    let mut world = World::new(alloc, options).expect(&rt, "memory");
+    let orders = QueueName::new(b"orders").expect(&rt, "a name");
 
     // Actor 0 makes the queue when its clock says 0 ms.
-    let create = Call::CreateQueue(CreateQueue {
+    let create = CreateQueue {
         name: orders,
         attributes: Attributes {
             delay: None,
@@ -41,21 +39,21 @@ fn a_message_is_sent_received_and_deleted(rt: HostRuntime) -> Result<(), Fail> {
             wait_time: None,
             timeout: None,
         },
-    });
-    world.call(alloc, 0, 0, &create)?;
+    };
+    let made = world.call(alloc, 0, 0, &Call::CreateQueue(create));
+    assert!(rt; matches!(&made, Ok(Answer::Queue(name)) if *name == orders));
 
     // Actor 1 sends a message at 1000 ms.
-    let send = Call::SendMessage(SendMessage {
+    let send = SendMessage {
         queue: orders,
-        body: BodyText::new(alloc, "hello")?,
+        body: BodyText::new(alloc, "hello").expect(&rt, "memory"),
         delay: None,
-    });
-    let Answer::Sent(id, _) = world.call(alloc, 1, 1000, &send)? else {
-        return Err(Refusal::UnsupportedOperation.into());
     };
+    let sent = world.call(alloc, 1, 1000, &Call::SendMessage(send));
+    let id = id_of(&sent).expect(&rt, "a message");
 
     // Actor 2 receives it at 2000 ms, and so has its handle.
-    let receive = Call::ReceiveMessage(ReceiveMessage {
+    let receive = ReceiveMessage {
         queue: orders,
         max: MaxMessages::of(1),
         timeout: None,
@@ -63,26 +61,40 @@ fn a_message_is_sent_received_and_deleted(rt: HostRuntime) -> Result<(), Fail> {
             receive_count: false,
             sent_timestamp: false,
         },
-    });
-    let Answer::Received(given) = world.call(alloc, 2, 2000, &receive)? else {
-        return Err(Refusal::UnsupportedOperation.into());
     };
-    let handle = given.rows().first().map(|row| Handle {
+    let received = world.call(alloc, 2, 2000, &Call::ReceiveMessage(receive));
+    let delete = DeleteMessage {
+        queue: orders,
+        handle: handle_of(&received),
+    };
+    let deleted = world.call(alloc, 2, 3000, &Call::DeleteMessage(delete));
+    assert!(rt; matches!(&deleted, Ok(Answer::Done)));
+
+    // All that was done is one run of the sequential queue, and the message is where it was left.
+    let parts = world.parts();
+    let run = merge(alloc, &parts).expect(&rt, "one run");
+    assert_eq!(rt; place_of(&run, &id), Some(Place::Deleted));
+}
+
+// The id of a message that was sent.
+fn id_of(told: &Result<Answer, Refusal>) -> Option<MessageId> {
+    match told {
+        Ok(Answer::Sent(id, _)) => Some(*id),
+        _ => None,
+    }
+}
+
+// The handle of the first message that was received.
+fn handle_of(told: &Result<Answer, Refusal>) -> Option<Handle> {
+    let Ok(Answer::Received(given)) = told else {
+        return None;
+    };
+    let row = given.rows().first()?;
+    Some(Handle {
         queue: given.home().queue,
         home: given.home().home,
         slot: row.slot,
         serial: row.serial,
         receive: Receives::of(1),
-    });
-    let delete = Call::DeleteMessage(DeleteMessage {
-        queue: orders,
-        handle,
-    });
-    world.call(alloc, 2, 3000, &delete)?;
-
-    // All that was done is one run of the sequential queue, and the message is where it was left.
-    let parts = world.parts();
-    let run = merge(alloc, &parts).map_err(|_| Refusal::UnsupportedOperation)?;
-    assert_eq!(rt; place_of(&run, &id), Some(Place::Deleted));
-    Ok(())
+    })
 }

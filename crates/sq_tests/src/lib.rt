@@ -6,8 +6,6 @@ mod audits;
 #[cfg(test)]
 mod calls;
 #[cfg(test)]
-mod directories;
-#[cfg(test)]
 mod examples;
 #[cfg(test)]
 mod homes;

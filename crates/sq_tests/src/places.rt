@@ -1,58 +1,55 @@
 //! Where messages are after the events of a home, and the texts of that.
-use crate::setup::{
-    at, configure, create, hello, id, look, merged, options, receipt, send, stamp, stepped,
-};
-use sq_audit::places::places_of;
+use crate::setup::{Ask, Line, Told, first_wrong, id, options, stamp};
+use sq_audit::merge::merge;
 use sq_audit::track::place_of;
-use sq_base::refusal::Refusal;
+use sq_base::settings::Settings;
 use sq_base::stamp::Stamp;
 use sq_merge::world::World;
 use sq_model::place::Place;
-use sq_steps::act::{HomeAct, Step};
 use sq_wire::audit::{audit_world, place_name, stamp_text};
+use sq_wire::text::Text;
 use std::alloc::Global;
-use std::test::Fail;
+use std::process::Abort;
 
 // Both messages are looked for, and the first is deleted; the second is looked for again, and not deleted by the receipt
 // of its first receive. A third is sent. They are counted 1 ms before the second expires, and purged when it does; then
 // a fourth is sent, and the home closed.
-fn steps(alloc: Global) -> Result<[Step; 13], Refusal> {
-    Ok([
-        create(0, 0, "q")?,
-        at(0, 0, 0, configure()),
-        at(0, 1000, 0, send(alloc)?),
-        at(0, 1000, 0, send(alloc)?),
-        at(0, 2000, 0, look()),
-        at(0, 3000, 0, HomeAct::Delete(receipt(0, 0, 1))),
-        at(0, 32_000, 0, look()),
-        at(0, 32_000, 0, HomeAct::Delete(receipt(1, 1, 1))),
-        at(0, 33_000, 0, send(alloc)?),
-        at(0, 345_600_999, 0, HomeAct::Count),
-        at(0, 345_601_000, 0, HomeAct::Purge),
-        at(0, 345_601_000, 0, send(alloc)?),
-        at(0, 345_601_000, 0, HomeAct::Close),
-    ])
+fn lines() -> [Line; 13] {
+    [
+        (0, 0, 0, Ask::Create, Told::Made(1)),
+        (0, 0, 0, Ask::Configure(Settings::standard(), 1), Told::Done),
+        (0, 1000, 0, Ask::Send(None), Told::Sent(0, 0)),
+        (0, 1000, 0, Ask::Send(None), Told::Sent(1, 1)),
+        (0, 2000, 0, Ask::Look(None), Told::GaveAll(2)),
+        (0, 3000, 0, Ask::Delete(0, 0, 1), Told::Done),
+        (0, 32_000, 0, Ask::Look(None), Told::Gave(2, 62_000)),
+        (0, 32_000, 0, Ask::Delete(1, 1, 1), Told::Done),
+        (0, 33_000, 0, Ask::Send(None), Told::Sent(0, 2)),
+        (0, 345_600_999, 0, Ask::Count, Told::Counts(2, 0, 0)),
+        (0, 345_601_000, 0, Ask::Purge, Told::Done),
+        (0, 345_601_000, 0, Ask::Send(None), Told::Sent(0, 3)),
+        (0, 345_601_000, 0, Ask::Close, Told::Done),
+    ]
 }
 
-// A world after so many of the steps.
-fn lived(alloc: Global, count: usize) -> Result<World, Refusal> {
-    let steps = steps(alloc)?;
-    stepped(
-        alloc,
-        options(1, 10, 10),
-        steps.get(..count).unwrap_or(&steps),
-    )
+// A world after so many of the lines, each of which is answered as it says.
+fn lived(rt: &impl Abort, alloc: Global, count: usize) -> World {
+    let mut world = World::new(alloc, options(1, 10, 10)).expect(rt, "memory");
+    for line in lines().iter().take(count) {
+        assert_eq!(rt; first_wrong(alloc, &mut world, &[*line]), None);
+    }
+    world
 }
 
-// Where a message is after so many of the steps.
-fn place(alloc: Global, count: usize, serial: u64) -> Result<Option<Place>, Refusal> {
-    let parts = lived(alloc, count)?.parts();
-    let run = merged(alloc, &parts)?;
-    Ok(place_of(&run, &id(serial)))
+// Where a message is after so many of the lines.
+fn place(rt: &impl Abort, alloc: Global, count: usize, serial: u64) -> Option<Place> {
+    let parts = lived(rt, alloc, count).parts();
+    let run = merge(alloc, &parts).expect(rt, "one run");
+    place_of(&run, &id(serial))
 }
 
 #[test]
-fn places_are_those_of_the_events(rt: HostRuntime) -> Result<(), Fail> {
+fn places_are_those_of_the_events(rt: HostRuntime) {
     for (count, serial, want) in [
         (2, 0, None),
         (3, 0, Some(Place::InHome)),
@@ -67,42 +64,20 @@ fn places_are_those_of_the_events(rt: HostRuntime) -> Result<(), Fail> {
         (11, 3, None),
         (13, 3, Some(Place::ClosedAway)),
     ] {
-        assert!(rt;
-            place(rt.alloc(), count, serial) == Ok(want),
-            "{serial} after {count}"
-        );
+        let place = place(&rt, rt.alloc(), count, serial);
+        assert_eq!(rt; place, want, "{serial} after {count}");
     }
-    Ok(())
 }
 
-// The serial of each message that was sent, and where it is after all steps.
-fn all_places(alloc: Global) -> Result<Vec<(u64, Place)>, Refusal> {
-    let parts = lived(alloc, 13)?.parts();
-    let mut all = Vec::new(alloc);
-    for (id, place) in &places_of(alloc, &merged(alloc, &parts)?)? {
-        all.push((id.serial.get(), *place))?;
-    }
-    Ok(all)
+fn audited(rt: &impl Abort, alloc: Global) -> Text {
+    audit_world(alloc, lived(rt, alloc, 13)).expect(rt, "memory")
 }
 
 #[test]
-fn all_places_are_told(rt: HostRuntime) -> Result<(), Fail> {
-    let want = [
-        (0, Place::Deleted),
-        (1, Place::Expired),
-        (2, Place::Purged),
-        (3, Place::ClosedAway),
-    ];
-    assert_eq!(rt; all_places(rt.alloc())?.as_slice(), want.as_slice());
-    let text = audit_world(rt.alloc(), lived(rt.alloc(), 13)?).expect(&rt, "memory");
+fn audits_have_their_words(rt: HostRuntime) {
     let want =
         r#"{"Merged":["0.1","0.2","1000.0","1000.1","2000.0","3000.0","32000.0","32000.1","33000.0","345600999.0","345601000.0","345601000.1","345601000.2"],"Places":[["00000000-0001-8000-8000-000000000000","deleted"],["00000000-0001-8000-8000-000000000001","expired"],["00000000-0001-8000-8000-000000000002","purged"],["00000000-0001-8000-8000-000000000003","closed"]]}"#;
-    assert_eq!(rt; text.as_bytes(), want.as_bytes());
-    Ok(())
-}
-
-#[test]
-fn audits_have_their_words(rt: HostRuntime) -> Result<(), Fail> {
+    assert_eq!(rt; audited(&rt, rt.alloc()).as_bytes(), want.as_bytes());
     for (place, want) in [
         (Place::InHome, "home"),
         (Place::InTransit, "transit"),
@@ -117,7 +92,7 @@ fn audits_have_their_words(rt: HostRuntime) -> Result<(), Fail> {
             "4611686018427387903.10",
         ),
     ] {
-        assert_eq!(rt; stamp_text(rt.alloc(), stamp)?.as_str(), want);
+        let text = stamp_text(rt.alloc(), stamp).expect(&rt, "memory");
+        assert_eq!(rt; text.as_str(), want);
     }
-    Ok(())
 }

@@ -1,76 +1,66 @@
 //! All homes are reached, and roughly as often as one another.
 use sq_base::ids::HomeNo;
 use sq_sample::sampler::{HomeCount, Sampler};
-use std::test::Fail;
+use std::alloc::Global;
+use std::process::Abort;
 
-/// How often each home was chosen.
-#[derive(Drop)]
-struct Tally {
-    counts: [u32; 16],
+// How often each home is picked among 16.
+fn picked(seed: u64, times: u32) -> [u32; 16] {
+    let mut sampler = Sampler::new(seed);
+    let mut counts = [0u32; 16];
+    for _ in 0..times {
+        note(&mut counts, sampler.pick(HomeCount::of(16)));
+    }
+    counts
 }
 
-impl Tally {
-    fn note(&mut self, home: HomeNo) {
-        if let Some(count) = self.counts.get_mut(home.get() as usize) {
-            *count = count.saturating_add(1);
-        }
-    }
-
-    // Whether each of the first homes was chosen about so often, and no other one.
-    fn is_even(&self, homes: usize, often: u32) -> bool {
-        self.counts.iter().enumerate().all(|(home, count)| {
-            if home < homes {
-                often - often / 10 <= *count && *count <= often.saturating_add(often / 10)
-            } else {
-                *count == 0
-            }
-        })
+fn note(counts: &mut [u32; 16], home: HomeNo) {
+    if let Some(count) = counts.get_mut(home.get() as usize) {
+        *count = count.saturating_add(1);
     }
 }
 
-fn empty() -> Tally {
-    Tally { counts: [0; 16] }
-}
-
-#[test]
-fn homes_are_picked_evenly(rt: HostRuntime) {
-    let mut sampler = Sampler::new(7);
-    let mut tally = empty();
-    for _ in 0..100_000 {
-        tally.note(sampler.pick(HomeCount::of(16)));
-    }
-    assert!(rt; tally.is_even(16, 6250));
-}
-
-#[test]
-fn homes_are_drawn_evenly(rt: HostRuntime) -> Result<(), Fail> {
+// How often each home stands at this place of three that are drawn among five.
+fn drawn(rt: &impl Abort, alloc: Global, place: usize) -> [u32; 16] {
     let mut sampler = Sampler::new(0);
-    let mut first = empty();
-    let mut last = empty();
+    let mut counts = [0u32; 16];
     for _ in 0..100_000 {
-        let drawn = sampler.draw(rt.alloc(), HomeCount::of(5), HomeCount::of(3))?;
-        assert_eq!(rt; drawn.len(), 3);
-        if let [a, _, c] = drawn.as_slice() {
-            first.note(*a);
-            last.note(*c);
+        let drawn = sampler
+            .draw(alloc, HomeCount::of(5), HomeCount::of(3))
+            .expect(rt, "memory");
+        if let Some(home) = drawn.get(place) {
+            note(&mut counts, *home);
         }
     }
-    assert!(rt; first.is_even(5, 20_000) && last.is_even(5, 20_000));
-    Ok(())
+    counts
+}
+
+// Whether each of the first homes was chosen about so often, and no other one.
+fn is_even(counts: &[u32; 16], homes: usize, often: u32) -> bool {
+    for (home, count) in counts.iter().enumerate() {
+        let off = count.abs_diff(if home < homes { often } else { 0 });
+        if off > often / 10 || (home >= homes && off > 0) {
+            return false;
+        }
+    }
+    true
 }
 
 #[test]
-fn one_seed_gives_one_choice(rt: HostRuntime) -> Result<(), Fail> {
-    let mut first = Sampler::new(11);
-    let mut second = Sampler::new(11);
-    for _ in 0..1000 {
-        assert_eq!(rt;
-            first.pick(HomeCount::of(16)),
-            second.pick(HomeCount::of(16))
-        );
+fn homes_are_chosen_evenly(rt: HostRuntime) {
+    let counts = picked(7, 100_000);
+    assert!(rt; is_even(&counts, 16, 6250), "{counts:?}");
+    for place in 0..3 {
+        let counts = drawn(&rt, rt.alloc(), place);
+        assert!(rt; is_even(&counts, 5, 20_000), "{counts:?} at {place}");
     }
-    let all = first.draw(rt.alloc(), HomeCount::of(1), HomeCount::of(1))?;
-    assert_eq!(rt; all.len(), 1);
-    assert!(rt; all.iter().all(|home| *home == HomeNo::first()));
-    Ok(())
+    assert_eq!(rt; drawn(&rt, rt.alloc(), 3), [0; 16]);
+}
+
+// Three picks tell the first homes that a seed chooses.
+#[test]
+fn one_seed_gives_one_choice(rt: HostRuntime) {
+    for times in 0..50 {
+        assert_eq!(rt; picked(11, times), picked(11, times));
+    }
 }

@@ -1,24 +1,22 @@
-//! What several tests begin with: names, bodies, actors, worlds, and steps at their homes.
+//! What several tests begin with: plain values, and scripts of steps with what each is answered.
 ghost use Rattle.std.specs.Prelude.{◌<◌};
 ghost use Rattle.sq_base.specs.Stamps.{stamp_end};
 
-use sq_audit::merge::merge;
-use sq_audit::parts::Parts;
-use sq_audit::run::Run;
 use sq_base::body::{BODY_LIMIT, Body};
 use sq_base::ids::{HomeId, HomeNo, QueueNo, Serial};
 use sq_base::message_id::MessageId;
 use sq_base::name::QueueName;
-use sq_base::ranges::{MaxMessages, Receives};
+use sq_base::ranges::{Delay, MaxMessages, Receives, Timeout};
 use sq_base::refusal::Refusal;
+use sq_base::row::Row;
 use sq_base::settings::Settings;
 use sq_base::stamp::Stamp;
 use sq_merge::options::Options;
 use sq_merge::world::World;
 use sq_model::calls::Receipt;
 use sq_model::directory::Attributes;
-use sq_model::event::Actor;
-use sq_steps::act::{Act, HomeAct, Step};
+use sq_model::replies::HomeReply;
+use sq_steps::act::{Act, HomeAct, Outcome, Step};
 use std::alloc::Global;
 
 /// What a queue is asked for without attributes.
@@ -28,6 +26,9 @@ pub const NONE_GIVEN: Attributes = Attributes {
     wait_time: None,
     timeout: None,
 };
+
+/// The first moment past the clock's end.
+pub const CLOCK_END: u64 = 4_611_686_018_427_387_904;
 
 pub fn named(name: &str) -> Result<QueueName, Refusal> {
     QueueName::new(name.as_bytes()).ok_or(Refusal::InvalidParameterValue)
@@ -43,22 +44,11 @@ pub fn stamp(moment: u64, count: u64) -> Stamp
     Stamp { moment, count }
 }
 
-/// An actor that did so many steps, and saw none.
-pub fn actor(number: u32, place: u64) -> Actor {
-    Actor {
-        number,
-        place,
-        seen: Stamp::start(),
-    }
-}
-
-/// A home of the first queue.
-pub fn home(number: u8) -> HomeId
-    requires { number < 16 }
-{
+/// A home of the first queue; the first one, where none has this number.
+pub fn home(number: u64) -> HomeId {
     HomeId {
         queue: QueueNo::following(0),
-        home: HomeNo::of(number),
+        home: HomeNo::new(number).unwrap_or(HomeNo::first()),
     }
 }
 
@@ -93,50 +83,117 @@ pub fn options(homes: u32, rows: u32, flights: u32) -> Options {
     }
 }
 
-pub fn create(actor: u32, clock: u64, name: &str) -> Result<Step, Refusal> {
-    Ok(Step {
-        actor,
-        clock,
-        act: Act::Create(named(name)?, NONE_GIVEN),
+/// What is asked of a home, in values that are copied.
+#[derive(Clone, Copy)]
+pub enum Ask {
+    /// Of the list of queues: makes the queue q, or finds it.
+    Create,
+    Configure(Settings, u64),
+    Send(Option<Delay>),
+    /// For up to ten messages.
+    Look(Option<Timeout>),
+    /// By slot, serial and receive number.
+    Delete(u32, u64, u64),
+    Change(u32, u64, u64, Timeout),
+    Purge,
+    Count,
+    Close,
+}
+
+/// What is answered, in numbers.
+#[derive(Clone, Copy, PartialEq, Eq, Debug)]
+pub enum Told {
+    /// The number of the queue.
+    Made(u64),
+    Done,
+    /// Its slot and its serial.
+    Sent(u32, u64),
+    /// The receive number of the one message that a look gave, and from when on it is visible.
+    Gave(u32, u64),
+    /// How many messages a look gave.
+    GaveAll(usize),
+    /// Visible, in flight, delayed.
+    Counts(u32, u32, u32),
+    Refused(Refusal),
+    Other,
+}
+
+/// A step of a script: the actor, its clock reading in ms, the number of the first queue's home, what is asked of it, and
+/// what it must answer.
+pub type Line = (u32, u64, u64, Ask, Told);
+
+pub fn home_act(alloc: Global, ask: Ask) -> Result<HomeAct, Refusal> {
+    Ok(match ask {
+        Ask::Configure(settings, version) => HomeAct::Configure(settings, version),
+        Ask::Send(delay) => HomeAct::Send(hello(alloc)?, delay),
+        Ask::Look(timeout) => HomeAct::Look(MaxMessages::of(10), timeout),
+        Ask::Delete(slot, serial, receive) => HomeAct::Delete(receipt(slot, serial, receive)),
+        Ask::Change(slot, serial, receive, timeout) => {
+            HomeAct::Change(receipt(slot, serial, receive), timeout)
+        }
+        Ask::Purge => HomeAct::Purge,
+        Ask::Close => HomeAct::Close,
+        Ask::Count | Ask::Create => HomeAct::Count,
     })
 }
 
-/// At a home of the first queue.
-pub fn at(actor: u32, clock: u64, number: u8, act: HomeAct) -> Step
-    requires { number < 16 }
-{
-    Step {
-        actor,
-        clock,
-        act: Act::Home(home(number), act),
+/// The step that asks this.
+pub fn step(alloc: Global, actor: u32, clock: u64, at: HomeId, ask: Ask) -> Result<Step, Refusal> {
+    let act = match ask {
+        Ask::Create => Act::Create(named("q")?, NONE_GIVEN),
+        _ => Act::Home(at, home_act(alloc, ask)?),
+    };
+    Ok(Step { actor, clock, act })
+}
+
+fn told_by_rows(rows: &[Row]) -> Told {
+    match rows {
+        [row] if row.body.as_str() == "hello" => Told::Gave(row.receives, row.visible_from),
+        _ => Told::GaveAll(rows.len()),
     }
 }
 
-pub fn configure() -> HomeAct {
-    HomeAct::Configure(Settings::standard(), 1)
-}
-
-pub fn look() -> HomeAct {
-    HomeAct::Look(MaxMessages::of(10), None)
-}
-
-pub fn send(alloc: Global) -> Result<HomeAct, Refusal> {
-    Ok(HomeAct::Send(hello(alloc)?, None))
-}
-
-/// A world after steps that are all done.
-pub fn stepped(alloc: Global, options: Options, steps: &[Step]) -> Result<World, Refusal> {
-    let mut world = World::new(alloc, options)?;
-    for step in steps {
-        world.step(alloc, step)?;
+pub fn told_by(reply: &HomeReply) -> Told {
+    match reply {
+        HomeReply::Done => Told::Done,
+        HomeReply::Sent(sent) => Told::Sent(sent.slot, sent.id.serial.get()),
+        HomeReply::Looked(rows) => told_by_rows(rows.as_slice()),
+        HomeReply::Counted(counts) => Told::Counts(counts.visible, counts.flying, counts.delayed),
+        _ => Told::Other,
     }
-    Ok(world)
 }
 
-/// The one run of these parts.
-pub fn merged<'a>(alloc: Global, parts: &'a Parts) -> Result<Run<'a>, Refusal> {
-    match merge(alloc, parts) {
-        Ok(run) => Ok(run),
-        Err(_) => Err(Refusal::UnsupportedOperation),
+fn outcome_told(outcome: &Result<Outcome, Refusal>) -> Told {
+    match outcome {
+        Ok(Outcome::Made(made)) => Told::Made(made.queue.get()),
+        Ok(Outcome::Home(reply)) => told_by(reply),
+        Ok(_) => Told::Other,
+        Err(refusal) => Told::Refused(*refusal),
+    }
+}
+
+fn asked(alloc: Global, world: &mut World, actor: u32, clock: u64, at: HomeId, ask: Ask) -> Told {
+    match step(alloc, actor, clock, at, ask) {
+        Ok(step) => outcome_told(&world.step(alloc, &step)),
+        Err(refusal) => Told::Refused(refusal),
+    }
+}
+
+/// The place of the first line of a script that is not answered as it says, and what it is answered.
+pub fn first_wrong(alloc: Global, world: &mut World, lines: &[Line]) -> Option<(usize, Told)> {
+    for (place, (actor, clock, number, ask, want)) in lines.iter().enumerate() {
+        let told = asked(alloc, world, *actor, *clock, home(*number), *ask);
+        if told != *want {
+            return Some((place, told));
+        }
+    }
+    None
+}
+
+/// The same of a world of its own.
+pub fn played(alloc: Global, options: Options, lines: &[Line]) -> Option<(usize, Told)> {
+    match World::new(alloc, options) {
+        Ok(mut world) => first_wrong(alloc, &mut world, lines),
+        Err(refusal) => Some((0, Told::Refused(refusal))),
     }
 }

@@ -1,13 +1,12 @@
 //! Runs over a reader and a writer that fail. Whole scripts are in `rows/`.
 use crate::setup::options;
-use sq_base::refusal::Refusal;
 use sq_lines::counted::Counted;
 use sq_lines::lines::{LineFault, Lines};
 use sq_merge::world::World;
 use sq_wire::run::{ServeFault, run_script};
 use std::alloc::Global;
 use std::io::{self, ErrorKind, Read, Write};
-use std::test::Fail;
+use std::process::Abort;
 
 /// Gives at most four bytes a call, and fails at one call.
 #[derive(Drop)]
@@ -77,84 +76,58 @@ impl Write for Bytewise {
     }
 }
 
-// What becomes of a script over a world of its own.
-fn served<R: Read, W: Write>(
-    alloc: Global,
-    reader: &mut Counted<R>,
-    writer: &mut Counted<W>,
-) -> Result<Result<u64, ServeFault>, Refusal> {
-    let mut world = World::new(alloc, options(1, 10, 10))?;
-    Ok(run_script(alloc, reader, writer, &mut world))
+/// What two lines that are no requests are answered with.
+const REFUSED: &[u8] =
+    b"{\"Error\":{\"Code\":\"InvalidRequest\",\"Number\":4}}\n{\"Error\":{\"Code\":\"InvalidRequest\",\"Number\":4}}\n";
+
+// What became of a run, how many bytes of `REFUSED` were written, and how many flushes, failed reads and failed writes there
+// were; no number of bytes where others were written.
+type Served = (Result<u64, ServeFault>, Option<usize>, u32, u64, u64);
+
+// Two lines that are no requests, where a call of the reader and a call of the writer fail, counted from 1.
+fn run_of(rt: &impl Abort, alloc: Global, reads: u32, writes: u32) -> Served {
+    let mut reader = Counted::new(Piecewise::new(b"one\ntwo\n", reads));
+    let mut writer = Counted::new(Bytewise::new(alloc, writes));
+    let mut world = World::new(alloc, options(1, 10, 10)).expect(rt, "memory");
+    let done = run_script(alloc, &mut reader, &mut writer, &mut world);
+    let stream = writer.inner();
+    let written = REFUSED
+        .starts_with(stream.written.as_slice())
+        .then_some(stream.written.len());
+    (
+        done,
+        written,
+        stream.flushes,
+        reader.failed(),
+        writer.failed(),
+    )
 }
 
-/// What a line that is no request is answered with.
-const REFUSED: &[u8] = b"{\"Error\":{\"Code\":\"InvalidRequest\",\"Number\":4}}\n";
-
+// A reply has 46 bytes and a line feed.
 #[test]
-fn stops_where_a_read_fails(rt: HostRuntime) -> Result<(), Fail> {
-    let mut reader = Counted::new(Piecewise::new(b"one\ntwo\n", 2));
-    let mut writer = Counted::new(Vec::new(rt.alloc()));
-    let done = served(rt.alloc(), &mut reader, &mut writer)?;
-    assert_eq!(rt; done, Err(ServeFault::Read(1)));
-    assert_eq!(rt; writer.inner().as_slice(), REFUSED);
-    assert_eq!(rt; reader.failed(), 1);
-    Ok(())
-}
-
-#[test]
-fn keeps_what_was_read_before_a_fault(rt: HostRuntime) -> Result<(), Fail> {
-    let mut reader = Counted::new(Piecewise::new(b"a line of ten words\nmore", 3));
-    let mut lines = Lines::new(rt.alloc())?;
-    assert!(rt;
-        matches!(
-            &lines.next_line(rt.alloc(), &mut reader),
-            Err(LineFault::Read)
-        )
-    );
-    let line = lines.next_line(rt.alloc(), &mut reader);
-    assert!(rt;
-        matches!(&line, Ok(Some(line)) if line.as_slice() == b"a line of ten words".as_slice())
-    );
-    Ok(())
-}
-
-#[test]
-fn stops_where_a_write_fails(rt: HostRuntime) -> Result<(), Fail> {
-    // A reply has 46 bytes and a line feed; the first call to fail, the replies before it, and how far the next one got.
-    for (fails_at, answered, part) in [
-        (1, 0, 0),
-        (46, 0, 45),
-        (47, 0, 46),
-        (48, 1, 0),
-        (49, 1, 1),
+fn a_run_flushes_each_line_and_stops_where_a_call_fails(rt: HostRuntime) {
+    for (reads, writes, want) in [
+        (0, 0, (Ok(2), Some(94), 2, 0, 0)),
+        (2, 0, (Err(ServeFault::Read(1)), Some(47), 1, 1, 0)),
+        (0, 1, (Err(ServeFault::Write(0)), Some(0), 0, 0, 1)),
+        (0, 46, (Err(ServeFault::Write(0)), Some(45), 0, 0, 1)),
+        (0, 47, (Err(ServeFault::Write(0)), Some(46), 0, 0, 1)),
+        (0, 48, (Err(ServeFault::Write(1)), Some(47), 1, 0, 1)),
+        (0, 49, (Err(ServeFault::Write(1)), Some(48), 1, 0, 1)),
     ] {
-        let mut wanted = Vec::new(rt.alloc());
-        for _ in 0..answered {
-            wanted.extend_from_slice(REFUSED)?;
-        }
-        for byte in REFUSED.iter().take(part) {
-            wanted.push(*byte)?;
-        }
-        let mut reader = Counted::new(b"one\ntwo\n".as_slice());
-        let mut writer = Counted::new(Bytewise::new(rt.alloc(), fails_at));
-        let done = served(rt.alloc(), &mut reader, &mut writer)?;
-        assert!(rt; done == Err(ServeFault::Write(answered)), "at {fails_at}");
-        assert!(rt;
-            writer.inner().written.as_slice() == wanted.as_slice(),
-            "at {fails_at}"
-        );
-        assert_eq!(rt; writer.failed(), 1);
+        let served = run_of(&rt, rt.alloc(), reads, writes);
+        assert_eq!(rt; served, want, "{reads} {writes}");
     }
-    Ok(())
 }
 
 #[test]
-fn flushes_each_line(rt: HostRuntime) -> Result<(), Fail> {
-    let mut reader = Counted::new(b"one\ntwo\n".as_slice());
-    let mut writer = Counted::new(Bytewise::new(rt.alloc(), 0));
-    let done = served(rt.alloc(), &mut reader, &mut writer)?;
-    assert_eq!(rt; done, Ok(2));
-    assert_eq!(rt; writer.inner().written.len(), 2 * REFUSED.len());
-    assert_eq!(rt; writer.inner().flushes, 2);
-    Ok(())
+fn keeps_what_was_read_before_a_fault(rt: HostRuntime) {
+    let mut reader = Counted::new(Piecewise::new(b"a line of ten words\nmore", 3));
+    let mut lines = Lines::new(rt.alloc()).expect(&rt, "memory");
+    let first = lines.next_line(rt.alloc(), &mut reader);
+    assert!(rt; matches!(&first, Err(LineFault::Read)));
+    let second = lines.next_line(rt.alloc(), &mut reader);
+    assert!(rt;
+        matches!(&second, Ok(Some(line)) if line.as_slice() == b"a line of ten words".as_slice())
+    );
 }

@@ -123,48 +123,13 @@ fn other_uuids_are_no_ids(rt: HostRuntime) {
 }
 
 #[test]
-fn bodies_are_checked(rt: HostRuntime) {
-    let bodies = [
-        ("", 10, Err(Refusal::InvalidParameterValue)),
-        ("hello", 5, Ok(())),
-        ("hello", 4, Err(Refusal::InvalidParameterValue)),
-        ("\u{1}", 10, Err(Refusal::InvalidMessageContents)),
-        ("\u{FFFE}", 10, Err(Refusal::InvalidMessageContents)),
-        ("\u{B}", 10, Err(Refusal::InvalidMessageContents)),
-        ("a\tb\r\n", 10, Ok(())),
-        (
-            "\u{7F}\u{D7FF}\u{E000}\u{FFFD}\u{10000}\u{10FFFF}",
-            100,
-            Ok(()),
-        ),
-    ];
-    for (text, limit, want) in bodies {
-        assert_eq!(rt; Body::check(text, limit), want);
-    }
-}
-
-#[test]
-fn bodies_are_kept(rt: HostRuntime) -> Result<(), Fail> {
-    let body = hello(rt.alloc())?;
-    let copy = body.copy()?;
+fn bodies_are_kept(rt: HostRuntime) {
+    let body = hello(rt.alloc()).expect(&rt, "memory");
+    let copy = body.copy().expect(&rt, "memory");
     assert!(rt; copy.as_str() == "hello");
     assert_eq!(rt; copy.len(), 5);
     assert!(rt; &body_md5(&copy) == b"5d41402abc4b2a76b9719d911017c592");
     assert!(rt; Body::new(rt.alloc(), "", BODY_LIMIT).is_err());
-    Ok(())
-}
-
-#[test]
-fn bodies_have_a_limit(rt: HostRuntime) -> Result<(), Fail> {
-    let letters = vec![in rt.alloc(); b'a'; BODY_LIMIT + 1]?;
-    let most = str::from_utf8(&letters[1..])?;
-    assert_eq!(rt; Body::check(most, BODY_LIMIT), Ok(()));
-    let more = str::from_utf8(&letters)?;
-    assert_eq!(rt;
-        Body::check(more, BODY_LIMIT),
-        Err(Refusal::InvalidParameterValue)
-    );
-    Ok(())
 }
 
 const LAST: u64 = 4_611_686_018_427_387_903;
@@ -222,7 +187,7 @@ fn names_are_checked(rt: HostRuntime) {
 }
 
 #[test]
-fn refusals_have_names(rt: HostRuntime) -> Result<(), Fail> {
+fn refusals_have_names(rt: HostRuntime) {
     for (refusal, number, name) in [
         (Refusal::NoMemory, 1, "NoMemory"),
         (Refusal::Worn, 3, "Worn"),
@@ -258,18 +223,17 @@ fn refusals_have_names(rt: HostRuntime) -> Result<(), Fail> {
         ),
         (Refusal::Worn, r#"{"Error":{"Code":"Worn","Number":3}}"#),
     ] {
-        let told = reply_text(rt.alloc(), &Err(refusal))?;
+        let told = reply_text(rt.alloc(), &Err(refusal)).expect(&rt, "memory");
         assert_eq!(rt; told.as_bytes(), want.as_bytes());
     }
-    Ok(())
 }
 
 #[test]
-fn a_box_gives_its_item(rt: HostRuntime) -> Result<(), Fail> {
+fn a_box_gives_its_item(rt: HostRuntime) {
     let row = Row {
         id: id(0),
         lineage: id(0),
-        body: hello(rt.alloc())?,
+        body: hello(rt.alloc()).expect(&rt, "memory"),
         serial: Serial::first(),
         slot: 3,
         enqueued: 1000,
@@ -286,9 +250,8 @@ fn a_box_gives_its_item(rt: HostRuntime) -> Result<(), Fail> {
         reason: Reason::DeadLetter,
         homeward: true,
     };
-    let boxed = BoxedItem::new(rt.alloc(), item)?;
+    let boxed = BoxedItem::new(rt.alloc(), item).expect(&rt, "memory");
     let kept = boxed.get();
     assert!(rt; kept.number == ItemNo::first() && kept.row.id == id(0) && kept.row.slot == 3);
     assert!(rt; kept.source.get() == 2 && kept.target.get() == 1 && kept.homeward);
-    Ok(())
 }
