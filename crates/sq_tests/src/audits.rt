@@ -178,8 +178,8 @@ fn fault(alloc: Global, parts: &Parts) -> Option<AuditFault> {
     merge(alloc, parts).err()
 }
 
-// How many records each actor has after so many steps, and how many events were told.
-fn noted(rt: &impl Abort, alloc: Global, steps: u64) -> ([u64; 9], u64)
+// How many records each actor has after so many steps, how many events were told, and how many of them are of the list of queues.
+fn noted(rt: &impl Abort, alloc: Global, steps: u64) -> ([u64; 9], u64, usize)
     requires { steps ≤ 100000 }
 {
     let (parts, held) = ran(rt, alloc, steps);
@@ -189,7 +189,7 @@ fn noted(rt: &impl Abort, alloc: Global, steps: u64) -> ([u64; 9], u64)
             *count = book.records().len() as u64;
         }
     }
-    (counts, held.events as u64)
+    (counts, held.events as u64, parts.directory.events().len())
 }
 
 // Takes a record out of what so many steps leave, and again: whether it was there, and what the audit says.
@@ -211,7 +211,7 @@ fn without(
 // The actors are 0 to 7.
 #[test]
 fn each_record_that_is_taken_out_is_told(rt: HostRuntime) {
-    let (counts, events) = noted(&rt, rt.alloc(), 150);
+    let (counts, events, made) = noted(&rt, rt.alloc(), 150);
     let mut dropped = 0u64;
     for (actor, count) in (0u32..).zip(&counts) {
         for place in 0..*count {
@@ -228,7 +228,7 @@ fn each_record_that_is_taken_out_is_told(rt: HostRuntime) {
         }
     }
     assert_eq!(rt; dropped, events);
-    assert!(rt; 50 < dropped, "{dropped}");
+    assert!(rt; 50 < dropped && 1 <= made, "{dropped} {made}");
 }
 
 // The parts of a world in which an actor made queues of these names.
