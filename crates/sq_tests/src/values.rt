@@ -11,7 +11,6 @@ use sq_base::row::Row;
 use sq_base::stamp::{Stamp, derived_order};
 use sq_model::item::{BoxedItem, Item, ItemNo, Reason};
 use sq_wire::reply::reply_text;
-use std::test::Fail;
 use uuid::Uuid;
 
 fn handle_of(queue: u64, home: u64, slot: u32, serial: u64, receive: u64) -> Option<Handle> {
@@ -123,6 +122,27 @@ fn other_uuids_are_no_ids(rt: HostRuntime) {
 }
 
 #[test]
+fn bodies_are_checked(rt: HostRuntime) {
+    let bodies = [
+        ("", 10, Err(Refusal::InvalidParameterValue)),
+        ("hello", 5, Ok(())),
+        ("hello", 4, Err(Refusal::InvalidParameterValue)),
+        ("\u{1}", 10, Err(Refusal::InvalidMessageContents)),
+        ("\u{FFFE}", 10, Err(Refusal::InvalidMessageContents)),
+        ("\u{B}", 10, Err(Refusal::InvalidMessageContents)),
+        ("a\tb\r\n", 10, Ok(())),
+        (
+            "\u{7F}\u{D7FF}\u{E000}\u{FFFD}\u{10000}\u{10FFFF}",
+            100,
+            Ok(()),
+        ),
+    ];
+    for (text, limit, want) in bodies {
+        assert_eq!(rt; Body::check(text, limit), want);
+    }
+}
+
+#[test]
 fn bodies_are_kept(rt: HostRuntime) {
     let body = hello(rt.alloc()).expect(&rt, "memory");
     let copy = body.copy().expect(&rt, "memory");
@@ -130,6 +150,16 @@ fn bodies_are_kept(rt: HostRuntime) {
     assert_eq!(rt; copy.len(), 5);
     assert!(rt; &body_md5(&copy) == b"5d41402abc4b2a76b9719d911017c592");
     assert!(rt; Body::new(rt.alloc(), "", BODY_LIMIT).is_err());
+}
+
+#[test]
+fn bodies_have_a_limit(rt: HostRuntime) {
+    let letters = vec![in rt.alloc(); b'a'; BODY_LIMIT + 1].expect(&rt, "memory");
+    let most = str::from_utf8(&letters[1..]).expect(&rt, "letters");
+    assert_eq!(rt; Body::check(most, BODY_LIMIT), Ok(()));
+    let more = str::from_utf8(&letters).expect(&rt, "letters");
+    let long = Err(Refusal::InvalidParameterValue);
+    assert_eq!(rt; Body::check(more, BODY_LIMIT), long);
 }
 
 const LAST: u64 = 4_611_686_018_427_387_903;
