@@ -67,13 +67,13 @@ pair_rises : (t u : Tag) → is_before u t ≡ false → (rank_of u ≡ rank_of 
     → (event_place u < event_place t → Below (stamp_of u) (stamp_of t))
     → (event_place u ≡ event_place t → (rank_of u ≡ rank_of t) × (stamp_of u ≡ stamp_of t))
     → event_place t < event_place u
-pair_rises t u order part agree apart =
+pair_rises t u order part agree differ =
     elim (cases_lt (event_place t) (event_place u)) as (λ _. event_place t < event_place u) [
       | inl h ↦ h
       | inr h ↦ elim (cases_lt (event_place u) (event_place t)) as (λ _. event_place t < event_place u) [
         | inl k ↦ (let less = less_first (stamp_cmp (stamp_of u) (stamp_of t)) (nat_cmp (rank_of u) (rank_of t)) (below_less (stamp_of u) (stamp_of t) (agree k)) in absurd cc)
         | inr k ↦ (let e : event_place u ≡ event_place t = omega (arith, h, k) in
-            let same = apart e in
+            let same = differ e in
             absurd (below_not_itself (stamp_of t) (subst (λ (s : StampValue). Below (stamp_of t) s) same.1 (part same.0))))
       ]
     ]
@@ -83,17 +83,17 @@ head_rises : (t : Tag) (us : List Tag) → AllByRecursion (λ u. is_before u t �
     → ((k : ℕ) (u : Tag) → slice_get us k ≡ Some u → event_actor u ≡ event_actor t → event_place u ≡ event_place t → (rank_of u ≡ rank_of t) × (stamp_of u ≡ stamp_of t))
     → ((k : ℕ) (u : Tag) → slice_get us k ≡ Some u → event_actor u ≡ event_actor t → event_place t < event_place u → Below (stamp_of t) (stamp_of u))
     → AllByRecursion (λ u. event_actor u ≡ event_actor t → (event_place t < event_place u) × Below (stamp_of t) (stamp_of u)) us
-head_rises t [] order parts agree apart up = tt
-head_rises t (u ∷ us) order parts agree apart up = (
-  λ same. (let less = pair_rises t u order.0 parts.0 (agree 0 u refl same) (apart 0 u refl same) in (less, up 0 u refl same less)),
-  head_rises t us order.1 parts.1 (λ k. agree (suc k)) (λ k. apart (suc k)) (λ k. up (suc k)),
+head_rises t [] order parts agree differ up = tt
+head_rises t (u ∷ us) order parts agree differ up = (
+  λ same. (let less = pair_rises t u order.0 parts.0 (agree 0 u refl same) (differ 0 u refl same) in (less, up 0 u refl same less)),
+  head_rises t us order.1 parts.1 (λ k. agree (suc k)) (λ k. differ (suc k)) (λ k. up (suc k)),
 )
 
 all_rise : (ts : List Tag) → InOrder is_before ts → PartsRise ts → PlacesAgree ts → PlacesApart ts → ActorsRise ts
-all_rise [] order parts agree apart = tt
-all_rise (t ∷ ts) order parts agree apart = (
-  head_rises t ts order.0 parts.0 (λ k u is. agree (suc k) 0 u t is refl) (λ k u is. apart (suc k) 0 u t is refl) (λ k u is same. agree 0 (suc k) t u refl is (sym same)),
-  all_rise ts order.1 parts.1 (λ i j. agree (suc i) (suc j)) (λ i j. apart (suc i) (suc j)),
+all_rise [] order parts agree differ = tt
+all_rise (t ∷ ts) order parts agree differ = (
+  head_rises t ts order.0 parts.0 (λ k u is. agree (suc k) 0 u t is refl) (λ k u is. differ (suc k) 0 u t is refl) (λ k u is same. agree 0 (suc k) t u refl is (sym same)),
+  all_rise ts order.1 parts.1 (λ i j. agree (suc i) (suc j)) (λ i j. differ (suc i) (suc j)),
 )
 
 -- in the list of all events of histories whose stamps rise, those of each part stand in their order
@@ -103,8 +103,8 @@ merged_parts_rise directory homes run merged own each = parts_rise run (rw merge
 -- in the list of all events of histories whose stamps rise, each actor's events stand in its order
 pub actors_rise : (directory : List DirectoryEvent) (homes : List (List HomeEvent)) (run : List Tag) → IsMerged directory homes run
     → Rises directory → ((i : ℕ) → Rises (history_at homes i)) → PlacesAgree run → PlacesApart run → ActorsRise run
-actors_rise directory homes run merged own each agree apart =
-    all_rise run merged.in_order (merged_parts_rise directory homes run merged own each) agree apart
+actors_rise directory homes run merged own each agree differ =
+    all_rise run merged.in_order (merged_parts_rise directory homes run merged own each) agree differ
 
 -- the stamps of each home rise
 pub homes_rise : (hs : List HistoryValue) (i : ℕ) → All IsKept hs → Rises (history_at (events_of hs) i)
@@ -121,8 +121,8 @@ in_directory (OfDirectory d ∷ ts) (suc i) e is = let rest = in_directory ts i 
 in_directory (OfHome j d ∷ ts) (suc i) e is = in_directory ts i e is
 
 in_left : (b : Bool) (d e : HomeEvent) (es : List HomeEvent) → (k : ℕ) × (slice_get es k ≡ Some e) → (k : ℕ) × (slice_get (cond b (d ∷ es) es) k ≡ Some e)
-in_left true d e es there = (suc there.0, there.1)
-in_left false d e es there = there
+in_left true d e es in_list = (suc in_list.0, in_list.1)
+in_left false d e es in_list = in_list
 
 pub in_home : (run : List Tag) (i j : ℕ) (e : HomeEvent) → slice_get run i ≡ Some (OfHome j e) → (k : ℕ) × (slice_get (of_home j run) k ≡ Some e)
 in_home [] i j e is = absurd cc

@@ -3,7 +3,7 @@ pub mod PartLaws
 pub mod MergeLaws
 pub mod ActorLaws
 pub mod StateLaws
-pub mod SpotLaws
+pub mod MessageStateLaws
 pub mod FollowLaws
 pub mod ListLaws
 pub mod IdOrder
@@ -11,5 +11,5 @@ pub mod RunLaws
 pub mod AuditLaws
 pub mod CheckLaws
 pub mod OnePlaceLaws
-pub mod NoteOrderLaws
+pub mod RecordOrderLaws
 pub mod HomeIdLaws

@@ -68,36 +68,36 @@ home_order (h ∷ hs) zero kept = rising_order start h.events h.last (All-head I
 home_order (h ∷ hs) (suc i) kept = home_order hs i (All-tail IsKept h hs kept)
 
 -- a stable sort by stamp of elements that stand for events
-module _ {X : Type 0} (tag : X → Tag) (all sorted : List X) (up : IsSortedByKey (λ x. stamp_of (tag x)) stamp_cmp sorted) (stable : IsStableByKey (λ x. stamp_of (tag x)) stamp_cmp all sorted) where
+module _ {X : Type 0} (tag : X → Tag) (all by_stamp : List X) (up : IsSortedByKey (λ x. stamp_of (tag x)) stamp_cmp by_stamp) (stable : IsStableByKey (λ x. stamp_of (tag x)) stamp_cmp all by_stamp) where
   -- a part that was in order stays as it was
-  part_unmoved : (p : Tag → Bool) → InOrder tag_less (filter p (map tag all)) → filter p (map tag sorted) ≡ filter p (map tag all)
+  part_unmoved : (p : Tag → Bool) → InOrder tag_less (filter p (map tag all)) → filter p (map tag by_stamp) ≡ filter p (map tag all)
   part_unmoved p order =
-      sym (filter_under tag p sorted)
-      ∙ ap (map tag) (part_stays (λ x y. tag_less (tag x) (tag y)) (ranks_by stamps_total (λ x. stamp_of (tag x))) (λ x. p (tag x)) all sorted (order_under tag tag_less (filter (λ x. p (tag x)) all) (rw (filter_under tag p all) order)) up stable)
+      sym (filter_under tag p by_stamp)
+      ∙ ap (map tag) (part_stays (λ x y. tag_less (tag x) (tag y)) (ranks_by stamps_total (λ x. stamp_of (tag x))) (λ x. p (tag x)) all by_stamp (order_under tag tag_less (filter (λ x. p (tag x)) all) (rw (filter_under tag p all) order)) up stable)
       ∙ filter_under tag p all
 
   -- events of equal stamps stand by rank, where all stood by rank before
-  sorted_order : InOrder rank_less (map tag all) → InOrder is_before (map tag sorted)
+  sorted_order : InOrder rank_less (map tag all) → InOrder is_before (map tag by_stamp)
   sorted_order ranked =
-      order_over tag is_before sorted
-      (order_from (λ x y. is_before (tag x) (tag y)) (ranks_by tags_total tag) sorted
+      order_over tag is_before by_stamp
+      (order_from (λ x y. is_before (tag x) (tag y)) (ranks_by tags_total tag) by_stamp
       (λ k d low high.
-      let x = slice_index_or sorted k d in
-      let y = slice_index_or sorted (k + 1) d in
+      let x = slice_index_or by_stamp k d in
+      let y = slice_index_or by_stamp (k + 1) d in
       by_rank (stamp_cmp (stamp_of (tag y)) (stamp_of (tag x))) (nat_cmp (rank_of (tag y)) (rank_of (tag x))) (up k d low high)
-      (λ tie. ties_stay_sorted (λ x y. rank_less (tag x) (tag y)) (λ x y. tag_less (tag x) (tag y)) (ranks_by nat_cmp_total (λ x. rank_of (tag x))) (ranks_by stamps_total (λ x. stamp_of (tag x))) all sorted (sorted_from (λ x y. rank_less (tag x) (tag y)) all (order_under tag rank_less all ranked)) stable k d high
+      (λ tie. ties_stay_sorted (λ x y. rank_less (tag x) (tag y)) (λ x y. tag_less (tag x) (tag y)) (ranks_by nat_cmp_total (λ x. rank_of (tag x))) (ranks_by stamps_total (λ x. stamp_of (tag x))) all by_stamp (sorted_from (λ x y. rank_less (tag x) (tag y)) all (order_under tag rank_less all ranked)) stable k d high
       (subst (λ (v : Ordering). not (is_lt v) && not (is_lt (stamp_cmp (stamp_of (tag y)) (stamp_of (tag x)))) ≡ true) (sym (stamps_total.antisymm (stamp_of (tag x)) (stamp_of (tag y)))) tie))))
 
   -- a stable sort of what stands part by part merges
-  pub sorted_merges : (directory : DirectoryHistory) (homes : List HistoryValue) → IsDirectoryKept directory → All IsKept homes → map tag all ≡ by_part directory.events (events_of homes) → IsMerged directory.events (events_of homes) (map tag sorted)
+  pub sorted_merges : (directory : DirectoryHistory) (homes : List HistoryValue) → IsDirectoryKept directory → All IsKept homes → map tag all ≡ by_part directory.events (events_of homes) → IsMerged directory.events (events_of homes) (map tag by_stamp)
   sorted_merges directory homes own kept is =
       let directory_order : InOrder tag_less (filter is_directory (map tag all)) =
       rw (is, directory_part (by_part directory.events (events_of homes)), directory_of_all directory.events (events_of homes)) (order_over OfDirectory tag_less directory.events (rising_order start directory.events directory.last own.rising)) in
       let part_order : (i : ℕ) → InOrder tag_less (filter (is_home i) (map tag all)) =
       λ i. rw (is, home_part i (by_part directory.events (events_of homes)), home_of_all directory.events (events_of homes) i) (order_over (λ e. OfHome i e) tag_less (history_at (events_of homes) i) (home_order homes i kept)) in
       record {
-        of_the_directory = sym (directory_alone (map tag sorted)) ∙ ap of_directory (part_unmoved is_directory directory_order) ∙ directory_alone (map tag all) ∙ ap of_directory is ∙ directory_of_all directory.events (events_of homes);
-        of_each_home = λ i. sym (home_alone i (map tag sorted)) ∙ ap (of_home i) (part_unmoved (is_home i) (part_order i)) ∙ home_alone i (map tag all) ∙ ap (of_home i) is ∙ home_of_all directory.events (events_of homes) i;
+        of_the_directory = sym (directory_alone (map tag by_stamp)) ∙ ap of_directory (part_unmoved is_directory directory_order) ∙ directory_alone (map tag all) ∙ ap of_directory is ∙ directory_of_all directory.events (events_of homes);
+        of_each_home = λ i. sym (home_alone i (map tag by_stamp)) ∙ ap (of_home i) (part_unmoved (is_home i) (part_order i)) ∙ home_alone i (map tag all) ∙ ap (of_home i) is ∙ home_of_all directory.events (events_of homes) i;
         in_order = sorted_order (rw is (all_ranked directory.events (events_of homes)));
       }
 

@@ -29,23 +29,23 @@ none_here x (s ∷ ss) h =
 
 -- another site has another id
 other_id : (x : HomeId) (s : Site) (ss : List Site) (j : ℕ) (t : Site) → Apart (s ∷ ss) → same_home x s.home ≡ true → slice_get ss j ≡ Some t → same_home x t.home ≡ false
-other_id x s ss j t apart here there =
+other_id x s ss j t one_place here in_list =
     elim (same_home x t.home) as (λ v. same_home x t.home ≡ v → v ≡ false) [
-      | true ↦ (λ e. let one : 0 ≡ suc j = apart 0 (suc j) s t refl there (same_home_is x s.home here ∙ sym (same_home_is x t.home e)) in absurd (omega (arith, one)))
+      | true ↦ (λ e. let one : 0 ≡ suc j = one_place 0 (suc j) s t refl in_list (same_home_is x s.home here ∙ sym (same_home_is x t.home e)) in absurd (omega (arith, one)))
       | false ↦ (λ e. refl)
     ] refl
 
 at_most_one : (x : HomeId) (sites : List Site) → Apart sites → count_by (λ site. same_home x site.home) sites ≤ 1
-at_most_one x [] apart = omega arith
-at_most_one x (s ∷ ss) apart =
+at_most_one x [] one_place = omega arith
+at_most_one x (s ∷ ss) one_place =
     elim (same_home x s.home) as (λ v. same_home x s.home ≡ v → count_by (λ site. same_home x site.home) (s ∷ ss) ≤ 1) [
       | true ↦ (λ e.
           let first : cond {A = ℕ} (same_home x s.home) 1 0 ≡ 1 = ap (λ (v : Bool). cond {A = ℕ} v 1 0) e in
-          let others = none_here x ss (λ j t g. other_id x s ss j t apart e g) in
+          let others = none_here x ss (λ j t g. other_id x s ss j t one_place e g) in
           omega (arith, sum_by-cons (λ (site : Site). cond (same_home x site.home) 1 0) s ss, first, others))
       | false ↦ (λ e.
           let first : cond {A = ℕ} (same_home x s.home) 1 0 ≡ 0 = ap (λ (v : Bool). cond {A = ℕ} v 1 0) e in
-          let rest = at_most_one x ss (λ i j a b g h same. let next : suc i ≡ suc j = apart (suc i) (suc j) a b g h same in omega (arith, next)) in
+          let rest = at_most_one x ss (λ i j a b g h same. let next : suc i ≡ suc j = one_place (suc i) (suc j) a b g h same in omega (arith, next)) in
           omega (arith, sum_by-cons (λ (site : Site). cond (same_home x site.home) 1 0) s ss, first, rest))
     ] refl
 

@@ -79,6 +79,6 @@ module _ {X : Type 0} (lt : X → X → Bool) (o : IsStrictWeakOrder lt) where
 
   -- a part that was in order before a stable sort is the same after it
   pub part_stays : (p : X → Bool) (xs ys : List X) → InOrder lt (filter p xs) → IsSortedBy lt ys → IsStableBy lt xs ys → filter p ys ≡ filter p xs
-  part_stays p xs ys before sorted stable =
-      sorted_same (filter p ys) (filter p xs) (order_filter lt p ys (order_from ys sorted)) before
+  part_stays p xs ys before by_stamp stable =
+      sorted_same (filter p ys) (filter p xs) (order_filter lt p ys (order_from ys by_stamp)) before
       (λ z. filter_swap (ties lt z) p ys ∙ ap (filter p) (stable z) ∙ sym (filter_swap (ties lt z) p xs))

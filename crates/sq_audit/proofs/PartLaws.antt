@@ -35,7 +35,7 @@ home_part j (OfHome i e ∷ ts) =
       | inr p ↦ rw p.0 rest
     ]
 
--- a part is told by itself
+-- a part is answered by itself
 pub directory_alone : (ts : List Tag) → of_directory (filter is_directory ts) ≡ of_directory ts
 directory_alone [] = refl
 directory_alone (OfDirectory e ∷ ts) = ap (λ es. e ∷ es) (directory_alone ts)

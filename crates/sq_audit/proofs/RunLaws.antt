@@ -34,7 +34,7 @@ pub set_lineages : (run : List Tag) (sends : List MessageId) (set : BTreeSet Mes
 set_lineages run sends set is made = record {
   rising = made.1;
   each = λ x. (
-      let there = btree_set_contains_iff ids_total id_apart set x in
+      let in_list = btree_set_contains_iff ids_total id_apart set x in
       let from = btree_set_contains_from_list ids_total id_apart sends set made x in
-      rw (← is) (λ h. from.0 (there.1 h), λ h. there.0 (from.1 h)));
+      rw (← is) (λ h. from.0 (in_list.1 h), λ h. in_list.0 (from.1 h)));
 }

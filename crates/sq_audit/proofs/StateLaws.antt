@@ -78,18 +78,18 @@ all_has [] ys h row i = absurd i
 all_has (x ∷ xs) ys h row i = elim i [ inl same ↦ rw same (has_contained ys x (All-head (Contains ys) x xs h)) | inr later ↦ all_has xs ys (All-tail (Contains ys) x xs h) row later ]
 
 -- a row of a serial that was given is live
-given_live : (s : Settings) (m until n : ℕ) (rows given : List Row) (next : ℕ) (row : Row) → RisesFrom 0 rows next → IsLook s m until n rows given → Has rows row → has_serial row.serial given ≡ true → is_live s m row ≡ true
-given_live s m until n rows given next row h look i e =
-    let g = row_of row.serial given e in
-    let there = all_has given (map (received m until) (filter (is_live s m) rows)) look.each g.0 g.1 in
-    let r = has_mapped (received m until) (filter (is_live s m) rows) g.0 there in
+picked_live : (s : Settings) (m until n : ℕ) (rows picked : List Row) (next : ℕ) (row : Row) → RisesFrom 0 rows next → IsLook s m until n rows picked → Has rows row → has_serial row.serial picked ≡ true → is_live s m row ≡ true
+picked_live s m until n rows picked next row h look i e =
+    let g = row_of row.serial picked e in
+    let in_list = all_has picked (map (received m until) (filter (is_live s m) rows)) look.each g.0 g.1 in
+    let r = has_mapped (received m until) (filter (is_live s m) rows) g.0 in_list in
     let live = has_filtered (is_live s m) rows r.0 r.1 in
     let serial : r.0.serial ≡ row.serial = sym (ap (λ (x : Row). x.serial) r.2) ∙ g.2 in
     subst (λ (x : Row). is_live s m x ≡ true) (only_row 0 rows next r.0 row h live.0 i serial) live.1
 
-serials_have : (serial : ℕ) (given : List Row) → list_any (λ c. c == serial) (serials_of given) ≡ has_serial serial given
+serials_have : (serial : ℕ) (picked : List Row) → list_any (λ c. c == serial) (serials_of picked) ≡ has_serial serial picked
 serials_have serial [] = refl
-serials_have serial (g ∷ given) = rw (serials_have serial given) refl
+serials_have serial (g ∷ picked) = rw (serials_have serial picked) refl
 
 last_both : (a b c : Bool) → (a && b && c) ≡ true → c ≡ true
 last_both true b c h = elim b as (λ v. (v && c) ≡ true → c ≡ true) [ true ↦ (λ e. e) | false ↦ (λ e. absurd cc) ] h
@@ -106,16 +106,16 @@ look_case false false true m until row h k = refl
 look_case false false false m until row h k = refl
 
 -- a look on a row is that on its state
-looked_row : (s : Settings) (m until : ℕ) (given : List Row) (row : Row) → (has_serial row.serial given ≡ true → is_live s m row ≡ true) → state_of (received_if s (serials_of given) m until row) ≡ looked given (state_of row)
-looked_row s m until given row live =
-    rw (serials_have row.serial given) (look_case (is_live s m row) (has_serial row.serial given) (nat_lt row.receives 4294967295) m until row live (last_both (is_visible m row) (not (is_dead s m row)) (nat_lt row.receives 4294967295)))
+looked_row : (s : Settings) (m until : ℕ) (picked : List Row) (row : Row) → (has_serial row.serial picked ≡ true → is_live s m row ≡ true) → state_of (received_if s (serials_of picked) m until row) ≡ looked picked (state_of row)
+looked_row s m until picked row live =
+    rw (serials_have row.serial picked) (look_case (is_live s m row) (has_serial row.serial picked) (nat_lt row.receives 4294967295) m until row live (last_both (is_visible m row) (not (is_dead s m row)) (nat_lt row.receives 4294967295)))
 
-pub looked_rows : (s : Settings) (m until : ℕ) (given : List Row) (rows : List Row) → ((row : Row) → Has rows row → has_serial row.serial given ≡ true → is_live s m row ≡ true)
-    → map state_of (map (received_if s (serials_of given) m until) rows) ≡ map (looked given) (map state_of rows)
-looked_rows s m until given [] live = refl
-looked_rows s m until given (row ∷ rows) live =
-    let first = looked_row s m until given row (live row (inl refl)) in
-    let rest = looked_rows s m until given rows (λ r i. live r (inr i)) in
+pub looked_rows : (s : Settings) (m until : ℕ) (picked : List Row) (rows : List Row) → ((row : Row) → Has rows row → has_serial row.serial picked ≡ true → is_live s m row ≡ true)
+    → map state_of (map (received_if s (serials_of picked) m until) rows) ≡ map (looked picked) (map state_of rows)
+looked_rows s m until picked [] live = refl
+looked_rows s m until picked (row ∷ rows) live =
+    let first = looked_row s m until picked row (live row (inl refl)) in
+    let rest = looked_rows s m until picked rows (λ r i. live r (inr i)) in
     cc
 
 map_filter : (p : RowState → Bool) (rows : List Row) → map state_of (filter (λ row. p (state_of row)) rows) ≡ filter p (map state_of rows)
@@ -213,14 +213,14 @@ serving_mirrors site s v n rows m (Send body delay) (Sent sent) after h a rising
       ends = only_past s v m rows;
       sends = refl;
     })
-serving_mirrors site s v n rows m (Look max timeout) (Looked given) after h a rising =
+serving_mirrors site s v n rows m (Look max timeout) (Looked picked) after h a rising =
     let kept = trimmed s m rows in
     let until = m + ms (unwrap_or timeout s.timeout) in
     let kept_rising = rises_trimmed s m 0 rows n rising in
     rw h.2 (record {
-      rising = rises_received s (serials_of given) m until 0 kept n kept_rising;
+      rising = rises_received s (serials_of picked) m until 0 kept n kept_rising;
       goes_by = refl;
-      states = looked_rows s m until given kept (λ row i e. given_live s m until _ kept given n row kept_rising h.1 i e) ∙ ap (map (looked given)) (kept_rows s v m rows);
+      states = looked_rows s m until picked kept (λ row i e. picked_live s m until _ kept picked n row kept_rising h.1 i e) ∙ ap (map (looked picked)) (kept_rows s v m rows);
       ends = only_past s v m rows;
       sends = refl;
     })

@@ -17,16 +17,16 @@ abbrev pub id_cmp : MessageId → MessageId → Ordering
 id_cmp a b = ordering_then (nat_cmp a.queue b.queue) (ordering_then (nat_cmp a.home b.home) (nat_cmp a.serial b.serial))
 
 -- each message that was sent stands once, in rising order of id, with its place; no other stands there
-pub record ArePlaces (sends : List MessageId) (ends : List Ending) (told : List (MessageId × Place)) : Type 0 where
-  pub rising : IsStrictlySortedBy id_cmp (keys_of told)
-  pub each : (x : MessageId) → lookup (same_id x) told ≡ place_in x sends ends
+pub record ArePlaces (sends : List MessageId) (ends : List Ending) (listed : List (MessageId × Place)) : Type 0 where
+  pub rising : IsStrictlySortedBy id_cmp (keys_of listed)
+  pub each : (x : MessageId) → lookup (same_id x) listed ≡ place_in x sends ends
 
 -- each message that was sent in a run stands once, in rising order of id; no other stands there
 pub record AreLineages (run : List Tag) (ids : List MessageId) : Type 0 where
   pub rising : IsStrictlySortedBy id_cmp ids
   pub each : (x : MessageId) → Contains ids x ↔ Contains (run_sends run) x
 
--- what is told of a message once it is sent
+-- what is listed of a message once it is sent
 abbrev pub after_send : MessageId → Option Place → MessageId → Option Place
 after_send x place id = if same_id x id then Some at.InHome else place
 
@@ -37,10 +37,10 @@ after_end x place e = if same_id x e.0 then Some e.1 else place
 abbrev pub sent_place : MessageId → List MessageId → Option Place
 sent_place x sends = fold (after_send x) None sends
 
-abbrev pub told_place : MessageId → List MessageId → List (MessageId × Place) → Option Place
-told_place x sends ends = fold (after_end x) (sent_place x sends) ends
+abbrev pub listed_place : MessageId → List MessageId → List (MessageId × Place) → Option Place
+listed_place x sends ends = fold (after_end x) (sent_place x sends) ends
 
--- what is told of each message after these sends and ends
-pub record AreTold (sends : List MessageId) (ends : List (MessageId × Place)) (told : List (MessageId × Place)) : Type 0 where
-  pub rising : IsStrictlySortedBy id_cmp (keys_of told)
-  pub each : (x : MessageId) → lookup (same_id x) told ≡ told_place x sends ends
+-- what is listed of each message after these sends and ends
+pub record AreListed (sends : List MessageId) (ends : List (MessageId × Place)) (listed : List (MessageId × Place)) : Type 0 where
+  pub rising : IsStrictlySortedBy id_cmp (keys_of listed)
+  pub each : (x : MessageId) → lookup (same_id x) listed ≡ listed_place x sends ends

@@ -37,7 +37,7 @@ arrived m (reply.Sent sent) rows = rows ++ sent_state sent m ∷ []
 arrived m reply rows = rows
 
 abbrev pub received : HomeReply → List RowState → List RowState
-received (reply.Looked given) rows = map (looked given) rows
+received (reply.Looked picked) rows = map (looked picked) rows
 received reply rows = rows
 
 abbrev pub home_after : HomeEvent → HomeValue → HomeValue

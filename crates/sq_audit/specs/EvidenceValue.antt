@@ -1,12 +1,12 @@
 -- What contracts see of the evidence that an audit compares.
 use Rattle.std.specs.Prelude.{ℕ, List}
 use Rattle.sq_model.specs.Systems.{DirectoryEvent}
-use Rattle.sq_model.specs.Notes.{Book}
+use Rattle.sq_model.specs.RecordValues.{Journal}
 use Rattle.sq_model.specs.Matches.{HomeHistory}
 
--- the history of the directory, how many homes a queue has, the histories of all homes, and the actors with their notes
+-- the history of the directory, how many homes a queue has, the histories of all homes, and the actors with their records
 pub record EvidenceValue : Type 0 where
   pub directory : List DirectoryEvent
   pub per_queue : ℕ
   pub homes : List HomeHistory
-  pub books : List Book
+  pub journals : List Journal

@@ -4,7 +4,7 @@ use Rattle.sq_base.specs.declared.ids.HomeId.{HomeId}
 use Rattle.sq_model.specs.Matches.{HomeHistory}
 use Rattle.sq_history.specs.HistoryValue.{HistoryValue}
 
--- the home at a place in the list of all homes
+-- the home at an index in the list of all homes
 abbrev pub home_id : ℕ → ℕ → HomeId
 home_id per_queue at = record { queue = at / per_queue + 1; home = at % per_queue }
 
@@ -19,6 +19,6 @@ abbrev pub IsNumbered : ℕ → List HistoryValue → Type 0
 IsNumbered per_queue homes = (at : ℕ) (h : HistoryValue) → slice_get homes at ≡ Some h → h.site.home ≡ home_id per_queue at
 
 -- where a home stands among so many of all queues
-abbrev pub home_place : ℕ → ℕ → HomeId → Option ℕ
-home_place per_queue count id =
+abbrev pub home_index : ℕ → ℕ → HomeId → Option ℕ
+home_index per_queue count id =
     if nat_lt id.home per_queue && nat_lt ((id.queue - 1) * per_queue + id.home) count then Some ((id.queue - 1) * per_queue + id.home) else None

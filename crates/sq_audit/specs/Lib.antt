@@ -2,7 +2,7 @@ pub mod Tags
 pub mod SystemNow
 pub mod Actors
 pub mod RowStates
-pub mod Tracks
+pub mod MessagePasses
 pub mod HomeValues
 pub mod Audits
 pub mod AllPlaces

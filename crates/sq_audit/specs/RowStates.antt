@@ -30,11 +30,11 @@ abbrev pub sent_state : SentMessage → ℕ → RowState
 sent_state sent m = record { lineage = sent.id; serial = sent.id.serial; slot = sent.slot; enqueued = m; receives = 0 }
 
 abbrev pub has_serial : ℕ → List Row → Bool
-has_serial serial given = rows.has_serial serial given
+has_serial serial picked = rows.has_serial serial picked
 
 -- after a receive that gave these rows
 abbrev pub looked : List Row → RowState → RowState
-looked given row = if nat_lt row.receives 4294967295 && has_serial row.serial given then record row { receives = row.receives + 1 } else row
+looked picked row = if nat_lt row.receives 4294967295 && has_serial row.serial picked then record row { receives = row.receives + 1 } else row
 
 abbrev pub is_newer : Option Policy → ℕ → Bool
 is_newer None version = true
@@ -69,7 +69,7 @@ sent_by (reply.Sent sent) = Arrives sent
 sent_by other = Stays
 
 abbrev pub looked_by : HomeReply → Effect
-looked_by (reply.Looked given) = Looks given
+looked_by (reply.Looked picked) = Looks picked
 looked_by other = Stays
 
 -- The calls that a home shares with the ledger stand in no history yet.
@@ -104,7 +104,7 @@ past_states (Some policy) m rows = filter (is_past policy.retention m) rows
 abbrev pub states_after : ℕ → Effect → List RowState → List RowState
 states_after m Stays rows = rows
 states_after m (Arrives sent) rows = rows ++ sent_state sent m ∷ []
-states_after m (Looks given) rows = map (looked given) rows
+states_after m (Looks picked) rows = map (looked picked) rows
 states_after m (Leaves p cause) rows = filter (λ row. not (p row)) rows
 
 abbrev pub ended_states : Cause → List RowState → List Ending

@@ -1,13 +1,13 @@
 //! Whether the records of all actors and the histories of all parts are of each other.
 ghost use Rattle.std.specs.Prelude.{◌≡◌, ◌≢◌, ◌↔◌, ◌<◌, ℕ, true, length, Some, OnOk, IfErr, IfSome, IsOk};
-ghost use Rattle.sq_model.specs.Notes.{OfHome, place_of};
-ghost use Rattle.sq_model.specs.Matches.{Happened, IsMatched};
-ghost use Rattle.sq_steps.specs.Records.{note_of};
-ghost use Rattle.sq_steps.specs.Books.{NotesRiseAt, AreDistinct};
+ghost use Rattle.sq_model.specs.RecordValues.{OfHome, place_of_record};
+ghost use Rattle.sq_model.specs.Matches.{HasItsEvent, IsMatched};
+ghost use Rattle.sq_steps.specs.Records.{value_of_record};
+ghost use Rattle.sq_steps.specs.Journals.{RecordsRiseAt, AreDistinct};
 ghost use Rattle.sq_audit.specs.HomeIds.{histories_of, home_id};
-ghost use Rattle.sq_audit.specs.Faults.{FaultHolds, IsWrong, NoteFits, DirectoryFits, HomeFits, IsRecordFault, IsAt, IsNotedAt, IsEventFault, EventFits, HasEventFault};
+ghost use Rattle.sq_audit.specs.Faults.{FaultHolds, IsWrong, RecordFits, DirectoryFits, HomeFits, IsRecordFault, IsAt, IsRecordedAt, IsEventFault, EventFits, HasEventFault};
 
-use crate::homes::{Homes, home_place};
+use crate::homes::{Homes, home_index};
 use sq_base::ids::HomeId;
 use sq_directory::directory::Directory;
 use sq_directory::events::has_directory_event;
@@ -17,8 +17,8 @@ use sq_history::record::HomeRecord;
 use sq_history::recorded::Home;
 use sq_model::event::Event;
 use sq_sample::sampler::HomeCount;
-use sq_steps::book::Book;
-use sq_steps::books::book_at;
+use sq_steps::journal::Journal;
+use sq_steps::journals::journal_at;
 use sq_steps::record::Record;
 use std::marker::Model;
 
@@ -38,85 +38,85 @@ pub enum AuditFault {
 #[derive(Drop)]
 pub(crate) struct Evidence<'a> {
     directory: &'a Directory,
-    firsts: &'a [usize],
+    creations: &'a [usize],
     per_queue: HomeCount,
     homes: &'a [Home],
-    books: &'a [Book],
+    journals: &'a [Journal],
 }
 
 impl<'a> Model for Evidence<'a> {
-    ghost use Rattle.sq_steps.specs.Books.{AreDistinct};
+    ghost use Rattle.sq_steps.specs.Journals.{AreDistinct};
     ghost use Rattle.sq_audit.specs.HomeIds.{histories_of, IsNumbered};
     ghost use Rattle.sq_audit.specs.EvidenceValue.{EvidenceValue};
 
     ghost Value = { EvidenceValue };
 
-    ghost view = { λ e. record { directory = e.directory.now.events; per_queue = e.per_queue; homes = histories_of e.homes.now; books = e.books.now } };
+    ghost view = { λ e. record { directory = e.directory.now.events; per_queue = e.per_queue; homes = histories_of e.homes.now; journals = e.journals.now } };
 
-    ghost invariant = { λ e. record { numbered : IsNumbered e.per_queue e.homes.now; distinct : AreDistinct e.books.now } };
+    ghost invariant = { λ e. record { numbered : IsNumbered e.per_queue e.homes.now; distinct : AreDistinct e.journals.now } };
 }
 
 impl<'a> Evidence<'a> {
     pub(crate) fn of(
         directory: &'a Directory,
-        firsts: &'a [usize],
+        creations: &'a [usize],
         homes: &'a Homes,
-        books: &'a [Book],
+        journals: &'a [Journal],
     ) -> Evidence<'a>
-        requires { AreDistinct books.now }
-        ensures { result ≡ record { directory = directory.now.events; per_queue = homes.now.per_queue; homes = histories_of homes.now.homes; books = books.now } }
+        requires { AreDistinct journals.now }
+        ensures { result ≡ record { directory = directory.now.events; per_queue = homes.now.per_queue; homes = histories_of homes.now.homes; journals = journals.now } }
     {
         Evidence {
             directory,
-            firsts,
+            creations,
             per_queue: homes.per_queue(),
             homes: homes.as_slice(),
-            books,
+            journals,
         }
     }
 }
 
-/// Whether records and histories are of each other; else what is wrong. It takes no memory. The event that a queue's first
-/// place names is the first that is looked at for the queue's name.
+/// Whether records and histories are of each other; else what is wrong. It takes no memory. The event that a queue's
+/// creation names is the first that is looked at for the queue's name.
 pub(crate) fn check(evidence: &Evidence<'_>) -> Result<(), AuditFault>
-    ensures ok { OnOk result (IsMatched evidence.now.directory evidence.now.homes evidence.now.books) }
-    ensures rise { OnOk result ((b : ℕ) → NotesRiseAt evidence.now.books b) }
-    ensures fault { IfErr result (λ f. FaultHolds evidence.now.directory evidence.now.homes evidence.now.books f) }
+    ensures ok { OnOk result (IsMatched evidence.now.directory evidence.now.homes evidence.now.journals) }
+    ensures rise { OnOk result ((b : ℕ) → RecordsRiseAt evidence.now.journals b) }
+    ensures fault { IfErr result (λ f. FaultHolds evidence.now.directory evidence.now.homes evidence.now.journals f) }
     ensures never { IfErr result (λ f. f ≢ AuditFault.NoMemory) }
-    ensures honest { IsMatched evidence.now.directory evidence.now.homes evidence.now.books → IsOk result }
+    ensures honest { IsMatched evidence.now.directory evidence.now.homes evidence.now.journals → IsOk result }
 {
-    // What is always true of the evidence is known once a part of it is read.
-    let _ = &evidence.books;
-    check_books(evidence)?;
+    // What is always true of the evidence is known to the prover once a part of it is read.
+    let _ = &evidence.journals;
+    check_journals(evidence)?;
     check_directory(evidence)?;
     check_homes(evidence)?;
     Ok(())
 }
 
 // All records of all actors.
-fn check_books(evidence: &Evidence<'_>) -> Result<(), AuditFault>
-    ensures ok { OnOk result ((b i : ℕ) → NoteFits evidence.now.directory evidence.now.homes evidence.now.books b i) }
-    ensures rise { OnOk result ((b : ℕ) → NotesRiseAt evidence.now.books b) }
-    ensures fault { IfErr result (λ f. IsWrong evidence.now.directory evidence.now.homes evidence.now.books f) }
+fn check_journals(evidence: &Evidence<'_>) -> Result<(), AuditFault>
+    ensures ok { OnOk result ((b i : ℕ) → RecordFits evidence.now.directory evidence.now.homes evidence.now.journals b i) }
+    ensures rise { OnOk result ((b : ℕ) → RecordsRiseAt evidence.now.journals b) }
+    ensures fault { IfErr result (λ f. IsWrong evidence.now.directory evidence.now.homes evidence.now.journals f) }
 {
-    let books = evidence.books;
-    for at in 0..books.len() {
-        check_book(evidence, at)?;
+    let journals = evidence.journals;
+    for at in 0..journals.len() {
+        check_journal(evidence, at)?;
     }
     Ok(())
 }
 
 // All records of one actor.
-fn check_book(evidence: &Evidence<'_>, at: usize) -> Result<(), AuditFault>
-    requires within { at < length evidence.now.books }
-    ensures ok { OnOk result ((i : ℕ) → NoteFits evidence.now.directory evidence.now.homes evidence.now.books at i) }
-    ensures rise { OnOk result (NotesRiseAt evidence.now.books at) }
-    ensures fault { IfErr result (λ f. IsWrong evidence.now.directory evidence.now.homes evidence.now.books f) }
+fn check_journal(evidence: &Evidence<'_>, at: usize) -> Result<(), AuditFault>
+    requires within { at < length evidence.now.journals }
+    ensures ok { OnOk result ((i : ℕ) → RecordFits evidence.now.directory evidence.now.homes evidence.now.journals at i) }
+    ensures rise { OnOk result (RecordsRiseAt evidence.now.journals at) }
+    ensures fault { IfErr result (λ f. IsWrong evidence.now.directory evidence.now.homes evidence.now.journals f) }
 {
-    let books = evidence.books;
-    let book = &books[at];
-    let actor = book.actor();
-    let records = book.records();
+    let journals = evidence.journals;
+    let journal = &journals[at];
+    let actor = journal.actor();
+    let records = journal.records();
     for index in 0..records.len() {
         let kept = &records[index];
         check_record(evidence, actor, index, kept)?;
@@ -131,15 +131,15 @@ fn check_record(
     index: usize,
     kept: &Record,
 ) -> Result<(), AuditFault>
-    ensures place { OnOk result (place_of (note_of kept.now) ≡ index) }
-    ensures happened { OnOk result (Happened evidence.now.directory evidence.now.homes actor (note_of kept.now)) }
-    ensures fault { IfErr result (IsRecordFault evidence.now.directory evidence.now.homes actor index (note_of kept.now)) }
+    ensures place { OnOk result (place_of_record (value_of_record kept.now) ≡ index) }
+    ensures has_its_event { OnOk result (HasItsEvent evidence.now.directory evidence.now.homes actor (value_of_record kept.now)) }
+    ensures fault { IfErr result (IsRecordFault evidence.now.directory evidence.now.homes actor index (value_of_record kept.now)) }
 {
     let place = kept.place();
     if place != index as u64 {
         return Err(AuditFault::RecordMissing(actor, index as u64));
     }
-    if happened(evidence, actor, kept) {
+    if has_its_event(evidence, actor, kept) {
         Ok(())
     } else {
         Err(AuditFault::RecordMissing(actor, place))
@@ -147,59 +147,59 @@ fn check_record(
 }
 
 // Whether a record is of an event of this actor.
-fn happened(evidence: &Evidence<'_>, actor: u32, kept: &Record) -> bool
-    ensures { result ≡ true ↔ Happened evidence.now.directory evidence.now.homes actor (note_of kept.now) }
+fn has_its_event(evidence: &Evidence<'_>, actor: u32, kept: &Record) -> bool
+    ensures { result ≡ true ↔ HasItsEvent evidence.now.directory evidence.now.homes actor (value_of_record kept.now) }
 {
     match kept {
         Record::Directory(kept) => has_directory_event(evidence.directory, actor, kept),
-        Record::Home(kept) => home_happened(evidence, actor, kept),
+        Record::Home(kept) => home_has_its_event(evidence, actor, kept),
     }
 }
 
 // Whether a home has the event of a record, and the name that the record bears was its queue's.
-fn home_happened(evidence: &Evidence<'_>, actor: u32, kept: &HomeRecord) -> bool
-    ensures { result ≡ true ↔ Happened evidence.now.directory evidence.now.homes actor (OfHome kept.now) }
+fn home_has_its_event(evidence: &Evidence<'_>, actor: u32, kept: &HomeRecord) -> bool
+    ensures { result ≡ true ↔ HasItsEvent evidence.now.directory evidence.now.homes actor (OfHome kept.now) }
 {
     let homes = evidence.homes;
-    let Some(place) = home_place(evidence.per_queue, homes.len(), kept.home()) else {
+    let Some(index) = home_index(evidence.per_queue, homes.len(), kept.home()) else {
         return false;
     };
-    let home = &homes[place];
-    has_home_event(home, actor, kept) && has_name(evidence.directory, evidence.firsts, kept)
+    let home = &homes[index];
+    has_home_event(home, actor, kept) && has_name(evidence.directory, evidence.creations, kept)
 }
 
 // All events of the directory.
 fn check_directory(evidence: &Evidence<'_>) -> Result<(), AuditFault>
-    requires fit { (b i : ℕ) → NoteFits evidence.now.directory evidence.now.homes evidence.now.books b i }
-    ensures ok { OnOk result ((k : ℕ) → DirectoryFits evidence.now.directory evidence.now.books k) }
-    ensures fault { IfErr result (λ f. IsWrong evidence.now.directory evidence.now.homes evidence.now.books f) }
+    requires fit { (b i : ℕ) → RecordFits evidence.now.directory evidence.now.homes evidence.now.journals b i }
+    ensures ok { OnOk result ((k : ℕ) → DirectoryFits evidence.now.directory evidence.now.journals k) }
+    ensures fault { IfErr result (λ f. IsWrong evidence.now.directory evidence.now.homes evidence.now.journals f) }
 {
     check_events(evidence, None, evidence.directory.events())
 }
 
 // All events of all homes.
 fn check_homes(evidence: &Evidence<'_>) -> Result<(), AuditFault>
-    requires fit { (b i : ℕ) → NoteFits evidence.now.directory evidence.now.homes evidence.now.books b i }
-    ensures ok { OnOk result ((j k : ℕ) → HomeFits evidence.now.homes evidence.now.books j k) }
-    ensures fault { IfErr result (λ f. IsWrong evidence.now.directory evidence.now.homes evidence.now.books f) }
+    requires fit { (b i : ℕ) → RecordFits evidence.now.directory evidence.now.homes evidence.now.journals b i }
+    ensures ok { OnOk result ((j k : ℕ) → HomeFits evidence.now.homes evidence.now.journals j k) }
+    ensures fault { IfErr result (λ f. IsWrong evidence.now.directory evidence.now.homes evidence.now.journals f) }
 {
     let homes = evidence.homes;
-    for place in 0..homes.len() {
-        let home = &homes[place];
-        check_events(evidence, Some(place), home.events())?;
+    for index in 0..homes.len() {
+        let home = &homes[index];
+        check_events(evidence, Some(index), home.events())?;
     }
     Ok(())
 }
 
-// All events of the directory, or of the home at a place.
+// All events of the directory, or of the home at an index.
 fn check_events<K, R>(
     evidence: &Evidence<'_>,
     home: Option<usize>,
     events: &[Event<K, R>],
 ) -> Result<(), AuditFault>
     requires within { IfSome home (λ j. j < length evidence.now.homes) }
-    ensures ok { OnOk result ((k : ℕ) → EventFits evidence.now.per_queue evidence.now.books home events.now k) }
-    ensures fault { IfErr result (HasEventFault evidence.now.per_queue evidence.now.books home events.now) }
+    ensures ok { OnOk result ((k : ℕ) → EventFits evidence.now.per_queue evidence.now.journals home events.now k) }
+    ensures fault { IfErr result (HasEventFault evidence.now.per_queue evidence.now.journals home events.now) }
 {
     for index in 0..events.len() {
         let event = &events[index];
@@ -209,7 +209,7 @@ fn check_events<K, R>(
     Ok(())
 }
 
-// One event of the directory, or of the home at a place, by its actor and its number: the record of this number is
+// One event of the directory, or of the home at an index, by its actor and its number: the record of this number is
 // there, and names the event. One that names another event agrees with that one.
 fn check_event(
     evidence: &Evidence<'_>,
@@ -218,16 +218,16 @@ fn check_event(
     index: usize,
 ) -> Result<(), AuditFault>
     requires within { IfSome home (λ j. j < length evidence.now.homes) }
-    ensures ok { OnOk result (IsNotedAt evidence.now.books by.0 by.1 (IsAt evidence.now.per_queue home index)) }
-    ensures fault { IfErr result (IsEventFault evidence.now.per_queue evidence.now.books by.0 by.1 home index) }
+    ensures ok { OnOk result (IsRecordedAt evidence.now.journals by.0 by.1 (IsAt evidence.now.per_queue home index)) }
+    ensures fault { IfErr result (IsEventFault evidence.now.per_queue evidence.now.journals by.0 by.1 home index) }
 {
     let (actor, place) = by;
-    let books = evidence.books;
-    let Some(at) = book_at(books, actor) else {
+    let journals = evidence.journals;
+    let Some(at) = journal_at(journals, actor) else {
         return Err(AuditFault::RecordMissing(actor, place));
     };
-    let book = &books[at];
-    let records = book.records();
+    let journal = &journals[at];
+    let records = journal.records();
     if place >= records.len() as u64 {
         return Err(AuditFault::RecordMissing(actor, place));
     }
@@ -239,27 +239,27 @@ fn check_event(
     }
 }
 
-// Whether a record names this event of the directory, or of the home at a place.
+// Whether a record names this event of the directory, or of the home at an index.
 fn is_at(evidence: &Evidence<'_>, home: Option<usize>, index: usize, kept: &Record) -> bool
     requires within { IfSome home (λ j. j < length evidence.now.homes) }
-    ensures { result ≡ true ↔ IsAt evidence.now.per_queue home index (note_of kept.now) }
+    ensures { result ≡ true ↔ IsAt evidence.now.per_queue home index (value_of_record kept.now) }
 {
     match (home, kept) {
         (None, Record::Directory(kept)) => kept.step().index == index as u64,
-        (Some(place), Record::Home(kept)) => {
-            is_home_at(evidence, place, kept.home()) && kept.step().index == index as u64
+        (Some(at), Record::Home(kept)) => {
+            is_home_at(evidence, at, kept.home()) && kept.step().index == index as u64
         }
         _ => false,
     }
 }
 
-// Whether the home at a place has this id.
-fn is_home_at(evidence: &Evidence<'_>, place: usize, id: &HomeId) -> bool
-    requires within { place < length evidence.now.homes }
-    ensures { result ≡ true ↔ id.now ≡ home_id evidence.now.per_queue place }
+// Whether the home at an index has this id.
+fn is_home_at(evidence: &Evidence<'_>, index: usize, id: &HomeId) -> bool
+    requires within { index < length evidence.now.homes }
+    ensures { result ≡ true ↔ id.now ≡ home_id evidence.now.per_queue index }
 {
-    match home_place(evidence.per_queue, evidence.homes.len(), id) {
-        Some(at) => at == place,
+    match home_index(evidence.per_queue, evidence.homes.len(), id) {
+        Some(at) => at == index,
         None => false,
     }
 }

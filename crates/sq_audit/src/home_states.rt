@@ -50,7 +50,7 @@ impl HomeStates {
         }
     }
 
-    /// Goes on by an event, and puts last who left in it. Refused for want of memory alone.
+    /// Goes on by an event, and puts last who left in it. Refused only where memory is out.
     pub fn apply(
         &mut self,
         event: &Event<HomeCall, HomeReply>,
@@ -79,7 +79,7 @@ fn passes(who: &Leaving, row: &RowState) -> bool
 }
 
 // Puts last those that leave.
-fn note(
+fn add_ends(
     rows: &[RowState],
     who: &Leaving,
     place: Place,
@@ -107,7 +107,7 @@ fn leave(
     ensures ends { OnOk result (ends.new.items ≡ ends.old.items ++ audits.placed place (filter (audits.passes who.now) rows.old.items)) }
     ensures err { IfErr result (λ e. e ≡ Refusal.NoMemory) }
 {
-    note(rows, who, place, ends)?;
+    add_ends(rows, who, place, ends)?;
     rows.retain(|row| !passes(who, row));
     Ok(())
 }
@@ -169,15 +169,15 @@ fn arrive(rows: &mut Vec<RowState>, moment: u64, reply: &HomeReply) -> Result<()
 fn receive(rows: &mut [RowState], reply: &HomeReply)
     ensures { rows.new ≡ audits.received reply.now rows.old }
 {
-    if let HomeReply::Looked(given) = reply {
-        receive_all(rows, given.as_slice());
+    if let HomeReply::Looked(picked) = reply {
+        receive_all(rows, picked.as_slice());
     }
 }
 
-fn receive_all(rows: &mut [RowState], given: &[Row])
-    ensures { rows.new ≡ map (looked given.now) rows.old }
+fn receive_all(rows: &mut [RowState], picked: &[Row])
+    ensures { rows.new ≡ map (looked picked.now) rows.old }
 {
     for row in rows.iter_mut() {
-        *row = looked(given, row);
+        *row = looked(picked, row);
     }
 }

@@ -1,6 +1,6 @@
 //! The homes of all queues that may ever be made: those of the first queue first, each in the order of its number.
 ghost use Rattle.std.specs.Prelude.{◌≡◌, ◌*◌, ◌≤◌, ◌<◌, length};
-ghost use Rattle.sq_audit.specs.HomeIds.{IsNumbered, home_place};
+ghost use Rattle.sq_audit.specs.HomeIds.{IsNumbered, home_index};
 
 use sq_base::ids::HomeId;
 use sq_history::recorded::Home;
@@ -53,8 +53,8 @@ impl Homes {
 }
 
 /// Where a home stands among so many.
-pub fn home_place(per_queue: HomeCount, count: usize, id: &HomeId) -> Option<usize>
-    ensures place { result ≡ home_place per_queue count id.now }
+pub fn home_index(per_queue: HomeCount, count: usize, id: &HomeId) -> Option<usize>
+    ensures index { result ≡ home_index per_queue count id.now }
     ensures queue { 1 ≤ id.now.queue }
     ensures homes { 1 ≤ per_queue }
 {
@@ -64,9 +64,9 @@ pub fn home_place(per_queue: HomeCount, count: usize, id: &HomeId) -> Option<usi
     if number >= homes {
         return None;
     }
-    let place = (queue - 1) * homes + number;
-    if place < count as u64 {
-        Some(place as usize)
+    let index = (queue - 1) * homes + number;
+    if index < count as u64 {
+        Some(index as usize)
     } else {
         None
     }

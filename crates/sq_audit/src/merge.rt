@@ -8,11 +8,11 @@ ghost use Rattle.sq_audit.specs.Faults.{FaultHolds};
 ghost use Rattle.sq_audit.specs.SystemNow.{events_of, system_now};
 ghost use Rattle.sq_audit.specs.HomeIds.{histories_of, IsNumbered};
 
+use crate::by_stamp::by_stamp;
 use crate::check::{AuditFault, Evidence, check};
 use crate::parts::Parts;
 use crate::run::Run;
-use crate::sorted::sorted;
-use sq_directory::firsts::firsts;
+use sq_directory::creations::creations;
 use std::alloc::Global;
 
 /// All that was done to the parts of a service, sorted by stamp; at equal stamps the directory comes first, and then the
@@ -28,16 +28,16 @@ pub fn merge<'a>(alloc: Global, parts: &'a Parts) -> Result<Run<'a>, AuditFault>
     ensures actors { IfOk result (λ run. ActorsRise run) }
     ensures parts { IfOk result (λ run. PartsRise run) }
     ensures numbered { OnOk result (IsNumbered parts.now.homes.per_queue parts.now.homes.homes) }
-    ensures apart { OnOk result (IsOnePlace (map (λ h. h.site) parts.now.homes.homes)) }
+    ensures one_place { OnOk result (IsOnePlace (map (λ h. h.site) parts.now.homes.homes)) }
     ensures fault { IfErr result (FaultHolds parts.now.directory.events (histories_of parts.now.homes.homes) parts.now.records) }
     ensures honest { IsMatched parts.now.directory.events (histories_of parts.now.homes.homes) parts.now.records → IfErr result (λ f. f ≡ AuditFault.NoMemory) }
-    ensures wanting { IfErr result (λ f. f ≡ AuditFault.NoMemory → IsMatched parts.now.directory.events (histories_of parts.now.homes.homes) parts.now.records) }
+    ensures out_of_memory { IfErr result (λ f. f ≡ AuditFault.NoMemory → IsMatched parts.now.directory.events (histories_of parts.now.homes.homes) parts.now.records) }
 {
     let homes = parts.homes.as_slice();
-    let firsts = firsts(alloc, &parts.directory);
+    let creations = creations(alloc, &parts.directory);
     let records = parts.records.as_slice();
-    check(&Evidence::of(&parts.directory, &firsts, &parts.homes, records))?;
-    match sorted(alloc, &parts.directory, homes) {
+    check(&Evidence::of(&parts.directory, &creations, &parts.homes, records))?;
+    match by_stamp(alloc, &parts.directory, homes) {
         Ok(events) => Ok(Run::of(events)),
         Err(_) => Err(AuditFault::NoMemory),
     }

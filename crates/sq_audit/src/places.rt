@@ -7,7 +7,7 @@ ghost use Rattle.sq_model.specs.declared.place.Site.{Site};
 ghost use Rattle.sq_model.specs.Lineages.{home_sends};
 ghost use Rattle.sq_model.specs.Places.{run_ends, run_sends};
 ghost use Rattle.sq_model.specs.Systems.{System, OfHome, RunFrom, opening, IsOnePlace};
-ghost use Rattle.sq_audit.specs.AllPlaces.{ArePlaces, AreTold, id_cmp, after_end, sent_place};
+ghost use Rattle.sq_audit.specs.AllPlaces.{ArePlaces, AreListed, id_cmp, after_end, sent_place};
 ghost use Rattle.sq_audit.specs.Audits as audits;
 ghost use Rattle.sq_audit.specs.Tags.{tag_of};
 
@@ -40,14 +40,14 @@ impl Model for Audit {
     ghost view = { λ a. record { homes = a.homes.items; sends = a.sends.items; ends = a.ends.items } };
 }
 
-/// Where the messages of a run are: each that was sent in it, once, in rising order of id. Refused for want of memory alone.
+/// Where the messages of a run are: each that was sent in it, once, in rising order of id. Refused only where memory is out.
 pub fn places_of(alloc: Global, run: &Run<'_>) -> Result<Vec<(MessageId, Place)>, Refusal>
     ensures places { (places : ℕ) (sites : List Site) (after : System) (r : RunFrom (opening places sites) run.now after) → IsOnePlace sites
-        → IfOk result (λ told. ArePlaces (run_sends run.now) (run_ends (opening places sites) run.now after r) told.items) }
+        → IfOk result (λ listed. ArePlaces (run_sends run.now) (run_ends (opening places sites) run.now after r) listed.items) }
     ensures err { IfErr result (λ e. e ≡ Refusal.NoMemory) }
 {
     let audit = collect(alloc, run.events())?;
-    told(alloc, &audit.sends, &audit.ends)
+    listed(alloc, &audit.sends, &audit.ends)
 }
 
 fn collect(alloc: Global, events: &[Tagged<'_>]) -> Result<Audit, Refusal>
@@ -78,39 +78,39 @@ impl Audit {
     {
         match tagged {
             Tagged::Directory(_) => Ok(()),
-            Tagged::Home(place, event) => self.apply(alloc, *place, event),
+            Tagged::Home(index, event) => self.apply(alloc, *index, event),
         }
     }
 
     fn apply(
         &mut self,
         alloc: Global,
-        place: u32,
+        index: u32,
         event: &Event<HomeCall, HomeReply>,
     ) -> Result<(), Refusal>
-        ensures step { OnOk result (self.new ≡ audits.audit_step self.old (OfHome place event.now)) }
+        ensures step { OnOk result (self.new ≡ audits.audit_step self.old (OfHome index event.now)) }
         ensures err { IfErr result (λ e. e ≡ Refusal.NoMemory) }
     {
-        apply_at(alloc, &mut self.homes, place, event, &mut self.ends)?;
-        note_send(&event.reply, &mut self.sends)
+        apply_at(alloc, &mut self.homes, index, event, &mut self.ends)?;
+        record_send(&event.reply, &mut self.sends)
     }
 }
 
-// Lets the home at a place go on by an event, and puts last who left in it.
+// Lets the home at an index go on by an event, and puts last who left in it.
 fn apply_at(
     alloc: Global,
     homes: &mut Vec<HomeStates>,
-    place: u32,
+    index: u32,
     event: &Event<HomeCall, HomeReply>,
     ends: &mut Vec<(MessageId, Place)>,
 ) -> Result<(), Refusal>
-    ensures homes { OnOk result (homes.new.items ≡ slice_set (audits.grown (place + 1) homes.old.items) place (audits.home_after event.now (get_or homes.old.items place audits.no_states))) }
-    ensures ends { OnOk result (ends.new.items ≡ ends.old.items ++ audits.placed_ends event.now (get_or homes.old.items place audits.no_states)) }
+    ensures homes { OnOk result (homes.new.items ≡ slice_set (audits.grown (index + 1) homes.old.items) index (audits.home_after event.now (get_or homes.old.items index audits.no_states))) }
+    ensures ends { OnOk result (ends.new.items ≡ ends.old.items ++ audits.placed_ends event.now (get_or homes.old.items index audits.no_states)) }
     ensures err { IfErr result (λ e. e ≡ Refusal.NoMemory) }
 {
-    let place = place as usize;
-    grow(alloc, homes, place + 1)?;
-    homes[place].apply(event, ends)?;
+    let index = index as usize;
+    grow(alloc, homes, index + 1)?;
+    homes[index].apply(event, ends)?;
     Ok(())
 }
 
@@ -127,7 +127,7 @@ fn grow(alloc: Global, homes: &mut Vec<HomeStates>, count: usize) -> Result<(), 
 }
 
 // Puts last who was sent.
-fn note_send(reply: &HomeReply, sends: &mut Vec<MessageId>) -> Result<(), Refusal>
+fn record_send(reply: &HomeReply, sends: &mut Vec<MessageId>) -> Result<(), Refusal>
     ensures sends { OnOk result (sends.new.items ≡ sends.old.items ++ home_sends reply.now) }
     ensures err { IfErr result (λ e. e ≡ Refusal.NoMemory) }
 {
@@ -137,12 +137,12 @@ fn note_send(reply: &HomeReply, sends: &mut Vec<MessageId>) -> Result<(), Refusa
     Ok(())
 }
 
-fn told(
+fn listed(
     alloc: Global,
     sends: &[MessageId],
     ends: &[(MessageId, Place)],
 ) -> Result<Vec<(MessageId, Place)>, Refusal>
-    ensures told { IfOk result (λ told. AreTold sends.now ends.now told.items) }
+    ensures listed { IfOk result (λ listed. AreListed sends.now ends.now listed.items) }
     ensures err { IfErr result (λ e. e ≡ Refusal.NoMemory) }
 {
     let mut places = sent_places(alloc, sends)?;

@@ -56,7 +56,7 @@ impl<'a> Run<'a> {
         self.events.as_slice()
     }
 
-    /// The messages that were sent in it, each once, in rising order of id. Refused for want of memory alone.
+    /// The messages that were sent in it, each once, in rising order of id. Refused only where memory is out.
     pub fn lineages(&self, alloc: Global) -> Result<Vec<MessageId>, Refusal>
         ensures lineages { IfOk result (λ ids. AreLineages self.now ids.items) }
         ensures err { IfErr result (λ e. e ≡ Refusal.NoMemory) }

@@ -57,10 +57,10 @@ pub fn sent(message: &SentMessage, moment: u64) -> RowState
 }
 
 /// A row after a receive that gave these rows.
-pub fn looked(given: &[Row], row: &RowState) -> RowState
-    ensures { result ≡ states.looked given.now row.now }
+pub fn looked(picked: &[Row], row: &RowState) -> RowState
+    ensures { result ≡ states.looked picked.now row.now }
 {
-    let receives = if row.receives < u32::MAX && has_serial(given, row.serial) {
+    let receives = if row.receives < u32::MAX && has_serial(picked, row.serial) {
         row.receives + 1
     } else {
         row.receives

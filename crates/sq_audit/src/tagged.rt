@@ -8,7 +8,7 @@ use sq_model::directory::{DirectoryCall, DirectoryReply};
 use sq_model::event::Event;
 use sq_model::replies::HomeReply;
 
-/// An event, and the part that it is of: the directory, or the home at a place in the list of all homes.
+/// An event, and the part that it is of: the directory, or the home at an index in the list of all homes.
 #[derive(Clone, Copy)]
 pub enum Tagged<'a> {
     Directory(&'a Event<DirectoryCall, DirectoryReply>),

@@ -24,6 +24,7 @@ impl Handle {
     pub fn fits(&self)
         ensures { Fits self.now }
     {
+        // A number's range is known to the prover once the number is read.
         let _ = (
             self.queue.get(),
             self.home.get(),

@@ -32,10 +32,10 @@ impl QueueNo {
     }
 
     /// The queue whose number is one more.
-    pub fn following(place: u32) -> QueueNo
-        ensures { result ≡ place + 1 }
+    pub fn following(index: u32) -> QueueNo
+        ensures { result ≡ index + 1 }
     {
-        QueueNo(place as u64 + 1)
+        QueueNo(index as u64 + 1)
     }
 
     /// The number, from 1 to 2^48 - 1.

@@ -20,6 +20,7 @@ impl MessageId {
     pub fn fits(&self)
         ensures { IsMessageId self.now }
     {
+        // A number's range is known to the prover once the number is read.
         let _ = (self.queue.get(), self.home.get(), self.serial.get());
     }
 

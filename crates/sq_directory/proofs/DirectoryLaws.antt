@@ -9,36 +9,36 @@ use Rattle.sq_model.specs.declared.directory.DirectoryCall.TheVariants.{Create}
 use Rattle.sq_model.specs.declared.directory.DirectoryReply.{DirectoryReply}
 use Rattle.sq_model.specs.declared.directory.DirectoryReply.TheVariants.{Made}
 use Rattle.sq_model.specs.declared.event.Actor.{Actor}
-use Rattle.sq_model.specs.Directories.{Directory, Creates, DirectoryStep, place_of}
+use Rattle.sq_model.specs.Directories.{Directory, Creates, DirectoryStep, index_of}
 use Rattle.sq_model.specs.Replays.{Replays, StampsRise}
 use Rattle.sq_model.specs.Systems.{DirectoryEvent, AreDirectory}
 use Rattle.sq_model.proofs.ReplayLaws.{replays_push}
 use Rattle.sq_directory.specs.DirectoryHistory.{DirectoryHistory}
-use Rattle.sq_model.specs.Notes.{DirectoryNote}
+use Rattle.sq_model.specs.RecordValues.{DirectoryRecordValue}
 use Rattle.sq_directory.specs.DirectoryHistories.{DirectoryRecords, IsDirectoryKept, directory_event}
 
-creates_places : (d : Directory) (name : List ℕ) (given : Attributes) (at : Option ℕ) (made : QueueSettings) (after : Directory) → Creates d name given at made after → after.places ≡ d.places
-creates_places d name given None made after h = ap (λ (x : Directory). x.places) h.2
-creates_places d name given (Some at) made after h = ap (λ (x : Directory). x.places) h.1
+creates_places : (d : Directory) (name : List ℕ) (attributes : Attributes) (at : Option ℕ) (made : QueueSettings) (after : Directory) → Creates d name attributes at made after → after.places ≡ d.places
+creates_places d name attributes None made after h = ap (λ (x : Directory). x.places) h.2
+creates_places d name attributes (Some at) made after h = ap (λ (x : Directory). x.places) h.1
 
 -- a step makes no place
 step_places : (d : Directory) (m : ℕ) (call : DirectoryCall) (reply : DirectoryReply) (after : Directory) → DirectoryStep d m call reply after → after.places ≡ d.places
 unfolding DirectoryStep
-step_places d m (Create name given) (Made made) after h = creates_places d name given (place_of name d.queues) made after h
+step_places d m (Create name attributes) (Made made) after h = creates_places d name attributes (index_of name d.queues) made after h
 
 own_push : (es : List DirectoryEvent) (e : DirectoryEvent) → AreDirectory es → e.component ≡ part.Directory → AreDirectory (es ++ e ∷ [])
 own_push [] e own is = (is, tt)
 own_push (x ∷ es) e own is = (own.0, own_push es e own.1 is)
 
-pub directory_kept_more : (old new : DirectoryHistory) (by : Actor) (now : ℕ) (call : DirectoryCall) (note : DirectoryNote)
-    → IsDirectoryKept old → StampsRise start new.events new.last → DirectoryRecords old new by now call note → IsDirectoryKept new
-directory_kept_more old new by now call note kept rising more =
-    let event = directory_event note.stamp by call note.reply in
+pub directory_kept_more : (old new : DirectoryHistory) (by : Actor) (now : ℕ) (call : DirectoryCall) (its_record : DirectoryRecordValue)
+    → IsDirectoryKept old → StampsRise start new.events new.last → DirectoryRecords old new by now call its_record → IsDirectoryKept new
+directory_kept_more old new by now call its_record kept rising more =
+    let event = directory_event its_record.stamp by call its_record.reply in
     let first : Directory = record { queues = []; places = old.directory.places } in
     let goes : Replays DirectoryStep first (old.events ++ event ∷ []) new.directory = replays_push DirectoryStep first old.events old.directory event new.directory kept.replays more.step in
     record {
       replays = rw more.events (subst (λ (places : ℕ). Replays DirectoryStep (record { queues = []; places = places }) (old.events ++ event ∷ []) new.directory)
-          (sym (step_places old.directory note.stamp.moment call note.reply new.directory more.step)) goes);
+          (sym (step_places old.directory its_record.stamp.moment call its_record.reply new.directory more.step)) goes);
       rising = rising;
       own = rw more.events (own_push old.events event kept.own refl);
     }

@@ -51,15 +51,15 @@ get_other (x ∷ xs) (suc i) (suc j) new ne = get_other xs i j new (λ e. ne (ap
 
 -- another element in the place of one that was there
 pub set_cases : {X : Type 0} (xs : List X) (i j : ℕ) (old new y : X) → slice_get xs i ≡ Some old → slice_get (slice_set xs i new) j ≡ Some y → ((i ≢ j) × (slice_get xs j ≡ Some y)) ⊎ ((i ≡ j) × (y ≡ new))
-set_cases xs i j old new y there h = elim (eqb_tells i j) as (λ _. ((i ≢ j) × (slice_get xs j ≡ Some y)) ⊎ ((i ≡ j) × (y ≡ new))) [
-  | inl p ↦ inr (p.1, some_same (sym h ∙ ap (slice_get (slice_set xs i new)) (sym p.1) ∙ get_same xs i old new there))
+set_cases xs i j old new y in_list h = elim (eqb_tells i j) as (λ _. ((i ≢ j) × (slice_get xs j ≡ Some y)) ⊎ ((i ≡ j) × (y ≡ new))) [
+  | inl p ↦ inr (p.1, some_same (sym h ∙ ap (slice_get (slice_set xs i new)) (sym p.1) ∙ get_same xs i old new in_list))
   | inr p ↦ inl (p.1, sym (get_other xs i j new p.1) ∙ h)
 ]
 
 -- what stood there before
 pub set_kept : {X : Type 0} (xs : List X) (i j : ℕ) (old new x : X) → slice_get xs i ≡ Some old → slice_get xs j ≡ Some x → ((i ≢ j) × (slice_get (slice_set xs i new) j ≡ Some x)) ⊎ ((i ≡ j) × (x ≡ old) × (slice_get (slice_set xs i new) j ≡ Some new))
-set_kept xs i j old new x there h = elim (eqb_tells i j) as (λ _. ((i ≢ j) × (slice_get (slice_set xs i new) j ≡ Some x)) ⊎ ((i ≡ j) × (x ≡ old) × (slice_get (slice_set xs i new) j ≡ Some new))) [
-  | inl p ↦ inr (p.1, some_same (sym h ∙ ap (slice_get xs) (sym p.1) ∙ there), ap (slice_get (slice_set xs i new)) (sym p.1) ∙ get_same xs i old new there)
+set_kept xs i j old new x in_list h = elim (eqb_tells i j) as (λ _. ((i ≢ j) × (slice_get (slice_set xs i new) j ≡ Some x)) ⊎ ((i ≡ j) × (x ≡ old) × (slice_get (slice_set xs i new) j ≡ Some new))) [
+  | inl p ↦ inr (p.1, some_same (sym h ∙ ap (slice_get xs) (sym p.1) ∙ in_list), ap (slice_get (slice_set xs i new)) (sym p.1) ∙ get_same xs i old new in_list)
   | inr p ↦ inl (p.1, get_other xs i j new p.1 ∙ h)
 ]
 

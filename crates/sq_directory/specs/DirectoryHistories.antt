@@ -11,20 +11,20 @@ use Rattle.sq_model.specs.declared.event.Actor.{Actor}
 use Rattle.sq_model.specs.Directories.{DirectoryStep, directory_refusal}
 use Rattle.sq_model.specs.Replays.{Replays, StampsRise}
 use Rattle.sq_model.specs.Systems.{DirectoryEvent, AreDirectory}
-use Rattle.sq_model.specs.Notes.{DirectoryNote, directory_note}
+use Rattle.sq_model.specs.RecordValues.{DirectoryRecordValue, directory_record_of}
 use Rattle.sq_history.specs.Logs.{event_by}
 use Rattle.sq_directory.specs.DirectoryHistory.{DirectoryHistory}
 
 abbrev pub directory_event : StampValue → Actor → DirectoryCall → DirectoryReply → DirectoryEvent
 directory_event stamp by call reply = event_by stamp by part.Directory call reply
 
--- Exactly one event was added: a step of the directory at a new stamp, above its last and above what the actor had seen. The note is its own.
-pub record DirectoryRecords (old new : DirectoryHistory) (by : Actor) (now : ℕ) (call : DirectoryCall) (note : DirectoryNote) : Type 0 where
-  pub stamped : after old.last by.seen now ≡ Ok note.stamp
-  pub step : DirectoryStep old.directory note.stamp.moment call note.reply new.directory
-  pub last : new.last ≡ note.stamp
-  pub events : new.events ≡ old.events ++ directory_event note.stamp by call note.reply ∷ []
-  pub noted : note ≡ directory_note (length old.events) (directory_event note.stamp by call note.reply)
+-- Exactly one event was added: a step of the directory at a new stamp, above its last and above what the actor had seen. The record is its own.
+pub record DirectoryRecords (old new : DirectoryHistory) (by : Actor) (now : ℕ) (call : DirectoryCall) (its_record : DirectoryRecordValue) : Type 0 where
+  pub stamped : after old.last by.seen now ≡ Ok its_record.stamp
+  pub step : DirectoryStep old.directory its_record.stamp.moment call its_record.reply new.directory
+  pub last : new.last ≡ its_record.stamp
+  pub events : new.events ≡ old.events ++ directory_event its_record.stamp by call its_record.reply ∷ []
+  pub record_is : its_record ≡ directory_record_of (length old.events) (directory_event its_record.stamp by call its_record.reply)
 
 -- No memory was found, or the first check in order that fails: the clock's, the counts', the directory's.
 abbrev pub IsDirectoryRefused : DirectoryHistory → Actor → ℕ → DirectoryCall → Refusal → Type 0

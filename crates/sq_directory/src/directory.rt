@@ -82,22 +82,24 @@ impl Directory {
         by: &Actor,
         now: u64,
         name: &QueueName,
-        given: &Attributes,
+        attributes: &Attributes,
     ) -> Result<(QueueSettings, DirectoryRecord), Refusal>
-        ensures recorded { IfOk result (λ r. DirectoryRecords self.old self.new by.now now (Create name.now given.now) r.1) }
+        ensures recorded { IfOk result (λ r. DirectoryRecords self.old self.new by.now now (Create name.now attributes.now) r.1) }
         ensures made { IfOk result (λ r. r.1.reply ≡ Made r.0) }
-        ensures refusal { IfErr result (IsDirectoryRefused self.old by.now now (Create name.now given.now)) }
+        ensures refusal { IfErr result (IsDirectoryRefused self.old by.now now (Create name.now attributes.now)) }
         ensures err { OnErr result (self.new ≡ self.old) }
     {
         let stamp = self.log.begin(by, now)?;
-        let made = self.queues.create(name, given)?;
-        let told = made;
+        let made = self.queues.create(name, attributes)?;
+        let answered = made;
         let kept = (
-            DirectoryCall::Create(*name, *given),
+            DirectoryCall::Create(*name, *attributes),
             DirectoryReply::Made(made),
         );
-        let noted = kept;
-        let step = self.log.add(stamp, by, Component::Directory, kept, noted);
-        Ok((told, DirectoryRecord::new(step)))
+        let for_record = kept;
+        let step = self
+            .log
+            .add(stamp, by, Component::Directory, kept, for_record);
+        Ok((answered, DirectoryRecord::new(step)))
     }
 }

@@ -23,9 +23,9 @@ pub fn has_directory_event(directory: &Directory, actor: u32, kept: &DirectoryRe
 fn is_same_made(a: &DirectoryCall, b: &DirectoryCall) -> bool
     ensures { result ≡ true ↔ a.now ≡ b.now }
 {
-    let DirectoryCall::Create(name, given) = a;
+    let DirectoryCall::Create(name, attributes) = a;
     let DirectoryCall::Create(other, asked) = b;
-    name.as_bytes() == other.as_bytes() && given == asked
+    name.as_bytes() == other.as_bytes() && attributes == asked
 }
 
 fn is_same_answer(a: &DirectoryReply, b: &DirectoryReply) -> bool

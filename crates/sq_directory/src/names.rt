@@ -10,37 +10,37 @@ use sq_model::directory::{DirectoryCall, DirectoryReply};
 use sq_model::event::Event;
 
 /// Whether the name that a record bears, if any, was its queue's before the step.
-pub fn has_name(directory: &Directory, firsts: &[usize], kept: &HomeRecord) -> bool
+pub fn has_name(directory: &Directory, creations: &[usize], kept: &HomeRecord) -> bool
     ensures { result ≡ true ↔ IsNamed directory.now.events kept.now kept.now.name }
 {
     match kept.name() {
-        Some(name) => is_named(directory, firsts, kept, name),
+        Some(name) => is_named(directory, creations, kept, name),
         None => true,
     }
 }
 
 // Whether a queue of this number was made by this name before the step of a record.
-fn is_named(directory: &Directory, firsts: &[usize], kept: &HomeRecord, name: &QueueName) -> bool
+fn is_named(directory: &Directory, creations: &[usize], kept: &HomeRecord, name: &QueueName) -> bool
     ensures { result ≡ true ↔ IsNamed directory.now.events kept.now (Some name.now) }
 {
     // The first event of a queue's number has its name wherever nothing is wrong: all events are walked for a fault alone.
-    is_named_at_first(directory, firsts, kept, name) || is_named_by_any(directory, kept, name)
+    is_named_at_first(directory, creations, kept, name) || is_named_by_any(directory, kept, name)
 }
 
-// Whether the event at the first place of a record's queue made it by this name, before the step of the record.
+// Whether the first creation of a record's queue made it by this name, before the step of the record.
 fn is_named_at_first(
     directory: &Directory,
-    firsts: &[usize],
+    creations: &[usize],
     kept: &HomeRecord,
     name: &QueueName,
 ) -> bool
     ensures { result ≡ true → IsNamed directory.now.events kept.now (Some name.now) }
 {
     let number = kept.home().queue.get() - 1;
-    if number >= firsts.len() as u64 {
+    if number >= creations.len() as u64 {
         return false;
     }
-    let first = firsts[number as usize];
+    let first = creations[number as usize];
     let events = directory.events();
     if first >= events.len() {
         return false;

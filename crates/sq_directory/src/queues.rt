@@ -1,6 +1,6 @@
 //! The queues of a service.
 ghost use Rattle.std.specs.Prelude.{◌≡◌, ◌⊎◌, ◌<◌, ◌≤◌, ◌++◌, ◌∷◌, ℕ, [], length, true, false, IfOk, IfErr, OnErr, IfSome, Some, None};
-ghost use Rattle.sq_model.specs.Directories.{place_of, number_of, settings_of, is_or_none, agrees, new_queue, settings_at, DirectoryStep, directory_refusal};
+ghost use Rattle.sq_model.specs.Directories.{index_of, number_of, settings_of, is_or_none, agrees, new_queue, settings_at, DirectoryStep, directory_refusal};
 ghost use Rattle.sq_model.specs.declared.directory.DirectoryCall.TheVariants.{Create};
 ghost use Rattle.sq_model.specs.declared.directory.DirectoryReply.TheVariants.{Made};
 
@@ -46,7 +46,7 @@ impl Queues {
     pub fn find(&self, name: &QueueName) -> Option<QueueNo>
         ensures { result ≡ number_of name.now self.now.queues }
     {
-        match place_of(&self.made, name) {
+        match index_of(&self.made, name) {
             Some(at) => Some(QueueNo::following(at as u32)),
             None => None,
         }
@@ -55,20 +55,24 @@ impl Queues {
     /// Makes a queue of this name with these attributes, where there is none yet; else it must have them.
     /// Refused as NoMemory, QueueNameExists, TableFull.
     #[tactic(auto, unfolding(sq_model::specs::Directories::DirectoryStep, sq_model::specs::Directories::directory_refusal))]
-    pub fn create(&mut self, name: &QueueName, given: &Attributes) -> Result<QueueSettings, Refusal>
-        ensures step { (m : ℕ) → IfOk result (λ made. DirectoryStep self.old m (Create name.now given.now) (Made made) self.new) }
-        ensures refusal { (m : ℕ) → IfErr result (λ e. ((e ≡ Refusal.NoMemory) × (directory_refusal self.old m (Create name.now given.now) ≡ None)) ⊎ (directory_refusal self.old m (Create name.now given.now) ≡ Some e)) }
+    pub fn create(
+        &mut self,
+        name: &QueueName,
+        attributes: &Attributes,
+    ) -> Result<QueueSettings, Refusal>
+        ensures step { (m : ℕ) → IfOk result (λ made. DirectoryStep self.old m (Create name.now attributes.now) (Made made) self.new) }
+        ensures refusal { (m : ℕ) → IfErr result (λ e. ((e ≡ Refusal.NoMemory) × (directory_refusal self.old m (Create name.now attributes.now) ≡ None)) ⊎ (directory_refusal self.old m (Create name.now attributes.now) ≡ Some e)) }
         ensures err { OnErr result (self.new ≡ self.old) }
     {
-        match place_of(&self.made, name) {
-            Some(at) => found(at, &self.made[at], given),
-            None => self.add(name, given),
+        match index_of(&self.made, name) {
+            Some(at) => found(at, &self.made[at], attributes),
+            None => self.add(name, attributes),
         }
     }
 
     // Puts a new queue last.
-    fn add(&mut self, name: &QueueName, given: &Attributes) -> Result<QueueSettings, Refusal>
-        ensures made { IfOk result (λ made. (length self.old.queues < self.old.places) × (made ≡ settings_at (length self.old.queues) (new_queue name.now given.now)) × (self.new ≡ record self.old { queues = self.old.queues ++ new_queue name.now given.now ∷ [] })) }
+    fn add(&mut self, name: &QueueName, attributes: &Attributes) -> Result<QueueSettings, Refusal>
+        ensures made { IfOk result (λ made. (length self.old.queues < self.old.places) × (made ≡ settings_at (length self.old.queues) (new_queue name.now attributes.now)) × (self.new ≡ record self.old { queues = self.old.queues ++ new_queue name.now attributes.now ∷ [] })) }
         ensures refusal { IfErr result (λ e. ((length self.old.queues < self.old.places) × (e ≡ Refusal.NoMemory)) ⊎ ((self.old.places ≤ length self.old.queues) × (e ≡ Refusal.TableFull))) }
         ensures err { OnErr result (self.new ≡ self.old) }
     {
@@ -76,20 +80,21 @@ impl Queues {
             return Err(Refusal::TableFull);
         }
         self.made.try_reserve(1)?;
-        let queue = new_queue(name, given);
+        let queue = new_queue(name, attributes);
         let made = settings_at(self.made.len(), &queue);
+        // Memory for it was reserved above.
         let _ = self.made.push(queue);
         Ok(made)
     }
 }
 
 // A queue that is there, where each attribute that is given is its own.
-fn found(at: usize, queue: &Queue, given: &Attributes) -> Result<QueueSettings, Refusal>
+fn found(at: usize, queue: &Queue, attributes: &Attributes) -> Result<QueueSettings, Refusal>
     requires { at < 4294967296 }
-    ensures found { IfOk result (λ made. (agrees given.now queue.now.settings ≡ true) × (made ≡ settings_at at queue.now)) }
-    ensures refusal { IfErr result (λ e. (agrees given.now queue.now.settings ≡ false) × (e ≡ Refusal.QueueNameExists)) }
+    ensures found { IfOk result (λ made. (agrees attributes.now queue.now.settings ≡ true) × (made ≡ settings_at at queue.now)) }
+    ensures refusal { IfErr result (λ e. (agrees attributes.now queue.now.settings ≡ false) × (e ≡ Refusal.QueueNameExists)) }
 {
-    if agrees(given, &queue.settings) {
+    if agrees(attributes, &queue.settings) {
         Ok(settings_at(at, queue))
     } else {
         Err(Refusal::QueueNameExists)
@@ -97,8 +102,8 @@ fn found(at: usize, queue: &Queue, given: &Attributes) -> Result<QueueSettings, 
 }
 
 // Where the queue of a name stands.
-fn place_of(made: &[Queue], name: &QueueName) -> Option<usize>
-    ensures place { result ≡ place_of name.now made.now }
+fn index_of(made: &[Queue], name: &QueueName) -> Option<usize>
+    ensures index { result ≡ index_of name.now made.now }
     ensures within { IfSome result (λ at. at < length made.now) }
 {
     made.iter()
@@ -116,47 +121,47 @@ fn settings_at(at: usize, queue: &Queue) -> QueueSettings
     }
 }
 
-fn new_queue(name: &QueueName, given: &Attributes) -> Queue
-    ensures { result ≡ new_queue name.now given.now }
+fn new_queue(name: &QueueName, attributes: &Attributes) -> Queue
+    ensures { result ≡ new_queue name.now attributes.now }
 {
     Queue {
         name: *name,
-        settings: settings_of(given),
+        settings: settings_of(attributes),
         version: 1,
     }
 }
 
 // The settings of a queue with these attributes.
-fn settings_of(given: &Attributes) -> Settings
-    ensures { result ≡ settings_of given.now }
+fn settings_of(attributes: &Attributes) -> Settings
+    ensures { result ≡ settings_of attributes.now }
 {
     Settings {
-        delay: given.delay.unwrap_or(Delay::of(0)),
-        retention: given.retention.unwrap_or(Retention::of(345_600)),
-        wait_time: given.wait_time.unwrap_or(WaitTime::of(0)),
-        timeout: given.timeout.unwrap_or(Timeout::of(30)),
+        delay: attributes.delay.unwrap_or(Delay::of(0)),
+        retention: attributes.retention.unwrap_or(Retention::of(345_600)),
+        wait_time: attributes.wait_time.unwrap_or(WaitTime::of(0)),
+        timeout: attributes.timeout.unwrap_or(Timeout::of(30)),
         redrive: None,
     }
 }
 
 fn is_or_none<const LEAST: u32, const GREATEST: u32>(
-    given: Option<Within<LEAST, GREATEST>>,
+    attributes: Option<Within<LEAST, GREATEST>>,
     number: Within<LEAST, GREATEST>,
 ) -> bool
-    ensures { result ≡ is_or_none given.entry number.entry }
+    ensures { result ≡ is_or_none attributes.entry number.entry }
 {
-    match given {
-        Some(given) => given == number,
+    match attributes {
+        Some(attributes) => attributes == number,
         None => true,
     }
 }
 
 // Whether each attribute that is given is that of the settings.
-fn agrees(given: &Attributes, settings: &Settings) -> bool
-    ensures { result ≡ agrees given.now settings.now }
+fn agrees(attributes: &Attributes, settings: &Settings) -> bool
+    ensures { result ≡ agrees attributes.now settings.now }
 {
-    is_or_none(given.delay, settings.delay)
-        && is_or_none(given.retention, settings.retention)
-        && is_or_none(given.wait_time, settings.wait_time)
-        && is_or_none(given.timeout, settings.timeout)
+    is_or_none(attributes.delay, settings.delay)
+        && is_or_none(attributes.retention, settings.retention)
+        && is_or_none(attributes.wait_time, settings.wait_time)
+        && is_or_none(attributes.timeout, settings.timeout)
 }

@@ -12,9 +12,9 @@ pub struct DirectoryRecord {
 }
 
 impl Model for DirectoryRecord {
-    ghost use Rattle.sq_model.specs.Notes.{DirectoryNote};
+    ghost use Rattle.sq_model.specs.RecordValues.{DirectoryRecordValue};
 
-    ghost Value = { DirectoryNote };
+    ghost Value = { DirectoryRecordValue };
 
     ghost view = { λ r. r.step };
 }

@@ -13,25 +13,25 @@ use Rattle.sq_model.specs.declared.event.Actor.{Actor}
 use Rattle.sq_model.specs.Homes.{Unopened, HomeStep, home_refusal}
 use Rattle.sq_model.specs.Replays.{HomeEvent, Replays, StampsRise}
 use Rattle.sq_model.specs.Systems.{is_alone}
-use Rattle.sq_model.specs.Notes.{HomeNote}
+use Rattle.sq_model.specs.RecordValues.{HomeRecordValue}
 use Rattle.sq_history.specs.Logs.{event_by}
 use Rattle.sq_history.specs.HistoryValue.{HistoryValue}
 
-abbrev pub event_of : StampValue → Actor → HomeId → HomeCall → HomeReply → HomeEvent
-event_of stamp by home call reply = event_by stamp by (part.Home home) call reply
+abbrev pub new_event : StampValue → Actor → HomeId → HomeCall → HomeReply → HomeEvent
+new_event stamp by home call reply = event_by stamp by (part.Home home) call reply
 
-abbrev pub note_of : StampValue → Actor → HomeId → ℕ → HomeCall → HomeReply → Option (List ℕ) → HomeNote
-note_of stamp by home index call reply name =
+abbrev pub new_record : StampValue → Actor → HomeId → ℕ → HomeCall → HomeReply → Option (List ℕ) → HomeRecordValue
+new_record stamp by home index call reply name =
     record { place = by.place; stamp = stamp; home = home; index = index; call = call; reply = reply; name = name }
 
--- Exactly one event was added: a step of the home at a new stamp, above the home's last and above what the actor had seen. The note is its own.
-pub record Records (old new : HistoryValue) (by : Actor) (now : ℕ) (name : Option (List ℕ)) (call : HomeCall) (note : HomeNote) : Type 0 where
-  pub stamped : after old.last by.seen now ≡ Ok note.stamp
-  pub step : HomeStep old.site old.home note.stamp.moment call note.reply new.home
+-- Exactly one event was added: a step of the home at a new stamp, above the home's last and above what the actor had seen. The record is its own.
+pub record RecordsStep (old new : HistoryValue) (by : Actor) (now : ℕ) (name : Option (List ℕ)) (call : HomeCall) (its_record : HomeRecordValue) : Type 0 where
+  pub stamped : after old.last by.seen now ≡ Ok its_record.stamp
+  pub step : HomeStep old.site old.home its_record.stamp.moment call its_record.reply new.home
   pub site : new.site ≡ old.site
-  pub last : new.last ≡ note.stamp
-  pub events : new.events ≡ old.events ++ event_of note.stamp by old.site.home call note.reply ∷ []
-  pub noted : note ≡ note_of note.stamp by old.site.home (length old.events) call note.reply name
+  pub last : new.last ≡ its_record.stamp
+  pub events : new.events ≡ old.events ++ new_event its_record.stamp by old.site.home call its_record.reply ∷ []
+  pub record_is : its_record ≡ new_record its_record.stamp by old.site.home (length old.events) call its_record.reply name
 
 -- No memory was found, or the first check in order that fails: the clock's, the counts', the home's.
 abbrev pub IsRefused : HistoryValue → Actor → ℕ → HomeCall → Refusal → Type 0

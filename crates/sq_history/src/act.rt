@@ -122,8 +122,8 @@ impl HomeAct {
 #[derive(Drop)]
 pub(crate) struct Answer {
     pub(crate) kept: HomeReply,
-    pub(crate) noted: HomeReply,
-    pub(crate) told: HomeReply,
+    pub(crate) for_record: HomeReply,
+    pub(crate) answered: HomeReply,
 }
 
 impl Model for Answer {
@@ -132,9 +132,9 @@ impl Model for Answer {
 
     ghost Value = { HomeReply };
 
-    ghost view = { λ a. a.told };
+    ghost view = { λ a. a.answered };
 
-    ghost invariant = { λ a. (a.kept ≡ a.told) × (a.noted ≡ a.told) };
+    ghost invariant = { λ a. (a.kept ≡ a.answered) × (a.for_record ≡ a.answered) };
 }
 
 impl Answer {
@@ -143,20 +143,21 @@ impl Answer {
     {
         Answer {
             kept: HomeReply::Done,
-            noted: HomeReply::Done,
-            told: HomeReply::Done,
+            for_record: HomeReply::Done,
+            answered: HomeReply::Done,
         }
     }
 
     fn sent(sent: SentMessage) -> Answer
         ensures { result ≡ Sent sent }
     {
-        let noted = sent;
-        let told = sent;
+        // Each copy has a name, so that the proof can say of each that it is the same.
+        let for_record = sent;
+        let answered = sent;
         Answer {
             kept: HomeReply::Sent(sent),
-            noted: HomeReply::Sent(noted),
-            told: HomeReply::Sent(told),
+            for_record: HomeReply::Sent(for_record),
+            answered: HomeReply::Sent(answered),
         }
     }
 
@@ -165,8 +166,8 @@ impl Answer {
     {
         Answer {
             kept: HomeReply::Counted(counts),
-            noted: HomeReply::Counted(counts),
-            told: HomeReply::Counted(counts),
+            for_record: HomeReply::Counted(counts),
+            answered: HomeReply::Counted(counts),
         }
     }
 }
@@ -186,33 +187,33 @@ fn look<S: Store>(
     ensures err { OnErr result (shard.new ≡ shard.old) }
 {
     let chosen_for = timeout;
-    let given = shard.choose(alloc, moment, max, chosen_for)?;
-    let kept = copy_given(alloc, &given)?;
-    let noted = copy_given(alloc, &given)?;
-    shard.give(moment, timeout, &given);
+    let picked = shard.choose(alloc, moment, max, chosen_for)?;
+    let kept = copy_picked(alloc, &picked)?;
+    let for_record = copy_picked(alloc, &picked)?;
+    shard.give(moment, timeout, &picked);
     Ok(Answer {
         kept: reply_of_look(kept),
-        noted: reply_of_look(noted),
-        told: reply_of_look(given),
+        for_record: reply_of_look(for_record),
+        answered: reply_of_look(picked),
     })
 }
 
-fn copy_given(alloc: Global, given: &Option<Rows>) -> Result<Option<Rows>, Refusal>
-    ensures copy { IfOk result (λ copy. copy ≡ given.now) }
+fn copy_picked(alloc: Global, picked: &Option<Rows>) -> Result<Option<Rows>, Refusal>
+    ensures copy { IfOk result (λ copy. copy ≡ picked.now) }
     ensures refused { IfErr result (λ e. e ≡ Refusal.NoMemory) }
 {
-    match given {
+    match picked {
         Some(rows) => Ok(Some(copy_rows(alloc, rows.as_slice())?)),
         None => Ok(None),
     }
 }
 
 // What a look that gave these rows tells, or gave none since too many messages are in flight.
-fn reply_of_look(given: Option<Rows>) -> HomeReply
-    ensures { result ≡ look_reply given }
+fn reply_of_look(picked: Option<Rows>) -> HomeReply
+    ensures { result ≡ look_reply picked }
 {
-    match given {
-        Some(given) => HomeReply::Looked(given),
+    match picked {
+        Some(picked) => HomeReply::Looked(picked),
         None => HomeReply::Over,
     }
 }

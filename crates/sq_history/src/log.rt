@@ -84,21 +84,21 @@ impl<K: Drop, R: Drop> Log<K, R> {
     }
 
     /// Adds the event of a step, where there is room for it, with the call and reply that are kept. Gives the actor's
-    /// record of it, with those that are noted.
+    /// record of it, with those that are recorded.
     pub fn add(
         &mut self,
         stamp: Stamp,
         by: &Actor,
         component: Component,
         kept: (K, R),
-        noted: (K, R),
+        for_record: (K, R),
     ) -> StepRecord<K, R>
         requires room { 0 < self.old.room }
         requires above { Below self.old.last stamp }
         ensures last { self.new.last ≡ stamp }
         ensures events { self.new.events ≡ self.old.events ++ event_by stamp by.now component kept.0 kept.1 ∷ [] }
         ensures rising { StampsRise start self.new.events self.new.last }
-        ensures noted { result ≡ record { place = by.now.place; stamp = stamp; index = length self.old.events; call = noted.0; reply = noted.1 } }
+        ensures for_record { result ≡ record { place = by.now.place; stamp = stamp; index = length self.old.events; call = for_record.0; reply = for_record.1 } }
     {
         let index = self.events.len() as u64;
         let (call, reply) = kept;
@@ -110,9 +110,10 @@ impl<K: Drop, R: Drop> Log<K, R> {
             call,
             reply,
         };
+        // Memory for it was reserved by `begin`.
         let _ = self.events.push(event);
         self.last = stamp;
-        let (call, reply) = noted;
+        let (call, reply) = for_record;
         StepRecord {
             place: by.place,
             stamp,

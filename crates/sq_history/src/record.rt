@@ -18,10 +18,10 @@ pub struct HomeRecord {
 }
 
 impl Model for HomeRecord {
-    ghost use Rattle.sq_model.specs.Notes.{HomeNote};
+    ghost use Rattle.sq_model.specs.RecordValues.{HomeRecordValue};
     ghost use Rattle.sq_history.specs.Records.{with_home};
 
-    ghost Value = { HomeNote };
+    ghost Value = { HomeRecordValue };
 
     ghost view = { λ r. with_home r.home r.name r.step };
 }

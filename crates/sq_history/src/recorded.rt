@@ -45,7 +45,7 @@ impl<S: Store> Model for Recorded<S> {
 }
 
 impl<S: Store> Recorded<S> {
-    ghost use Rattle.sq_history.specs.Histories.{Records, IsRefused, IsKept};
+    ghost use Rattle.sq_history.specs.Histories.{RecordsStep, IsRefused, IsKept};
 
     /// A home that was never opened, with no event.
     pub fn unopened(alloc: Global, shard: Shard<S>) -> Recorded<S>
@@ -86,22 +86,26 @@ impl<S: Store> Recorded<S> {
         name: Option<QueueName>,
         act: HomeAct,
     ) -> Result<(HomeReply, HomeRecord), Refusal>
-        ensures recorded { IfOk result (λ r. Records self.old self.new by.now now name (call_of act) r.1) }
-        ensures told { IfOk result (λ r. r.1.reply ≡ r.0) }
+        ensures recorded { IfOk result (λ r. RecordsStep self.old self.new by.now now name (call_of act) r.1) }
+        ensures answered { IfOk result (λ r. r.1.reply ≡ r.0) }
         ensures refusal { IfErr result (IsRefused self.old by.now now (call_of act)) }
         ensures err { OnErr result (self.new ≡ self.old) }
     {
         let stamp = self.log.begin(by, now)?;
         let call = act.call()?;
-        let noted_call = act.call()?;
-        let Answer { kept, noted, told } = act.ask(alloc, &mut self.shard, stamp.moment)?;
+        let recorded_call = act.call()?;
+        let Answer {
+            kept,
+            for_record,
+            answered,
+        } = act.ask(alloc, &mut self.shard, stamp.moment)?;
         let home = self.shard.site().home;
         let part = Component::Home(home);
         let step = self
             .log
-            .add(stamp, by, part, (call, kept), (noted_call, noted));
+            .add(stamp, by, part, (call, kept), (recorded_call, for_record));
         let record = HomeRecord::new(step, &home, name);
-        Ok((told, record))
+        Ok((answered, record))
     }
 
     /// Whether the home is closed; it stays so.

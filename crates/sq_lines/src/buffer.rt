@@ -66,7 +66,7 @@ impl Buffer {
         ensures bound { length self.new ≤ CHUNK }
         ensures end { IfOk result (λ n. n ≡ 0 → IsAtEnd (R.remaining reader.new.inner)) }
         ensures fault { OnErr result (self.new ≡ []) }
-        ensures same { OnOk result (reader.new.failed ≡ reader.old.failed) }
+        ensures no_failure { OnOk result (reader.new.failed ≡ reader.old.failed) }
         ensures failed { OnErr result (OneMore reader.old.failed reader.new.failed) }
     {
         self.at = 0;

@@ -14,6 +14,11 @@ use std::mem;
 /// The greatest number of bytes in a line.
 pub const LIMIT: usize = 4_194_304;
 
+/// It does nothing: its contract is the law that says which number the limit of contracts is.
+pub fn limit_is_known()
+    ensures { LIMIT ≡ 4194304 }
+{}
+
 /// Why there is no next line.
 #[derive(Clone, Copy, PartialEq, Eq, Debug)]
 pub enum LineFault {
@@ -69,11 +74,11 @@ fn end_line(
     ensures none { OnOk result (begun.new.items ≡ []) }
     ensures kept { OnErr result ((begun.new.items ≡ begun.old.items) × (ahead.new ≡ ahead.old)) }
     ensures long { IfErr result (λ e. e ≡ TooLong → LIMIT < length begun.old.items + at) }
-    // It tells want of memory only of bytes that are within the limit and do not fit.
+    // It reports that memory is out only of bytes that are within the limit and do not fit.
     ensures some { IfErr result (λ e. e ≡ NoMemory → 0 < at) }
     ensures fits { IfErr result (λ e. e ≡ NoMemory → length begun.old.items + at ≤ LIMIT) }
     ensures room { IfErr result (λ e. e ≡ NoMemory → vec_capacity begun.old < vec_len begun.old + at) }
-    ensures other { IfErr result (λ e. e ≡ Read → ⊥) }
+    ensures never_read { IfErr result (λ e. e ≡ Read → ⊥) }
 {
     if at > LIMIT - begun.len() {
         return Err(LineFault::TooLong);
@@ -91,11 +96,11 @@ fn add_ahead(begun: &mut Vec<u8>, ahead: &mut Buffer) -> Result<(), LineFault>
     ensures rest { OnOk result (ahead.new ≡ []) }
     ensures kept { OnErr result ((begun.new.items ≡ begun.old.items) × (ahead.new ≡ ahead.old)) }
     ensures long { IfErr result (λ e. e ≡ TooLong → LIMIT < length begun.old.items + length ahead.old) }
-    // It tells want of memory only of bytes that are within the limit and do not fit.
+    // It reports that memory is out only of bytes that are within the limit and do not fit.
     ensures some { IfErr result (λ e. e ≡ NoMemory → 0 < length ahead.old) }
     ensures fits { IfErr result (λ e. e ≡ NoMemory → length begun.old.items + length ahead.old ≤ LIMIT) }
     ensures room { IfErr result (λ e. e ≡ NoMemory → vec_capacity begun.old < vec_len begun.old + length ahead.old) }
-    ensures other { IfErr result (λ e. e ≡ Read → ⊥) }
+    ensures never_read { IfErr result (λ e. e ≡ Read → ⊥) }
 {
     let count = ahead.bytes().len();
     if count > LIMIT - begun.len() {
@@ -142,13 +147,13 @@ impl Lines {
         ensures kept { OnErr result (IfSome (lines_left (read_of self.old) (R.remaining reader.old.inner)) (λ lines. lines_left (read_of self.new) (R.remaining reader.new.inner) ≡ Some lines)) }
         ensures long { IfErr result (λ e. e ≡ TooLong → FirstIsOver LIMIT (lines_of (read_of self.new))) }
         ensures long_line { IfErr result (λ e. e ≡ TooLong → IfSome (lines_left (read_of self.old) (R.remaining reader.old.inner)) (λ lines. FirstIsOver LIMIT lines)) }
-        // It tells want of memory only of bytes that were to be put to a line, of which no more than the limit is read.
+        // It reports that memory is out only of bytes that were to be put to a line, of which no more than the limit is read.
         ensures wanted { IfErr result (λ e. e ≡ NoMemory → GoesOn self.new.ahead) }
         ensures memory { IfErr result (λ e. e ≡ NoMemory → FirstIsWithin LIMIT (lines_of (read_of self.new))) }
         ensures memory_line { IfErr result (λ e. e ≡ NoMemory → IfSome (lines_left (read_of self.old) (R.remaining reader.old.inner)) (λ lines. 0 < length lines)) }
-        ensures same { OnOk result (reader.new.failed ≡ reader.old.failed) }
+        ensures no_failure { OnOk result (reader.new.failed ≡ reader.old.failed) }
         ensures count { IfErr result (λ e. e ≡ Read → OneMore reader.old.failed reader.new.failed) }
-        ensures other { IfErr result (λ e. e ≢ Read → reader.new.failed ≡ reader.old.failed) }
+        ensures else_no_failure { IfErr result (λ e. e ≢ Read → reader.new.failed ≡ reader.old.failed) }
     {
         loop {
             if let Some(at) = memchr(b'\n', self.ahead.bytes()) {

@@ -11,7 +11,7 @@ pub fn put<W: Write>(writer: &mut Counted<W>, text: &[u8]) -> Result<(), usize>
     ensures ok { OnOk result (Appends (W.contents writer.old.inner) (W.contents writer.new.inner) text.now) }
     ensures err { IfErr result (λ n. Appends (W.contents writer.old.inner) (W.contents writer.new.inner) (take n text.now)) }
     ensures within { IfErr result (λ n. n < length text.now) }
-    ensures same { OnOk result (writer.new.failed ≡ writer.old.failed) }
+    ensures no_failure { OnOk result (writer.new.failed ≡ writer.old.failed) }
     ensures count { IfErr result (λ _. OneMore writer.old.failed writer.new.failed) }
 {
     let mut at = 0;
@@ -30,7 +30,7 @@ pub fn put_line<W: Write>(writer: &mut Counted<W>, text: &[u8]) -> Result<(), us
     ensures ok { OnOk result (Appends (W.contents writer.old.inner) (W.contents writer.new.inner) (text.now ++ 10 ∷ [])) }
     ensures err { IfErr result (λ n. Appends (W.contents writer.old.inner) (W.contents writer.new.inner) (take n (text.now ++ 10 ∷ []))) }
     ensures within { IfErr result (λ n. n ≤ length text.now) }
-    ensures same { OnOk result (writer.new.failed ≡ writer.old.failed) }
+    ensures no_failure { OnOk result (writer.new.failed ≡ writer.old.failed) }
     ensures count { IfErr result (λ _. OneMore writer.old.failed writer.new.failed) }
 {
     put(writer, text)?;

@@ -1,4 +1,4 @@
--- What the steps of a call are told, why they are refused, and what their actor knows after them.
+-- What the steps of a call get for a reply, why they are refused, and what their actor knows after them.
 use Rattle.std.proofs.Common.{◌≡◌, ◌⊎◌, ℕ, ◌+◌, Bool, true, false, not, ◌&&◌, ◌||◌, List, length, Option, Some, None, Result, Ok, Err, IfOk, IfErr, OnErr, sym, subst, inl, inr}
 use Rattle.std.specs.Prelude.{max, nat_le, if◌then◌else◌}
 use Rattle.sq_base.specs.Stamps.{stamp_end, next_at, after, stamped}
@@ -8,7 +8,7 @@ use Rattle.sq_base.specs.declared.refusal.Refusal.{Refusal}
 use Rattle.sq_base.specs.declared.refusal.Refusal.TheVariants.{ClockRange, Worn, InvalidParameterValue, QueueDoesNotExist, QueueNameExists, OverLimit, ReceiptHandleIsInvalid, MessageNotInflight, TableFull}
 use Rattle.std.specs.List.{list_any}
 use Rattle.sq_base.specs.declared.row.Row.{Row}
-use Rattle.sq_model.specs.Directories.{Directory, agrees, create_refusal, directory_refusal, queue_at, place_of}
+use Rattle.sq_model.specs.Directories.{Directory, agrees, create_refusal, directory_refusal, queue_at, index_of}
 use Rattle.sq_model.specs.declared.directory.Attributes.{Attributes}
 use Rattle.sq_model.specs.declared.directory.DirectoryCall.TheVariants.{Create}
 use Rattle.sq_model.specs.declared.directory.Queue.{Queue}
@@ -22,10 +22,10 @@ use Rattle.sq_history.specs.declared.act.HomeAct.{HomeAct}
 use Rattle.sq_history.specs.declared.act.HomeAct.TheVariants as act
 use Rattle.sq_history.specs.Acts.{call_of}
 use Rattle.sq_merge.specs.Asks.{Resolve, Directed, AtHome, IsReplyTo, IsOfAnyStep, IsOfAct, MayRefuse}
-use Rattle.sq_steps.specs.Books.{book_of, worn_at}
+use Rattle.sq_steps.specs.Journals.{journal_of, worn_at}
 use Rattle.sq_merge.specs.WorldValue.{WorldValue}
 use Rattle.sq_merge.specs.Worlds.{HomeStepped, HomeRefused, Created, CreateRefused, NameRefused, IsKnown}
-use Rattle.sq_merge.proofs.GivenLaws.{step_received}
+use Rattle.sq_merge.proofs.ReceivedLaws.{step_received}
 use Rattle.sq_merge.proofs.KnownLaws.{known_created, known_stepped}
 
 -- what a home replies to an act
@@ -45,7 +45,7 @@ reply_is site (Serving s v n rows) m a by after h = elim h [ ]
 reply_is site Closed m a by after h = elim h [ ]
 
 pub stepped_reply : (old new : WorldValue) (actor now : ℕ) (name : Option (List ℕ)) (id : HomeId) (a : HomeAct) (by : HomeReply) → HomeStepped old new actor now name id (call_of a) by → IsReplyTo a by
-stepped_reply old new actor now name id a by s = subst (λ (r : HomeReply). IsReplyTo a r) s.moves.told (reply_is _ _ _ a s.moves.note.reply _ s.moves.does.step)
+stepped_reply old new actor now name id a by s = subst (λ (r : HomeReply). IsReplyTo a r) s.moves.answered (reply_is _ _ _ a s.moves.its_record.reply _ s.moves.does.step)
 
 refused_cases : (test : Bool) (r : Refusal) (later : Option Refusal) (e : Refusal) → refused_if test r later ≡ Some e → (e ≡ r) ⊎ (later ≡ Some e)
 refused_cases true r later e h = inl cc
@@ -124,8 +124,8 @@ worn_refused now e h = elim (nat_le stamp_end now) as (λ v. e ≡ (if v then Cl
 -- why a step of a home is refused
 pub home_may : (w : WorldValue) (actor now : ℕ) (name : List ℕ) (id : HomeId) (a : HomeAct) (e : Refusal) → HomeRefused w actor now id (call_of a) e → MayRefuse (AtHome name id a) e
 home_may w actor now name id a e h = elim h [
-  | inl absent ↦ elim (nat_le stamp_end now) as (λ v. e ≡ (if v then ClockRange else QueueDoesNotExist) → MayRefuse (AtHome name id a) e) [ true ↦ (λ k. inl (inr (inl k))) | false ↦ (λ k. inr (inl k)) ] absent.1
-  | inr there ↦ elim there.3 [
+  | inl no_such_home ↦ elim (nat_le stamp_end now) as (λ v. e ≡ (if v then ClockRange else QueueDoesNotExist) → MayRefuse (AtHome name id a) e) [ true ↦ (λ k. inl (inr (inl k))) | false ↦ (λ k. inr (inl k)) ] no_such_home.1
+  | inr in_list ↦ elim in_list.3 [
     | inl worn ↦ inl (worn_refused now e worn.1)
     | inr step ↦ elim step.1 [
       | inl memory ↦ inl (inl memory)
@@ -137,23 +137,23 @@ home_may w actor now name id a e h = elim h [
   ]
 ]
 
-create_cases : (d : Directory) (given : Attributes) (queue : Option Queue) (e : Refusal) → create_refusal d given queue ≡ Some e → (e ≡ QueueNameExists) ⊎ (e ≡ TableFull)
-create_cases d given None e h = elim (nat_le d.places (length d.queues)) as (λ v. (if v then Some TableFull else None) ≡ Some e → (e ≡ QueueNameExists) ⊎ (e ≡ TableFull)) [ true ↦ (λ k. inr cc) | false ↦ (λ k. absurd cc) ] h
-create_cases d given (Some queue) e h = elim (agrees given queue.settings) as (λ v. (if v then None else Some QueueNameExists) ≡ Some e → (e ≡ QueueNameExists) ⊎ (e ≡ TableFull)) [ true ↦ (λ k. absurd cc) | false ↦ (λ k. inl cc) ] h
+create_cases : (d : Directory) (attributes : Attributes) (queue : Option Queue) (e : Refusal) → create_refusal d attributes queue ≡ Some e → (e ≡ QueueNameExists) ⊎ (e ≡ TableFull)
+create_cases d attributes None e h = elim (nat_le d.places (length d.queues)) as (λ v. (if v then Some TableFull else None) ≡ Some e → (e ≡ QueueNameExists) ⊎ (e ≡ TableFull)) [ true ↦ (λ k. inr cc) | false ↦ (λ k. absurd cc) ] h
+create_cases d attributes (Some queue) e h = elim (agrees attributes queue.settings) as (λ v. (if v then None else Some QueueNameExists) ≡ Some e → (e ≡ QueueNameExists) ⊎ (e ≡ TableFull)) [ true ↦ (λ k. absurd cc) | false ↦ (λ k. inl cc) ] h
 
-directory_cases : (d : Directory) (m : ℕ) (name : List ℕ) (given : Attributes) (e : Refusal) → directory_refusal d m (Create name given) ≡ Some e → (e ≡ QueueNameExists) ⊎ (e ≡ TableFull)
+directory_cases : (d : Directory) (m : ℕ) (name : List ℕ) (attributes : Attributes) (e : Refusal) → directory_refusal d m (Create name attributes) ≡ Some e → (e ≡ QueueNameExists) ⊎ (e ≡ TableFull)
 unfolding directory_refusal
-directory_cases d m name given e h = create_cases d given (queue_at d.queues (place_of name d.queues)) e h
+directory_cases d m name attributes e h = create_cases d attributes (queue_at d.queues (index_of name d.queues)) e h
 
 -- why a queue is not made
-pub create_may : (w : WorldValue) (actor now : ℕ) (name : List ℕ) (given : Attributes) (e : Refusal) → CreateRefused w actor now name given e → MayRefuse (Directed (Create name given)) e
-create_may w actor now name given e h = elim h [
+pub create_may : (w : WorldValue) (actor now : ℕ) (name : List ℕ) (attributes : Attributes) (e : Refusal) → CreateRefused w actor now name attributes e → MayRefuse (Directed (Create name attributes)) e
+create_may w actor now name attributes e h = elim h [
   | inl worn ↦ inl (worn_refused now e worn.1)
   | inr step ↦ elim step.1 [
     | inl memory ↦ inl (inl memory)
     | inr rest ↦ elim rest [
       | inl clock ↦ inl (after_refused _ _ now e clock)
-      | inr own ↦ inr (directory_cases _ _ name given e own.2)
+      | inr own ↦ inr (directory_cases _ _ name attributes e own.2)
     ]
   ]
 ]
@@ -163,26 +163,26 @@ pub name_may : (w : WorldValue) (actor : ℕ) (name : List ℕ) (e : Refusal) �
 name_may w actor name e h = elim h [ inl none ↦ inl none.1 | inr unmade ↦ inr unmade.2 ]
 
 -- after a step an actor knows what it knew
-pub still_known : (old new : WorldValue) (actor now : ℕ) (name : List ℕ) (queue : ℕ) (id : HomeId) (a : HomeAct) (told : Result HomeReply Refusal)
-    → IfOk told (λ by. HomeStepped old new actor now (Some name) id (call_of a) by) → OnErr told (new ≡ old) → IsKnown old.directory.events (book_of actor old.books) (Some name) queue
-    → IsKnown new.directory.events (book_of actor new.books) (Some name) queue
+pub still_known : (old new : WorldValue) (actor now : ℕ) (name : List ℕ) (queue : ℕ) (id : HomeId) (a : HomeAct) (answered : Result HomeReply Refusal)
+    → IfOk answered (λ by. HomeStepped old new actor now (Some name) id (call_of a) by) → OnErr answered (new ≡ old) → IsKnown old.directory.events (journal_of actor old.journals) (Some name) queue
+    → IsKnown new.directory.events (journal_of actor new.journals) (Some name) queue
 still_known old new actor now name queue id a (Ok by) stepped same known = known_stepped old new actor now (Some name) id (call_of a) by name queue stepped known
-still_known old new actor now name queue id a (Err e) stepped same known = subst (λ (w : WorldValue). IsKnown w.directory.events (book_of actor w.books) (Some name) queue) (sym same) known
+still_known old new actor now name queue id a (Err e) stepped same known = subst (λ (w : WorldValue). IsKnown w.directory.events (journal_of actor w.journals) (Some name) queue) (sym same) known
 
--- the same of what is told
-pub told_reply : (old new : WorldValue) (actor now : ℕ) (name : Option (List ℕ)) (id : HomeId) (a : HomeAct) (told : Result HomeReply Refusal) → IfOk told (HomeStepped old new actor now name id (call_of a)) → IfOk told (IsReplyTo a)
-told_reply old new actor now name id a (Ok by) s = stepped_reply old new actor now name id a by s
-told_reply old new actor now name id a (Err e) s = tt
+-- the same of an answer
+pub answered_reply : (old new : WorldValue) (actor now : ℕ) (name : Option (List ℕ)) (id : HomeId) (a : HomeAct) (answered : Result HomeReply Refusal) → IfOk answered (HomeStepped old new actor now name id (call_of a)) → IfOk answered (IsReplyTo a)
+answered_reply old new actor now name id a (Ok by) s = stepped_reply old new actor now name id a by s
+answered_reply old new actor now name id a (Err e) s = tt
 
-pub told_home : (w : WorldValue) (actor now : ℕ) (name : List ℕ) (id : HomeId) (a : HomeAct) (told : Result HomeReply Refusal) → IfErr told (HomeRefused w actor now id (call_of a)) → IfErr told (MayRefuse (AtHome name id a))
-told_home w actor now name id a (Ok by) h = tt
-told_home w actor now name id a (Err e) h = home_may w actor now name id a e h
+pub answered_home : (w : WorldValue) (actor now : ℕ) (name : List ℕ) (id : HomeId) (a : HomeAct) (answered : Result HomeReply Refusal) → IfErr answered (HomeRefused w actor now id (call_of a)) → IfErr answered (MayRefuse (AtHome name id a))
+answered_home w actor now name id a (Ok by) h = tt
+answered_home w actor now name id a (Err e) h = home_may w actor now name id a e h
 
-pub told_create : (w : WorldValue) (actor now : ℕ) (name : List ℕ) (given : Attributes) (told : Result QueueSettings Refusal) → IfErr told (CreateRefused w actor now name given) → IfErr told (MayRefuse (Directed (Create name given)))
-told_create w actor now name given (Ok made) h = tt
-told_create w actor now name given (Err e) h = create_may w actor now name given e h
+pub answered_create : (w : WorldValue) (actor now : ℕ) (name : List ℕ) (attributes : Attributes) (answered : Result QueueSettings Refusal) → IfErr answered (CreateRefused w actor now name attributes) → IfErr answered (MayRefuse (Directed (Create name attributes)))
+answered_create w actor now name attributes (Ok made) h = tt
+answered_create w actor now name attributes (Err e) h = create_may w actor now name attributes e h
 
-pub told_known : (old new : WorldValue) (actor now : ℕ) (name : List ℕ) (given : Attributes) (told : Result QueueSettings Refusal) → IfOk told (Created old new actor now name given)
-    → IfOk told (λ made. IsKnown new.directory.events (book_of actor new.books) (Some name) made.queue)
-told_known old new actor now name given (Ok made) s = known_created old new actor now name given made s
-told_known old new actor now name given (Err e) s = tt
+pub answered_known : (old new : WorldValue) (actor now : ℕ) (name : List ℕ) (attributes : Attributes) (answered : Result QueueSettings Refusal) → IfOk answered (Created old new actor now name attributes)
+    → IfOk answered (λ made. IsKnown new.directory.events (journal_of actor new.journals) (Some name) made.queue)
+answered_known old new actor now name attributes (Ok made) s = known_created old new actor now name attributes made s
+answered_known old new actor now name attributes (Err e) s = tt

@@ -24,72 +24,72 @@ use Rattle.sq_merge.specs.declared.client.OnMessage.{OnMessage}
 use Rattle.sq_merge.specs.declared.client.OnMessage.TheVariants.{Delete, Change}
 use Rattle.sq_merge.specs.Messages.{act_of}
 use Rattle.sq_merge.specs.Asks.{Ask, Resolve, Directed, AtHome, Gave, Found, Answered, Done, replied_of, HomeCounts, IsReplyTo, IsOfAnyStep, MayRefuse}
-use Rattle.sq_merge.specs.Calls.{home_of, given_by, receipt_of, handle_at}
-use Rattle.sq_merge.specs.Fits.{named, created, at_home, ByName, IsPassed, AskedAll, AtAll, CreateFits, GivesNone, InVain, EndsReceive, none_told, ReceiveAt, HandleAt, OneStep, MakesDone}
-use Rattle.sq_merge.specs.Told.{Path, Told}
-use Rattle.sq_merge.proofs.PathLaws.{path_more, told_one, told_more}
+use Rattle.sq_merge.specs.Calls.{home_numbered, received_from, receipt_of, handle_at}
+use Rattle.sq_merge.specs.Fits.{named, created, at_home, ByName, IsPassed, AskedAll, AtAll, CreateFits, HasNoMessage, InVain, EndsReceive, none_answered, ReceiveAt, HandleAt, OneStep, MakesDone}
+use Rattle.sq_merge.specs.Performs.{Path, Performs}
+use Rattle.sq_merge.proofs.PathLaws.{path_more, answered_one, answered_more}
 
 -- a call on a queue that was found
-pub told_found : {S : Type 0} (stepped : S → Ask → Result Gave Refusal → S → Type 0) (counts : S → HomeCounts) (At : HomeCounts → ℕ → List Done → Result Answer Refusal → Type 0) (F : List Done → Result Answer Refusal → Type 0) (old mid new : S) (name : List ℕ) (queue : ℕ) (told : Result Answer Refusal)
-    → stepped old (Resolve name) (Ok (Found queue)) mid → counts mid ≡ counts old → Told stepped F mid told new → ((ds : List Done) → F ds told → At (counts mid) queue ds told) → Told stepped (ByName name (At (counts old))) old told new
-told_found stepped counts At F old mid new name queue told h same rest as_at =
-    told_more stepped (ByName name (At (counts old))) F old mid new told (named name (Ok (Found queue))) h rest
-    (λ ds fits. inr (queue, ds, refl, subst (λ (n : HomeCounts). At n queue ds told) same (as_at ds fits)))
+pub answered_found : {S : Type 0} (stepped : S → Ask → Result Gave Refusal → S → Type 0) (counts : S → HomeCounts) (At : HomeCounts → ℕ → List Done → Result Answer Refusal → Type 0) (F : List Done → Result Answer Refusal → Type 0) (old mid new : S) (name : List ℕ) (queue : ℕ) (answered : Result Answer Refusal)
+    → stepped old (Resolve name) (Ok (Found queue)) mid → counts mid ≡ counts old → Performs stepped F mid answered new → ((ds : List Done) → F ds answered → At (counts mid) queue ds answered) → Performs stepped (ByName name (At (counts old))) old answered new
+answered_found stepped counts At F old mid new name queue answered h same rest as_at =
+    answered_more stepped (ByName name (At (counts old))) F old mid new answered (named name (Ok (Found queue))) h rest
+    (λ ds fits. inr (queue, ds, refl, subst (λ (n : HomeCounts). At n queue ds answered) same (as_at ds fits)))
 
 -- and that ends there
-pub told_ended : {S : Type 0} (stepped : S → Ask → Result Gave Refusal → S → Type 0) (At : ℕ → List Done → Result Answer Refusal → Type 0) (old new : S) (name : List ℕ) (queue : ℕ) (told : Result Answer Refusal)
-    → stepped old (Resolve name) (Ok (Found queue)) new → At queue [] told → Told stepped (ByName name At) old told new
-told_ended stepped At old new name queue told h fits = told_one stepped (ByName name At) old old new told (named name (Ok (Found queue))) refl h (inr (queue, [], refl, fits))
+pub answered_ended : {S : Type 0} (stepped : S → Ask → Result Gave Refusal → S → Type 0) (At : ℕ → List Done → Result Answer Refusal → Type 0) (old new : S) (name : List ℕ) (queue : ℕ) (answered : Result Answer Refusal)
+    → stepped old (Resolve name) (Ok (Found queue)) new → At queue [] answered → Performs stepped (ByName name At) old answered new
+answered_ended stepped At old new name queue answered h fits = answered_one stepped (ByName name At) old old new answered (named name (Ok (Found queue))) refl h (inr (queue, [], refl, fits))
 
 -- and on one that was not
-pub told_lost : {S : Type 0} (stepped : S → Ask → Result Gave Refusal → S → Type 0) (At : ℕ → List Done → Result Answer Refusal → Type 0) (old new : S) (name : List ℕ) (told : Result Answer Refusal) (e : Refusal)
-    → told ≡ Err e → MayRefuse (Resolve name) e → stepped old (Resolve name) (Err e) new → Told stepped (ByName name At) old told new
-told_lost stepped At old new name told e is may h = told_one stepped (ByName name At) old old new told (named name (Err e)) refl h (inl (e, may, refl, is))
+pub answered_lost : {S : Type 0} (stepped : S → Ask → Result Gave Refusal → S → Type 0) (At : ℕ → List Done → Result Answer Refusal → Type 0) (old new : S) (name : List ℕ) (answered : Result Answer Refusal) (e : Refusal)
+    → answered ≡ Err e → MayRefuse (Resolve name) e → stepped old (Resolve name) (Err e) new → Performs stepped (ByName name At) old answered new
+answered_lost stepped At old new name answered e is may h = answered_one stepped (ByName name At) old old new answered (named name (Err e)) refl h (inl (e, may, refl, is))
 
 -- a call on the message of a handle, at a queue that was found
-pub told_handle : {S : Type 0} (stepped : S → Ask → Result Gave Refusal → S → Type 0) (counts : S → HomeCounts) (old mid new : S) (name : List ℕ) (handle : Option Handle) (a : Receipt → HomeAct) (of : NamedQueue) (h : Handle) (by : Result HomeReply Refusal) (told : Result Answer Refusal)
+pub answered_handle : {S : Type 0} (stepped : S → Ask → Result Gave Refusal → S → Type 0) (counts : S → HomeCounts) (old mid new : S) (name : List ℕ) (handle : Option Handle) (a : Receipt → HomeAct) (of : NamedQueue) (h : Handle) (by : Result HomeReply Refusal) (answered : Result Answer Refusal)
     → stepped old (Resolve name) (Ok (Found of.queue)) mid → counts mid ≡ counts old → of.name ≡ name → handle_at (counts mid).homes of.queue handle ≡ Some h
-    → stepped mid (AtHome of.name (home_of of.queue h.home) (a (receipt_of h))) (replied_of by) new → OneStep of.name of.queue h.home (a (receipt_of h)) MakesDone (at_home of.name of.queue h.home (a (receipt_of h)) by ∷ []) told
-    → Told stepped (ByName name (HandleAt (counts old).homes name handle a)) old told new
-told_handle stepped counts old mid new name handle a of h by told did same by_name found asked fits =
+    → stepped mid (AtHome of.name (home_numbered of.queue h.home) (a (receipt_of h))) (replied_of by) new → OneStep of.name of.queue h.home (a (receipt_of h)) MakesDone (at_home of.name of.queue h.home (a (receipt_of h)) by ∷ []) answered
+    → Performs stepped (ByName name (HandleAt (counts old).homes name handle a)) old answered new
+answered_handle stepped counts old mid new name handle a of h by answered did same by_name found asked fits =
     let F = OneStep of.name of.queue h.home (a (receipt_of h)) MakesDone in
-    told_found stepped counts (λ n. HandleAt n.homes name handle a) F old mid new name of.queue told did same
-    (told_one stepped F mid mid new told (at_home of.name of.queue h.home (a (receipt_of h)) by) refl asked fits)
-    (λ ds one. inr (h, found, subst (λ (n : List ℕ). OneStep n of.queue h.home (a (receipt_of h)) MakesDone ds told) by_name one))
+    answered_found stepped counts (λ n. HandleAt n.homes name handle a) F old mid new name of.queue answered did same
+    (answered_one stepped F mid mid new answered (at_home of.name of.queue h.home (a (receipt_of h)) by) refl asked fits)
+    (λ ds one. inr (h, found, subst (λ (n : List ℕ). OneStep n of.queue h.home (a (receipt_of h)) MakesDone ds answered) by_name one))
 
 -- and of what is no handle there
-pub told_no_handle : {S : Type 0} (stepped : S → Ask → Result Gave Refusal → S → Type 0) (counts : S → HomeCounts) (old new : S) (name : List ℕ) (handle : Option Handle) (a : Receipt → HomeAct) (queue : ℕ) (told : Result Answer Refusal)
-    → stepped old (Resolve name) (Ok (Found queue)) new → counts new ≡ counts old → handle_at (counts new).homes queue handle ≡ None → told ≡ Err ReceiptHandleIsInvalid
-    → Told stepped (ByName name (HandleAt (counts old).homes name handle a)) old told new
-told_no_handle stepped counts old new name handle a queue told did same lost is =
-    told_ended stepped (HandleAt (counts old).homes name handle a) old new name queue told did (inl (subst (λ (n : HomeCounts). handle_at n.homes queue handle ≡ None) same lost, refl, is))
+pub answered_no_handle : {S : Type 0} (stepped : S → Ask → Result Gave Refusal → S → Type 0) (counts : S → HomeCounts) (old new : S) (name : List ℕ) (handle : Option Handle) (a : Receipt → HomeAct) (queue : ℕ) (answered : Result Answer Refusal)
+    → stepped old (Resolve name) (Ok (Found queue)) new → counts new ≡ counts old → handle_at (counts new).homes queue handle ≡ None → answered ≡ Err ReceiptHandleIsInvalid
+    → Performs stepped (ByName name (HandleAt (counts old).homes name handle a)) old answered new
+answered_no_handle stepped counts old new name handle a queue answered did same lost is =
+    answered_ended stepped (HandleAt (counts old).homes name handle a) old new name queue answered did (inl (subst (λ (n : HomeCounts). handle_at n.homes queue handle ≡ None) same lost, refl, is))
 
 -- a queue that was made, or found, and its homes
-pub told_created : {S : Type 0} (stepped : S → Ask → Result Gave Refusal → S → Type 0) (counts : S → HomeCounts) (c : CreateQueue) (old mid new : S) (made : QueueSettings) (told : Result Answer Refusal)
+pub answered_created : {S : Type 0} (stepped : S → Ask → Result Gave Refusal → S → Type 0) (counts : S → HomeCounts) (c : CreateQueue) (old mid new : S) (made : QueueSettings) (answered : Result Answer Refusal)
     → stepped old (Directed (Create c.name c.attributes)) (Ok (Answered (Made made))) mid → counts mid ≡ counts old
-    → Told stepped (AtAll (counts mid).homes c.name made.queue (act.Configure made.settings made.version) (answer.Queue c.name)) mid told new → Told stepped (CreateFits (counts old).homes c) old told new
-told_created stepped counts c old mid new made told h same rest =
-    told_more stepped (CreateFits (counts old).homes c) (AtAll (counts mid).homes c.name made.queue (act.Configure made.settings made.version) (answer.Queue c.name)) old mid new told (created c.name c.attributes (Ok made)) h rest
-    (λ ds fits. inr (made, ds, refl, subst (λ (n : HomeCounts). AtAll n.homes c.name made.queue (act.Configure made.settings made.version) (answer.Queue c.name) ds told) same fits))
+    → Performs stepped (AtAll (counts mid).homes c.name made.queue (act.Configure made.settings made.version) (answer.Queue c.name)) mid answered new → Performs stepped (CreateFits (counts old).homes c) old answered new
+answered_created stepped counts c old mid new made answered h same rest =
+    answered_more stepped (CreateFits (counts old).homes c) (AtAll (counts mid).homes c.name made.queue (act.Configure made.settings made.version) (answer.Queue c.name)) old mid new answered (created c.name c.attributes (Ok made)) h rest
+    (λ ds fits. inr (made, ds, refl, subst (λ (n : HomeCounts). AtAll n.homes c.name made.queue (act.Configure made.settings made.version) (answer.Queue c.name) ds answered) same fits))
 
-pub told_not_created : {S : Type 0} (stepped : S → Ask → Result Gave Refusal → S → Type 0) (homes : ℕ) (c : CreateQueue) (old new : S) (told : Result Answer Refusal) (e : Refusal)
-    → told ≡ Err e → MayRefuse (Directed (Create c.name c.attributes)) e → stepped old (Directed (Create c.name c.attributes)) (Err e) new → Told stepped (CreateFits homes c) old told new
-told_not_created stepped homes c old new told e is may h = told_one stepped (CreateFits homes c) old old new told (created c.name c.attributes (Err e)) refl h (inl (e, may, refl, is))
+pub answered_not_created : {S : Type 0} (stepped : S → Ask → Result Gave Refusal → S → Type 0) (homes : ℕ) (c : CreateQueue) (old new : S) (answered : Result Answer Refusal) (e : Refusal)
+    → answered ≡ Err e → MayRefuse (Directed (Create c.name c.attributes)) e → stepped old (Directed (Create c.name c.attributes)) (Err e) new → Performs stepped (CreateFits homes c) old answered new
+answered_not_created stepped homes c old new answered e is may h = answered_one stepped (CreateFits homes c) old old new answered (created c.name c.attributes (Err e)) refl h (inl (e, may, refl, is))
 
 -- one home more was asked, or passed over
-pub more_passed : {S : Type 0} (stepped : S → Ask → Result Gave Refusal → S → Type 0) (old mid new : S) (name : List ℕ) (queue : ℕ) (a : HomeAct) (n : ℕ) (told : Result HomeReply Refusal)
-    → (trace : List Done) × Path stepped old trace mid × AskedAll name queue a n trace → stepped mid (AtHome name (home_of queue n) a) (replied_of told) new → IsPassed told
+pub more_passed : {S : Type 0} (stepped : S → Ask → Result Gave Refusal → S → Type 0) (old mid new : S) (name : List ℕ) (queue : ℕ) (a : HomeAct) (n : ℕ) (answered : Result HomeReply Refusal)
+    → (trace : List Done) × Path stepped old trace mid × AskedAll name queue a n trace → stepped mid (AtHome name (home_numbered queue n) a) (replied_of answered) new → IsPassed answered
     → (trace : List Done) × Path stepped old trace new × AskedAll name queue a (n + 1) trace
-more_passed stepped old mid new name queue a n told asked h passed =
+more_passed stepped old mid new name queue a n answered asked h passed =
     let next : n + 1 ≡ suc n = omega arith in
-    let d : Done = at_home name queue n a told in
-    rw next (asked.0 ++ d ∷ [], path_more stepped old mid new asked.0 d asked.1 h, (asked.0, told, asked.2, passed, refl))
+    let d : Done = at_home name queue n a answered in
+    rw next (asked.0 ++ d ∷ [], path_more stepped old mid new asked.0 d asked.1 h, (asked.0, answered, asked.2, passed, refl))
 
 -- a home ends the call
-pub all_ended : {S : Type 0} (stepped : S → Ask → Result Gave Refusal → S → Type 0) (old mid new : S) (homes : ℕ) (name : List ℕ) (queue : ℕ) (a : HomeAct) (answer : Answer) (n : ℕ) (e : Refusal) (told : Result Answer Refusal)
-    → (trace : List Done) × Path stepped old trace mid × AskedAll name queue a n trace → n < homes → stepped mid (AtHome name (home_of queue n) a) (Err e) new → IsOfAnyStep e → told ≡ Err e
-    → Told stepped (AtAll homes name queue a answer) old told new
-all_ended stepped old mid new homes name queue a answer n e told asked below h may is =
+pub all_ended : {S : Type 0} (stepped : S → Ask → Result Gave Refusal → S → Type 0) (old mid new : S) (homes : ℕ) (name : List ℕ) (queue : ℕ) (a : HomeAct) (answer : Answer) (n : ℕ) (e : Refusal) (answered : Result Answer Refusal)
+    → (trace : List Done) × Path stepped old trace mid × AskedAll name queue a n trace → n < homes → stepped mid (AtHome name (home_numbered queue n) a) (Err e) new → IsOfAnyStep e → answered ≡ Err e
+    → Performs stepped (AtAll homes name queue a answer) old answered new
+all_ended stepped old mid new homes name queue a answer n e answered asked below h may is =
     let d : Done = at_home name queue n a (Err e) in
     record {
       trace = asked.0 ++ d ∷ [];
@@ -99,7 +99,7 @@ all_ended stepped old mid new homes name queue a answer n e told asked below h m
 
 -- no home ends it
 pub all_passed : {S : Type 0} (stepped : S → Ask → Result Gave Refusal → S → Type 0) (old new : S) (homes : ℕ) (name : List ℕ) (queue : ℕ) (a : HomeAct) (answer : Answer) (n : ℕ)
-    → (trace : List Done) × Path stepped old trace new × AskedAll name queue a n trace → n ≡ homes → Told stepped (AtAll homes name queue a answer) old (Ok answer) new
+    → (trace : List Done) × Path stepped old trace new × AskedAll name queue a n trace → n ≡ homes → Performs stepped (AtAll homes name queue a answer) old (Ok answer) new
 all_passed stepped old new homes name queue a answer n asked all = record {
   trace = asked.0;
   path = asked.1;
@@ -115,8 +115,8 @@ pub configured_done : (settings : Settings) (version : ℕ) (by : HomeReply) →
 configured_done settings version reply.Done h = refl
 configured_done settings version by h = elim h [ ]
 
-pub passed_done : (settings : Settings) (version : ℕ) (told : Result HomeReply Refusal) → IfOk told (IsReplyTo (act.Configure settings version)) → ((by : HomeReply) × (told ≡ Ok by)) ⊎ (told ≡ Err QueueDoesNotExist) → IsPassed told
-passed_done settings version told replied passed = elim passed [
+pub passed_done : (settings : Settings) (version : ℕ) (answered : Result HomeReply Refusal) → IfOk answered (IsReplyTo (act.Configure settings version)) → ((by : HomeReply) × (answered ≡ Ok by)) ⊎ (answered ≡ Err QueueDoesNotExist) → IsPassed answered
+passed_done settings version answered replied passed = elim passed [
   | inl did ↦ (let done : did.0 ≡ reply.Done = configured_done settings version did.0 (rw did.1 at replied) in inl (did.1 ∙ ap (λ (by : HomeReply). Ok by) done))
   | inr closed ↦ inr closed
 ]
@@ -128,12 +128,12 @@ message_done (Change timeout) receipt reply.Done h = refl
 message_done Delete receipt by h = elim h [ ]
 message_done (Change timeout) receipt by h = elim h [ ]
 
--- a send is told as sent
+-- a send is answered as sent
 pub sent_is : (body : List ℕ) (delay : Option ℕ) (by : HomeReply) → IsReplyTo (act.Send body delay) by → ((sent : SentMessage) → by ≡ reply.Sent sent → ⊥) → ⊥
 sent_is body delay (reply.Sent sent) h other = other sent refl
 sent_is body delay by h other = elim h [ ]
 
--- a look is told with messages, or that too many are in flight
+-- a look is answered with messages, or that too many are in flight
 pub looked_is : (max : ℕ) (timeout : Option ℕ) (by : HomeReply) → IsReplyTo (act.Look max timeout) by → ((rows : List Row) → by ≡ reply.Looked rows → ⊥) → (by ≡ reply.Over → ⊥) → ⊥
 looked_is max timeout (reply.Looked rows) h other over = other rows refl
 looked_is max timeout reply.Over h other over = over refl
@@ -142,27 +142,27 @@ looked_is max timeout by h other over = elim h [ ]
 -- one home more is asked in vain
 pub more_asked : {S : Type 0} (stepped : S → Ask → Result Gave Refusal → S → Type 0) (old mid new : S) (c : ReceiveMessage) (queue : ℕ) (drawn : List ℕ) (n home : ℕ) (by : HomeReply) (was over : Bool)
     → (trace : List Done) × Path stepped old trace mid × InVain c queue drawn n was trace → slice_get drawn n ≡ Some home
-    → stepped mid (AtHome c.queue (home_of queue home) (act.Look c.max c.timeout)) (replied_of (Ok by)) new → GivesNone by was over
+    → stepped mid (AtHome c.queue (home_numbered queue home) (act.Look c.max c.timeout)) (replied_of (Ok by)) new → HasNoMessage by was over
     → (trace : List Done) × Path stepped old trace new × InVain c queue drawn (n + 1) over trace
-more_asked stepped old mid new c queue drawn n home by was over asked there h none =
+more_asked stepped old mid new c queue drawn n home by was over asked in_list h none =
     let next : n + 1 ≡ suc n = omega arith in
     let d : Done = at_home c.queue queue home (act.Look c.max c.timeout) (Ok by) in
-    rw next (asked.0 ++ d ∷ [], path_more stepped old mid new asked.0 d asked.1 h, (asked.0, was, home, by, asked.2, there, none, refl))
+    rw next (asked.0 ++ d ∷ [], path_more stepped old mid new asked.0 d asked.1 h, (asked.0, was, home, by, asked.2, in_list, none, refl))
 
 -- a home ends a receive
-pub receive_ended : {S : Type 0} (stepped : S → Ask → Result Gave Refusal → S → Type 0) (old mid new : S) (counts : HomeCounts) (c : ReceiveMessage) (queue : ℕ) (drawn : List ℕ) (n home : ℕ) (by : Result HomeReply Refusal) (over : Bool) (told : Result Answer Refusal)
+pub receive_ended : {S : Type 0} (stepped : S → Ask → Result Gave Refusal → S → Type 0) (old mid new : S) (counts : HomeCounts) (c : ReceiveMessage) (queue : ℕ) (drawn : List ℕ) (n home : ℕ) (by : Result HomeReply Refusal) (over : Bool) (answered : Result Answer Refusal)
     → 1 ≤ counts.sample → IsSampleOf counts.homes counts.sample drawn → (trace : List Done) × Path stepped old trace mid × InVain c queue drawn n over trace → slice_get drawn n ≡ Some home
-    → stepped mid (AtHome c.queue (home_of queue home) (act.Look c.max c.timeout)) (replied_of by) new → EndsReceive c queue home by told → Told stepped (ReceiveAt counts c queue) old told new
-receive_ended stepped old mid new counts c queue drawn n home by over told some sample asked there h ends =
+    → stepped mid (AtHome c.queue (home_numbered queue home) (act.Look c.max c.timeout)) (replied_of by) new → EndsReceive c queue home by answered → Performs stepped (ReceiveAt counts c queue) old answered new
+receive_ended stepped old mid new counts c queue drawn n home by over answered some sample asked in_list h ends =
     let d : Done = at_home c.queue queue home (act.Look c.max c.timeout) by in
     record {
       trace = asked.0 ++ d ∷ [];
       path = path_more stepped old mid new asked.0 d asked.1 h;
-      fits = inr (drawn, over, some, sample, inl (n, asked.0, home, by, asked.2, there, refl, ends));
+      fits = inr (drawn, over, some, sample, inl (n, asked.0, home, by, asked.2, in_list, refl, ends));
     }
 
 -- a home that gives messages ends it
-pub ends_giving : (c : ReceiveMessage) (queue home : ℕ) (rows : List Row) → 0 < length rows → EndsReceive c queue home (Ok (reply.Looked rows)) (Ok (given_by c (home_of queue home) rows))
+pub ends_giving : (c : ReceiveMessage) (queue home : ℕ) (rows : List Row) → 0 < length rows → EndsReceive c queue home (Ok (reply.Looked rows)) (Ok (received_from c (home_numbered queue home) rows))
 ends_giving c queue home [] some = absurd (omega (arith, some))
 ends_giving c queue home (row ∷ rows) some = inl (row, rows, refl, refl)
 
@@ -171,10 +171,10 @@ none_given [] e = refl
 none_given (row ∷ rows) e = absurd (omega (arith, e))
 
 -- no home ends it
-pub receive_asked : {S : Type 0} (stepped : S → Ask → Result Gave Refusal → S → Type 0) (old new : S) (counts : HomeCounts) (c : ReceiveMessage) (queue : ℕ) (drawn : List ℕ) (n : ℕ) (over : Bool) (told : Result Answer Refusal)
-    → 1 ≤ counts.sample → IsSampleOf counts.homes counts.sample drawn → (trace : List Done) × Path stepped old trace new × InVain c queue drawn n over trace → n ≡ length drawn → told ≡ none_told c queue over
-    → Told stepped (ReceiveAt counts c queue) old told new
-receive_asked stepped old new counts c queue drawn n over told some sample asked all is = record {
+pub receive_asked : {S : Type 0} (stepped : S → Ask → Result Gave Refusal → S → Type 0) (old new : S) (counts : HomeCounts) (c : ReceiveMessage) (queue : ℕ) (drawn : List ℕ) (n : ℕ) (over : Bool) (answered : Result Answer Refusal)
+    → 1 ≤ counts.sample → IsSampleOf counts.homes counts.sample drawn → (trace : List Done) × Path stepped old trace new × InVain c queue drawn n over trace → n ≡ length drawn → answered ≡ none_answered c queue over
+    → Performs stepped (ReceiveAt counts c queue) old answered new
+receive_asked stepped old new counts c queue drawn n over answered some sample asked all is = record {
   trace = asked.0;
   path = asked.1;
   fits = inr (drawn, over, some, sample, inr (subst (λ (k : ℕ). InVain c queue drawn k over asked.0) all asked.2, is));

@@ -14,6 +14,6 @@ all_ascii (b ∷ bs) e =
     let p = and_parts (nat_lt b 128) (list_all (λ b. nat_lt b 128) bs) e in
     IsAscii-cons b bs (ltb-true _ _ p.0) (all_ascii bs p.1)
 
--- bytes in hexadecimal digits, as a digest is told
+-- bytes in hexadecimal digits, as a digest is written
 pub digest_ascii : (bytes : List ℕ) → IsAscii (encode_lower bytes)
 digest_ascii bytes = IsAscii-encode_with lower_digits bytes (all_ascii lower_digits refl)

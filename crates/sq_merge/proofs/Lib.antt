@@ -2,7 +2,7 @@ pub mod WorldLaws
 pub mod ScheduleLaws
 pub mod StepLaws
 pub mod DigestLaws
-pub mod GivenLaws
+pub mod ReceivedLaws
 pub mod KnownLaws
 pub mod PathLaws
 pub mod ClientLaws

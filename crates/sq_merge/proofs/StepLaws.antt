@@ -16,121 +16,121 @@ use Rattle.sq_model.specs.declared.directory.QueueSettings.{QueueSettings}
 use Rattle.sq_model.specs.declared.directory.DirectoryCall.TheVariants.{Create}
 use Rattle.sq_model.specs.declared.directory.DirectoryReply.TheVariants.{Made}
 use Rattle.sq_model.specs.Replays.{HomeEvent}
-use Rattle.sq_model.specs.Notes.{Book}
+use Rattle.sq_model.specs.RecordValues.{Journal}
 use Rattle.sq_model.specs.Matches.{HomeHistory, IsHomeEvent}
 use Rattle.sq_history.specs.HistoryValue.{HistoryValue}
 use Rattle.sq_directory.specs.DirectoryHistory.{DirectoryHistory}
-use Rattle.sq_steps.specs.Books.{is_of, new_book, book_of, place_in, opened, having_seen, last_place, HomeMoves, DirectoryMoves, IsHomeRefused, IsCreateRefused}
+use Rattle.sq_steps.specs.Journals.{is_of, new_journal, journal_of, index_in, opened, having_seen, last_place, HomeMoves, DirectoryMoves, IsHomeRefused, IsCreateRefused}
 use Rattle.sq_merge.specs.WorldValue.{WorldValue}
-use Rattle.sq_audit.specs.HomeIds.{history_of, histories_of, IsNumbered, home_place}
+use Rattle.sq_audit.specs.HomeIds.{history_of, histories_of, IsNumbered, home_index}
 use Rattle.sq_merge.specs.Worlds.{IsHomeOf, IsKeptWorld, HomeStepped, HomeRefused, Created, CreateRefused, having_read}
 use Rattle.sq_merge.specs.declared.options.Options.{Options}
 use Rattle.sq_merge.specs.Openings.{never_opened, never_opened_homes, limits_of, IsServed, new_world}
 use Rattle.sq_directory.proofs.ElementLaws.{some_same, get_cases, get_mapped, get_within}
-use Rattle.sq_steps.proofs.BookListLaws.{book_own, lost_there, opened_put, opened_is, kept_front}
+use Rattle.sq_steps.proofs.JournalListLaws.{journal_own, lost_there, opened_put, opened_is, kept_front}
 use Rattle.sq_audit.proofs.HomeIdLaws.{place_found}
 
 -- the home at its place
-home_is : (old : WorldValue) (id : HomeId) (place : ℕ) (before : HistoryValue) → IsNumbered old.per_queue old.homes → 1 ≤ id.queue → home_place old.per_queue (length old.homes) id ≡ Some place → before ≡ slice_index_or old.homes place before → IsHomeOf old id place before
+home_is : (old : WorldValue) (id : HomeId) (place : ℕ) (before : HistoryValue) → IsNumbered old.per_queue old.homes → 1 ≤ id.queue → home_index old.per_queue (length old.homes) id ≡ Some place → before ≡ slice_index_or old.homes place before → IsHomeOf old id place before
 home_is old id place before numbered least found is =
     let t = place_found old.per_queue (length old.homes) id place least found in
-    let there : slice_get old.homes place ≡ Some before = slice_get_read old.homes (length old.homes) place before refl t.0 is in
-    record { there = there; is = numbered place before there ∙ t.1 }
+    let in_list : slice_get old.homes place ≡ Some before = slice_get_read old.homes (length old.homes) place before refl t.0 is in
+    record { in_list = in_list; has_id = numbered place before in_list ∙ t.1 }
 
 written_back : {X : Type 0} (xs : List X) (at : ℕ) (x : X) → slice_get xs at ≡ Some x → slice_set xs at x ≡ xs
 written_back [] at x h = absurd cc
 written_back (y ∷ ys) zero x h = ap (λ z. z ∷ ys) (sym (some_same h))
 written_back (y ∷ ys) (suc at) x h = ap (λ zs. y ∷ zs) (written_back ys at x h)
 
-pub stepped_opened : (old : WorldValue) (actor now : ℕ) (name : Option (List ℕ)) (id : HomeId) (call : HomeCall) (reply : HomeReply) (place : ℕ) (before after : HistoryValue) (mine noted : Book)
-    → IsNumbered old.per_queue old.homes → 1 ≤ id.queue → home_place old.per_queue (length old.homes) id ≡ Some place → before ≡ slice_index_or old.homes place before
-    → mine ≡ slice_index_or (opened actor old.books) (place_in actor old.books) mine
-    → HomeMoves before after mine noted now name call reply
-    → HomeStepped old (record old { homes = slice_set old.homes place after; books = slice_set (opened actor old.books) (place_in actor old.books) noted }) actor now name id call reply
-stepped_opened old actor now name id call reply place before after mine noted numbered least found there own moves =
-    let is = opened_is actor old.books mine own in
-    let noted_own : noted.actor ≡ actor = ap (λ (b : Book). b.actor) moves.noted_as ∙ ap (λ (b : Book). b.actor) is ∙ book_own actor old.books in
+pub stepped_opened : (old : WorldValue) (actor now : ℕ) (name : Option (List ℕ)) (id : HomeId) (call : HomeCall) (reply : HomeReply) (place : ℕ) (before after : HistoryValue) (mine recorded_in : Journal)
+    → IsNumbered old.per_queue old.homes → 1 ≤ id.queue → home_index old.per_queue (length old.homes) id ≡ Some place → before ≡ slice_index_or old.homes place before
+    → mine ≡ slice_index_or (opened actor old.journals) (index_in actor old.journals) mine
+    → HomeMoves before after mine recorded_in now name call reply
+    → HomeStepped old (record old { homes = slice_set old.homes place after; journals = slice_set (opened actor old.journals) (index_in actor old.journals) recorded_in }) actor now name id call reply
+stepped_opened old actor now name id call reply place before after mine recorded_in numbered least found in_list own moves =
+    let is = opened_is actor old.journals mine own in
+    let recorded_own : recorded_in.actor ≡ actor = ap (λ (b : Journal). b.actor) moves.recorded_as ∙ ap (λ (b : Journal). b.actor) is ∙ journal_own actor old.journals in
     record {
       at = place;
       before = before;
       after = after;
-      noted = noted;
-      home = home_is old id place before numbered least found there;
-      moves = subst (λ (b : Book). HomeMoves before after b noted now name call reply) is moves;
-      changed = ap (λ (bs : List Book). record old { homes = slice_set old.homes place after; books = bs }) (opened_put actor noted old.books noted_own);
+      recorded_in = recorded_in;
+      home = home_is old id place before numbered least found in_list;
+      moves = subst (λ (b : Journal). HomeMoves before after b recorded_in now name call reply) is moves;
+      changed = ap (λ (bs : List Journal). record old { homes = slice_set old.homes place after; journals = bs }) (opened_put actor recorded_in old.journals recorded_own);
     }
 
-pub refused_opened : (old : WorldValue) (actor now : ℕ) (id : HomeId) (call : HomeCall) (e : Refusal) (place : ℕ) (before : HistoryValue) (mine : Book)
-    → IsNumbered old.per_queue old.homes → 1 ≤ id.queue → home_place old.per_queue (length old.homes) id ≡ Some place → before ≡ slice_index_or old.homes place before
-    → mine ≡ slice_index_or (opened actor old.books) (place_in actor old.books) mine
+pub refused_opened : (old : WorldValue) (actor now : ℕ) (id : HomeId) (call : HomeCall) (e : Refusal) (place : ℕ) (before : HistoryValue) (mine : Journal)
+    → IsNumbered old.per_queue old.homes → 1 ≤ id.queue → home_index old.per_queue (length old.homes) id ≡ Some place → before ≡ slice_index_or old.homes place before
+    → mine ≡ slice_index_or (opened actor old.journals) (index_in actor old.journals) mine
     → IsHomeRefused before mine now call e → HomeRefused old actor now id call e
-refused_opened old actor now id call e place before mine numbered least found there own refused =
-    inr (place, before, home_is old id place before numbered least found there, subst (λ (b : Book). IsHomeRefused before b now call e) (opened_is actor old.books mine own) refused)
+refused_opened old actor now id call e place before mine numbered least found in_list own refused =
+    inr (place, before, home_is old id place before numbered least found in_list, subst (λ (b : Journal). IsHomeRefused before b now call e) (opened_is actor old.journals mine own) refused)
 
-new_is_not_worn : (actor : ℕ) → (new_book actor).next ≢ last_place
+new_is_not_worn : (actor : ℕ) → (new_journal actor).next ≢ last_place
 new_is_not_worn actor e = omega (arith, e)
 
 -- some home is there
-pub home_there : (old : WorldValue) (id : HomeId) (place : ℕ) → IsNumbered old.per_queue old.homes → 1 ≤ id.queue → home_place old.per_queue (length old.homes) id ≡ Some place
+pub home_there : (old : WorldValue) (id : HomeId) (place : ℕ) → IsNumbered old.per_queue old.homes → 1 ≤ id.queue → home_index old.per_queue (length old.homes) id ≡ Some place
     → (at : ℕ) × (h : HistoryValue) × IsHomeOf old id at h
 home_there old id place numbered least found =
     let t = place_found old.per_queue (length old.homes) id place least found in
     let home = get_within old.homes place t.0 in
-    (place, home.0, record { there = home.1; is = numbered place home.0 home.1 ∙ t.1 })
+    (place, home.0, record { in_list = home.1; has_id = numbered place home.0 home.1 ∙ t.1 })
 
 -- no memory was found for a new actor
 pub refused_unmade : (old : WorldValue) (actor now : ℕ) (id : HomeId) (call : HomeCall) (place : ℕ)
-    → IsNumbered old.per_queue old.homes → 1 ≤ id.queue → home_place old.per_queue (length old.homes) id ≡ Some place → position (is_of actor) old.books ≡ None
+    → IsNumbered old.per_queue old.homes → 1 ≤ id.queue → home_index old.per_queue (length old.homes) id ≡ Some place → position (is_of actor) old.journals ≡ None
     → HomeRefused old actor now id call NoMemory
 refused_unmade old actor now id call place numbered least found pos =
     let home = home_there old id place numbered least found in
-    inr (home.0, home.1, home.2, subst (λ (b : Book). IsHomeRefused home.1 b now call NoMemory) (sym (lost_there actor old.books pos)) (inr (new_is_not_worn actor, inl refl)))
+    inr (home.0, home.1, home.2, subst (λ (b : Journal). IsHomeRefused home.1 b now call NoMemory) (sym (lost_there actor old.journals pos)) (inr (new_is_not_worn actor, inl refl)))
 
-pub create_unmade : (old : WorldValue) (actor now : ℕ) (name : List ℕ) (given : Attributes) → position (is_of actor) old.books ≡ None → CreateRefused old actor now name given NoMemory
-create_unmade old actor now name given pos =
-    subst (λ (b : Book). IsCreateRefused old.directory b now (Create name given) NoMemory) (sym (lost_there actor old.books pos)) (inr (new_is_not_worn actor, inl refl))
+pub create_unmade : (old : WorldValue) (actor now : ℕ) (name : List ℕ) (attributes : Attributes) → position (is_of actor) old.journals ≡ None → CreateRefused old actor now name attributes NoMemory
+create_unmade old actor now name attributes pos =
+    subst (λ (b : Journal). IsCreateRefused old.directory b now (Create name attributes) NoMemory) (sym (lost_there actor old.journals pos)) (inr (new_is_not_worn actor, inl refl))
 
-pub created_opened : (old : WorldValue) (actor now : ℕ) (name : List ℕ) (given : Attributes) (made : QueueSettings) (after : DirectoryHistory) (mine noted : Book)
-    → mine ≡ slice_index_or (opened actor old.books) (place_in actor old.books) mine
-    → DirectoryMoves old.directory after mine noted now (Create name given) (Made made)
-    → Created old (record old { directory = after; books = slice_set (opened actor old.books) (place_in actor old.books) noted }) actor now name given made
-created_opened old actor now name given made after mine noted own moves =
-    let is = opened_is actor old.books mine own in
-    let noted_own : noted.actor ≡ actor = ap (λ (b : Book). b.actor) moves.noted_as ∙ ap (λ (b : Book). b.actor) is ∙ book_own actor old.books in
+pub created_opened : (old : WorldValue) (actor now : ℕ) (name : List ℕ) (attributes : Attributes) (made : QueueSettings) (after : DirectoryHistory) (mine recorded_in : Journal)
+    → mine ≡ slice_index_or (opened actor old.journals) (index_in actor old.journals) mine
+    → DirectoryMoves old.directory after mine recorded_in now (Create name attributes) (Made made)
+    → Created old (record old { directory = after; journals = slice_set (opened actor old.journals) (index_in actor old.journals) recorded_in }) actor now name attributes made
+created_opened old actor now name attributes made after mine recorded_in own moves =
+    let is = opened_is actor old.journals mine own in
+    let recorded_own : recorded_in.actor ≡ actor = ap (λ (b : Journal). b.actor) moves.recorded_as ∙ ap (λ (b : Journal). b.actor) is ∙ journal_own actor old.journals in
     record {
       after = after;
-      noted = noted;
-      moves = subst (λ (b : Book). DirectoryMoves old.directory after b noted now (Create name given) (Made made)) is moves;
-      changed = ap (λ (bs : List Book). record old { directory = after; books = bs }) (opened_put actor noted old.books noted_own);
+      recorded_in = recorded_in;
+      moves = subst (λ (b : Journal). DirectoryMoves old.directory after b recorded_in now (Create name attributes) (Made made)) is moves;
+      changed = ap (λ (bs : List Journal). record old { directory = after; journals = bs }) (opened_put actor recorded_in old.journals recorded_own);
     }
 
-pub read_opened : (old : WorldValue) (actor : ℕ) (mine : Book) → mine ≡ slice_index_or (opened actor old.books) (place_in actor old.books) mine
-    → record old { books = slice_set (opened actor old.books) (place_in actor old.books) (having_seen mine old.directory.last) } ≡ having_read old actor
+pub read_opened : (old : WorldValue) (actor : ℕ) (mine : Journal) → mine ≡ slice_index_or (opened actor old.journals) (index_in actor old.journals) mine
+    → record old { journals = slice_set (opened actor old.journals) (index_in actor old.journals) (having_seen mine old.directory.last) } ≡ having_read old actor
 read_opened old actor mine own =
-    let is = opened_is actor old.books mine own in
-    let noted = having_seen (book_of actor old.books) old.directory.last in
-    rw is (ap (λ (bs : List Book). record old { books = bs }) (opened_put actor noted old.books (book_own actor old.books)))
+    let is = opened_is actor old.journals mine own in
+    let recorded_in = having_seen (journal_of actor old.journals) old.directory.last in
+    rw is (ap (λ (bs : List Journal). record old { journals = bs }) (opened_put actor recorded_in old.journals (journal_own actor old.journals)))
 
 -- a home that is written back as it was read
-pub home_kept : (old : WorldValue) (id : HomeId) (place : ℕ) (before : HistoryValue) → 1 ≤ id.queue → home_place old.per_queue (length old.homes) id ≡ Some place → before ≡ slice_index_or old.homes place before → slice_set old.homes place before ≡ old.homes
+pub home_kept : (old : WorldValue) (id : HomeId) (place : ℕ) (before : HistoryValue) → 1 ≤ id.queue → home_index old.per_queue (length old.homes) id ≡ Some place → before ≡ slice_index_or old.homes place before → slice_set old.homes place before ≡ old.homes
 home_kept old id place before least found is =
     let t = place_found old.per_queue (length old.homes) id place least found in
     written_back old.homes place before (slice_get_read old.homes (length old.homes) place before refl t.0 is)
 
 -- a step that was refused leaves the actors as they were
-pub closed_again : (actor : ℕ) (books : List Book) (mine : Book) → mine ≡ slice_index_or (opened actor books) (place_in actor books) mine → take (length books) (slice_set (opened actor books) (place_in actor books) mine) ≡ books
-closed_again actor books mine own =
-    let is = opened_is actor books mine own in
-    let mine_own : mine.actor ≡ actor = ap (λ (b : Book). b.actor) is ∙ book_own actor books in
-    ap (λ (bs : List Book). take (length books) bs) (opened_put actor mine books mine_own) ∙ kept_front actor mine books is
+pub closed_again : (actor : ℕ) (journals : List Journal) (mine : Journal) → mine ≡ slice_index_or (opened actor journals) (index_in actor journals) mine → take (length journals) (slice_set (opened actor journals) (index_in actor journals) mine) ≡ journals
+closed_again actor journals mine own =
+    let is = opened_is actor journals mine own in
+    let mine_own : mine.actor ≡ actor = ap (λ (b : Journal). b.actor) is ∙ journal_own actor journals in
+    ap (λ (bs : List Journal). take (length journals) bs) (opened_put actor mine journals mine_own) ∙ kept_front actor mine journals is
 
 length_opened : (per_queue : ℕ) (limits : Limits) (n : ℕ) → length (never_opened_homes per_queue limits n) ≡ n
 length_opened per_queue limits zero = refl
 length_opened per_queue limits (suc n) = omega (arith, length-append (never_opened_homes per_queue limits n) (never_opened per_queue limits n ∷ []), length_opened per_queue limits n)
 
 opened_at : (per_queue : ℕ) (limits : Limits) (n at : ℕ) (h : HistoryValue) → slice_get (never_opened_homes per_queue limits n) at ≡ Some h → h ≡ never_opened per_queue limits at
-opened_at per_queue limits zero at h there = absurd cc
-opened_at per_queue limits (suc n) at h there = elim (get_cases (never_opened_homes per_queue limits n) (never_opened per_queue limits n) h at there) [
+opened_at per_queue limits zero at h in_list = absurd cc
+opened_at per_queue limits (suc n) at h in_list = elim (get_cases (never_opened_homes per_queue limits n) (never_opened per_queue limits n) h at in_list) [
   | inl g ↦ opened_at per_queue limits n at h g
   | inr g ↦ g.1 ∙ ap (never_opened per_queue limits) (sym (length_opened per_queue limits n) ∙ sym g.0)
 ]
@@ -150,11 +150,11 @@ few_new o served =
 pub kept_new : (o : Options) → IsKeptWorld (new_world o)
 unfolding new_world
 kept_new o = record {
-  numbered = λ at h there. ap (λ (x : HistoryValue). x.site.home) (opened_at o.homes (limits_of o) (o.queues * o.homes) at h there);
-  happened = λ b i book n h. let k = h.in_books in absurd cc;
-  directory_noted = λ k e h. absurd cc;
-  homes_noted = λ j k h e at. absurd (opening_empty o.homes (limits_of o) (o.queues * o.homes) j k h e at);
-  exact = λ b i book n h. let k = h.in_books in absurd cc;
-  counted = λ b book h. absurd cc;
+  numbered = λ at h in_list. ap (λ (x : HistoryValue). x.site.home) (opened_at o.homes (limits_of o) (o.queues * o.homes) at h in_list);
+  has_its_event = λ b i journal n h. let k = h.in_journals in absurd cc;
+  directory_recorded = λ k e h. absurd cc;
+  homes_recorded = λ j k h e at. absurd (opening_empty o.homes (limits_of o) (o.queues * o.homes) j k h e at);
+  exact = λ b i journal n h. let k = h.in_journals in absurd cc;
+  counted = λ b journal h. absurd cc;
   distinct = tt;
 }

@@ -12,17 +12,17 @@ use Rattle.sq_merge.specs.Worlds.{HomeStepped, HomeRefused, Created, CreateRefus
 abbrev pub counts_of : WorldValue → HomeCounts
 counts_of w = record { homes = w.per_queue; sample = w.sample }
 
--- one step of a call by an actor at a clock reading, told so
+-- one step of a call by an actor at a clock reading, with this answer
 abbrev pub ActorDoes : ℕ → ℕ → WorldValue → Ask → Gave → WorldValue → Type 0
 ActorDoes actor now w (Resolve name) (Found queue) t = (number_of name w.directory.directory.queues ≡ Some queue) × (t ≡ having_read w actor)
-ActorDoes actor now w (Directed (Create name given)) (Answered (Made made)) t = Created w t actor now name given made
+ActorDoes actor now w (Directed (Create name attributes)) (Answered (Made made)) t = Created w t actor now name attributes made
 ActorDoes actor now w (AtHome name id act) (Replied reply) t = HomeStepped w t actor now (Some name) id (call_of act) reply
 ActorDoes actor now w ask gave t = ⊥
 
 -- why one is refused
 abbrev pub ActorRefused : ℕ → ℕ → WorldValue → Ask → Refusal → Type 0
 ActorRefused actor now w (Resolve name) e = NameRefused w actor name e
-ActorRefused actor now w (Directed (Create name given)) e = CreateRefused w actor now name given e
+ActorRefused actor now w (Directed (Create name attributes)) e = CreateRefused w actor now name attributes e
 ActorRefused actor now w (AtHome name id act) e = HomeRefused w actor now id (call_of act) e
 
 -- One step of a call by an actor at a clock reading; what is refused changes nothing.

@@ -1,4 +1,4 @@
--- What the steps of calls ask and are told, and the records that they leave with their actor.
+-- What the steps of calls ask, their replies, and the records that they leave with their actor.
 use Rattle.std.specs.Prelude.{◌≡◌, ◌⊎◌, ℕ, ◌+◌, List, [], ◌∷◌, ◌++◌, length, Some, Result, Ok, Err}
 use Rattle.std.specs.List.{All}
 use Rattle.sq_base.specs.StampValue.{StampValue}
@@ -13,14 +13,14 @@ use Rattle.sq_model.specs.declared.directory.DirectoryReply.TheVariants.{Made}
 use Rattle.sq_model.specs.declared.directory.QueueSettings.{QueueSettings}
 use Rattle.sq_model.specs.declared.replies.HomeReply.{HomeReply}
 use Rattle.sq_model.specs.declared.replies.HomeReply.TheVariants as reply
-use Rattle.sq_model.specs.Notes.{HomeNote, DirectoryNote, Note, OfDirectory, OfHome, place_of, stamp_of, Book}
+use Rattle.sq_model.specs.RecordValues.{HomeRecordValue, DirectoryRecordValue, RecordValue, OfDirectory, OfHome, place_of_record, stamp_of, Journal}
 use Rattle.sq_history.specs.declared.act.HomeAct.{HomeAct}
 use Rattle.sq_history.specs.declared.act.HomeAct.TheVariants as act
 use Rattle.sq_history.specs.Acts.{call_of}
 use Rattle.sq_directory.specs.Makers.{IsSeen}
-use Rattle.sq_steps.specs.Books.{having_seen, with_note}
+use Rattle.sq_steps.specs.Journals.{having_seen, with_record}
 use Rattle.sq_merge.specs.declared.calls.NamedQueue.{NamedQueue}
-use Rattle.sq_merge.specs.GivenValue.{AreReceived}
+use Rattle.sq_merge.specs.ReceivedValue.{AreReceived}
 
 -- What a step asks: the number of the queue of a name, which is a read; a step of the directory; a step of a home, by the queue's name that was used.
 pub data Ask : Type 0 where
@@ -28,7 +28,7 @@ pub data Ask : Type 0 where
   Directed : (call : DirectoryCall) → Ask
   AtHome : (name : List ℕ) (home : HomeId) (act : HomeAct) → Ask
 
--- what it is told where it is not refused
+-- what it is answered where it is not refused
 pub data Gave : Type 0 where
   Found : (queue : ℕ) → Gave
   Answered : (reply : DirectoryReply) → Gave
@@ -46,10 +46,10 @@ abbrev pub replied_of : Result HomeReply Refusal → Result Gave Refusal
 replied_of (Ok reply) = Ok (Replied reply)
 replied_of (Err e) = Err e
 
--- a step that was asked, and what was told; what is refused is no step of the system, and is asked all the same
+-- a step that was asked, and what was answered; what is refused is no step of the system, and is asked all the same
 pub record Done : Type 0 where
   pub ask : Ask
-  pub told : Result Gave Refusal
+  pub answered : Result Gave Refusal
 
 -- how many homes a queue has, and how many of them a receive asks
 pub record HomeCounts : Type 0 where
@@ -87,67 +87,67 @@ IsOfAct act.Count e = ⊥
 -- what may refuse a step
 abbrev pub MayRefuse : Ask → Refusal → Type 0
 MayRefuse (Resolve name) e = (e ≡ QueueDoesNotExist) ⊎ (e ≡ NoMemory)
-MayRefuse (Directed (Create name given)) e = IsOfAnyStep e ⊎ (e ≡ QueueNameExists) ⊎ (e ≡ TableFull)
+MayRefuse (Directed (Create name attributes)) e = IsOfAnyStep e ⊎ (e ≡ QueueNameExists) ⊎ (e ≡ TableFull)
 MayRefuse (AtHome name home act) e = IsOfAnyStep e ⊎ (e ≡ QueueDoesNotExist) ⊎ IsOfAct act e
 
 -- a record of a step of the directory
-pub record IsDirectoryRecord (call : DirectoryCall) (told : DirectoryReply) (n : Note) : Type 0 where
-  pub note : DirectoryNote
-  pub is : n ≡ OfDirectory note
-  pub asked : note.call ≡ call
-  pub replied : note.reply ≡ told
+pub record IsDirectoryRecord (call : DirectoryCall) (answered : DirectoryReply) (n : RecordValue) : Type 0 where
+  pub its_record : DirectoryRecordValue
+  pub value : n ≡ OfDirectory its_record
+  pub asked : its_record.call ≡ call
+  pub replied : its_record.reply ≡ answered
 
 -- a record of a step of a home, by the name that was used
-pub record IsHomeRecord (name : List ℕ) (home : HomeId) (act : HomeAct) (told : HomeReply) (n : Note) : Type 0 where
-  pub note : HomeNote
-  pub is : n ≡ OfHome note
-  pub at : note.home ≡ home
-  pub asked : note.call ≡ call_of act
-  pub replied : note.reply ≡ told
-  pub by_name : note.name ≡ Some name
+pub record IsHomeRecord (name : List ℕ) (home : HomeId) (act : HomeAct) (answered : HomeReply) (n : RecordValue) : Type 0 where
+  pub its_record : HomeRecordValue
+  pub value : n ≡ OfHome its_record
+  pub at : its_record.home ≡ home
+  pub asked : its_record.call ≡ call_of act
+  pub replied : its_record.reply ≡ answered
+  pub by_name : its_record.name ≡ Some name
 
 -- the records of a step that was done: its own, and none of a read
-abbrev pub AreOfReply : Ask → Gave → List Note → Type 0
+abbrev pub AreOfReply : Ask → Gave → List RecordValue → Type 0
 AreOfReply (Resolve name) (Found queue) ns = ns ≡ []
-AreOfReply (Directed call) (Answered reply) ns = (n : Note) × IsDirectoryRecord call reply n × (ns ≡ n ∷ [])
-AreOfReply (AtHome name home act) (Replied reply) ns = (n : Note) × IsHomeRecord name home act reply n × (ns ≡ n ∷ [])
+AreOfReply (Directed call) (Answered reply) ns = (n : RecordValue) × IsDirectoryRecord call reply n × (ns ≡ n ∷ [])
+AreOfReply (AtHome name home act) (Replied reply) ns = (n : RecordValue) × IsHomeRecord name home act reply n × (ns ≡ n ∷ [])
 AreOfReply ask gave ns = ⊥
 
 -- the records of a step; what was refused has none
-abbrev pub AreOfStep : Ask → Result Gave Refusal → List Note → Type 0
+abbrev pub AreOfStep : Ask → Result Gave Refusal → List RecordValue → Type 0
 AreOfStep ask (Ok gave) ns = AreOfReply ask gave ns
 AreOfStep ask (Err e) ns = ns ≡ []
 
 -- the records of steps, in their order
-abbrev pub AreOf : List Done → List Note → Type 0
+abbrev pub AreOf : List Done → List RecordValue → Type 0
 AreOf [] ns = ns ≡ []
-AreOf (d ∷ ds) ns = (front : List Note) × (rest : List Note) × AreOfStep d.ask d.told front × AreOf ds rest × (ns ≡ front ++ rest)
+AreOf (d ∷ ds) ns = (front : List RecordValue) × (rest : List RecordValue) × AreOfStep d.ask d.answered front × AreOf ds rest × (ns ≡ front ++ rest)
 
 -- a record is the actor's next one: it has the next number, and a stamp above all that the actor had seen, which it has seen then
-abbrev pub IsNext : Book → Note → Book → Type 0
-IsNext before n after = (place_of n ≡ before.next) × Below before.seen (stamp_of n) × (after ≡ with_note before n)
+abbrev pub IsNext : Journal → RecordValue → Journal → Type 0
+IsNext before n after = (place_of_record n ≡ before.next) × Below before.seen (stamp_of n) × (after ≡ with_record before n)
 
 -- A step leaves its one record with its actor; a read leaves none, and raises what the actor has seen; what is refused changes nothing.
-abbrev pub LeavesOf : Ask → Result Gave Refusal → Book → Book → Type 0
+abbrev pub LeavesOf : Ask → Result Gave Refusal → Journal → Journal → Type 0
 LeavesOf (Resolve name) (Ok (Found queue)) before after = (last : StampValue) × (after ≡ having_seen before last)
-LeavesOf (Directed call) (Ok (Answered reply)) before after = (n : Note) × IsDirectoryRecord call reply n × IsNext before n after
-LeavesOf (AtHome name home act) (Ok (Replied reply)) before after = (n : Note) × IsHomeRecord name home act reply n × IsNext before n after
+LeavesOf (Directed call) (Ok (Answered reply)) before after = (n : RecordValue) × IsDirectoryRecord call reply n × IsNext before n after
+LeavesOf (AtHome name home act) (Ok (Replied reply)) before after = (n : RecordValue) × IsHomeRecord name home act reply n × IsNext before n after
 LeavesOf (Resolve name) (Err e) before after = after ≡ before
 LeavesOf (Directed call) (Err e) before after = after ≡ before
 LeavesOf (AtHome name home act) (Err e) before after = after ≡ before
-LeavesOf ask told before after = ⊥
+LeavesOf ask answered before after = ⊥
 
 -- these records have this number and the numbers after it, and each a stamp above this one and above those before it
-abbrev pub Follow : ℕ → StampValue → List Note → Type 0
+abbrev pub Follow : ℕ → StampValue → List RecordValue → Type 0
 Follow next seen [] = Unit {0}
-Follow next seen (n ∷ ns) = (place_of n ≡ next) × Below seen (stamp_of n) × Follow (next + 1) (stamp_of n) ns
+Follow next seen (n ∷ ns) = (place_of_record n ≡ next) × Below seen (stamp_of n) × Follow (next + 1) (stamp_of n) ns
 
 -- An actor has these records more: with the next numbers, at rising stamps above all that it had seen before, which it has seen then.
-pub record Gains (ns : List Note) (before after : Book) : Type 0 where
-  pub added : after.notes ≡ before.notes ++ ns
+pub record Gains (ns : List RecordValue) (before after : Journal) : Type 0 where
+  pub added : after.records ≡ before.records ++ ns
   pub follow : Follow before.next before.seen ns
   pub above : All (λ n. Below before.seen (stamp_of n)) ns
   pub within : All (λ n. IsSeen (stamp_of n) after.seen) ns
   pub saw : IsSeen before.seen after.seen
   pub counted : after.next ≡ before.next + length ns
-  pub same : after.actor ≡ before.actor
+  pub same_actor : after.actor ≡ before.actor

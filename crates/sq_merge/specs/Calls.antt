@@ -8,12 +8,12 @@ use Rattle.sq_merge.specs.declared.calls.Answer.{Answer}
 use Rattle.sq_merge.specs.declared.calls.Answer.TheVariants as answer
 use Rattle.sq_merge.specs.declared.calls.ReceiveMessage.{ReceiveMessage}
 
-abbrev pub home_of : ℕ → ℕ → HomeId
-home_of queue home = record { queue = queue; home = home }
+abbrev pub home_numbered : ℕ → ℕ → HomeId
+home_numbered queue home = record { queue = queue; home = home }
 
 -- the messages that a home gave
-abbrev pub given_by : ReceiveMessage → HomeId → List Row → Answer
-given_by c home rows = answer.Received (record { attributes = c.attributes; home = home; rows = rows })
+abbrev pub received_from : ReceiveMessage → HomeId → List Row → Answer
+received_from c home rows = answer.Received (record { attributes = c.attributes; home = home; rows = rows })
 
 abbrev pub receipt_of : Handle → Receipt
 receipt_of handle = record { slot = handle.slot; serial = handle.serial; receive = handle.receive }

@@ -2,10 +2,10 @@ pub mod WorldValue
 pub mod Worlds
 pub mod Openings
 pub mod PartsValue
-pub mod GivenValue
+pub mod ReceivedValue
 pub mod Asks
 pub mod Messages
-pub mod Told
+pub mod Performs
 pub mod Calls
 pub mod Fits
 pub mod Acting

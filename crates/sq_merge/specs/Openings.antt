@@ -37,5 +37,5 @@ new_world o = record {
   per_queue = o.homes;
   sample = o.sample;
   homes = never_opened_homes o.homes (limits_of o) (o.queues * o.homes);
-  books = [];
+  journals = [];
 }

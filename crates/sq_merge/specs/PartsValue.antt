@@ -3,4 +3,4 @@ use Rattle.sq_merge.specs.WorldValue.{WorldValue}
 use Rattle.sq_audit.specs.declared.parts.Parts.{Parts}
 
 abbrev pub parts_of : WorldValue → Parts
-parts_of w = record { directory = w.directory; homes = record { per_queue = w.per_queue; homes = w.homes }; records = w.books }
+parts_of w = record { directory = w.directory; homes = record { per_queue = w.per_queue; homes = w.homes }; records = w.journals }

@@ -1,6 +1,6 @@
 -- What contracts see of a world.
 use Rattle.std.specs.Prelude.{ℕ, List}
-use Rattle.sq_model.specs.Notes.{Book}
+use Rattle.sq_model.specs.RecordValues.{Journal}
 use Rattle.sq_history.specs.HistoryValue.{HistoryValue}
 use Rattle.sq_directory.specs.DirectoryHistory.{DirectoryHistory}
 
@@ -10,4 +10,4 @@ pub record WorldValue : Type 0 where
   pub per_queue : ℕ
   pub sample : ℕ
   pub homes : List HistoryValue
-  pub books : List Book
+  pub journals : List Journal

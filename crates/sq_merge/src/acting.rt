@@ -4,9 +4,9 @@ ghost use Rattle.std.proofs.Common.{sym, subst};
 ghost use Rattle.sq_merge.specs.Asks.{LeavesOf};
 ghost use Rattle.sq_merge.specs.Acting.{counts_of, ActorStepped};
 ghost use Rattle.sq_merge.specs.ActingLaws.{actor_leaves};
-ghost use Rattle.sq_steps.specs.Books.{book_of};
+ghost use Rattle.sq_steps.specs.Journals.{journal_of};
 ghost use Rattle.sq_merge.specs.Fits.{CallFits};
-ghost use Rattle.sq_merge.specs.Told.{Told, LeavesRecords};
+ghost use Rattle.sq_merge.specs.Performs.{Performs, LeavesRecords};
 ghost use Rattle.sq_merge.specs.Worlds.{IsKnown};
 
 use crate::calls::{Answer, Call, NamedQueue};
@@ -32,14 +32,14 @@ pub(crate) struct Acting<'a> {
 }
 
 impl<'a> LockSteps for Acting<'a> {
-    ghost stepped = { λ s ask told t.
-        ActorStepped s.actor s.clock s.world.now ask told t.world.now × (t.world.ghost_name ≡ s.world.ghost_name) × (t.actor ≡ s.actor) × (t.clock ≡ s.clock) };
+    ghost stepped = { λ s ask answered t.
+        ActorStepped s.actor s.clock s.world.now ask answered t.world.now × (t.world.ghost_name ≡ s.world.ghost_name) × (t.actor ≡ s.actor) × (t.clock ≡ s.clock) };
 
-    ghost knows = { λ s name queue. IsKnown s.world.now.directory.events (book_of s.actor s.world.now.books) (Some name) queue };
+    ghost knows = { λ s name queue. IsKnown s.world.now.directory.events (journal_of s.actor s.world.now.journals) (Some name) queue };
 
     ghost counts = { λ s. counts_of s.world.now };
 
-    ghost book = { λ s. book_of s.actor s.world.now.books };
+    ghost journal = { λ s. journal_of s.actor s.world.now.journals };
 
     fn alloc(&self) -> Global {
         self.alloc
@@ -54,9 +54,13 @@ impl<'a> LockSteps for Acting<'a> {
         Ok(NamedQueue { name: *name, queue })
     }
 
-    fn create(&mut self, name: &QueueName, given: &Attributes) -> Result<QueueSettings, Refusal> {
+    fn create(
+        &mut self,
+        name: &QueueName,
+        attributes: &Attributes,
+    ) -> Result<QueueSettings, Refusal> {
         self.world
-            .create(self.alloc, self.actor, self.clock, name, given)
+            .create(self.alloc, self.actor, self.clock, name, attributes)
     }
 
     fn at_home(
@@ -80,14 +84,14 @@ impl<'a> LockSteps for Acting<'a> {
         self.world.draw(self.alloc)
     }
 
-    ghost leaves = { λ s t ask told h. subst (λ (n : ℕ). LeavesOf ask told (book_of s.actor s.world.now.books) (book_of n t.world.now.books)) (sym h.2) (actor_leaves s.actor s.clock s.world.now t.world.now ask told h.0) };
+    ghost leaves = { λ s t ask answered h. subst (λ (n : ℕ). LeavesOf ask answered (journal_of s.actor s.world.now.journals) (journal_of n t.world.now.journals)) (sym h.2) (actor_leaves s.actor s.clock s.world.now t.world.now ask answered h.0) };
 }
 
 // Does a client's call at the world that is borrowed.
 pub(crate) fn call_at(acting: &mut Acting<'_>, call: &Call) -> Result<Answer, Refusal>
     ensures same_reference { acting.new.world.ghost_name ≡ acting.old.world.ghost_name }
-    ensures told { Told (ActorStepped acting.old.actor acting.old.clock) (CallFits (counts_of acting.old.world.now) call.now) acting.old.world.now result acting.new.world.now }
-    ensures left { LeavesRecords (CallFits (counts_of acting.old.world.now) call.now) (book_of acting.old.actor acting.old.world.now.books) result (book_of acting.old.actor acting.new.world.now.books) }
+    ensures answered { Performs (ActorStepped acting.old.actor acting.old.clock) (CallFits (counts_of acting.old.world.now) call.now) acting.old.world.now result acting.new.world.now }
+    ensures leaves_records { LeavesRecords (CallFits (counts_of acting.old.world.now) call.now) (journal_of acting.old.actor acting.old.world.now.journals) result (journal_of acting.old.actor acting.new.world.now.journals) }
 {
     client::call(acting, call)
 }

@@ -1,8 +1,8 @@
-//! What clients ask and what they are told, as values (SQS API Reference).
+//! What clients ask and the answers that they get, as values (SQS API Reference).
 ghost use Rattle.std.specs.Prelude.{◌≡◌, IfOk, IfErr};
 
 use crate::digest::Digest;
-use crate::given::Given;
+use crate::received_messages::ReceivedMessages;
 use sq_base::handle::Handle;
 use sq_base::ids::QueueNo;
 use sq_base::message_id::MessageId;
@@ -35,7 +35,7 @@ impl Model for BodyText {
 }
 
 impl BodyText {
-    /// Refused for want of memory alone.
+    /// Refused only where memory is out.
     pub fn new(alloc: Global, text: &str) -> Result<BodyText, Refusal>
         ensures text { IfOk result (λ b. b ≡ text.now) }
         ensures refused { IfErr result (λ e. e ≡ Refusal.NoMemory) }
@@ -61,7 +61,7 @@ pub struct SendMessage {
     pub delay: Option<Delay>,
 }
 
-/// The attributes that a received message is told with.
+/// The attributes that a received message is shown with.
 #[derive(Clone, Copy, PartialEq, Eq, Debug)]
 pub struct AskedAttributes {
     /// ApproximateReceiveCount.
@@ -111,13 +111,13 @@ pub struct NamedQueue {
     pub queue: QueueNo,
 }
 
-/// What a client is told where its request is not refused.
+/// What a client gets where its request is not refused.
 #[derive(Drop)]
 pub enum Answer {
-    /// The queue whose URL is told.
+    /// The queue whose URL is the answer.
     Queue(QueueName),
     /// The id of a message that was sent, and the digest of its body.
     Sent(MessageId, Digest),
-    Received(Given),
+    Received(ReceivedMessages),
     Done,
 }

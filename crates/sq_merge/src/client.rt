@@ -4,15 +4,15 @@ ghost use Rattle.sq_model.specs.declared.replies.HomeReply.{HomeReply};
 ghost use Rattle.sq_history.specs.declared.act.HomeAct.TheVariants.{Configure};
 ghost use Rattle.sq_merge.specs.declared.calls.Answer.TheVariants.{Queue};
 ghost use Rattle.sq_merge.specs.Messages.{act_of};
-ghost use Rattle.sq_merge.specs.Calls.{home_of, given_by, receipt_of, handle_at};
+ghost use Rattle.sq_merge.specs.Calls.{home_numbered, received_from, receipt_of, handle_at};
 ghost use Rattle.sq_merge.specs.Fits.{ByName, AtAll, CreateFits, PutAt, ReceiveAt, HandleAt, CallFits};
-ghost use Rattle.sq_merge.specs.GivenValue.{AreReceived};
-ghost use Rattle.sq_merge.specs.Told.{Told, LeavesRecords};
+ghost use Rattle.sq_merge.specs.ReceivedValue.{AreReceived};
+ghost use Rattle.sq_merge.specs.Performs.{Performs, LeavesRecords};
 
 use crate::calls::{Answer, Call, CreateQueue, NamedQueue, ReceiveMessage};
 use crate::digest::Digest;
-use crate::given::Given;
 use crate::lock_steps::LockSteps;
+use crate::received_messages::ReceivedMessages;
 use sq_base::body::{BODY_LIMIT, Body};
 use sq_base::handle::Handle;
 use sq_base::ids::{HomeId, HomeNo, QueueNo};
@@ -28,15 +28,15 @@ use sq_sample::sampler::HomeCount;
 
 /// Does a client's call, step by step; steps that were done before a refusal stand.
 pub fn call<S: LockSteps>(steps: &mut S, call: &Call) -> Result<Answer, Refusal>
-    ensures told { Told S.stepped (CallFits (S.counts steps.old) call.now) steps.old result steps.new }
-    ensures left { LeavesRecords (CallFits (S.counts steps.old) call.now) (S.book steps.old) result (S.book steps.new) }
+    ensures answered { Performs S.stepped (CallFits (S.counts steps.old) call.now) steps.old result steps.new }
+    ensures leaves_records { LeavesRecords (CallFits (S.counts steps.old) call.now) (S.journal steps.old) result (S.journal steps.new) }
 {
     answer(steps, call)
 }
 
 // The answer to a call, by the steps of its kind. A call on a queue looks it up by its name first.
 fn answer<S: LockSteps>(steps: &mut S, call: &Call) -> Result<Answer, Refusal>
-    ensures { Told S.stepped (CallFits (S.counts steps.old) call.now) steps.old result steps.new }
+    ensures { Performs S.stepped (CallFits (S.counts steps.old) call.now) steps.old result steps.new }
 {
     match call {
         Call::CreateQueue(call) => create_queue(steps, call),
@@ -60,7 +60,7 @@ fn answer<S: LockSteps>(steps: &mut S, call: &Call) -> Result<Answer, Refusal>
 }
 
 fn create_queue<S: LockSteps>(steps: &mut S, call: &CreateQueue) -> Result<Answer, Refusal>
-    ensures { Told S.stepped (CreateFits (S.counts steps.old).homes call.now) steps.old result steps.new }
+    ensures { Performs S.stepped (CreateFits (S.counts steps.old).homes call.now) steps.old result steps.new }
 {
     let made = steps.create(&call.name, &call.attributes)?;
     configure_all(steps, call.name, &made)
@@ -73,7 +73,7 @@ fn configure_all<S: LockSteps>(
     made: &QueueSettings,
 ) -> Result<Answer, Refusal>
     requires { S.knows steps.old name made.now.queue }
-    ensures { Told S.stepped (AtAll (S.counts steps.old).homes name made.now.queue (Configure made.now.settings made.now.version) (Queue name)) steps.old result steps.new }
+    ensures { Performs S.stepped (AtAll (S.counts steps.old).homes name made.now.queue (Configure made.now.settings made.now.version) (Queue name)) steps.old result steps.new }
 {
     let of = NamedQueue {
         name,
@@ -87,11 +87,11 @@ fn configure_all<S: LockSteps>(
 }
 
 // A closed home is passed over.
-fn pass_closed(told: Result<HomeReply, Refusal>) -> Result<(), Refusal>
-    ensures passed { OnOk result (((by : HomeReply) × (told ≡ Ok by)) ⊎ (told ≡ Err Refusal.QueueDoesNotExist)) }
-    ensures refused { IfErr result (λ e. (told ≡ Err e) × (e ≢ Refusal.QueueDoesNotExist)) }
+fn pass_closed(answered: Result<HomeReply, Refusal>) -> Result<(), Refusal>
+    ensures passed { OnOk result (((by : HomeReply) × (answered ≡ Ok by)) ⊎ (answered ≡ Err Refusal.QueueDoesNotExist)) }
+    ensures refused { IfErr result (λ e. (answered ≡ Err e) × (e ≢ Refusal.QueueDoesNotExist)) }
 {
-    match told {
+    match answered {
         Ok(_) => Ok(()),
         Err(Refusal::QueueDoesNotExist) => Ok(()),
         Err(refusal) => Err(refusal),
@@ -106,7 +106,7 @@ fn put<S: LockSteps>(
     delay: Option<Delay>,
 ) -> Result<Answer, Refusal>
     requires { S.knows steps.old of.now.name of.now.queue }
-    ensures { Told S.stepped (PutAt (S.counts steps.old).homes of.now.name of.now.queue body delay) steps.old result steps.new }
+    ensures { Performs S.stepped (PutAt (S.counts steps.old).homes of.now.name of.now.queue body delay) steps.old result steps.new }
 {
     let digest = Digest::of(&body);
     let home = steps.pick();
@@ -124,17 +124,17 @@ fn receive<S: LockSteps>(
 ) -> Result<Answer, Refusal>
     requires known { S.knows steps.old of.now.name of.now.queue }
     requires named { of.now.name ≡ call.now.queue }
-    ensures { Told S.stepped (ReceiveAt (S.counts steps.old) call.now of.now.queue) steps.old result steps.new }
+    ensures { Performs S.stepped (ReceiveAt (S.counts steps.old) call.now of.now.queue) steps.old result steps.new }
 {
     let homes = steps.draw()?;
     let mut over = false;
-    for place in 0..homes.len() {
-        let home = homes[place];
+    for index in 0..homes.len() {
+        let home = homes[index];
         let act = HomeAct::Look(call.max, call.timeout);
         match steps.at_home(of, home, act)? {
             HomeReply::Looked(rows) => {
                 if rows.len() > 0 {
-                    return Ok(given(of.queue, home, call, rows));
+                    return Ok(received_answer(of.queue, home, call, rows));
                 }
             }
             HomeReply::Over => over = true,
@@ -145,7 +145,7 @@ fn receive<S: LockSteps>(
         return Err(Refusal::OverLimit);
     }
     let none = Rows::new(steps.alloc());
-    Ok(given(of.queue, HomeNo::first(), call, none))
+    Ok(received_answer(of.queue, HomeNo::first(), call, none))
 }
 
 // What is done to the message of a handle.
@@ -173,7 +173,7 @@ fn on_message<S: LockSteps>(
     handle: &Option<Handle>,
     what: OnMessage,
 ) -> Result<Answer, Refusal>
-    ensures { Told S.stepped (ByName name.now (HandleAt (S.counts steps.old).homes name.now handle.now (act_of what))) steps.old result steps.new }
+    ensures { Performs S.stepped (ByName name.now (HandleAt (S.counts steps.old).homes name.now handle.now (act_of what))) steps.old result steps.new }
 {
     let of = steps.resolve(name)?;
     let handle = handle_at(steps.homes(), of.queue, handle)?;
@@ -183,12 +183,12 @@ fn on_message<S: LockSteps>(
 }
 
 // The answer with the messages that a home of the queue gave.
-fn given(queue: QueueNo, home: HomeNo, call: &ReceiveMessage, rows: Rows) -> Answer
+fn received_answer(queue: QueueNo, home: HomeNo, call: &ReceiveMessage, rows: Rows) -> Answer
     requires { AreReceived rows }
-    ensures { result ≡ given_by call.now (home_of queue home) rows }
+    ensures { result ≡ received_from call.now (home_numbered queue home) rows }
 {
     let id = HomeId { queue, home };
-    Answer::Received(Given::new(call.attributes, id, rows))
+    Answer::Received(ReceivedMessages::new(call.attributes, id, rows))
 }
 
 // The handle, where it is one of this queue and of one of its homes.

@@ -15,7 +15,7 @@ use sq_shard::shard::Shard;
 use std::alloc::Global;
 
 /// Why a step of a home that is not there is refused.
-pub(crate) fn absent(now: u64) -> Refusal
+pub(crate) fn no_such_home(now: u64) -> Refusal
     ensures { result ≡ (if nat_le stamp_end now then ClockRange else QueueDoesNotExist) }
 {
     if now >= STAMP_END {
@@ -25,15 +25,15 @@ pub(crate) fn absent(now: u64) -> Refusal
     }
 }
 
-// The home at a place; no queue is made for it yet.
-fn never_opened(alloc: Global, per_queue: HomeCount, limits: &Limits, place: u32) -> Home
-    ensures { result ≡ never_opened per_queue limits.now place }
+// The home at an index; no queue is made for it yet.
+fn never_opened(alloc: Global, per_queue: HomeCount, limits: &Limits, index: u32) -> Home
+    ensures { result ≡ never_opened per_queue limits.now index }
 {
     let homes = per_queue.get();
     let site = Site {
         home: HomeId {
-            queue: QueueNo::following(place / homes),
-            home: HomeNo::of((place % homes) as u8),
+            queue: QueueNo::following(index / homes),
+            home: HomeNo::of((index % homes) as u8),
         },
         limits: *limits,
     };
@@ -52,8 +52,8 @@ pub(crate) fn never_opened_homes(
     ensures refused { IfErr result (λ e. e ≡ Refusal.NoMemory) }
 {
     let mut homes = Vec::new(alloc);
-    for place in 0..queues * per_queue.get() {
-        homes.push(never_opened(alloc, per_queue, limits, place))?;
+    for index in 0..queues * per_queue.get() {
+        homes.push(never_opened(alloc, per_queue, limits, index))?;
     }
     Ok(homes)
 }

@@ -3,9 +3,9 @@ ghost use Rattle.std.specs.Prelude.{◌≡◌, ◌<◌, ◌≤◌, ℕ, List, Re
 ghost use Rattle.rand.specs.Sample.{IsSampleOf};
 ghost use Rattle.sq_base.specs.declared.refusal.Refusal.{Refusal};
 ghost use Rattle.sq_model.specs.declared.directory.DirectoryCall.TheVariants.{Create};
-ghost use Rattle.sq_model.specs.Notes.{Book};
+ghost use Rattle.sq_model.specs.RecordValues.{Journal};
 ghost use Rattle.sq_merge.specs.Asks.{Ask, Resolve, Directed, AtHome, Gave, found_of, made_of, replied_of, HomeCounts, IsReplyTo, MayRefuse, LeavesOf};
-ghost use Rattle.sq_merge.specs.Calls.{home_of};
+ghost use Rattle.sq_merge.specs.Calls.{home_numbered};
 
 use crate::calls::NamedQueue;
 use sq_base::ids::HomeNo;
@@ -19,7 +19,7 @@ use std::alloc::Global;
 
 /// Does the steps of one actor's calls. A home that the queue does not have refuses its step.
 pub trait LockSteps {
-    /// What a step is: on which state, what it asks, what it is told, and which state it leaves.
+    /// What a step is: on which state, what it asks, what its reply is, and which state it leaves.
     ghost stepped: { Self → Ask → Result Gave Refusal → Self → Type 0 };
 
     /// The actor knows the queue of this number by this name.
@@ -29,7 +29,7 @@ pub trait LockSteps {
     ghost counts: { Self → HomeCounts };
 
     /// What the actor has seen, and its records.
-    ghost book: { Self → Book };
+    ghost journal: { Self → Journal };
 
     /// Where the memory of a call comes from.
     fn alloc(&self) -> Global;
@@ -44,38 +44,42 @@ pub trait LockSteps {
         ensures named { IfOk result (λ of. of.name ≡ name.now) }
         ensures refusal { IfErr result (MayRefuse (Resolve name.now)) }
         ensures known { IfOk result (λ of. knows self.new of.name of.queue) }
-        ensures same { counts self.new ≡ counts self.old };
+        ensures same_counts { counts self.new ≡ counts self.old };
 
     /// Makes a queue of this name, or finds the one that has these attributes.
     /// Refused as NoMemory, ClockRange, Worn, QueueNameExists, TableFull.
-    fn create(&mut self, name: &QueueName, given: &Attributes) -> Result<QueueSettings, Refusal>
-        ensures did { stepped self.old (Directed (Create name.now given.now)) (made_of result) self.new }
-        ensures refusal { IfErr result (MayRefuse (Directed (Create name.now given.now))) }
+    fn create(
+        &mut self,
+        name: &QueueName,
+        attributes: &Attributes,
+    ) -> Result<QueueSettings, Refusal>
+        ensures did { stepped self.old (Directed (Create name.now attributes.now)) (made_of result) self.new }
+        ensures refusal { IfErr result (MayRefuse (Directed (Create name.now attributes.now))) }
         ensures known { IfOk result (λ made. knows self.new name.now made.queue) }
-        ensures same { counts self.new ≡ counts self.old };
+        ensures same_counts { counts self.new ≡ counts self.old };
 
     /// A step of a home of a queue.
     /// Refused as NoMemory, ClockRange, Worn, QueueDoesNotExist, and then as the home's call.
     fn at_home(&mut self, of: &NamedQueue, home: HomeNo, act: HomeAct) -> Result<HomeReply, Refusal>
         requires known { knows self.old of.now.name of.now.queue }
-        ensures did { stepped self.old (AtHome of.now.name (home_of of.now.queue home) act) (replied_of result) self.new }
+        ensures did { stepped self.old (AtHome of.now.name (home_numbered of.now.queue home) act) (replied_of result) self.new }
         ensures reply { IfOk result (IsReplyTo act) }
-        ensures refusal { IfErr result (MayRefuse (AtHome of.now.name (home_of of.now.queue home) act)) }
+        ensures refusal { IfErr result (MayRefuse (AtHome of.now.name (home_numbered of.now.queue home) act)) }
         ensures known { knows self.new of.now.name of.now.queue }
-        ensures same { counts self.new ≡ counts self.old };
+        ensures same_counts { counts self.new ≡ counts self.old };
 
     /// One home of a queue.
     fn pick(&mut self) -> HomeNo
         ensures below { result < (counts self.old).homes }
-        ensures same { self.new ≡ self.old };
+        ensures unchanged { self.new ≡ self.old };
 
-    /// Distinct homes of a queue, so many as a receive asks. Refused for want of memory alone.
+    /// Distinct homes of a queue, so many as a receive asks. Refused only where memory is out.
     fn draw(&mut self) -> Result<Vec<HomeNo>, Refusal>
         ensures some { 1 ≤ (counts self.old).sample }
         ensures sample { IfOk result (λ drawn. IsSampleOf (counts self.old).homes (counts self.old).sample drawn.items) }
         ensures refused { IfErr result (λ e. e ≡ Refusal.NoMemory) }
-        ensures same { self.new ≡ self.old };
+        ensures unchanged { self.new ≡ self.old };
 
     /// A step leaves its one record with the actor, or is a read; one that is refused changes nothing of the actor's.
-    ghost leaves: { (s t : Self) (ask : Ask) (told : Result Gave Refusal) → stepped s ask told t → LeavesOf ask told (book s) (book t) };
+    ghost leaves: { (s t : Self) (ask : Ask) (answered : Result Gave Refusal) → stepped s ask answered t → LeavesOf ask answered (journal s) (journal t) };
 }

@@ -3,21 +3,21 @@ ghost use Rattle.std.specs.Prelude.{◌≡◌, ◌⊎◌, ◌↔◌, ◌<◌, �
 ghost use Rattle.rand.specs.Sample.{IsSampleOf};
 ghost use Rattle.sq_model.specs.Directories.{number_of};
 ghost use Rattle.sq_history.specs.Acts.{call_of};
-ghost use Rattle.sq_steps.specs.Books.{is_of, book_of};
-ghost use Rattle.sq_merge.specs.Worlds.{HomeStepped, HomeRefused, Created, CreateRefused, NameRefused, having_read, StepTold, StepRefused, Schedule, IsKnown, IsKeptWorld};
+ghost use Rattle.sq_steps.specs.Journals.{is_of, journal_of};
+ghost use Rattle.sq_merge.specs.Worlds.{HomeStepped, HomeRefused, Created, CreateRefused, NameRefused, having_read, StepDone, StepRefused, Schedule, IsKnown, IsKeptWorld};
 ghost use Rattle.sq_audit.specs.HomeIds.{histories_of};
 ghost use Rattle.sq_merge.specs.Acting.{counts_of, ActorStepped};
 ghost use Rattle.sq_merge.specs.Fits.{CallFits};
-ghost use Rattle.sq_merge.specs.Told.{Told, LeavesRecords};
+ghost use Rattle.sq_merge.specs.Performs.{Performs, LeavesRecords};
 ghost use Rattle.sq_merge.specs.Openings.{IsServed, new_world};
 ghost use Rattle.sq_merge.specs.PartsValue.{parts_of};
 ghost use Rattle.sq_model.specs.Matches.{IsMatched};
 
 use crate::acting::{Acting, call_at};
 use crate::calls::{Answer, Call};
-use crate::homes::{absent, never_opened_homes};
+use crate::homes::{never_opened_homes, no_such_home};
 use crate::options::Options;
-use sq_audit::homes::{Homes, home_place};
+use sq_audit::homes::{Homes, home_index};
 use sq_audit::parts::Parts;
 use sq_base::ids::{HomeId, HomeNo, QueueNo};
 use sq_base::name::QueueName;
@@ -29,19 +29,19 @@ use sq_model::place::Limits;
 use sq_model::replies::HomeReply;
 use sq_sample::sampler::{HomeCount, Sampler};
 use sq_steps::act::{Act, HomeAct, Outcome, Step};
-use sq_steps::book::{Book, create_step, home_step};
-use sq_steps::books::{Books, open};
+use sq_steps::journal::{Journal, create_step, home_step};
+use sq_steps::journals::{Journals, open};
 use std::alloc::Global;
 use std::marker::Model;
 
-/// The queues and their homes, and what each actor has seen and noted. Records and events are of each other at all times.
+/// The queues and their homes, and what each actor has seen and recorded. Records and events are of each other at all times.
 #[derive(Drop)]
 pub struct World {
     directory: Directory,
     per_queue: HomeCount,
     sample: HomeCount,
     homes: Vec<Home>,
-    books: Vec<Book>,
+    journals: Vec<Journal>,
     sampler: Sampler,
 }
 
@@ -52,10 +52,10 @@ impl Model for World {
 
     ghost Value = { WorldValue };
 
-    ghost view = { λ w. record { directory = w.directory; per_queue = w.per_queue; sample = w.sample; homes = w.homes.items; books = w.books.items } };
+    ghost view = { λ w. record { directory = w.directory; per_queue = w.per_queue; sample = w.sample; homes = w.homes.items; journals = w.journals.items } };
 
     ghost invariant = { λ w. record {
-      kept : IsKeptWorld (record { directory = w.directory; per_queue = w.per_queue; sample = w.sample; homes = w.homes.items; books = w.books.items });
+      kept : IsKeptWorld (record { directory = w.directory; per_queue = w.per_queue; sample = w.sample; homes = w.homes.items; journals = w.journals.items });
       sample : w.sample ≤ w.per_queue;
       few : length w.homes.items ≤ 16384;
     } };
@@ -82,20 +82,20 @@ impl World {
             per_queue,
             sample: HomeCount::of(options.sample),
             homes: never_opened_homes(alloc, options.queues, per_queue, &limits)?,
-            books: Vec::new(alloc),
+            journals: Vec::new(alloc),
             sampler: Sampler::new(options.seed),
         })
     }
 
     /// One step. What is refused changes nothing.
     pub fn step(&mut self, alloc: Global, step: &Step) -> Result<Outcome, Refusal>
-        ensures told { IfOk result (StepTold self.old self.new step.now.actor step.now.clock step.now.act) }
+        ensures answered { IfOk result (StepDone self.old self.new step.now.actor step.now.clock step.now.act) }
         ensures refusal { IfErr result (StepRefused self.old step.now.actor step.now.clock step.now.act) }
         ensures err { OnErr result (self.new ≡ self.old) }
     {
         match &step.act {
-            Act::Create(name, given) => {
-                let made = self.create(alloc, step.actor, step.clock, name, given)?;
+            Act::Create(name, attributes) => {
+                let made = self.create(alloc, step.actor, step.clock, name, attributes)?;
                 Ok(Outcome::Made(made))
             }
             Act::Resolve(name) => {
@@ -103,9 +103,9 @@ impl World {
                 Ok(Outcome::Resolved(queue))
             }
             Act::Home(id, act) => {
-                // A home that is not there is told before memory is asked for.
-                let Some(_) = home_place(self.per_queue, self.homes.len(), id) else {
-                    return Err(absent(step.clock));
+                // A home that is not there is answered before memory is asked for.
+                let Some(_) = home_index(self.per_queue, self.homes.len(), id) else {
+                    return Err(no_such_home(step.clock));
                 };
                 let act = act.copy()?;
                 let reply = self.at_home(alloc, step.actor, step.clock, None, id, act)?;
@@ -127,8 +127,8 @@ impl World {
         now: u64,
         call: &Call,
     ) -> Result<Answer, Refusal>
-        ensures told { Told (ActorStepped actor now) (CallFits (counts_of self.old) call.now) self.old result self.new }
-        ensures left { LeavesRecords (CallFits (counts_of self.old) call.now) (book_of actor self.old.books) result (book_of actor self.new.books) }
+        ensures answered { Performs (ActorStepped actor now) (CallFits (counts_of self.old) call.now) self.old result self.new }
+        ensures leaves_records { LeavesRecords (CallFits (counts_of self.old) call.now) (journal_of actor self.old.journals) result (journal_of actor self.new.journals) }
     {
         let mut acting = Acting {
             alloc,
@@ -151,6 +151,7 @@ impl World {
                 Err(_) => {}
             }
         }
+        // What is always true of a world is known to the prover once a part of it is read.
         let _ = &self.homes;
         done
     }
@@ -164,13 +165,13 @@ impl World {
             directory,
             per_queue,
             homes,
-            books,
+            journals,
             ..
         } = self;
         Parts {
             directory,
             homes: Homes::of(per_queue, homes),
-            records: Books::of(books),
+            records: Journals::of(journals),
         }
     }
 
@@ -184,17 +185,17 @@ impl World {
     // One home of a queue.
     pub(crate) fn pick(&mut self) -> HomeNo
         ensures below { result < self.old.per_queue }
-        ensures same { self.new ≡ self.old }
+        ensures unchanged { self.new ≡ self.old }
     {
         self.sampler.pick(self.per_queue)
     }
 
-    // Distinct homes of a queue, so many as a receive asks. Refused for want of memory alone.
+    // Distinct homes of a queue, so many as a receive asks. Refused only where memory is out.
     pub(crate) fn draw(&mut self, alloc: Global) -> Result<Vec<HomeNo>, Refusal>
         ensures some { 1 ≤ self.old.sample }
         ensures sample { IfOk result (λ drawn. IsSampleOf self.old.per_queue self.old.sample drawn.items) }
         ensures refused { IfErr result (λ e. e ≡ Refusal.NoMemory) }
-        ensures same { self.new ≡ self.old }
+        ensures unchanged { self.new ≡ self.old }
     {
         self.sampler.draw(alloc, self.per_queue, self.sample)
     }
@@ -206,19 +207,19 @@ impl World {
         actor: u32,
         now: u64,
         name: &QueueName,
-        given: &Attributes,
+        attributes: &Attributes,
     ) -> Result<QueueSettings, Refusal>
-        ensures created { IfOk result (Created self.old self.new actor now name.now given.now) }
-        ensures refusal { IfErr result (CreateRefused self.old actor now name.now given.now) }
+        ensures created { IfOk result (Created self.old self.new actor now name.now attributes.now) }
+        ensures refusal { IfErr result (CreateRefused self.old actor now name.now attributes.now) }
         ensures err { OnErr result (self.new ≡ self.old) }
     {
-        let count = self.books.len();
-        let at = open(&mut self.books, alloc, actor)?;
-        let book = &mut self.books[at];
-        match create_step(&mut self.directory, book, now, name, given) {
+        let count = self.journals.len();
+        let at = open(&mut self.journals, alloc, actor)?;
+        let journal = &mut self.journals[at];
+        match create_step(&mut self.directory, journal, now, name, attributes) {
             Ok(made) => Ok(made),
             Err(refusal) => {
-                self.books.truncate(count);
+                self.journals.truncate(count);
                 Err(refusal)
             }
         }
@@ -232,7 +233,7 @@ impl World {
         name: &QueueName,
     ) -> Result<QueueNo, Refusal>
         ensures found { IfOk result (λ queue. (number_of name.now self.old.directory.directory.queues ≡ Some queue) × (self.new ≡ having_read self.old actor)) }
-        ensures known { IfOk result (IsKnown self.new.directory.events (book_of actor self.new.books) (Some name.now)) }
+        ensures known { IfOk result (IsKnown self.new.directory.events (journal_of actor self.new.journals) (Some name.now)) }
         ensures refusal { IfErr result (NameRefused self.old actor name.now) }
         ensures err { OnErr result (self.new ≡ self.old) }
     {
@@ -240,8 +241,8 @@ impl World {
             return Err(Refusal::QueueDoesNotExist);
         };
         let last = self.directory.last();
-        let at = open(&mut self.books, alloc, actor)?;
-        self.books[at].see(last);
+        let at = open(&mut self.journals, alloc, actor)?;
+        self.journals[at].see(last);
         Ok(queue)
     }
 
@@ -255,22 +256,22 @@ impl World {
         id: &HomeId,
         act: HomeAct,
     ) -> Result<HomeReply, Refusal>
-        requires known { IsKnown self.old.directory.events (book_of actor self.old.books) name id.now.queue }
+        requires known { IsKnown self.old.directory.events (journal_of actor self.old.journals) name id.now.queue }
         ensures stepped { IfOk result (HomeStepped self.old self.new actor now name id.now (call_of act)) }
         ensures refusal { IfErr result (HomeRefused self.old actor now id.now (call_of act)) }
         ensures err { OnErr result (self.new ≡ self.old) }
     {
-        let Some(place) = home_place(self.per_queue, self.homes.len(), id) else {
-            return Err(absent(now));
+        let Some(index) = home_index(self.per_queue, self.homes.len(), id) else {
+            return Err(no_such_home(now));
         };
-        let count = self.books.len();
-        let at = open(&mut self.books, alloc, actor)?;
-        let home = &mut self.homes[place];
-        let book = &mut self.books[at];
-        match home_step(alloc, home, book, now, name, act) {
+        let count = self.journals.len();
+        let at = open(&mut self.journals, alloc, actor)?;
+        let home = &mut self.homes[index];
+        let journal = &mut self.journals[at];
+        match home_step(alloc, home, journal, now, name, act) {
             Ok(reply) => Ok(reply),
             Err(refusal) => {
-                self.books.truncate(count);
+                self.journals.truncate(count);
                 Err(refusal)
             }
         }

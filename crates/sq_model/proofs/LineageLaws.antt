@@ -105,9 +105,9 @@ home_law x site Unopened m Close Done after h = rw h refl
 home_law x site (Serving s v n rows) m Close Done after h = rw h (omega (arith, all_law x s m rows ClosedAway))
 home_law x site (Serving s v n rows) m (Send body delay) (Sent sent) after h =
     rw (h.2, h.1) (omega (arith, trim_law x s m rows, rows_push x (trimmed s m rows) (sent_row site.home n sent.slot m (m + ms (unwrap_or delay s.delay)) body)))
-home_law x site (Serving s v n rows) m (Look max timeout) (Looked given) after h =
+home_law x site (Serving s v n rows) m (Look max timeout) (Looked picked) after h =
     let until = m + ms (unwrap_or timeout s.timeout) in
-    rw h.2 (omega (arith, trim_law x s m rows, rows_map x (received_if s (serials_of given) m until) (trimmed s m rows) (received_line s (serials_of given) m until)))
+    rw h.2 (omega (arith, trim_law x s m rows, rows_map x (received_if s (serials_of picked) m until) (trimmed s m rows) (received_line s (serials_of picked) m until)))
 home_law x site (Serving s v n rows) m (Look max timeout) Over after h = rw h.2 (omega (arith, trim_law x s m rows))
 home_law x site (Serving s v n rows) m (Delete receipt) Done after h = rw h.1 (omega (arith, take_law x s m rows (is_named receipt) Deleted))
 home_law x site (Serving s v n rows) m (Change receipt timeout) Done after h =

@@ -9,8 +9,8 @@ use Rattle.sq_model.specs.Homes.{Home, Serving, HomeStep}
 
 -- rows, or that too many are in flight
 pub look_over : (site : Site) (home : Home) (m max : ℕ) (timeout : Option ℕ) (reply : HomeReply) (after : Home)
-    → HomeStep site home m (Look max timeout) reply after → ((given : List Row) → reply ≡ Looked given → ⊥) → reply ≡ Over
+    → HomeStep site home m (Look max timeout) reply after → ((picked : List Row) → reply ≡ Looked picked → ⊥) → reply ≡ Over
 unfolding HomeStep
-look_over site (Serving s v n rows) m max timeout (Looked given) after h other = absurd (other given refl)
+look_over site (Serving s v n rows) m max timeout (Looked picked) after h other = absurd (other picked refl)
 look_over site (Serving s v n rows) m max timeout Over after h other = refl
 look_over site home m max timeout reply after h other = elim h [ ]

@@ -120,10 +120,10 @@ step_possible site (Serving s v n rows) m (Send body delay) r h =
 step_possible site (Serving s v n rows) m (Look max timeout) r h = inr (look_possible site s v n rows m max timeout r)
 step_possible site (Serving s v n rows) m (Delete receipt) r h = inr (Done, _, tt, (above _ _ (passed _ _ _ h).0, refl))
 step_possible site (Serving s v n rows) m (Change receipt timeout) r h =
-    let given = passed _ _ _ h in
-    let held = passed _ _ _ given.1 in
+    let picked = passed _ _ _ h in
+    let held = passed _ _ _ picked.1 in
     let late = passed _ _ _ held.1 in
-    inr (Done, _, tt, (above _ _ given.0, not_false _ held.0, late.0, refl))
+    inr (Done, _, tt, (above _ _ picked.0, not_false _ held.0, late.0, refl))
 step_possible site (Serving s v n rows) m Purge r h = inr (Done, _, tt, refl)
 step_possible site (Serving s v n rows) m Count r h = inr (Counted (counts_of m (trimmed s m rows)), _, tt, (refl, refl))
 step_possible site (Serving s v n rows) m LeaveDead r h = leave_dead_possible site s v n rows m

@@ -62,9 +62,9 @@ counted_step site Unopened m Close Done after h all = rw h (All-nil IsCounted)
 counted_step site (Serving s v n rows) m Close Done after h all = rw h (All-nil IsCounted)
 counted_step site (Serving s v n rows) m (Send body delay) (Sent sent) after h all =
     rw h.2 (counted_push (trimmed s m rows) (sent_row site.home n sent.slot m (m + ms (unwrap_or delay s.delay)) body) (counted_trimmed s m rows all) ((λ none. refl), (λ zero. refl)))
-counted_step site (Serving s v n rows) m (Look max timeout) (Looked given) after h all =
+counted_step site (Serving s v n rows) m (Look max timeout) (Looked picked) after h all =
     let until : ℕ = m + ms (unwrap_or timeout s.timeout) in
-    rw h.2 (counted_mapped (received_if s (serials_of given) m until) (trimmed s m rows) (counted_received s (serials_of given) m until) (counted_trimmed s m rows all))
+    rw h.2 (counted_mapped (received_if s (serials_of picked) m until) (trimmed s m rows) (counted_received s (serials_of picked) m until) (counted_trimmed s m rows all))
 counted_step site (Serving s v n rows) m (Look max timeout) Over after h all = rw h.2 (counted_trimmed s m rows all)
 counted_step site (Serving s v n rows) m (Delete receipt) Done after h all = rw h.1 (All-filter (λ row. not (is_named receipt row)) IsCounted (trimmed s m rows) (counted_trimmed s m rows all))
 counted_step site (Serving s v n rows) m (Change receipt timeout) Done after h all =

@@ -53,10 +53,10 @@ left_each : (olds news : List HomeAt) (i : ℕ) (es : ℕ → List HomeEvent) (e
     → ((j : ℕ) → HomeGoes (slice_get olds j) (cond (i == j) (e ∷ es j) (es j)) (slice_get news j))
     → HomeGoes (Some (record { site = old.site; home = mid })) (es i) (slice_get news i)
     → (j : ℕ) → HomeGoes (slice_get (slice_set olds i (record { site = old.site; home = mid })) j) (es j) (slice_get news j)
-left_each olds news i es e old mid there each rest j =
+left_each olds news i es e old mid in_list each rest j =
     elim (eqb_tells i j) as (λ _. HomeGoes (slice_get (slice_set olds i (record { site = old.site; home = mid })) j) (es j) (slice_get news j)) [
       | inl p ↦ subst (λ (k : ℕ). HomeGoes (slice_get (slice_set olds i (record { site = old.site; home = mid })) k) (es k) (slice_get news k)) p.1
-          (rw (get_same olds i old (record { site = old.site; home = mid }) there) rest)
+          (rw (get_same olds i old (record { site = old.site; home = mid }) in_list) rest)
       | inr p ↦ rw (get_other olds i j (record { site = old.site; home = mid }) p.1) (rw p.0 at (each j))
     ]
 
@@ -64,7 +64,7 @@ left_each olds news i es e old mid there each rest j =
 record HeadSteps (o : Option HomeAt) (e : HomeEvent) (es : List HomeEvent) (n : Option HomeAt) : Type 0 where
   old : HomeAt
   mid : Home
-  there : o ≡ Some old
+  in_list : o ≡ Some old
   component : e.component ≡ part.Home old.site.home
   alone : is_alone e.call ≡ true
   step : HomeStep old.site old.home e.stamp.moment e.call e.reply mid
@@ -72,7 +72,7 @@ record HeadSteps (o : Option HomeAt) (e : HomeEvent) (es : List HomeEvent) (n : 
 
 head_steps : (o : Option HomeAt) (e : HomeEvent) (es : List HomeEvent) (n : Option HomeAt) → HomeGoes o (e ∷ es) n → HeadSteps o e es n
 head_steps (Some old) e es (Some new) h =
-    record { old = old; mid = h.2.0; there = refl; component = h.1.0; alone = h.1.1; step = h.2.1; rest = (h.0, h.1.2, h.2.2) }
+    record { old = old; mid = h.2.0; in_list = refl; component = h.1.0; alone = h.1.1; step = h.2.1; rest = (h.0, h.1.2, h.2.2) }
 head_steps None e es None h = absurd cc
 head_steps (Some old) e es None h = absurd h
 head_steps None e es (Some new) h = absurd h
@@ -90,8 +90,8 @@ run_from before after (OfHome i e ∷ ts) each own directory =
     let h = head_steps (slice_get before.homes i) e (of_home i ts) (slice_get after.homes i) (rw (one_number i) at (each i)) in
     let mid : System = record { directory = before.directory; homes = slice_set before.homes i (record { site = h.old.site; home = h.mid }) } in (
       mid,
-      record { old = h.old; new = h.mid; there = h.there; component = h.component; alone = h.alone; step = h.step; homes = refl; directory = refl },
-      run_from mid after ts (left_each before.homes after.homes i (λ j. of_home j ts) e h.old h.mid h.there each h.rest) own directory,
+      record { old = h.old; new = h.mid; in_list = h.in_list; component = h.component; alone = h.alone; step = h.step; homes = refl; directory = refl },
+      run_from mid after ts (left_each before.homes after.homes i (λ j. of_home j ts) e h.old h.mid h.in_list each h.rest) own directory,
     )
 
 -- what is sorted by stamp has moments that never fall

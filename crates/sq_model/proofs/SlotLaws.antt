@@ -38,18 +38,18 @@ not_false false e = absurd cc
 pub taken_by : (n : ℕ) (rows : List Row) → ((k : ℕ) → k < n → is_free k rows ≡ false) → n ≤ length rows
 taken_by zero rows h = omega arith
 taken_by (suc n) rows h =
-    let there : list_any (λ row. row.slot == n) rows ≡ true = not_false _ (h n (omega arith)) in
-    let fewer = found_shorter (λ row. row.slot == n) rows there in
+    let in_list : list_any (λ row. row.slot == n) rows ≡ true = not_false _ (h n (omega arith)) in
+    let fewer = found_shorter (λ row. row.slot == n) rows in_list in
     let rest = taken_by n (filter (λ row. not (row.slot == n)) rows) (λ k lt. ap not (still_taken k n rows lt) ∙ h k (omega (arith, lt))) in
     omega (arith, fewer, rest)
 
 pub taken_more : (n m : ℕ) (rows : List Row) → n ≤ m → ((k : ℕ) → k < m → is_free k rows ≡ false) → list_any (λ row. row.slot == n) rows ≡ true → (k : ℕ) → k < n + 1 → is_free k rows ≡ false
-taken_more n m rows le h there k lt =
-    elim (cases_lt k n) [ inl low ↦ h k (omega (arith, low)) | inr high ↦ (let same : k ≡ n = omega (arith, high) in rw (same, there) refl) ]
+taken_more n m rows le h in_list k lt =
+    elim (cases_lt k n) [ inl low ↦ h k (omega (arith, low)) | inr high ↦ (let same : k ≡ n = omega (arith, high) in rw (same, in_list) refl) ]
 
 taken_next : (n : ℕ) (rows : List Row) → ((k : ℕ) → k < n → is_free k rows ≡ false) → is_free n rows ≡ false → (k : ℕ) → k < suc n → is_free k rows ≡ false
-taken_next n rows h there k lt =
-    elim (cases_lt k n) [ inl low ↦ h k low | inr high ↦ (let same : k ≡ n = omega (arith, high) in rw same there) ]
+taken_next n rows h in_list k lt =
+    elim (cases_lt k n) [ inl low ↦ h k low | inr high ↦ (let same : k ≡ n = omega (arith, high) in rw same in_list) ]
 
 -- one of the first slots is free, or all of them are taken
 free_below : (n : ℕ) (rows : List Row) → ((k : ℕ) × (k < n) × (is_free k rows ≡ true)) ⊎ ((k : ℕ) → k < n → is_free k rows ≡ false)

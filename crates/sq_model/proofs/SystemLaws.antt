@@ -47,7 +47,7 @@ step_law x before (OfDirectory e) after h = rw h.homes (omega arith)
 step_law x before (OfHome i e) after h =
     let law = home_law x h.old.site h.old.home e.stamp.moment e.call e.reply h.new h.step in
     let out = none_out h.old.site h.old.home e.stamp.moment e.call e.reply h.new h.step h.alone in
-    let moved = sum_set (λ at. rows_with x (rows_of at.home)) before.homes i h.old (record { site = h.old.site; home = h.new }) h.there in
+    let moved = sum_set (λ at. rows_with x (rows_of at.home)) before.homes i h.old (record { site = h.old.site; home = h.new }) h.in_list in
     rw h.homes (omega (arith, rw (out, none_in e.call h.alone) at law, moved))
 
 -- and of a run
@@ -115,7 +115,7 @@ serial_law x site Unopened m Close Done after h = rw h (omega (arith, closed (sa
 serial_law x site (Serving s v n rows) m Close Done after h = rw h (omega (arith, closed (same_home (record { queue = x.queue; home = x.home }) site.home) 0))
 serial_law x site (Serving s v n rows) m (Send body delay) (Sent sent) after h =
     rw (h.2, h.1, sends_one x (fresh_id site.home n)) (spent (site.home.queue == x.queue) (site.home.home == x.home) n x.serial)
-serial_law x site (Serving s v n rows) m (Look max timeout) (Looked given) after h = rw h.2 (omega arith)
+serial_law x site (Serving s v n rows) m (Look max timeout) (Looked picked) after h = rw h.2 (omega arith)
 serial_law x site (Serving s v n rows) m (Look max timeout) Over after h = rw h.2 (omega arith)
 serial_law x site (Serving s v n rows) m (Delete receipt) Done after h = rw h.1 (omega arith)
 serial_law x site (Serving s v n rows) m (Change receipt timeout) Done after h = rw h.3 (omega arith)
@@ -137,9 +137,9 @@ fresh_step : (x : MessageId) (before : System) (t : Tag) (after : System) → Is
     → sends_with x (tag_sends t) + sum_by (unspent x) after.homes ≤ sum_by (unspent x) before.homes
 fresh_step x before (OfDirectory e) after h = rw h.homes (omega arith)
 fresh_step x before (OfHome i e) after h =
-    let given = serial_law x h.old.site h.old.home e.stamp.moment e.call e.reply h.new h.step in
-    let moved = sum_set (unspent x) before.homes i h.old (record { site = h.old.site; home = h.new }) h.there in
-    rw h.homes (omega (arith, given, moved))
+    let picked = serial_law x h.old.site h.old.home e.stamp.moment e.call e.reply h.new h.step in
+    let moved = sum_set (unspent x) before.homes i h.old (record { site = h.old.site; home = h.new }) h.in_list in
+    rw h.homes (omega (arith, picked, moved))
 
 fresh_law : (x : MessageId) (before : System) (ts : List Tag) (after : System) → RunFrom before ts after → sends_with x (run_sends ts) ≤ sum_by (unspent x) before.homes
 fresh_law x before [] after r = omega arith

@@ -18,54 +18,54 @@ pub record Directory : Type 0 where
   pub places : ℕ
 
 -- where the queue of a name stands
-abbrev pub place_of : List ℕ → List Queue → Option ℕ
-place_of name queues = position (λ queue. bytes_eq queue.name name) queues
+abbrev pub index_of : List ℕ → List Queue → Option ℕ
+index_of name queues = position (λ queue. bytes_eq queue.name name) queues
 
 abbrev pub number_of : List ℕ → List Queue → Option ℕ
-number_of name queues = option_map (λ at. at + 1) (place_of name queues)
+number_of name queues = option_map (λ at. at + 1) (index_of name queues)
 
 -- the settings of a queue that is made with these attributes (SQS API Reference, CreateQueue)
 abbrev pub settings_of : Attributes → Settings
-settings_of given = record {
-  delay = unwrap_or given.delay 0;
-  retention = unwrap_or given.retention 345600;
-  wait_time = unwrap_or given.wait_time 0;
-  timeout = unwrap_or given.timeout 30;
+settings_of attributes = record {
+  delay = unwrap_or attributes.delay 0;
+  retention = unwrap_or attributes.retention 345600;
+  wait_time = unwrap_or attributes.wait_time 0;
+  timeout = unwrap_or attributes.timeout 30;
   redrive = None;
 }
 
 -- a number that is given is this one
 abbrev pub is_or_none : Option ℕ → ℕ → Bool
 is_or_none None number = true
-is_or_none (Some given) number = given == number
+is_or_none (Some attributes) number = attributes == number
 
 -- each attribute that is given is the queue's
 abbrev pub agrees : Attributes → Settings → Bool
-agrees given s = is_or_none given.delay s.delay && is_or_none given.retention s.retention && is_or_none given.wait_time s.wait_time && is_or_none given.timeout s.timeout
+agrees attributes s = is_or_none attributes.delay s.delay && is_or_none attributes.retention s.retention && is_or_none attributes.wait_time s.wait_time && is_or_none attributes.timeout s.timeout
 
 abbrev pub settings_at : ℕ → Queue → QueueSettings
 settings_at at queue = record { queue = at + 1; settings = queue.settings; version = queue.version }
 
 abbrev pub new_queue : List ℕ → Attributes → Queue
-new_queue name given = record { name = name; settings = settings_of given; version = 1 }
+new_queue name attributes = record { name = name; settings = settings_of attributes; version = 1 }
 
 -- a queue of this name is made, where there is none, and else found
 abbrev pub Creates : Directory → List ℕ → Attributes → Option ℕ → QueueSettings → Directory → Type 0
-Creates d name given None made after =
+Creates d name attributes None made after =
     (length d.queues < d.places)
-    × (made ≡ settings_at (length d.queues) (new_queue name given))
-    × (after ≡ record d { queues = d.queues ++ new_queue name given ∷ [] })
-Creates d name given (Some at) made after =
-    ((queue : Queue) × (slice_get d.queues at ≡ Some queue) × (agrees given queue.settings ≡ true) × (made ≡ settings_at at queue))
+    × (made ≡ settings_at (length d.queues) (new_queue name attributes))
+    × (after ≡ record d { queues = d.queues ++ new_queue name attributes ∷ [] })
+Creates d name attributes (Some at) made after =
+    ((queue : Queue) × (slice_get d.queues at ≡ Some queue) × (agrees attributes queue.settings ≡ true) × (made ≡ settings_at at queue))
     × (after ≡ d)
 
 -- From a directory, at m, it may give this reply to the call and go on to after.
 unfoldable pub DirectoryStep : Directory → ℕ → DirectoryCall → DirectoryReply → Directory → Type 0
-DirectoryStep d m (Create name given) (Made made) after = Creates d name given (place_of name d.queues) made after
+DirectoryStep d m (Create name attributes) (Made made) after = Creates d name attributes (index_of name d.queues) made after
 
 abbrev pub create_refusal : Directory → Attributes → Option Queue → Option Refusal
-create_refusal d given None = if nat_le d.places (length d.queues) then Some TableFull else None
-create_refusal d given (Some queue) = if agrees given queue.settings then None else Some QueueNameExists
+create_refusal d attributes None = if nat_le d.places (length d.queues) then Some TableFull else None
+create_refusal d attributes (Some queue) = if agrees attributes queue.settings then None else Some QueueNameExists
 
 abbrev pub queue_at : List Queue → Option ℕ → Option Queue
 queue_at queues None = None
@@ -73,4 +73,4 @@ queue_at queues (Some at) = slice_get queues at
 
 -- the first check of the directory that fails
 unfoldable pub directory_refusal : Directory → ℕ → DirectoryCall → Option Refusal
-directory_refusal d m (Create name given) = create_refusal d given (queue_at d.queues (place_of name d.queues))
+directory_refusal d m (Create name attributes) = create_refusal d attributes (queue_at d.queues (index_of name d.queues))

@@ -99,10 +99,10 @@ HomeStep site (Serving s v n rows) m (Send body delay) (Sent sent) after =
     HasPlace site.limits n sent.slot (trimmed s m rows)
     × (sent.id ≡ fresh_id site.home n)
     × (after ≡ Serving s v (n + 1) (trimmed s m rows ++ sent_row site.home n sent.slot m (m + ms (unwrap_or delay s.delay)) body ∷ []))
-HomeStep site (Serving s v n rows) m (Look max timeout) (Looked given) after =
+HomeStep site (Serving s v n rows) m (Look max timeout) (Looked picked) after =
     (list_any (is_live s m) (trimmed s m rows) ≡ true → 0 < room site.limits.flights m (trimmed s m rows))
-    × IsLook s m (m + ms (unwrap_or timeout s.timeout)) (min max (room site.limits.flights m (trimmed s m rows))) (trimmed s m rows) given
-    × (after ≡ Serving s v n (map (received_if s (serials_of given) m (m + ms (unwrap_or timeout s.timeout))) (trimmed s m rows)))
+    × IsLook s m (m + ms (unwrap_or timeout s.timeout)) (min max (room site.limits.flights m (trimmed s m rows))) (trimmed s m rows) picked
+    × (after ≡ Serving s v n (map (received_if s (serials_of picked) m (m + ms (unwrap_or timeout s.timeout))) (trimmed s m rows)))
 HomeStep site (Serving s v n rows) m (Look max timeout) Over after =
     (list_any (is_live s m) (trimmed s m rows) ≡ true)
     × (room site.limits.flights m (trimmed s m rows) ≡ 0)
@@ -193,7 +193,7 @@ abbrev pub HasSlot : HomeReply → Type 0
 HasSlot (Sent sent) = sent.slot < slots
 HasSlot (Entered slot) = slot < slots
 HasSlot Done = Unit {0}
-HasSlot (Looked given) = Unit {0}
+HasSlot (Looked picked) = Unit {0}
 HasSlot Over = Unit {0}
 HasSlot (Counted counts) = Unit {0}
 HasSlot (Left item) = Unit {0}

@@ -7,5 +7,5 @@ pub mod Directories
 pub mod Systems
 pub mod Places
 pub mod Merges
-pub mod Notes
+pub mod RecordValues
 pub mod Matches

@@ -13,13 +13,13 @@ of_directory [] = []
 of_directory (OfDirectory e ∷ ts) = e ∷ of_directory ts
 of_directory (OfHome i e ∷ ts) = of_directory ts
 
--- the events of the home at a place
+-- the events of the home at an index
 abbrev pub of_home : ℕ → List Tag → List HomeEvent
 of_home j [] = []
 of_home j (OfDirectory e ∷ ts) = of_home j ts
 of_home j (OfHome i e ∷ ts) = cond (i == j) (e ∷ of_home j ts) (of_home j ts)
 
--- the events of the home at a place, none where no home is
+-- the events of the home at an index, none where no home is
 abbrev pub history_at : List (List HomeEvent) → ℕ → List HomeEvent
 history_at homes i = unwrap_or (slice_get homes i) []
 

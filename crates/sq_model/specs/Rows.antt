@@ -65,10 +65,10 @@ abbrev pub IsCounted : Row → Type 0
 IsCounted row = (row.last_receive ≡ None → row.receives ≡ 0) × (row.receives ≡ 0 → row.last_receive ≡ None)
 
 -- exactly n distinct live rows, or all of them where there are fewer, any of them and in any order, as they stand after a receive
-pub record IsLook (s : Settings) (m until n : ℕ) (rows given : List Row) : Type 0 where
-  pub exact : length given ≡ min n (count_by (is_live s m) rows)
-  pub distinct : is_distinct (serials_of given) ≡ true
-  pub each : All (Contains (map (received m until) (filter (is_live s m) rows))) given
+pub record IsLook (s : Settings) (m until n : ℕ) (rows picked : List Row) : Type 0 where
+  pub exact : length picked ≡ min n (count_by (is_live s m) rows)
+  pub distinct : is_distinct (serials_of picked) ≡ true
+  pub each : All (Contains (map (received m until) (filter (is_live s m) rows))) picked
 
 -- the live rows of these serials are received
 abbrev pub received_if : Settings → List ℕ → ℕ → ℕ → Row → Row

@@ -25,7 +25,7 @@ pub record System : Type 0 where
 abbrev pub DirectoryEvent : Type 0
 DirectoryEvent = Event DirectoryCall DirectoryReply
 
--- an event, and the part of the system that it is of: the directory, or the home at a place in the list of all homes
+-- an event, and the part of the system that it is of: the directory, or the home at an index in the list of all homes
 pub data Tag : Type 0 where
   OfDirectory : DirectoryEvent → Tag
   OfHome : ℕ → HomeEvent → Tag
@@ -61,7 +61,7 @@ pub record DirectorySteps (before : System) (e : DirectoryEvent) (after : System
 pub record HomeSteps (before : System) (i : ℕ) (e : HomeEvent) (after : System) : Type 0 where
   pub old : HomeAt
   pub new : Home
-  pub there : slice_get before.homes i ≡ Some old
+  pub in_list : slice_get before.homes i ≡ Some old
   pub component : e.component ≡ part.Home old.site.home
   pub alone : is_alone e.call ≡ true
   pub step : HomeStep old.site old.home e.stamp.moment e.call e.reply new

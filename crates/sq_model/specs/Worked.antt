@@ -22,11 +22,11 @@ abbrev pub strict : Settings
 strict = record plain { redrive = Some (record { target = 1; max_receives = 1 }) }
 
 -- home 0 of a queue
-abbrev pub home_of : ℕ → HomeId
-home_of queue = record { queue = queue; home = 0 }
+abbrev pub worked_home : ℕ → HomeId
+worked_home queue = record { queue = queue; home = 0 }
 
 abbrev pub site_of : ℕ → ℕ → ℕ → Site
-site_of queue rows flights = record { home = home_of queue; limits = record { rows = rows; flights = flights } }
+site_of queue rows flights = record { home = worked_home queue; limits = record { rows = rows; flights = flights } }
 
 -- of queue 2, with the greatest limits
 abbrev pub wide : Site

@@ -83,7 +83,7 @@ impl Model for BoxedItem {
 }
 
 impl BoxedItem {
-    /// Refused for want of memory alone.
+    /// Refused only where memory is out.
     pub fn new(alloc: Global, item: Item) -> Result<BoxedItem, Refusal>
         ensures item { IfOk result (λ boxed. boxed ≡ item) }
         ensures refused { IfErr result (λ e. e ≡ Refusal.NoMemory) }

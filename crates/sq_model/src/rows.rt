@@ -31,7 +31,7 @@ impl Rows {
         }
     }
 
-    /// Puts a row last; refused for want of memory alone.
+    /// Puts a row last; refused only where memory is out.
     pub fn push(&mut self, row: Row) -> Result<(), Refusal>
         ensures ok { OnOk result (self.new ≡ self.old ++ row ∷ []) }
         ensures err { IfErr result (λ e. (e ≡ Refusal.NoMemory) × (self.new ≡ self.old)) }

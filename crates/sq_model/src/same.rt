@@ -31,8 +31,8 @@ fn are_same_rows(a: &Rows, b: &Rows) -> bool
     if first.len() != second.len() {
         return false;
     }
-    for place in 0..first.len() {
-        if !is_same_row(&first[place], &second[place]) {
+    for index in 0..first.len() {
+        if !is_same_row(&first[index], &second[index]) {
             return false;
         }
     }

@@ -9,7 +9,7 @@ ghost use Rattle.sq_model.specs.declared.calls.HomeCall.TheVariants.{Configure, 
 ghost use Rattle.sq_model.specs.declared.replies.HomeReply.TheVariants.{Done, Sent, Looked, Over};
 ghost use Rattle.sq_model.specs.Rows.{is_delayed, is_flying, is_dead, is_live, is_expired};
 ghost use Rattle.sq_model.specs.Homes.{Home, Serving, HomeStep, home_refusal, entered_row, moved};
-ghost use Rattle.sq_model.specs.Worked.{plain, kept_for, strict, home_of, wide, narrow, careful, hello_text, id_of, sent_as, hello, delayed_hello, hello_once, hello_twice, hello_late, receipt_of, with_rows, dead_hello, moved_hello};
+ghost use Rattle.sq_model.specs.Worked.{plain, kept_for, strict, worked_home, wide, narrow, careful, hello_text, id_of, sent_as, hello, delayed_hello, hello_once, hello_twice, hello_late, receipt_of, with_rows, dead_hello, moved_hello};
 
 /// The first message of a home has serial 0, and may be received at its moment.
 pub fn a_sent_message_is_received_at_once()
@@ -23,7 +23,7 @@ pub fn a_received_message_is_hidden_until_its_timeout()
     ensures flying { is_flying 30999 hello_once ≡ true }
     ensures live { is_live plain 31000 hello_once ≡ true }
     ensures landed { is_flying 31000 hello_once ≡ false }
-    ensures none_is_given { (given : List Row) (after : Home) → HomeStep wide (with_rows plain 1 (hello_once ∷ [])) 30999 (Look 10 None) (Looked given) after → length given ≡ 0 }
+    ensures none_is_given { (picked : List Row) (after : Home) → HomeStep wide (with_rows plain 1 (hello_once ∷ [])) 30999 (Look 10 None) (Looked picked) after → length picked ≡ 0 }
 {}
 
 /// At 31,000 the same message is received for the second time; a look that gives nothing then is no step.
@@ -62,14 +62,14 @@ pub fn a_longer_retention_brings_no_message_back()
 /// Settings whose version is not above the home's set nothing, and the trim is done.
 pub fn an_older_version_sets_nothing()
     ensures older { (after : Home) → HomeStep wide (Serving plain 2 1 (hello ∷ [])) 2000 (Configure strict 1) Done after → after ≡ Serving plain 2 1 (hello ∷ []) }
-    ensures same { (after : Home) → HomeStep wide (Serving plain 2 1 (hello ∷ [])) 2000 (Configure strict 2) Done after → after ≡ Serving plain 2 1 (hello ∷ []) }
+    ensures unchanged { (after : Home) → HomeStep wide (Serving plain 2 1 (hello ∷ [])) 2000 (Configure strict 2) Done after → after ≡ Serving plain 2 1 (hello ∷ []) }
     ensures trims { (after : Home) → HomeStep wide (Serving (kept_for 60) 2 1 (hello ∷ [])) 61000 (Configure strict 2) Done after → after ≡ Serving (kept_for 60) 2 1 [] }
 {}
 
 /// With one message in flight, where no more may be, and another one live, a look answers `Over` and nothing else.
-pub fn too_many_in_flight_are_told()
+pub fn too_many_in_flight_are_refused()
     ensures over { HomeStep careful (with_rows plain 2 (hello_once ∷ sent_as 1 ∷ [])) 2000 (Look 10 None) Over (with_rows plain 2 (hello_once ∷ sent_as 1 ∷ [])) }
-    ensures nothing_else { (given : List Row) (after : Home) → HomeStep careful (with_rows plain 2 (hello_once ∷ sent_as 1 ∷ [])) 2000 (Look 10 None) (Looked given) after → ⊥ }
+    ensures nothing_else { (picked : List Row) (after : Home) → HomeStep careful (with_rows plain 2 (hello_once ∷ sent_as 1 ∷ [])) 2000 (Look 10 None) (Looked picked) after → ⊥ }
     ensures only_then { (after : Home) → HomeStep careful (with_rows plain 1 (hello_once ∷ [])) 2000 (Look 10 None) Over after → ⊥ }
     ensures one_of_two { HomeStep careful (with_rows plain 2 (hello ∷ sent_as 1 ∷ [])) 1000 (Look 10 None) (Looked (hello_once ∷ [])) (with_rows plain 2 (hello_once ∷ sent_as 1 ∷ [])) }
 {}
@@ -102,7 +102,7 @@ pub fn a_message_is_dead_after_its_last_receive()
     ensures dead { is_dead strict 31000 hello_once ≡ true }
     ensures not_live { is_live strict 31000 hello_once ≡ false }
     ensures fresh { is_live strict 1000 hello ≡ true }
-    ensures none_is_given { (given : List Row) (after : Home) → HomeStep wide (with_rows strict 1 (hello_once ∷ [])) 31000 (Look 10 None) (Looked given) after → length given ≡ 0 }
+    ensures none_is_given { (picked : List Row) (after : Home) → HomeStep wide (with_rows strict 1 (hello_once ∷ [])) 31000 (Look 10 None) (Looked picked) after → length picked ≡ 0 }
 {}
 
 /// A purge leaves no message, in flight or not, and serials go on.
@@ -112,7 +112,7 @@ pub fn a_purge_leaves_nothing()
 
 /// A dead letter keeps its id and its age and remembers its queue; a task makes a new message; neither loses its lineage.
 pub fn a_moved_message_starts_anew()
-    ensures dead_letter { entered_row (home_of 1) 7 3 40000 dead_hello ≡ record hello { serial = 7; slot = 3; visible_from = 40000; origin = Some 2 } }
-    ensures of_a_task { entered_row (home_of 1) 7 3 40000 moved_hello ≡ record hello { id = record { queue = 1; home = 0; serial = 7 }; serial = 7; slot = 3; enqueued = 40000; visible_from = 40000 } }
+    ensures dead_letter { entered_row (worked_home 1) 7 3 40000 dead_hello ≡ record hello { serial = 7; slot = 3; visible_from = 40000; origin = Some 2 } }
+    ensures of_a_task { entered_row (worked_home 1) 7 3 40000 moved_hello ≡ record hello { id = record { queue = 1; home = 0; serial = 7 }; serial = 7; slot = 3; enqueued = 40000; visible_from = 40000 } }
     ensures returned { moved 1 0 40000 hello_once ≡ record hello { serial = 1; visible_from = 40000 } }
 {}

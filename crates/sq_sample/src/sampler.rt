@@ -32,7 +32,7 @@ impl Sampler {
     }
 
     /// Distinct homes of a queue, so many as asked, in the order in which they are to be visited.
-    /// Refused for want of memory alone.
+    /// Refused only where memory is out.
     pub fn draw(
         &mut self,
         alloc: Global,

@@ -8,14 +8,14 @@ use Rattle.sq_model.specs.Homes.{Home, Unopened, Serving, Closed}
 
 abbrev pub look_reply : Option (List Row) → HomeReply
 look_reply None = Over
-look_reply (Some given) = Looked given
+look_reply (Some picked) = Looked picked
 
 -- what a look leaves
 abbrev pub look_after : Home → ℕ → Option ℕ → Option (List Row) → Home
 look_after (Serving s v n rows) m timeout None = Serving s v n (trimmed s m rows)
-look_after (Serving s v n rows) m timeout (Some given) =
-    Serving s v n (map (received_if s (serials_of given) m (m + ms (unwrap_or timeout s.timeout))) (trimmed s m rows))
-look_after home m timeout given = home
+look_after (Serving s v n rows) m timeout (Some picked) =
+    Serving s v n (map (received_if s (serials_of picked) m (m + ms (unwrap_or timeout s.timeout))) (trimmed s m rows))
+look_after home m timeout picked = home
 
 -- the home takes requests
 abbrev pub IsServing : Home → Type 0

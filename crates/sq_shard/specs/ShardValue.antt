@@ -11,7 +11,7 @@ pub record ShardValue : Type 0 where
   pub site : Site
   pub home : Home
 
-abbrev pub home_of : Status → Settings → ℕ → ℕ → List Row → Home
-home_of Unopened settings version next rows = Never
-home_of Serving settings version next rows = Serves settings version next rows
-home_of Closed settings version next rows = Gone
+abbrev pub home_with : Status → Settings → ℕ → ℕ → List Row → Home
+home_with Unopened settings version next rows = Never
+home_with Serving settings version next rows = Serves settings version next rows
+home_with Closed settings version next rows = Gone

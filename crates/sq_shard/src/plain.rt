@@ -88,12 +88,13 @@ impl Store for PlainStore {
         let slot = rows::free_slot(&self.rows);
         let mut row = row;
         row.slot = slot;
+        // Memory for it was reserved.
         let _ = self.rows.push(row);
         slot
     }
 
-    fn receive(&mut self, settings: &Settings, given: &[Row], moment: u64, until: u64) {
-        rows::receive(&mut self.rows, settings, given, moment, until)
+    fn receive(&mut self, settings: &Settings, picked: &[Row], moment: u64, until: u64) {
+        rows::receive(&mut self.rows, settings, picked, moment, until)
     }
 
     fn take(&mut self, receipt: &Receipt) {

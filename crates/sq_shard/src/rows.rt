@@ -245,24 +245,24 @@ pub fn pick(
     until: u64,
     max: usize,
 ) -> Result<Rows, Refusal>
-    ensures given { IfOk result (λ given. given ≡ take max (map (model.received moment until) (filter (model.is_live settings.now moment) (model.trimmed settings.now moment rows.now)))) }
+    ensures picked { IfOk result (λ picked. picked ≡ take max (map (model.received moment until) (filter (model.is_live settings.now moment) (model.trimmed settings.now moment rows.now)))) }
     ensures err { IfErr result (λ e. e ≡ Refusal.NoMemory) }
 {
-    let mut given = Rows::new(alloc);
+    let mut picked = Rows::new(alloc);
     for row in rows {
-        if given.len() < max && is_kept(settings, moment, row) && is_live(settings, moment, row) {
-            given.push(received_copy(row, moment, until)?)?;
+        if picked.len() < max && is_kept(settings, moment, row) && is_live(settings, moment, row) {
+            picked.push(received_copy(row, moment, until)?)?;
         }
     }
-    Ok(given)
+    Ok(picked)
 }
 
 /// Receives the live rows with the serials of those given.
-pub fn receive(rows: &mut [Row], settings: &Settings, given: &[Row], moment: u64, until: u64)
-    ensures { rows.new ≡ map (model.received_if settings.now (model.serials_of given.now) moment until) rows.old }
+pub fn receive(rows: &mut [Row], settings: &Settings, picked: &[Row], moment: u64, until: u64)
+    ensures { rows.new ≡ map (model.received_if settings.now (model.serials_of picked.now) moment until) rows.old }
 {
     for row in rows.iter_mut() {
-        receive_row(row, settings, given, moment, until);
+        receive_row(row, settings, picked, moment, until);
     }
 }
 
@@ -272,10 +272,10 @@ fn has_serial(rows: &[Row], serial: Serial) -> bool
     rows.iter().map(|row| row.serial).any(|c| c == serial)
 }
 
-fn receive_row(row: &mut Row, settings: &Settings, given: &[Row], moment: u64, until: u64)
-    ensures { row.new ≡ model.received_if settings.now (model.serials_of given.now) moment until row.old }
+fn receive_row(row: &mut Row, settings: &Settings, picked: &[Row], moment: u64, until: u64)
+    ensures { row.new ≡ model.received_if settings.now (model.serials_of picked.now) moment until row.old }
 {
-    if is_live(settings, moment, row) && has_serial(given, row.serial) {
+    if is_live(settings, moment, row) && has_serial(picked, row.serial) {
         row.receives += 1;
         row.last_receive = Some(moment);
         row.visible_from = until;

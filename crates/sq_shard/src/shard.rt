@@ -53,11 +53,11 @@ pub struct Shard<S: Store> {
 impl<S: Store> Model for Shard<S> {
     ghost use Rattle.std.specs.Prelude.{◌≡◌, ◌≤◌, List, [], length};
     ghost use Rattle.sq_model.specs.Rows.{RisesFrom};
-    ghost use Rattle.sq_shard.specs.ShardValue.{ShardValue, home_of};
+    ghost use Rattle.sq_shard.specs.ShardValue.{ShardValue, home_with};
 
     ghost Value = { ShardValue };
 
-    ghost view = { λ a. record { site = a.site; home = home_of a.status a.settings a.version a.next (S.rows a.store) } };
+    ghost view = { λ a. record { site = a.site; home = home_with a.status a.settings a.version a.next (S.rows a.store) } };
 
     ghost use Rattle.sq_shard.specs.declared.shard.Status.TheVariants.{Unopened, Closed};
 
@@ -170,7 +170,7 @@ impl<S: Store> Shard<S> {
         timeout: Option<Timeout>,
     ) -> Result<Option<Rows>, Refusal>
         requires { moment < stamp_end }
-        ensures step { IfOk result (λ given. HomeStep self.now.site self.now.home moment (Look max timeout) (look_reply given) (look_after self.now.home moment timeout given)) }
+        ensures step { IfOk result (λ picked. HomeStep self.now.site self.now.home moment (Look max timeout) (look_reply picked) (look_after self.now.home moment timeout picked)) }
         ensures refusal { IfErr result (λ e. ((e ≡ Refusal.NoMemory) × IsServing self.now.home) ⊎ (home_refusal self.now.site self.now.home moment (Look max timeout) ≡ Some e)) }
     {
         // The status is checked before a look asks for memory.
@@ -184,15 +184,15 @@ impl<S: Store> Shard<S> {
         }
         let until = after_seconds(moment, timeout.unwrap_or(self.settings.timeout).get());
         let most = room.min(max.get() as usize);
-        let given = self.store.pick(alloc, &self.settings, moment, until, most)?;
-        Ok(Some(given))
+        let picked = self.store.pick(alloc, &self.settings, moment, until, most)?;
+        Ok(Some(picked))
     }
 
     /// Receives the live rows that were chosen; without a timeout the home's is taken.
     #[tactic(auto, using(sq_model::proofs::RowLaws::rises_trimmed, crate::proofs::Few::few_trimmed, sq_model::proofs::RowLaws::rises_received, crate::proofs::Few::few_mapped))]
-    pub fn give(&mut self, moment: u64, timeout: Option<Timeout>, given: &Option<Rows>)
+    pub fn give(&mut self, moment: u64, timeout: Option<Timeout>, picked: &Option<Rows>)
         requires { moment < stamp_end }
-        ensures home { self.new.home ≡ look_after self.old.home moment timeout given.now }
+        ensures home { self.new.home ≡ look_after self.old.home moment timeout picked.now }
         ensures site { self.new.site ≡ self.old.site }
     {
         let Status::Serving = self.status else {
@@ -200,10 +200,10 @@ impl<S: Store> Shard<S> {
         };
         self.store.trim(&self.settings, moment);
         let until = after_seconds(moment, timeout.unwrap_or(self.settings.timeout).get());
-        match given {
-            Some(given) => self
+        match picked {
+            Some(picked) => self
                 .store
-                .receive(&self.settings, given.as_slice(), moment, until),
+                .receive(&self.settings, picked.as_slice(), moment, until),
             None => {}
         }
     }
@@ -218,15 +218,15 @@ impl<S: Store> Shard<S> {
         timeout: Option<Timeout>,
     ) -> Result<Option<Rows>, Refusal>
         requires { moment < stamp_end }
-        ensures step { IfOk result (λ given. HomeStep self.old.site self.old.home moment (Look max timeout) (look_reply given) self.new.home) }
+        ensures step { IfOk result (λ picked. HomeStep self.old.site self.old.home moment (Look max timeout) (look_reply picked) self.new.home) }
         ensures site { self.new.site ≡ self.old.site }
         ensures refusal { IfErr result (λ e. ((e ≡ Refusal.NoMemory) × IsServing self.old.home) ⊎ (home_refusal self.old.site self.old.home moment (Look max timeout) ≡ Some e)) }
         ensures err { OnErr result (self.new ≡ self.old) }
     {
         let hidden_for = timeout;
-        let given = self.choose(alloc, moment, max, timeout)?;
-        self.give(moment, hidden_for, &given);
-        Ok(given)
+        let picked = self.choose(alloc, moment, max, timeout)?;
+        self.give(moment, hidden_for, &picked);
+        Ok(picked)
     }
 
     /// Takes out the row on which slot, serial and receive number agree; where there is none it is done too.

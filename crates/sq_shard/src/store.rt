@@ -64,7 +64,7 @@ pub trait Store: Drop {
         max: usize,
     ) -> Result<Rows, Refusal>
         requires { (next : ℕ) × RisesFrom 0 (rows self.now) next }
-        ensures look { IfOk result (λ given. IsLook settings.now moment until max (trimmed settings.now moment (rows self.now)) given) }
+        ensures look { IfOk result (λ picked. IsLook settings.now moment until max (trimmed settings.now moment (rows self.now)) picked) }
         ensures err { IfErr result (λ e. e ≡ Refusal.NoMemory) };
 
     /// Makes room for one more row; refused only where there is none.
@@ -87,8 +87,8 @@ pub trait Store: Drop {
         ensures rows { rows self.new ≡ rows self.old ++ record row { slot = result } ∷ [] };
 
     /// Receives the live rows with the serials of these.
-    fn receive(&mut self, settings: &Settings, given: &[Row], moment: u64, until: u64)
-        ensures { rows self.new ≡ map (received_if settings.now (serials_of given.now) moment until) (rows self.old) };
+    fn receive(&mut self, settings: &Settings, picked: &[Row], moment: u64, until: u64)
+        ensures { rows self.new ≡ map (received_if settings.now (serials_of picked.now) moment until) (rows self.old) };
 
     /// Takes out the row on which slot, serial and receive number agree.
     fn take(&mut self, receipt: &Receipt)

@@ -1,4 +1,4 @@
-pub mod BookLaws
-pub mod BookListLaws
+pub mod JournalLaws
+pub mod JournalListLaws
 pub mod DropLaws
 pub mod FilterLaws

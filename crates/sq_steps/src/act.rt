@@ -1,4 +1,4 @@
-//! What an actor does in one step, and what it is told.
+//! What an actor does in one step, and its outcome.
 use sq_base::ids::{HomeId, QueueNo};
 use sq_base::name::QueueName;
 pub use sq_history::act::HomeAct;

@@ -2,7 +2,7 @@
 #![tactic(auto)]
 
 pub mod act;
-pub mod book;
-pub mod books;
+pub mod capacity;
+pub mod journal;
+pub mod journals;
 pub mod record;
-pub mod room;

@@ -1,7 +1,7 @@
 //! What an actor keeps of its steps.
 ghost use Rattle.std.specs.Prelude.{◌≡◌};
-ghost use Rattle.sq_model.specs.Notes.{place_of, stamp_of};
-ghost use Rattle.sq_steps.specs.Records.{note_of};
+ghost use Rattle.sq_model.specs.RecordValues.{place_of_record, stamp_of};
+ghost use Rattle.sq_steps.specs.Records.{value_of_record};
 
 use sq_base::stamp::Stamp;
 use sq_directory::record::DirectoryRecord;
@@ -17,7 +17,7 @@ pub enum Record {
 impl Record {
     /// The number of the step among its actor's, from 0 upwards.
     pub fn place(&self) -> u64
-        ensures { result ≡ place_of (note_of self.now) }
+        ensures { result ≡ place_of_record (value_of_record self.now) }
     {
         match self {
             Record::Directory(record) => record.step().place,
@@ -27,7 +27,7 @@ impl Record {
 
     /// The stamp of its event.
     pub fn stamp(&self) -> Stamp
-        ensures { result ≡ stamp_of (note_of self.now) }
+        ensures { result ≡ stamp_of (value_of_record self.now) }
     {
         match self {
             Record::Directory(record) => record.step().stamp,

@@ -16,7 +16,7 @@ use sq_merge::world::World;
 use sq_model::calls::Receipt;
 use sq_model::replies::HomeReply;
 use sq_steps::act::{Act, HomeAct, Outcome, Step};
-use sq_steps::book::{Book, create_step};
+use sq_steps::journal::{Journal, create_step};
 use std::alloc::Global;
 use std::process::Abort;
 
@@ -98,7 +98,7 @@ fn short() -> Settings {
     }
 }
 
-// How many events and sends were told, and the last message that was received, with its home.
+// How many events and sends were answered, and the last message that was received, with its home.
 #[derive(Clone, Copy)]
 struct Held {
     events: usize,
@@ -117,7 +117,7 @@ impl Held {
         }
     }
 
-    fn note(&mut self, act: &Act, outcome: &Outcome) {
+    fn keep(&mut self, act: &Act, outcome: &Outcome) {
         match (act, outcome) {
             (Act::Resolve(_), _) => return,
             (_, Outcome::Home(HomeReply::Sent(_))) => self.sends = self.sends.saturating_add(1),
@@ -137,7 +137,7 @@ impl Held {
     }
 }
 
-// The parts that so many steps leave, and what was told of them: the same each time.
+// The parts that so many steps leave, and what was answered of them: the same each time.
 fn ran(rt: &impl Abort, alloc: Global, steps: u64) -> (Parts, Held)
     requires { steps ≤ 100000 }
 {
@@ -147,14 +147,14 @@ fn ran(rt: &impl Abort, alloc: Global, steps: u64) -> (Parts, Held)
     for number in 0..steps {
         let step = choices.step(alloc, number, &held).expect(rt, "memory");
         if let Ok(outcome) = world.step(alloc, &step) {
-            held.note(&step.act, &outcome);
+            held.keep(&step.act, &outcome);
         }
     }
     (world.parts(), held)
 }
 
-// How many events so many steps make, how many messages are sent in them, and how many places are told; and how many events and
-// sends were told.
+// How many events so many steps make, how many messages are sent in them, and how many places are answered; and how many events and
+// sends were answered.
 fn counted(rt: &impl Abort, alloc: Global, steps: u64) -> ([usize; 3], [usize; 2])
     requires { steps ≤ 100000 }
 {
@@ -178,15 +178,15 @@ fn fault(alloc: Global, parts: &Parts) -> Option<AuditFault> {
     merge(alloc, parts).err()
 }
 
-// How many records each actor has after so many steps, how many events were told, and how many of them are of the list of queues.
-fn noted(rt: &impl Abort, alloc: Global, steps: u64) -> ([u64; 9], u64, usize)
+// How many records each actor has after so many steps, how many events were answered, and how many of them are of the list of queues.
+fn recorded(rt: &impl Abort, alloc: Global, steps: u64) -> ([u64; 9], u64, usize)
     requires { steps ≤ 100000 }
 {
     let (parts, held) = ran(rt, alloc, steps);
     let mut counts = [0; 9];
-    for book in parts.records.as_slice() {
-        if let Some(count) = counts.get_mut(book.actor() as usize) {
-            *count = book.records().len() as u64;
+    for journal in parts.records.as_slice() {
+        if let Some(count) = counts.get_mut(journal.actor() as usize) {
+            *count = journal.records().len() as u64;
         }
     }
     (counts, held.events as u64, parts.directory.events().len())
@@ -210,21 +210,21 @@ fn without(
 
 // The actors are 0 to 7.
 #[test]
-fn each_record_that_is_taken_out_is_told(rt: HostRuntime) {
-    let (counts, events, made) = noted(&rt, rt.alloc(), 150);
+fn each_record_that_is_taken_out_is_reported(rt: HostRuntime) {
+    let (counts, events, made) = recorded(&rt, rt.alloc(), 150);
     let mut dropped = 0u64;
     for (actor, count) in (0u32..).zip(&counts) {
         for place in 0..*count {
-            let told = without(&rt, rt.alloc(), 150, actor, place);
+            let answered = without(&rt, rt.alloc(), 150, actor, place);
             assert_eq!(rt;
-                told,
+                answered,
                 (true, false, Some(AuditFault::RecordMissing(actor, place)))
             );
             dropped = dropped.saturating_add(1);
         }
         for place in [*count, u64::MAX] {
-            let told = without(&rt, rt.alloc(), 150, actor, place);
-            assert_eq!(rt; told, (false, false, None));
+            let answered = without(&rt, rt.alloc(), 150, actor, place);
+            assert_eq!(rt; answered, (false, false, None));
         }
     }
     assert_eq!(rt; dropped, events);
@@ -260,7 +260,7 @@ fn with_no_actor(rt: &impl Abort, alloc: Global) -> Option<AuditFault> {
 // After a queue that another actor of the same number made.
 fn with_an_actor_twice(rt: &impl Abort, alloc: Global) -> Option<AuditFault> {
     let mut parts = made(rt, alloc, &["a", "b"]);
-    let mut other = Book::new(alloc, 3);
+    let mut other = Journal::new(alloc, 3);
     let name = named("a").expect(rt, "a name");
     let _ = create_step(&mut parts.directory, &mut other, 1000, &name, &NONE_GIVEN).expect(
         rt, "memory",
@@ -269,7 +269,7 @@ fn with_an_actor_twice(rt: &impl Abort, alloc: Global) -> Option<AuditFault> {
 }
 
 #[test]
-fn false_evidence_is_told(rt: HostRuntime) {
+fn false_evidence_is_reported(rt: HostRuntime) {
     let missing = Some(AuditFault::RecordMissing(3, 0));
     let twice = Some(AuditFault::RecordTwice(3, 0));
     assert_eq!(rt;

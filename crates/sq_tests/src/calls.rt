@@ -1,5 +1,5 @@
 //! Calls of clients: what no script shows, since it follows from the seed or from a home that is closed.
-use crate::setup::{Ask, NONE_GIVEN, Told, first_wrong, named, options};
+use crate::setup::{Answers, Ask, NONE_GIVEN, first_wrong, named, options};
 use sq_audit::merge::merge;
 use sq_base::ranges::MaxMessages;
 use sq_base::refusal::Refusal;
@@ -47,7 +47,7 @@ fn call_of(alloc: Global, request: Request) -> Result<Call, Refusal> {
 fn number_of(answer: &Answer) -> usize {
     match answer {
         Answer::Sent(id, _) => id.home.get() as usize,
-        Answer::Received(given) => given.rows().len(),
+        Answer::Received(picked) => picked.rows().len(),
         _ => 0,
     }
 }
@@ -80,12 +80,12 @@ fn homes_are_chosen_from_the_seed_and_reached(rt: HostRuntime) {
     seven.sample = 2;
     let mut eight = seven;
     eight.seed = 8;
-    let (homes, given) = chosen(&rt, rt.alloc(), seven);
-    assert_eq!(rt; given, 40);
+    let (homes, picked) = chosen(&rt, rt.alloc(), seven);
+    assert_eq!(rt; picked, 40);
     for number in 0..4 {
         assert!(rt; homes.contains(&number), "no message at {number}");
     }
-    assert_eq!(rt; chosen(&rt, rt.alloc(), seven), (homes, given));
+    assert_eq!(rt; chosen(&rt, rt.alloc(), seven), (homes, picked));
     let (others, _) = chosen(&rt, rt.alloc(), eight);
     assert!(rt; others != homes, "{homes:?}");
 }
@@ -94,12 +94,12 @@ fn homes_are_chosen_from_the_seed_and_reached(rt: HostRuntime) {
 fn closed(
     rt: &impl Abort,
     alloc: Global,
-) -> (Option<(usize, Told)>, [Result<usize, Refusal>; 3], bool) {
+) -> (Option<(usize, Answers)>, [Result<usize, Refusal>; 3], bool) {
     let mut world = World::new(alloc, options(2, 10, 2)).expect(rt, "memory");
     let _ = asked(alloc, &mut world, Request::Create);
     let lines = [
-        (0, 0, 0, Ask::Close, Told::Done),
-        (0, 0, 1, Ask::Close, Told::Done),
+        (0, 0, 0, Ask::Close, Answers::Done),
+        (0, 0, 1, Ask::Close, Answers::Done),
     ];
     let wrong = first_wrong(alloc, &mut world, &lines);
     let replies = [

@@ -1,6 +1,6 @@
 //! The library in use, from a service without queues to where its messages are.
 use sq_audit::merge::merge;
-use sq_audit::track::place_of;
+use sq_audit::message_pass::place_of;
 use sq_base::handle::Handle;
 use sq_base::message_id::MessageId;
 use sq_base::name::QueueName;
@@ -77,22 +77,22 @@ fn a_message_is_sent_received_and_deleted(rt: HostRuntime) {
 }
 
 // The id of a message that was sent.
-fn id_of(told: &Result<Answer, Refusal>) -> Option<MessageId> {
-    match told {
+fn id_of(answered: &Result<Answer, Refusal>) -> Option<MessageId> {
+    match answered {
         Ok(Answer::Sent(id, _)) => Some(*id),
         _ => None,
     }
 }
 
 // The handle of the first message that was received.
-fn handle_of(told: &Result<Answer, Refusal>) -> Option<Handle> {
-    let Ok(Answer::Received(given)) = told else {
+fn handle_of(answered: &Result<Answer, Refusal>) -> Option<Handle> {
+    let Ok(Answer::Received(picked)) = answered else {
         return None;
     };
-    let row = given.rows().first()?;
+    let row = picked.rows().first()?;
     Some(Handle {
-        queue: given.home().queue,
-        home: given.home().home,
+        queue: picked.home().queue,
+        home: picked.home().home,
         slot: row.slot,
         serial: row.serial,
         receive: Receives::of(1),

@@ -1,5 +1,7 @@
 //! What is asked of homes that no client asks, with values from the rules of the queue; and one home alone.
-use crate::setup::{Ask, CLOCK_END, Line, Told, home, home_act, options, played, stamp, told_by};
+use crate::setup::{
+    Answers, Ask, CLOCK_END, Line, answer_of, home, home_act, options, played, stamp,
+};
 use sq_base::ids::QueueNo;
 use sq_base::ranges::{Delay, MaxReceives, Retention, Timeout};
 use sq_base::refusal::Refusal;
@@ -14,7 +16,7 @@ use sq_shard::shard::Shard;
 use std::alloc::Global;
 
 // What a look tells that gives no message.
-const NOTHING: Told = Told::GaveAll(0);
+const NOTHING: Answers = Answers::GaveAll(0);
 
 // The standard settings with these two in place of their own, in seconds.
 fn settings(delay: Delay, retention: Retention) -> Settings {
@@ -35,7 +37,7 @@ fn strict() -> Settings {
 }
 
 // The first line of a script that one home answers otherwise, and what it answers.
-fn first_wrong(alloc: Global, lines: &[Line]) -> Option<(usize, Told)> {
+fn first_wrong(alloc: Global, lines: &[Line]) -> Option<(usize, Answers)> {
     played(alloc, options(1, 10, 10), lines)
 }
 
@@ -46,23 +48,29 @@ fn messages_are_counted_and_purged(rt: HostRuntime) {
     let wrong = first_wrong(
         rt.alloc(),
         &[
-            (7, 0, 0, Ask::Configure(kept, 1), Told::Done),
-            (7, 1000, 0, Ask::Send(None), Told::Sent(0, 0)),
-            (7, 1000, 0, Ask::Look(None), Told::Gave(1, 31_000)),
-            (7, 1000, 0, Ask::Send(None), Told::Sent(1, 1)),
-            (7, 1001, 0, Ask::Send(longest), Told::Sent(2, 2)),
-            (7, 1001, 0, Ask::Count, Told::Counts(1, 1, 1)),
-            (7, 31_000, 0, Ask::Count, Told::Counts(2, 0, 1)),
-            (7, 901_001, 0, Ask::Count, Told::Counts(3, 0, 0)),
-            (7, 1_001_000, 0, Ask::Count, Told::Counts(1, 0, 0)),
-            (7, 1_001_000, 0, Ask::Send(None), Told::Sent(1, 3)),
-            (7, 1_001_000, 0, Ask::Purge, Told::Done),
-            (7, 1_001_000, 0, Ask::Count, Told::Counts(0, 0, 0)),
-            (7, 1_001_000, 0, Ask::Send(None), Told::Sent(0, 4)),
-            (7, 1_001_000, 0, Ask::Configure(strict(), 2), Told::Done),
-            (7, 1_001_000, 0, Ask::Look(None), Told::Gave(1, 1_031_000)),
+            (7, 0, 0, Ask::Configure(kept, 1), Answers::Done),
+            (7, 1000, 0, Ask::Send(None), Answers::Sent(0, 0)),
+            (7, 1000, 0, Ask::Look(None), Answers::Gave(1, 31_000)),
+            (7, 1000, 0, Ask::Send(None), Answers::Sent(1, 1)),
+            (7, 1001, 0, Ask::Send(longest), Answers::Sent(2, 2)),
+            (7, 1001, 0, Ask::Count, Answers::Counts(1, 1, 1)),
+            (7, 31_000, 0, Ask::Count, Answers::Counts(2, 0, 1)),
+            (7, 901_001, 0, Ask::Count, Answers::Counts(3, 0, 0)),
+            (7, 1_001_000, 0, Ask::Count, Answers::Counts(1, 0, 0)),
+            (7, 1_001_000, 0, Ask::Send(None), Answers::Sent(1, 3)),
+            (7, 1_001_000, 0, Ask::Purge, Answers::Done),
+            (7, 1_001_000, 0, Ask::Count, Answers::Counts(0, 0, 0)),
+            (7, 1_001_000, 0, Ask::Send(None), Answers::Sent(0, 4)),
+            (7, 1_001_000, 0, Ask::Configure(strict(), 2), Answers::Done),
+            (
+                7,
+                1_001_000,
+                0,
+                Ask::Look(None),
+                Answers::Gave(1, 1_031_000),
+            ),
             (7, 1_031_000, 0, Ask::Look(None), NOTHING),
-            (7, 1_031_000, 0, Ask::Count, Told::Counts(1, 0, 0)),
+            (7, 1_031_000, 0, Ask::Count, Answers::Counts(1, 0, 0)),
         ],
     );
     assert_eq!(rt; wrong, None);
@@ -71,24 +79,30 @@ fn messages_are_counted_and_purged(rt: HostRuntime) {
 // A home serves from its opening to its end.
 #[test]
 fn a_home_that_does_not_serve_refuses(rt: HostRuntime) {
-    let refused = Told::Refused(Refusal::QueueDoesNotExist);
-    let never_given = Told::Refused(Refusal::ReceiptHandleIsInvalid);
+    let refused = Answers::Refused(Refusal::QueueDoesNotExist);
+    let never_given = Answers::Refused(Refusal::ReceiptHandleIsInvalid);
     let at_once = Timeout::of(0);
     let wrong = first_wrong(
         rt.alloc(),
         &[
             (7, 1000, 0, Ask::Send(None), refused),
-            (7, 0, 0, Ask::Configure(Settings::standard(), 1), Told::Done),
-            (7, 1000, 0, Ask::Send(None), Told::Sent(0, 0)),
+            (
+                7,
+                0,
+                0,
+                Ask::Configure(Settings::standard(), 1),
+                Answers::Done,
+            ),
+            (7, 1000, 0, Ask::Send(None), Answers::Sent(0, 0)),
             (7, 1000, 0, Ask::Delete(0, 1, 1), never_given),
             (
                 7,
                 CLOCK_END,
                 0,
                 Ask::Delete(0, 0, 1),
-                Told::Refused(Refusal::ClockRange),
+                Answers::Refused(Refusal::ClockRange),
             ),
-            (7, 1000, 0, Ask::Close, Told::Done),
+            (7, 1000, 0, Ask::Close, Answers::Done),
             (7, 1000, 0, Ask::Configure(Settings::standard(), 2), refused),
             (7, 1000, 0, Ask::Send(None), refused),
             (7, 1000, 0, Ask::Look(None), refused),
@@ -152,27 +166,27 @@ fn is_of_the_last(record: &HomeRecord, home: &Home, by: &Actor) -> bool {
 
 // Asks what stands next of a home, by an actor that has seen more than its clock says; what it tells is what its record says, and the record is of its last event. Where it
 // is refused there is no event more. Anything else is `Other`.
-fn next(home: &mut Home, alloc: Global, now: u64) -> Told {
+fn next(home: &mut Home, alloc: Global, now: u64) -> Answers {
     let events = home.events().len();
     let by = Actor {
         number: 7,
         place: events as u64,
         seen: stamp(5000, 3),
     };
-    let told = match home_act(alloc, ask_at(events)) {
+    let answered = match home_act(alloc, ask_at(events)) {
         Ok(act) => home.step(alloc, &by, now, None, act),
         Err(refusal) => Err(refusal),
     };
-    match &told {
+    match &answered {
         Ok((reply, record)) if is_of_the_last(record, home, &by) => {
             if is_same_reply(reply, &record.step().reply) {
-                return told_by(reply);
+                return answer_of(reply);
             }
         }
-        Err(refusal) if home.events().len() == events => return Told::Refused(*refusal),
+        Err(refusal) if home.events().len() == events => return Answers::Refused(*refusal),
         _ => {}
     }
-    Told::Other
+    Answers::Other
 }
 
 // One that is refused for want of memory is asked again.
@@ -180,20 +194,20 @@ fn next(home: &mut Home, alloc: Global, now: u64) -> Told {
 fn each_call_has_its_event_and_its_record(rt: HostRuntime) {
     let mut home = unopened(rt.alloc());
     for want in [
-        Told::Done,
-        Told::Sent(0, 0),
-        Told::Gave(1, 35_000),
-        Told::Done,
-        Told::Counts(1, 0, 0),
-        Told::Done,
-        Told::Done,
-        Told::Done,
+        Answers::Done,
+        Answers::Sent(0, 0),
+        Answers::Gave(1, 35_000),
+        Answers::Done,
+        Answers::Counts(1, 0, 0),
+        Answers::Done,
+        Answers::Done,
+        Answers::Done,
     ] {
-        let mut told = next(&mut home, rt.alloc(), 1000);
-        if told == Told::Refused(Refusal::NoMemory) {
-            told = next(&mut home, rt.alloc(), 1000);
+        let mut answered = next(&mut home, rt.alloc(), 1000);
+        if answered == Answers::Refused(Refusal::NoMemory) {
+            answered = next(&mut home, rt.alloc(), 1000);
         }
-        assert_eq!(rt; told, want);
+        assert_eq!(rt; answered, want);
     }
     assert_eq!(rt; home.last(), stamp(5000, 11));
     assert!(rt; home.is_closed());

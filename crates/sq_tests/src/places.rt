@@ -1,7 +1,7 @@
 //! Where messages are after the events of a home, and the texts of that.
-use crate::setup::{Ask, Line, Told, first_wrong, id, options, stamp};
+use crate::setup::{Answers, Ask, Line, first_wrong, id, options, stamp};
 use sq_audit::merge::merge;
-use sq_audit::track::place_of;
+use sq_audit::message_pass::place_of;
 use sq_base::settings::Settings;
 use sq_base::stamp::Stamp;
 use sq_merge::world::World;
@@ -16,19 +16,25 @@ use std::process::Abort;
 // a fourth is sent, and the home closed.
 fn lines() -> [Line; 13] {
     [
-        (0, 0, 0, Ask::Create, Told::Made(1)),
-        (0, 0, 0, Ask::Configure(Settings::standard(), 1), Told::Done),
-        (0, 1000, 0, Ask::Send(None), Told::Sent(0, 0)),
-        (0, 1000, 0, Ask::Send(None), Told::Sent(1, 1)),
-        (0, 2000, 0, Ask::Look(None), Told::GaveAll(2)),
-        (0, 3000, 0, Ask::Delete(0, 0, 1), Told::Done),
-        (0, 32_000, 0, Ask::Look(None), Told::Gave(2, 62_000)),
-        (0, 32_000, 0, Ask::Delete(1, 1, 1), Told::Done),
-        (0, 33_000, 0, Ask::Send(None), Told::Sent(0, 2)),
-        (0, 345_600_999, 0, Ask::Count, Told::Counts(2, 0, 0)),
-        (0, 345_601_000, 0, Ask::Purge, Told::Done),
-        (0, 345_601_000, 0, Ask::Send(None), Told::Sent(0, 3)),
-        (0, 345_601_000, 0, Ask::Close, Told::Done),
+        (0, 0, 0, Ask::Create, Answers::Made(1)),
+        (
+            0,
+            0,
+            0,
+            Ask::Configure(Settings::standard(), 1),
+            Answers::Done,
+        ),
+        (0, 1000, 0, Ask::Send(None), Answers::Sent(0, 0)),
+        (0, 1000, 0, Ask::Send(None), Answers::Sent(1, 1)),
+        (0, 2000, 0, Ask::Look(None), Answers::GaveAll(2)),
+        (0, 3000, 0, Ask::Delete(0, 0, 1), Answers::Done),
+        (0, 32_000, 0, Ask::Look(None), Answers::Gave(2, 62_000)),
+        (0, 32_000, 0, Ask::Delete(1, 1, 1), Answers::Done),
+        (0, 33_000, 0, Ask::Send(None), Answers::Sent(0, 2)),
+        (0, 345_600_999, 0, Ask::Count, Answers::Counts(2, 0, 0)),
+        (0, 345_601_000, 0, Ask::Purge, Answers::Done),
+        (0, 345_601_000, 0, Ask::Send(None), Answers::Sent(0, 3)),
+        (0, 345_601_000, 0, Ask::Close, Answers::Done),
     ]
 }
 

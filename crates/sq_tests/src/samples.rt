@@ -9,12 +9,12 @@ fn picked(seed: u64, times: u32) -> [u32; 16] {
     let mut sampler = Sampler::new(seed);
     let mut counts = [0u32; 16];
     for _ in 0..times {
-        note(&mut counts, sampler.pick(HomeCount::of(16)));
+        keep(&mut counts, sampler.pick(HomeCount::of(16)));
     }
     counts
 }
 
-fn note(counts: &mut [u32; 16], home: HomeNo) {
+fn keep(counts: &mut [u32; 16], home: HomeNo) {
     if let Some(count) = counts.get_mut(home.get() as usize) {
         *count = count.saturating_add(1);
     }
@@ -29,7 +29,7 @@ fn drawn(rt: &impl Abort, alloc: Global, place: usize) -> [u32; 16] {
             .draw(alloc, HomeCount::of(5), HomeCount::of(3))
             .expect(rt, "memory");
         if let Some(home) = drawn.get(place) {
-            note(&mut counts, *home);
+            keep(&mut counts, *home);
         }
     }
     counts

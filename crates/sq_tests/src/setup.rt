@@ -102,7 +102,7 @@ pub enum Ask {
 
 /// What is answered, in numbers.
 #[derive(Clone, Copy, PartialEq, Eq, Debug)]
-pub enum Told {
+pub enum Answers {
     /// The number of the queue.
     Made(u64),
     Done,
@@ -120,7 +120,7 @@ pub enum Told {
 
 /// A step of a script: the actor, its clock reading in ms, the number of the first queue's home, what is asked of it, and
 /// what it must answer.
-pub type Line = (u32, u64, u64, Ask, Told);
+pub type Line = (u32, u64, u64, Ask, Answers);
 
 pub fn home_act(alloc: Global, ask: Ask) -> Result<HomeAct, Refusal> {
     Ok(match ask {
@@ -146,54 +146,65 @@ pub fn step(alloc: Global, actor: u32, clock: u64, at: HomeId, ask: Ask) -> Resu
     Ok(Step { actor, clock, act })
 }
 
-fn told_by_rows(rows: &[Row]) -> Told {
+fn answer_of_rows(rows: &[Row]) -> Answers {
     match rows {
-        [row] if row.body.as_str() == "hello" => Told::Gave(row.receives, row.visible_from),
-        _ => Told::GaveAll(rows.len()),
+        [row] if row.body.as_str() == "hello" => Answers::Gave(row.receives, row.visible_from),
+        _ => Answers::GaveAll(rows.len()),
     }
 }
 
-pub fn told_by(reply: &HomeReply) -> Told {
+pub fn answer_of(reply: &HomeReply) -> Answers {
     match reply {
-        HomeReply::Done => Told::Done,
-        HomeReply::Sent(sent) => Told::Sent(sent.slot, sent.id.serial.get()),
-        HomeReply::Looked(rows) => told_by_rows(rows.as_slice()),
-        HomeReply::Counted(counts) => Told::Counts(counts.visible, counts.flying, counts.delayed),
-        _ => Told::Other,
+        HomeReply::Done => Answers::Done,
+        HomeReply::Sent(sent) => Answers::Sent(sent.slot, sent.id.serial.get()),
+        HomeReply::Looked(rows) => answer_of_rows(rows.as_slice()),
+        HomeReply::Counted(counts) => Answers::Counts(
+            counts.visible,
+            counts.flying,
+            counts.delayed,
+        ),
+        _ => Answers::Other,
     }
 }
 
-fn outcome_told(outcome: &Result<Outcome, Refusal>) -> Told {
+fn outcome_answered(outcome: &Result<Outcome, Refusal>) -> Answers {
     match outcome {
-        Ok(Outcome::Made(made)) => Told::Made(made.queue.get()),
-        Ok(Outcome::Home(reply)) => told_by(reply),
-        Ok(_) => Told::Other,
-        Err(refusal) => Told::Refused(*refusal),
+        Ok(Outcome::Made(made)) => Answers::Made(made.queue.get()),
+        Ok(Outcome::Home(reply)) => answer_of(reply),
+        Ok(_) => Answers::Other,
+        Err(refusal) => Answers::Refused(*refusal),
     }
 }
 
-fn asked(alloc: Global, world: &mut World, actor: u32, clock: u64, at: HomeId, ask: Ask) -> Told {
+fn asked(
+    alloc: Global,
+    world: &mut World,
+    actor: u32,
+    clock: u64,
+    at: HomeId,
+    ask: Ask,
+) -> Answers {
     match step(alloc, actor, clock, at, ask) {
-        Ok(step) => outcome_told(&world.step(alloc, &step)),
-        Err(refusal) => Told::Refused(refusal),
+        Ok(step) => outcome_answered(&world.step(alloc, &step)),
+        Err(refusal) => Answers::Refused(refusal),
     }
 }
 
 /// The place of the first line of a script that is not answered as it says, and what it is answered.
-pub fn first_wrong(alloc: Global, world: &mut World, lines: &[Line]) -> Option<(usize, Told)> {
+pub fn first_wrong(alloc: Global, world: &mut World, lines: &[Line]) -> Option<(usize, Answers)> {
     for (place, (actor, clock, number, ask, want)) in lines.iter().enumerate() {
-        let told = asked(alloc, world, *actor, *clock, home(*number), *ask);
-        if told != *want {
-            return Some((place, told));
+        let answered = asked(alloc, world, *actor, *clock, home(*number), *ask);
+        if answered != *want {
+            return Some((place, answered));
         }
     }
     None
 }
 
 /// The same of a world of its own.
-pub fn played(alloc: Global, options: Options, lines: &[Line]) -> Option<(usize, Told)> {
+pub fn played(alloc: Global, options: Options, lines: &[Line]) -> Option<(usize, Answers)> {
     match World::new(alloc, options) {
         Ok(mut world) => first_wrong(alloc, &mut world, lines),
-        Err(refusal) => Some((0, Told::Refused(refusal))),
+        Err(refusal) => Some((0, Answers::Refused(refusal))),
     }
 }

@@ -1,4 +1,4 @@
-//! Plain values from outside, each call once where it succeeds, and what a refusal is told as.
+//! Plain values from outside, each call once where it succeeds, and how a refusal is written.
 use crate::setup::{hello, id, stamp};
 use sq_base::body::{BODY_LIMIT, Body, body_md5};
 use sq_base::handle::{Handle, read_handle, write_handle};
@@ -245,7 +245,7 @@ fn refusals_have_names(rt: HostRuntime) {
         assert_eq!(rt; refusal.number(), number);
         assert_eq!(rt; refusal.name(), name);
     }
-    // No line is told these.
+    // No line has these for its answer.
     for (refusal, want) in [
         (
             Refusal::NoMemory,
@@ -253,8 +253,8 @@ fn refusals_have_names(rt: HostRuntime) {
         ),
         (Refusal::Worn, r#"{"Error":{"Code":"Worn","Number":3}}"#),
     ] {
-        let told = reply_text(rt.alloc(), &Err(refusal)).expect(&rt, "memory");
-        assert_eq!(rt; told.as_bytes(), want.as_bytes());
+        let answered = reply_text(rt.alloc(), &Err(refusal)).expect(&rt, "memory");
+        assert_eq!(rt; answered.as_bytes(), want.as_bytes());
     }
 }
 

@@ -1,5 +1,5 @@
 //! Steps of several actors at several homes, and the one order of it all.
-use crate::setup::{Ask, CLOCK_END, Line, Told, first_wrong, home, options, played, step};
+use crate::setup::{Answers, Ask, CLOCK_END, Line, first_wrong, home, options, played, step};
 use sq_audit::merge::merge;
 use sq_audit::parts::Parts;
 use sq_audit::run::Run;
@@ -35,7 +35,7 @@ fn first_other(run: &Run<'_>, want: &[Seen]) -> Option<(usize, Option<Seen>)> {
 }
 
 // What is otherwise in a script, and in the run that it leaves.
-type Wrong = (Option<(usize, Told)>, Option<(usize, Option<Seen>)>);
+type Wrong = (Option<(usize, Answers)>, Option<(usize, Option<Seen>)>);
 
 fn wrong_of(rt: &impl Abort, alloc: Global, lines: &[Line], events: &[Seen]) -> Wrong {
     let mut world = World::new(alloc, options(2, 10, 16)).expect(rt, "memory");
@@ -49,17 +49,29 @@ fn wrong_of(rt: &impl Abort, alloc: Global, lines: &[Line], events: &[Seen]) -> 
 // an end: what is refused leaves no event.
 #[test]
 fn steps_of_three_actors_have_one_order(rt: HostRuntime) {
-    let nothing = Told::GaveAll(0);
-    let absent = Told::Refused(Refusal::QueueDoesNotExist);
-    let late = Told::Refused(Refusal::ClockRange);
+    let nothing = Answers::GaveAll(0);
+    let no_such_home = Answers::Refused(Refusal::QueueDoesNotExist);
+    let late = Answers::Refused(Refusal::ClockRange);
     let wrong = wrong_of(
         &rt,
         rt.alloc(),
         &[
-            (0, 0, 0, Ask::Create, Told::Made(1)),
-            (0, 0, 0, Ask::Configure(Settings::standard(), 1), Told::Done),
-            (0, 0, 1, Ask::Configure(Settings::standard(), 1), Told::Done),
-            (5, 0, 2, Ask::Look(None), absent),
+            (0, 0, 0, Ask::Create, Answers::Made(1)),
+            (
+                0,
+                0,
+                0,
+                Ask::Configure(Settings::standard(), 1),
+                Answers::Done,
+            ),
+            (
+                0,
+                0,
+                1,
+                Ask::Configure(Settings::standard(), 1),
+                Answers::Done,
+            ),
+            (5, 0, 2, Ask::Look(None), no_such_home),
             (5, CLOCK_END, 2, Ask::Look(None), late),
             (5, CLOCK_END, 0, Ask::Look(None), late),
             (1, 0, 0, Ask::Look(None), nothing),
@@ -87,26 +99,26 @@ fn events_are_listed_by_stamp(rt: HostRuntime) {
         &rt,
         rt.alloc(),
         &[
-            (0, 1000, 0, Ask::Create, Told::Made(1)),
+            (0, 1000, 0, Ask::Create, Answers::Made(1)),
             (
                 1,
                 1000,
                 0,
                 Ask::Configure(Settings::standard(), 1),
-                Told::Done,
+                Answers::Done,
             ),
-            (2, 2000, 0, Ask::Purge, Told::Done),
-            (3, 2000, 0, Ask::Look(None), Told::GaveAll(0)),
+            (2, 2000, 0, Ask::Purge, Answers::Done),
+            (3, 2000, 0, Ask::Look(None), Answers::GaveAll(0)),
             (
                 4,
                 1000,
                 1,
                 Ask::Configure(Settings::standard(), 1),
-                Told::Done,
+                Answers::Done,
             ),
-            (5, 1500, 1, Ask::Send(None), Told::Sent(0, 0)),
-            (6, 2000, 1, Ask::Look(None), Told::Gave(1, 32_000)),
-            (7, 3000, 1, Ask::Look(None), Told::GaveAll(0)),
+            (5, 1500, 1, Ask::Send(None), Answers::Sent(0, 0)),
+            (6, 2000, 1, Ask::Look(None), Answers::Gave(1, 32_000)),
+            (7, 3000, 1, Ask::Look(None), Answers::GaveAll(0)),
         ],
         &[
             (0, 1000, 0),
@@ -126,15 +138,15 @@ fn events_are_listed_by_stamp(rt: HostRuntime) {
 fn options_out_of_their_ranges_are_refused(rt: HostRuntime) {
     let mut options = options(2, 10, 16);
     options.sample = 3;
-    let refused = Told::Refused(Refusal::InvalidParameterValue);
+    let refused = Answers::Refused(Refusal::InvalidParameterValue);
     assert_eq!(rt; played(rt.alloc(), options, &[]), Some((0, refused)));
 }
 
-// The stamp that an actor noted of its step of this number.
-fn noted(parts: &Parts, actor: u32, place: usize) -> Option<(u64, u64)> {
-    for book in parts.records.as_slice() {
-        if book.actor() == actor {
-            let stamp = book.records().get(place)?.stamp();
+// The stamp that an actor recorded of its step of this number.
+fn recorded(parts: &Parts, actor: u32, place: usize) -> Option<(u64, u64)> {
+    for journal in parts.records.as_slice() {
+        if journal.actor() == actor {
+            let stamp = journal.records().get(place)?.stamp();
             return Some((stamp.moment, stamp.count));
         }
     }
@@ -173,6 +185,6 @@ fn a_run_goes_on_after_a_refusal(rt: HostRuntime) {
         (2, 0, Some((0, 2))),
         (3, 0, None),
     ] {
-        assert_eq!(rt; noted(&parts, actor, place), want, "{place} of {actor}");
+        assert_eq!(rt; recorded(&parts, actor, place), want, "{place} of {actor}");
     }
 }

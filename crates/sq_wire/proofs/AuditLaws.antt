@@ -13,7 +13,7 @@ events_no_float (event ∷ run) = events_no_float run
 
 places_no_float : (places : List (MessageId × Place)) → items_have_float (items_of (map placed_data places)) ≡ false
 places_no_float [] = refl
-places_no_float (told ∷ places) = places_no_float places
+places_no_float (listed ∷ places) = places_no_float places
 
 pub audit_no_float : (run : List Tag) (places : List (MessageId × Place)) → has_float (audit_data run places) ≡ false
 audit_no_float run places = rw (events_no_float run, places_no_float places) refl

@@ -2,7 +2,7 @@
 use Rattle.std.proofs.Common.{inl, inr, ◌≡◌, ℕ, zero, suc, ◌+◌, ◌<◌, ◌≤◌, List, [], ◌∷◌, ◌++◌, length, take, drop, Option, Some, None, refl, sym, ap, subst, ◌∙◌, append_assoc, arith, add-one}
 use Rattle.std.specs.Prelude.{false, IfSome, option_map, slice_get}
 use Rattle.std.specs.Io.KnownBytes.{Appends}
-use Rattle.sq_wire.specs.Scripts.{ScriptValue, Gives, Loses}
+use Rattle.sq_wire.specs.Scripts.{ScriptValue, LineReplies, LineUnanswered}
 use Rattle.sq_lines.specs.Lines.{LinesValue, read_of, lines_of, lines_left, has_feed, FirstIsOver, FirstIsWithin, GoesOn}
 use Rattle.sq_lines.specs.declared.lines.TheConstants.{LIMIT}
 use Rattle.sq_merge.specs.WorldValue.{WorldValue}
@@ -11,9 +11,9 @@ use Rattle.sq_wire.specs.declared.run.ServeFault.{ServeFault}
 use Rattle.sq_wire.specs.Runs.{StopsAt, Answers, AllWithin, Writes, WritesPart, WritesNoMore}
 use Rattle.sq_lines.proofs.WriteLaws.{appends_none, appends_more}
 
-pub answers_more : (world : ScriptValue) (lines : List (List ℕ)) (out : List ℕ) (mid : ScriptValue) (line text : List ℕ) (after : ScriptValue) → Answers world lines out mid → Gives mid line text after → Answers world (lines ++ line ∷ []) (out ++ (text ++ 10 ∷ [])) after
+pub answers_more : (world : ScriptValue) (lines : List (List ℕ)) (out : List ℕ) (mid : ScriptValue) (line text : List ℕ) (after : ScriptValue) → Answers world lines out mid → LineReplies mid line text after → Answers world (lines ++ line ∷ []) (out ++ (text ++ 10 ∷ [])) after
 answers_more world [] out mid line text after a g =
-    (text, after, [], subst (λ (w : ScriptValue). Gives w line text after) a.1 g, ap (λ (o : List ℕ). o ++ (text ++ 10 ∷ [])) a.0, (refl, refl))
+    (text, after, [], subst (λ (w : ScriptValue). LineReplies w line text after) a.1 g, ap (λ (o : List ℕ). o ++ (text ++ 10 ∷ [])) a.0, (refl, refl))
 answers_more world (l ∷ ls) out mid line text after a g =
     let rest = answers_more a.1 ls a.2 mid line text after a.5 g in
     (a.0, a.1, a.2 ++ (text ++ 10 ∷ []), a.3, ap (λ (o : List ℕ). o ++ (text ++ 10 ∷ [])) a.4 ∙ append_assoc a.0 (10 ∷ a.2) (text ++ 10 ∷ []), rest)
@@ -68,7 +68,7 @@ so_far_done (Some lines) left old new world now n h e =
 
 -- one line more is answered
 pub so_far_more : (all left rest : Option (List (List ℕ))) (old new newer : Option (List ℕ)) (world now after : ScriptValue) (n : ℕ) (line text : List ℕ) → IsSoFar all left old new world now n
-    → IfSome left (λ lines. option_map (λ more. line ∷ more) rest ≡ Some lines) → length line ≤ LIMIT → Gives now line text after → Appends new newer (text ++ 10 ∷ []) → IsSoFar all rest old newer world after (n + 1)
+    → IfSome left (λ lines. option_map (λ more. line ∷ more) rest ≡ Some lines) → length line ≤ LIMIT → LineReplies now line text after → Appends new newer (text ++ 10 ∷ []) → IsSoFar all rest old newer world after (n + 1)
 so_far_more None left rest old new newer world now after n line text h e lt g w = tt
 so_far_more (Some lines) left rest old new newer world now after n line text h e lt g w =
     let first : option_map (λ more. line ∷ more) rest ≡ Some (drop n lines) = subst (λ (o : Option (List (List ℕ))). IfSome o (λ l. option_map (λ more. line ∷ more) rest ≡ Some l)) h.left_is e in
@@ -86,7 +86,7 @@ so_far_more (Some lines) left rest old new newer world now after n line text h e
 
 -- a front of the next answer is written
 pub so_far_part : (all left rest : Option (List (List ℕ))) (old new newer : Option (List ℕ)) (world now after : ScriptValue) (n : ℕ) (line text : List ℕ) (part : ℕ) → IsSoFar all left old new world now n
-    → IfSome left (λ lines. option_map (λ more. line ∷ more) rest ≡ Some lines) → length line ≤ LIMIT → Gives now line text after → Appends new newer (take part (text ++ 10 ∷ [])) → IfSome all (λ lines. WritesPart old newer world lines n after)
+    → IfSome left (λ lines. option_map (λ more. line ∷ more) rest ≡ Some lines) → length line ≤ LIMIT → LineReplies now line text after → Appends new newer (take part (text ++ 10 ∷ [])) → IfSome all (λ lines. WritesPart old newer world lines n after)
 so_far_part None left rest old new newer world now after n line text part h e le g w = tt
 so_far_part (Some lines) left rest old new newer world now after n line text part h e le g w =
     let first : option_map (λ more. line ∷ more) rest ≡ Some (drop n lines) = subst (λ (o : Option (List (List ℕ))). IfSome o (λ l. option_map (λ more. line ∷ more) rest ≡ Some l)) h.left_is e in
@@ -99,7 +99,7 @@ so_far_part (Some lines) left rest old new newer world now after n line text par
       part = part;
       answers = h.writes.answers;
       next = r.2.found;
-      gives = g;
+      line_replies = g;
       appends = appends_more old new newer h.writes.out (take part (text ++ 10 ∷ [])) h.writes.appends w;
       within = h.writes.within;
       line_within = le;
@@ -122,23 +122,23 @@ pub so_far_lost : (all left : Option (List (List ℕ))) (coming old new : Option
     → IfSome all (λ lines. WritesNoMore old new world lines coming n now)
 so_far_lost None left coming old new world now n read h some kept unbroken within on = tt
 so_far_lost (Some lines) left coming old new world now n read h some kept unbroken within on =
-    let there : 0 < length (drop n lines) = subst (λ (o : Option (List (List ℕ))). IfSome o (λ l. 0 < length l)) h.left_is some in
+    let in_list : 0 < length (drop n lines) = subst (λ (o : Option (List (List ℕ))). IfSome o (λ l. 0 < length l)) h.left_is some in
     let left_is : lines_left (read_of read) coming ≡ Some (drop n lines) = subst (λ (o : Option (List (List ℕ))). IfSome o (λ l. lines_left (read_of read) coming ≡ Some l)) h.left_is kept in
     record {
       mid = now;
       writes = h.writes;
-      there = some_left lines n there;
+      in_list = some_left lines n in_list;
       last = inl (refl, record { read = read; left_is = left_is; unbroken = unbroken; within = within; goes_on = on });
     }
 
 -- there was none for the answer to the next line
 pub so_far_loses : (all left rest : Option (List (List ℕ))) (coming old new : Option (List ℕ)) (world now after : ScriptValue) (n : ℕ) (line : List ℕ) → IsSoFar all left old new world now n
-    → IfSome left (λ lines. option_map (λ more. line ∷ more) rest ≡ Some lines) → length line ≤ LIMIT → Loses now line after → IfSome all (λ lines. WritesNoMore old new world lines coming n after)
+    → IfSome left (λ lines. option_map (λ more. line ∷ more) rest ≡ Some lines) → length line ≤ LIMIT → LineUnanswered now line after → IfSome all (λ lines. WritesNoMore old new world lines coming n after)
 so_far_loses None left rest coming old new world now after n line h e le g = tt
 so_far_loses (Some lines) left rest coming old new world now after n line h e le g =
     let first : option_map (λ more. line ∷ more) rest ≡ Some (drop n lines) = subst (λ (o : Option (List (List ℕ))). IfSome o (λ l. option_map (λ more. line ∷ more) rest ≡ Some l)) h.left_is e in
     let r = next_left lines n line rest first in
-    record { mid = now; writes = h.writes; there = r.2.within; last = inr (record { line = line; next = r.2.found; within = le; loses = g }) }
+    record { mid = now; writes = h.writes; in_list = r.2.within; last = inr (record { line = line; next = r.2.found; within = le; line_unanswered = g }) }
 
 -- the next line is too long
 pub so_far_over : (all left : Option (List (List ℕ))) (old new : Option (List ℕ)) (world now : ScriptValue) (n : ℕ) → IsSoFar all left old new world now n → IfSome left (λ lines. FirstIsOver LIMIT lines)

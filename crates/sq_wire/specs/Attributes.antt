@@ -9,7 +9,7 @@ use Rattle.serde_json.specs.Find.{get, as_str, as_number, as_array, as_object}
 use Rattle.sq_base.specs.declared.refusal.Refusal.{Refusal}
 use Rattle.sq_base.specs.declared.refusal.Refusal.TheVariants.{InvalidRequest, InvalidAttributeValue}
 use Rattle.sq_wire.specs.Reading.{◌>>=◌}
-use Rattle.sq_wire.specs.Members.{amount_of, given, in_range_if}
+use Rattle.sq_wire.specs.Members.{amount_of, received, in_range_if}
 use Rattle.sq_wire.specs.declared.attributes.Amounts.{Amounts}
 use Rattle.sq_merge.specs.declared.calls.AskedAttributes.{AskedAttributes}
 use Rattle.sq_model.specs.declared.directory.Attributes.{Attributes}
@@ -35,7 +35,7 @@ attribute_of d = as_attribute (as_str d) (as_number d)
 
 abbrev pub attribute_in : Option Data → Result (Option Amount) Refusal
 attribute_in None = Ok None
-attribute_in (Some d) = given (attribute_of d)
+attribute_in (Some d) = received (attribute_of d)
 
 -- the numeric attribute of a name, where it is given
 unfoldable pub attribute_at : List ℕ → Data → Result (Option Amount) Refusal

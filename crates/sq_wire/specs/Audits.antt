@@ -38,7 +38,7 @@ event_data event = string (stamp_text (stamp_of event))
 
 -- the UUID of the message, and where it is
 abbrev pub placed_data : MessageId × Place → Data
-placed_data told = array (item (string (id_text told.0)) (item (string (place_name told.1)) no_items))
+placed_data listed = array (item (string (id_text listed.0)) (item (string (place_name listed.1)) no_items))
 
 abbrev pub events_data : List Tag → Data
 events_data run = array (items_of (map event_data run))
@@ -51,24 +51,24 @@ abbrev pub audit_data : List Tag → List (MessageId × Place) → Data
 audit_data run places = object (member (codes "Merged") (events_data run) (member (codes "Places") (places_data places) no_members))
 
 -- the text is that of the stamps of a run in their order, and of some places
-abbrev pub TellsPlaces : List Tag → List ℕ → Type 0
-TellsPlaces run text = (told : List (MessageId × Place)) × (text ≡ compact_text (audit_data run told))
+abbrev pub ListsPlaces : List Tag → List ℕ → Type 0
+ListsPlaces run text = (listed : List (MessageId × Place)) × (text ≡ compact_text (audit_data run listed))
 
 -- the text tells the stamps of a run in their order, and of each message that was sent in it, by these endings of the run, where it is
 abbrev pub TellsRun : List Tag → List Ending → List ℕ → Type 0
-TellsRun run ends text = (told : List (MessageId × Place)) × ArePlaces (run_sends run) ends told × (text ≡ compact_text (audit_data run told))
+TellsRun run ends text = (listed : List (MessageId × Place)) × ArePlaces (run_sends run) ends listed × (text ≡ compact_text (audit_data run listed))
 
 -- The text tells one run of the whole system. Its events are those of the directory and of all homes and no others, sorted by
 -- stamp; each is a step of the sequential system, from its opening to what the world is; those of each actor stand in its
 -- order, and so do those of each part. Homes stand by queue and number, each once, so that the law of one place is true of the
--- run. Each event has its record, and each record its event. Each message that was sent is told once, with where it is.
+-- run. Each event has its record, and each record its event. Each message that was sent is listed once, with where it is.
 pub record IsAudit (w : WorldValue) (text : List ℕ) : Type 0 where
   pub run : List Tag
-  pub matched : IsMatched w.directory.events (histories_of w.homes) w.books
+  pub matched : IsMatched w.directory.events (histories_of w.homes) w.journals
   pub merged : IsMerged w.directory.events (events_of w.homes) run
   pub is_run : IsRun w.directory.directory.places (map (λ h. h.site) w.homes) run (system_now w.directory w.homes)
   pub actors : ActorsRise run
   pub parts : PartsRise run
   pub numbered : IsNumbered w.per_queue w.homes
-  pub apart : IsOnePlace (map (λ h. h.site) w.homes)
+  pub one_place : IsOnePlace (map (λ h. h.site) w.homes)
   pub tells : TellsRun run (run_ends (opening w.directory.directory.places (map (λ h. h.site) w.homes)) run (system_now w.directory w.homes) is_run.steps) text

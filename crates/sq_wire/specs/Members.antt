@@ -68,12 +68,12 @@ unfoldable pub amount_at : List ℕ → Data → Result Amount Refusal
 amount_at name d = amount_in (get name d)
 
 -- and of one that may be there
-abbrev pub given : Result Amount Refusal → Result (Option Amount) Refusal
-given read = read >>= λ amount. Ok (Some amount)
+abbrev pub received : Result Amount Refusal → Result (Option Amount) Refusal
+received read = read >>= λ amount. Ok (Some amount)
 
 abbrev pub amount_if_in : Option Data → Result (Option Amount) Refusal
 amount_if_in None = Ok None
-amount_if_in (Some d) = given (amount_of (as_number d))
+amount_if_in (Some d) = received (amount_of (as_number d))
 
 unfoldable pub amount_if_at : List ℕ → Data → Result (Option Amount) Refusal
 amount_if_at name d = amount_if_in (get name d)

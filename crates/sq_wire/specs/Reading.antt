@@ -9,11 +9,11 @@ abbrev pub ◌>>=◌ : {A B : Type 0} → Result A Refusal → (A → Result B R
 (Err e) >>= f = Err e
 
 -- a result seen by its value
-abbrev pub shown : {X Y E : Type 0} → (X → Y) → Result X E → Result Y E
-shown f (Ok x) = Ok (f x)
-shown f (Err e) = Err e
+abbrev pub seen_as : {X Y E : Type 0} → (X → Y) → Result X E → Result Y E
+seen_as f (Ok x) = Ok (f x)
+seen_as f (Err e) = Err e
 
--- reading gives a value, and no refusal but want of memory
+-- reading gives a value, and no refusal but that memory is out
 abbrev pub IsUnrefused : {A : Type 0} → Result A Refusal → Type 0
 IsUnrefused {A} (Ok r) = Unit {0}
 IsUnrefused {A} (Err e) = e ≡ NoMemory

@@ -54,21 +54,21 @@ attributes_data asked row = if asked.receive_count || asked.sent_timestamp then 
     (member_if asked.receive_count (codes "ApproximateReceiveCount") (string (decimal row.receives))
     (member_if asked.sent_timestamp (codes "SentTimestamp") (string (decimal row.enqueued)) no_members))) else None
 
-abbrev pub told_members : List ℕ → List ℕ → List ℕ → List ℕ → Members
-told_members body digest id handle =
+abbrev pub answered_members : List ℕ → List ℕ → List ℕ → List ℕ → Members
+answered_members body digest id handle =
     member (codes "Body") (string body)
     (member (codes "MD5OfBody") (string digest)
     (member (codes "MessageId") (string id)
     (member (codes "ReceiptHandle") (string handle) no_members)))
 
 -- a message of a receive (SQS API Reference, Message)
-abbrev pub told_data : Option Data → List ℕ → List ℕ → List ℕ → List ℕ → Data
-told_data None body digest id handle = object (told_members body digest id handle)
-told_data (Some attributes) body digest id handle = object (member (codes "Attributes") attributes (told_members body digest id handle))
+abbrev pub answered_data : Option Data → List ℕ → List ℕ → List ℕ → List ℕ → Data
+answered_data None body digest id handle = object (answered_members body digest id handle)
+answered_data (Some attributes) body digest id handle = object (member (codes "Attributes") attributes (answered_members body digest id handle))
 
 abbrev pub message_data : AskedAttributes → HomeId → Row → Data
 message_data asked home row =
-    told_data (attributes_data asked row) row.body (encode_lower (md5 row.body)) (id_text row.id) (handle_text (handle_of home row))
+    answered_data (attributes_data asked row) row.body (encode_lower (md5 row.body)) (id_text row.id) (handle_text (handle_of home row))
 
 abbrev pub received_data : AskedAttributes → HomeId → List Row → Data
 received_data asked home rows = object (member (codes "Messages") (array (items_of (map (message_data asked home) rows))) no_members)
@@ -76,7 +76,7 @@ received_data asked home rows = object (member (codes "Messages") (array (items_
 abbrev pub answer_data : Answer → Data
 answer_data (Queue name) = queue_data name
 answer_data (Sent id digest) = sent_data digest (id_text id)
-answer_data (Received given) = received_data given.attributes given.home given.rows
+answer_data (Received received) = received_data received.attributes received.home received.rows
 answer_data Done = object no_members
 
 -- the text of a reply: JSON with no space, and the members of an object in the order of their bytes

@@ -1,7 +1,7 @@
 -- A world that is asked line after line.
 use Rattle.std.specs.Prelude.{ℕ, List, [], ◌∷◌, ◌++◌, ◌≡◌, ◌<◌, ◌≤◌, ◌⊎◌, false, length, take, drop, Option, slice_get, Some}
 use Rattle.std.specs.Io.KnownBytes.{Appends}
-use Rattle.sq_wire.specs.Scripts.{ScriptValue, Gives, Loses}
+use Rattle.sq_wire.specs.Scripts.{ScriptValue, LineReplies, LineUnanswered}
 use Rattle.sq_lines.specs.Lines.{LinesValue, read_of, lines_of, lines_left, OneMore, FirstIsOver, FirstIsWithin, GoesOn, has_feed}
 use Rattle.sq_lines.specs.declared.lines.TheConstants.{LIMIT}
 use Rattle.sq_wire.specs.declared.run.ServeFault.{ServeFault}
@@ -10,7 +10,7 @@ use Rattle.sq_wire.specs.declared.run.ServeFault.TheVariants.{Read, Write, NoMem
 -- for each line in order the text of a call on it and a line feed, and nothing else
 abbrev pub Answers : ScriptValue → List (List ℕ) → List ℕ → ScriptValue → Type 0
 Answers world [] out after = (out ≡ []) × (after ≡ world)
-Answers world (line ∷ lines) out after = (text : List ℕ) × (mid : ScriptValue) × (rest : List ℕ) × Gives world line text mid × (out ≡ text ++ 10 ∷ rest) × Answers mid lines rest after
+Answers world (line ∷ lines) out after = (text : List ℕ) × (mid : ScriptValue) × (rest : List ℕ) × LineReplies world line text mid × (out ≡ text ++ 10 ∷ rest) × Answers mid lines rest after
 
 -- no line is too long
 abbrev pub AllWithin : List (List ℕ) → Type 0
@@ -33,7 +33,7 @@ pub record WritesPart (old new : Option (List ℕ)) (world : ScriptValue) (lines
   pub part : ℕ
   pub answers : Answers world (take n lines) out mid
   pub next : slice_get lines n ≡ Some line
-  pub gives : Gives mid line text after
+  pub line_replies : LineReplies mid line text after
   pub appends : Appends old new (out ++ take part (text ++ 10 ∷ []))
   pub within : AllWithin (take n lines)
   pub line_within : length line ≤ LIMIT
@@ -47,18 +47,18 @@ pub record LacksNext (left : List (List ℕ)) (coming : Option (List ℕ)) : Typ
   pub goes_on : GoesOn read.ahead
 
 -- the next line was asked, and there was no memory for its answer
-pub record LosesNext (world : ScriptValue) (lines : List (List ℕ)) (n : ℕ) (after : ScriptValue) : Type 0 where
+pub record NextUnanswered (world : ScriptValue) (lines : List (List ℕ)) (n : ℕ) (after : ScriptValue) : Type 0 where
   pub line : List ℕ
   pub next : slice_get lines n ≡ Some line
   pub within : length line ≤ LIMIT
-  pub loses : Loses world line after
+  pub line_unanswered : LineUnanswered world line after
 
 -- the answers to the first n lines were written, and of the next one, which is there, nothing
 pub record WritesNoMore (old new : Option (List ℕ)) (world : ScriptValue) (lines : List (List ℕ)) (coming : Option (List ℕ)) (n : ℕ) (after : ScriptValue) : Type 0 where
   pub mid : ScriptValue
   pub writes : Writes old new world (take n lines) mid
-  pub there : n < length lines
-  pub last : ((after ≡ mid) × LacksNext (drop n lines) coming) ⊎ LosesNext mid lines n after
+  pub in_list : n < length lines
+  pub last : ((after ≡ mid) × LacksNext (drop n lines) coming) ⊎ NextUnanswered mid lines n after
 
 -- what a fault says of what was written, where so much of the input is still to come
 abbrev pub StopsAt : ServeFault → List (List ℕ) → Option (List ℕ) → Option (List ℕ) → Option (List ℕ) → ScriptValue → ScriptValue → Type 0

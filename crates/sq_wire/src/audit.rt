@@ -6,7 +6,7 @@ ghost use Rattle.sq_audit.specs.Tags.{tags_of};
 ghost use Rattle.sq_model.specs.Places.{run_ends};
 ghost use Rattle.sq_model.specs.Systems.{System, RunFrom, opening, IsOnePlace};
 ghost use Rattle.sq_model.specs.declared.place.Site.{Site};
-ghost use Rattle.sq_wire.specs.Audits.{TellsPlaces, stamp_text, place_name, placed_data, events_data, places_data, audit_data, IsAudit, TellsRun};
+ghost use Rattle.sq_wire.specs.Audits.{ListsPlaces, stamp_text, place_name, placed_data, events_data, places_data, audit_data, IsAudit, TellsRun};
 
 use crate::reply::id_text;
 use crate::text::Text;
@@ -21,9 +21,9 @@ use std::alloc::{AllocError, Global};
 use uuid::Uuid;
 
 /// The audit of a world, without its line feed: the one run of all that was done to it, each event by its stamp, and
-/// where each message is that was sent. Refused for want of memory alone: what a world leaves is always right.
+/// where each message is that was sent. Refused only where memory is out: what a world leaves is always right.
 pub fn audit_world(alloc: Global, world: World) -> Result<Text, AuditFault>
-    ensures told { IfOk result (IsAudit world) }
+    ensures listed { IfOk result (IsAudit world) }
     ensures honest { IfErr result (λ f. f ≡ AuditFault.NoMemory) }
 {
     let parts = world.parts();
@@ -35,11 +35,11 @@ pub fn audit_world(alloc: Global, world: World) -> Result<Text, AuditFault>
 }
 
 /// The line that tells a run, without its line feed: the stamps of its events in their order, and where each message is
-/// that was sent in it. Refused for want of memory alone.
+/// that was sent in it. Refused only where memory is out.
 pub fn audit_text(alloc: Global, run: &Run<'_>) -> Result<Text, Refusal>
-    ensures told { (places : ℕ) (sites : List Site) (after : System) (r : RunFrom (opening places sites) run.now after) → IsOnePlace sites
+    ensures listed { (places : ℕ) (sites : List Site) (after : System) (r : RunFrom (opening places sites) run.now after) → IsOnePlace sites
         → IfOk result (TellsRun run.now (run_ends (opening places sites) run.now after r)) }
-    ensures text { IfOk result (TellsPlaces run.now) }
+    ensures text { IfOk result (ListsPlaces run.now) }
     ensures memory { IfErr result (λ e. e ≡ Refusal.NoMemory) }
 {
     let places = places_of(alloc, run)?;
@@ -82,16 +82,16 @@ fn places_value(alloc: Global, places: &[(MessageId, Place)]) -> Result<Value, A
     ensures { IfOk result (λ v. view v ≡ places_data places.now) }
 {
     let mut list = Vec::new(alloc);
-    for told in places {
-        list.push(placed_value(alloc, told)?)?;
+    for listed in places {
+        list.push(placed_value(alloc, listed)?)?;
     }
     Ok(Value::Array(list))
 }
 
-fn placed_value(alloc: Global, told: &(MessageId, Place)) -> Result<Value, AllocError>
-    ensures { IfOk result (λ v. view v ≡ placed_data told.now) }
+fn placed_value(alloc: Global, listed: &(MessageId, Place)) -> Result<Value, AllocError>
+    ensures { IfOk result (λ v. view v ≡ placed_data listed.now) }
 {
-    let (id, place) = told;
+    let (id, place) = listed;
     let mut uuid = Uuid::encode_buffer();
     json!(in alloc; [id_text(id, &mut uuid), place_name(*place)])
 }

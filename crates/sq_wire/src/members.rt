@@ -2,7 +2,7 @@
 ghost use Rattle.std.specs.Prelude.{◌≡◌, not};
 ghost use Rattle.serde_json.specs.Find.{as_number};
 ghost use Rattle.serde_json.specs.View.{view, members_view};
-ghost use Rattle.sq_wire.specs.Reading.{shown};
+ghost use Rattle.sq_wire.specs.Reading.{seen_as};
 ghost use Rattle.sq_wire.specs.Members.{url_name, text_at, url_at, receipt_handle_at, is_empty, has_members_at, amount_of, amount_at, amount_if_at, in_range, in_range_if};
 
 use serde_json::{Map, Value};
@@ -42,7 +42,7 @@ fn queue_at(url: &str) -> Option<QueueName>
 /// The text of a member that must be there.
 #[tactic(auto, unfolding(crate::specs::Members::text_at))]
 pub fn text_at<'a>(value: &'a Value, name: &str) -> Result<&'a str, Refusal>
-    ensures { shown (λ t. t.now) result ≡ text_at name.now (view value.now) }
+    ensures { seen_as (λ t. t.now) result ≡ text_at name.now (view value.now) }
 {
     match value.get(name) {
         Some(member) => match member.as_str() {

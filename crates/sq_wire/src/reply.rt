@@ -2,7 +2,7 @@
 ghost use Rattle.std.specs.Prelude.{◌≡◌, ◌≤◌, IfOk, OnErr, IsOk, option_map, string_bytes};
 ghost use Rattle.serde_json.specs.View.{view};
 ghost use Rattle.serde_json.specs.Written.{compact_text};
-ghost use Rattle.sq_wire.specs.Replies.{error_text, handle_of, queue_data, sent_data, attributes_data, told_data, message_data, id_text, received_data, answer_data, reply_text_of};
+ghost use Rattle.sq_wire.specs.Replies.{error_text, handle_of, queue_data, sent_data, attributes_data, answered_data, message_data, id_text, received_data, answer_data, reply_text_of};
 
 use crate::text::{Text, ascii_text};
 use serde_json::{Value, json};
@@ -15,7 +15,7 @@ use sq_base::refusal::Refusal;
 use sq_base::row::Row;
 use sq_merge::calls::{Answer, AskedAttributes};
 use sq_merge::digest::Digest;
-use sq_merge::given::Given;
+use sq_merge::received_messages::ReceivedMessages;
 use std::alloc::{AllocError, Global};
 use uuid::Uuid;
 
@@ -91,7 +91,7 @@ fn answer_value(alloc: Global, answer: &Answer) -> Result<Value, AllocError>
             let mut uuid = Uuid::encode_buffer();
             sent_value(alloc, ascii_text(digest.digits()), id_text(id, &mut uuid))
         }
-        Answer::Received(given) => received_value(alloc, given),
+        Answer::Received(received) => received_value(alloc, received),
         Answer::Done => json!(in alloc; {}),
     }
 }
@@ -110,13 +110,13 @@ fn sent_value(alloc: Global, digest: &str, id: &str) -> Result<Value, AllocError
     json!(in alloc; {"MD5OfMessageBody": digest, "MessageId": id})
 }
 
-fn received_value(alloc: Global, given: &Given) -> Result<Value, AllocError>
-    ensures { IfOk result (λ v. view v ≡ received_data given.now.attributes given.now.home given.now.rows) }
+fn received_value(alloc: Global, received: &ReceivedMessages) -> Result<Value, AllocError>
+    ensures { IfOk result (λ v. view v ≡ received_data received.now.attributes received.now.home received.now.rows) }
 {
-    let asked = given.attributes();
-    let home = given.home();
+    let asked = received.attributes();
+    let home = received.home();
     let mut list = Vec::new(alloc);
-    for row in given.rows() {
+    for row in received.rows() {
         list.push(message_value(alloc, asked, home, row)?)?;
     }
     json!(in alloc; {"Messages": Value::Array(list)})
@@ -139,7 +139,7 @@ fn message_value(
     let attributes = attributes_value(alloc, asked, row)?;
     let body = row.body.as_str();
     let handle = ascii_text(&handle);
-    told_value(
+    answered_value(
         alloc,
         attributes,
         body,
@@ -171,7 +171,7 @@ fn attributes_value(
     Ok(Some(attributes))
 }
 
-fn told_value(
+fn answered_value(
     alloc: Global,
     attributes: Option<Value>,
     body: &str,
@@ -179,7 +179,7 @@ fn told_value(
     id: &str,
     handle: &str,
 ) -> Result<Value, AllocError>
-    ensures { IfOk result (λ v. view v ≡ told_data (option_map view attributes) body.now digest.now id.now handle.now) }
+    ensures { IfOk result (λ v. view v ≡ answered_data (option_map view attributes) body.now digest.now id.now handle.now) }
 {
     match attributes {
         Some(attributes) => json!(in alloc; {

@@ -44,7 +44,7 @@ pub fn run_script<R: Read, W: Write>(
         ⊎ IfSome (lines_left [] (R.remaining reader.old.inner)) (λ lines.
         (clock : ℕ) × StopsAt f lines (R.remaining reader.new.inner) (W.contents writer.old.inner) (W.contents writer.new.inner) (script_at world.old 0) (script_at world.new clock))) }
     // No failed call goes unnoticed.
-    ensures same { OnOk result ((reader.new.failed ≡ reader.old.failed) × (writer.new.failed ≡ writer.old.failed)) }
+    ensures no_failure { OnOk result ((reader.new.failed ≡ reader.old.failed) × (writer.new.failed ≡ writer.old.failed)) }
     // A fault of reading or writing is one failed call.
     ensures count { IfErr result (λ f. IsOfCall f reader.old.failed reader.new.failed writer.old.failed writer.new.failed) }
 {

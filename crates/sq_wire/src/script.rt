@@ -1,6 +1,6 @@
 //! A line of a script and its reply.
 ghost use Rattle.std.specs.Prelude.{IfOk, OnErr};
-ghost use Rattle.sq_wire.specs.Scripts.{script_at, LineTold, Gives, Loses};
+ghost use Rattle.sq_wire.specs.Scripts.{script_at, LineAnswered, LineReplies, LineUnanswered};
 
 use crate::reply::reply_text;
 use crate::request::read_request;
@@ -12,7 +12,7 @@ use std::alloc::{AllocError, Global};
 
 // Does what a line asks; its clock reading stands for the lines after it that have none.
 fn tell(alloc: Global, world: &mut World, clock: &mut u64, line: &[u8]) -> Result<Answer, Refusal>
-    ensures { LineTold (script_at world.old clock.old) line.now result (script_at world.new clock.new) }
+    ensures { LineAnswered (script_at world.old clock.old) line.now result (script_at world.new clock.new) }
 {
     let request = read_request(alloc, line)?;
     if let Some(reading) = request.clock {
@@ -23,16 +23,16 @@ fn tell(alloc: Global, world: &mut World, clock: &mut u64, line: &[u8]) -> Resul
 
 /// Does what a line asks, and gives the text of its reply, without its line feed. Where there is no memory for
 /// the text of an answer, the call is done all the same.
-#[tactic(auto, unfolding(crate::specs::Scripts::Gives, crate::specs::Scripts::Loses))]
+#[tactic(auto, unfolding(crate::specs::Scripts::LineReplies, crate::specs::Scripts::LineUnanswered))]
 pub fn answer(
     alloc: Global,
     world: &mut World,
     clock: &mut u64,
     line: &[u8],
 ) -> Result<Text, AllocError>
-    ensures ok { IfOk result (λ text. Gives (script_at world.old clock.old) line.now text (script_at world.new clock.new)) }
-    ensures err { OnErr result (Loses (script_at world.old clock.old) line.now (script_at world.new clock.new)) }
+    ensures ok { IfOk result (λ text. LineReplies (script_at world.old clock.old) line.now text (script_at world.new clock.new)) }
+    ensures err { OnErr result (LineUnanswered (script_at world.old clock.old) line.now (script_at world.new clock.new)) }
 {
-    let told = tell(alloc, world, clock, line);
-    reply_text(alloc, &told)
+    let answered = tell(alloc, world, clock, line);
+    reply_text(alloc, &answered)
 }

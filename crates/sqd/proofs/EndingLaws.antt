@@ -11,7 +11,7 @@ use Rattle.sq_merge.specs.WorldValue.{WorldValue}
 use Rattle.sq_merge.specs.declared.options.Options.{Options}
 use Rattle.sq_wire.specs.Runs.{Writes}
 use Rattle.sq_wire.specs.Scripts.{script_at}
-use Rattle.sqd.specs.Endings.{Stream, stream, Ends, EndsFor, EndsShown, HasNoFault, HasReplies, IsAuditLine, IsHelp, IsUntouched, lines_in}
+use Rattle.sqd.specs.Endings.{Stream, stream, Ends, EndsFor, EndsWritten, HasNoFault, HasReplies, IsAuditLine, IsHelp, IsUntouched, lines_in}
 use Rattle.sqd.specs.declared.flags.Mode.TheVariants.{Script}
 use Rattle.sqd.specs.declared.flags.Refused.TheVariants as refused
 use Rattle.sqd.specs.declared.flags.ScriptMode.{ScriptMode}
@@ -42,10 +42,10 @@ part_unflushed old mid held new text end p q k =
 -- ---- the whole program
 
 -- what the words ask for was shown
-pub ends_shown : {R W : Type 0} (error : Error) (input : Stream R) (output : Stream W) (status : ℕ) → IsUntouched input → EndsShown IsHelp output status → Ends (Err (refused.Text error)) input output status
-ends_shown error input output zero same h = (same, h)
-ends_shown error input output (suc zero) same h = (same, h)
-ends_shown error input output (suc (suc n)) same h = absurd h
+pub ends_written : {R W : Type 0} (error : Error) (input : Stream R) (output : Stream W) (status : ℕ) → IsUntouched input → EndsWritten IsHelp output status → Ends (Err (refused.Text error)) input output status
+ends_written error input output zero same h = (same, h)
+ends_written error input output (suc zero) same h = (same, h)
+ends_written error input output (suc (suc n)) same h = absurd h
 
 -- all lines have their replies, and no audit was asked for
 pub ends_answered : {R W : Type 0} (mode : ScriptMode) (input : Stream R) (output : Stream W) (world : WorldValue) → mode.audit ≡ false → IsServed mode.options → HasNoFault input → HasNoFault output
@@ -55,12 +55,12 @@ ends_answered mode input output world none served r w replies = (served, (world,
 -- or one was asked for, and ended so
 pub ends_audited : {R W : Type 0} (mode : ScriptMode) (input : Stream R) (output : Stream W) (world : WorldValue) (mid : Counted W) (status : ℕ) → mode.audit ≡ true → IsServed mode.options → HasNoFault input
     → HasNoFault (stream output.bytes output.before mid) → HasReplies mode.options (lines_in input) (output.bytes output.before.inner) (output.bytes mid.inner) world
-    → EndsShown (IsAuditLine world) (stream output.bytes mid output.after) status → Ends (Ok (Script mode)) input output status
-ends_audited mode input output world mid zero asked served r w replies told = (served, (world, mid, r, w, replies, rw asked told))
-ends_audited mode input output world mid (suc zero) asked served r w replies told = (served, inr (inr (world, mid, r, w, replies, rw asked told)))
-ends_audited mode input output world mid (suc (suc n)) asked served r w replies told = absurd told
+    → EndsWritten (IsAuditLine world) (stream output.bytes mid output.after) status → Ends (Ok (Script mode)) input output status
+ends_audited mode input output world mid zero parsed served r w replies answered = (served, (world, mid, r, w, replies, rw parsed answered))
+ends_audited mode input output world mid (suc zero) parsed served r w replies answered = (served, inr (inr (world, mid, r, w, replies, rw parsed answered)))
+ends_audited mode input output world mid (suc (suc n)) parsed served r w replies answered = absurd answered
 
--- the replies to all lines, where their number is told too
+-- the replies to all lines, where their number is answered too
 pub replies_to_all : (options : Options) (all : Option (List (List ℕ))) (n : ℕ) (old new : Option (List ℕ)) (world : WorldValue)
     → IfSome all (λ lines. (clock : ℕ) × (n ≡ length lines) × Writes old new (script_at (new_world options) 0) lines (script_at world clock)) → HasReplies options all old new world
 replies_to_all options None n old new world h = tt

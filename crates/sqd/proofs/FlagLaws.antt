@@ -30,22 +30,22 @@ same_options f g o e h = record {
 }
 
 -- a text gives one number at most
-pub one_number : (given : Option Text) (least greatest default n m : ℕ) → IsNumberOf given least greatest default n → IsNumberOf given least greatest default m → n ≡ m
-one_number None least greatest default n m a b = a.absent refl ∙ sym (b.absent refl)
-one_number (Some text) least greatest default n m a b = (a.there text refl).value ∙ sym ((b.there text refl).value)
+pub one_number : (of_flag : Option Text) (least greatest default n m : ℕ) → IsNumberOf of_flag least greatest default n → IsNumberOf of_flag least greatest default m → n ≡ m
+one_number None least greatest default n m a b = a.when_unset refl ∙ sym (b.when_unset refl)
+one_number (Some text) least greatest default n m a b = (a.when_set text refl).value ∙ sym ((b.when_set text refl).value)
 
 -- the sample has its default from the homes that are asked for
-pub no_sample : (given : Text → Option Text) (homes default : ℕ) → IsNumberOf (given (codes "homes")) 1 16 4 homes → default ≡ min homes 2
-    → ((n : ℕ) → ¬ IsNumberOf (given (codes "sample")) 1 16 default n) → (o : Options) → ¬ AreOptionsOf given o
-no_sample given homes default found is refused o h =
+pub no_sample : (text_of : Text → Option Text) (homes default : ℕ) → IsNumberOf (text_of (codes "homes")) 1 16 4 homes → default ≡ min homes 2
+    → ((n : ℕ) → ¬ IsNumberOf (text_of (codes "sample")) 1 16 default n) → (o : Options) → ¬ AreOptionsOf text_of o
+no_sample text_of homes default found is refused o h =
     let same : min o.homes 2 ≡ default = ap (λ x. min x 2) (one_number _ _ _ _ _ _ h.homes found) ∙ sym is in
-    refused o.sample (subst (λ (d : ℕ). IsNumberOf (given (codes "sample")) 1 16 d o.sample) same h.sample)
+    refused o.sample (subst (λ (d : ℕ). IsNumberOf (text_of (codes "sample")) 1 16 d o.sample) same h.sample)
 
 -- two ways to tell the text of a flag without a value
-pub same_flag : (a b : Option Text) (there : Bool) → a ≡ b → IsFlagOf a there → IsFlagOf b there
-same_flag a b there e h = subst (λ (g : Option Text). IsFlagOf g there) e h
+pub same_flag : (a b : Option Text) (is_set : Bool) → a ≡ b → IsFlagOf a is_set → IsFlagOf b is_set
+same_flag a b is_set e h = subst (λ (g : Option Text). IsFlagOf g is_set) e h
 
 -- no options at all are those of the flags
-pub no_options : {T E : Type 0} (given : Text → Option Text) → ((o : Options) → ¬ AreOptionsOf given o) → (r : Result T E) → IfErr r (λ _. (o : Options) → ¬ AreOptionsOf given o)
-no_options given none (Ok x) = tt
-no_options given none (Err e) = none
+pub no_options : {T E : Type 0} (text_of : Text → Option Text) → ((o : Options) → ¬ AreOptionsOf text_of o) → (r : Result T E) → IfErr r (λ _. (o : Options) → ¬ AreOptionsOf text_of o)
+no_options text_of none (Ok x) = tt
+no_options text_of none (Err e) = none

@@ -14,7 +14,7 @@ use Rattle.std.specs.Prelude.{Box}
 use Rattle.clap.proofs.WalkLemmas.{first_value-rows}
 use Rattle.sq_merge.specs.declared.options.Options.{Options}
 use Rattle.sqd.specs.CommandLine.{program_app}
-use Rattle.sqd.specs.Flags.{AreOptionsOf, AsksForScript, Asks, IsFlagOf, IsKindFor, IsMistake, IsRefusalOf}
+use Rattle.sqd.specs.Flags.{AreOptionsOf, AsksForScript, ParsesTo, IsFlagOf, IsKindFor, IsMistake, IsRefusalOf}
 use Rattle.sqd.specs.declared.flags.ScriptMode.{ScriptMode}
 use Rattle.sqd.specs.declared.flags.Mode.{Mode}
 use Rattle.sqd.specs.declared.flags.Refused.{Refused}
@@ -55,15 +55,15 @@ module _ {Z : Type 0} where
   unnamed (Some b) name rows e = ap (option_map (λ p. p.0)) e
 
 -- clap found the subcommand with its flags
-pub asks : (words : List Text) (m found : ArgMatches) (mode : ScriptMode) → fault_of program_app words ≡ [] → subcommand_rows_of m ≡ subcommand_of program_app words
+pub parses : (words : List Text) (m found : ArgMatches) (mode : ScriptMode) → fault_of program_app words ≡ [] → subcommand_rows_of m ≡ subcommand_of program_app words
     → subcommand_name_of m ≡ Some (codes "script") → option_map (λ p. p.1) (subcommand_rows_of m) ≡ Some (rows_of (found_of found))
     → AreOptionsOf (first_value (found_of found)) mode.options → IsFlagOf (first_value (found_of found) (codes "audit")) mode.audit
     → AsksForScript words mode
-asks words m found mode taken walked name rows given audit = record {
+parses words m found mode taken walked name rows options audit = record {
   rows = rows_of (found_of found);
   taken = taken;
   named = sym walked ∙ named (out-ArgMatches m).subcommand (codes "script") (rows_of (found_of found)) name rows;
-  given = same_options (first_value (found_of found)) (λ id. first_of id (rows_of (found_of found))) mode.options (first_value-rows (found_of found)) given;
+  options = same_options (first_value (found_of found)) (λ id. first_of id (rows_of (found_of found))) mode.options (first_value-rows (found_of found)) options;
   audit = same_flag _ _ mode.audit (first_value-rows (found_of found) (codes "audit")) audit;
 }
 
@@ -79,8 +79,8 @@ pub asks_for_no_options : (words : List Text) (m found : ArgMatches) → subcomm
 asks_for_no_options words m found walked rows none mode h =
     let same : h.rows ≡ rows_of (found_of found) = some_same _ _ (sym (ap (option_map (λ p. p.1)) (walked ∙ h.named)) ∙ rows) in
     let o = mode.options in
-    let given : AreOptionsOf (λ id. first_of id (rows_of (found_of found))) o = subst (λ (r : List Row). AreOptionsOf (λ id. first_of id r) o) same h.given in
-    none o (same_options (λ id. first_of id (rows_of (found_of found))) (first_value (found_of found)) o (λ id. sym (first_value-rows (found_of found) id)) given)
+    let picked : AreOptionsOf (λ id. first_of id (rows_of (found_of found))) o = subst (λ (r : List Row). AreOptionsOf (λ id. first_of id r) o) same h.options in
+    none o (same_options (λ id. first_of id (rows_of (found_of found))) (first_value (found_of found)) o (λ id. sym (first_value-rows (found_of found) id)) picked)
 
 -- ---- refusals
 
@@ -95,10 +95,10 @@ no_text : (kind : ErrorKind) → (kind ≡ DisplayHelp) ⊎ (kind ≡ DisplayVer
 no_text kind (inl help) memory = absurd (cc)
 no_text kind (inr version) memory = absurd (cc)
 
-refuses_for_memory : (words : List Text) (e : Refused) → e ≡ refused.NoMemory → Asks words (Err e)
-refuses_for_memory words e is = subst (λ (r : Refused). Asks words (Err r)) (sym is) tt
+refuses_for_memory : (words : List Text) (e : Refused) → e ≡ refused.NoMemory → ParsesTo words (Err e)
+refuses_for_memory words e is = subst (λ (r : Refused). ParsesTo words (Err r)) (sym is) tt
 
-refuses_for_clap : (words : List Text) (error : Error) (e : Refused) → HasKind (fault_of program_app words) error → IsRefusalOf error e → Asks words (Err e)
+refuses_for_clap : (words : List Text) (error : Error) (e : Refused) → HasKind (fault_of program_app words) error → IsRefusalOf error e → ParsesTo words (Err e)
 refuses_for_clap words error refused.NoMemory h is = tt
 refuses_for_clap words error (refused.Text e) h is = rw is.0 (elim h [
   | inl memory ↦ absurd (no_text (kind_of error) is.1 memory)
@@ -106,11 +106,11 @@ refuses_for_clap words error (refused.Text e) h is = rw is.0 (elim h [
 ])
 refuses_for_clap words error (refused.Mistake e) h is = rw is.0 (elim h [
   | inl memory ↦ absurd (is.1 memory)
-  | inr kind ↦ (λ mode asked. no_kind _ _ kind asked.taken, is.2, found_kind _ _ kind)
+  | inr kind ↦ (λ mode parsed. no_kind _ _ kind parsed.taken, is.2, found_kind _ _ kind)
 ])
 
 pub refuses_for_own : (words : List Text) (error : Error) (e : Refused) → fault_of program_app words ≡ [] → IsMistake (kind_of error)
-    → ((mode : ScriptMode) → ¬ AsksForScript words mode) → IsRefusalOf error e → Asks words (Err e)
+    → ((mode : ScriptMode) → ¬ AsksForScript words mode) → IsRefusalOf error e → ParsesTo words (Err e)
 refuses_for_own words error refused.NoMemory taken mistake none is = tt
 refuses_for_own words error (refused.Text e) taken mistake none is = elim is.1 [
   | inl help ↦ absurd (mistake.0 help)
@@ -119,12 +119,12 @@ refuses_for_own words error (refused.Text e) taken mistake none is = elim is.1 [
 refuses_for_own words error (refused.Mistake e) taken mistake none is = rw is.0 (none, is.2, subst (λ (ks : Kinds). IsKindFor ks (kind_of error)) (sym taken) tt)
 
 -- an error that was passed up
-passed_up : (words : List Text) (P : Refused → Type 0) → ((e : Refused) → P e → Asks words (Err e)) → (r : Result Mode Refused) → IsErrAnd r P → Asks words r
+passed_up : (words : List Text) (P : Refused → Type 0) → ((e : Refused) → P e → ParsesTo words (Err e)) → (r : Result Mode Refused) → IsErrAnd r P → ParsesTo words r
 passed_up words P f (Ok mode) h = absurd h
 passed_up words P f (Err e) h = f e h
 
-pub passed_up_for_memory : (words : List Text) (r : Result Mode Refused) → IsErrAnd r (λ e. e ≡ refused.NoMemory) → Asks words r
+pub passed_up_for_memory : (words : List Text) (r : Result Mode Refused) → IsErrAnd r (λ e. e ≡ refused.NoMemory) → ParsesTo words r
 passed_up_for_memory words r h = passed_up words (λ e. e ≡ refused.NoMemory) (refuses_for_memory words) r h
 
-pub passed_up_for_clap : (words : List Text) (error : Error) (r : Result Mode Refused) → HasKind (fault_of program_app words) error → IsErrAnd r (IsRefusalOf error) → Asks words r
+pub passed_up_for_clap : (words : List Text) (error : Error) (r : Result Mode Refused) → HasKind (fault_of program_app words) error → IsErrAnd r (IsRefusalOf error) → ParsesTo words r
 passed_up_for_clap words error r fails h = passed_up words (IsRefusalOf error) (λ e. refuses_for_clap words error e fails) r h

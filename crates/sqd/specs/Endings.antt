@@ -11,7 +11,7 @@ use Rattle.sq_wire.specs.Audits.{IsAudit}
 use Rattle.sq_wire.specs.Runs.{Writes, StopsAt, IsOfCall}
 use Rattle.sq_wire.specs.Scripts.{ScriptValue, script_at}
 use Rattle.sq_wire.specs.declared.run.ServeFault.{ServeFault}
-use Rattle.sqd.specs.Flags.{Asks}
+use Rattle.sqd.specs.Flags.{ParsesTo}
 use Rattle.sqd.specs.declared.flags.Mode.{Mode}
 use Rattle.sqd.specs.declared.flags.Mode.TheVariants.{Script}
 use Rattle.sqd.specs.declared.flags.Refused.{Refused}
@@ -49,35 +49,35 @@ abbrev pub lines_in : {R : Type 0} → Stream R → Option (List (List ℕ))
 lines_in input = lines_left [] (input.bytes input.before.inner)
 
 -- a text of this kind went out
-abbrev pub ShownWhole : {W : Type 0} → (List ℕ → Type 0) → Stream W → Type 0
-ShownWhole IsShown output = HasNoFault output × ((text : List ℕ) × IsShown text × PutsOut output text)
+abbrev pub WrittenWhole : {W : Type 0} → (List ℕ → Type 0) → Stream W → Type 0
+WrittenWhole IsText output = HasNoFault output × ((text : List ℕ) × IsText text × PutsOut output text)
 
 -- there was no memory for such a text and nothing went out, or a call failed and a front of it did
-abbrev pub ShownInPart : {W : Type 0} → (List ℕ → Type 0) → Stream W → Type 0
-ShownInPart IsShown output = IsUntouched output ⊎ (HasOneFault output × ((text : List ℕ) × (part : ℕ) × IsShown text × PutsOut output (take part text)))
+abbrev pub WrittenInPart : {W : Type 0} → (List ℕ → Type 0) → Stream W → Type 0
+WrittenInPart IsText output = IsUntouched output ⊎ (HasOneFault output × ((text : List ℕ) × (part : ℕ) × IsText text × PutsOut output (take part text)))
 
 -- by the status, such a text was shown
-abbrev pub EndsShown : {W : Type 0} → (List ℕ → Type 0) → Stream W → ℕ → Type 0
-EndsShown IsShown output zero = ShownWhole IsShown output
-EndsShown IsShown output (suc zero) = ShownInPart IsShown output
-EndsShown IsShown output (suc (suc n)) = ⊥
+abbrev pub EndsWritten : {W : Type 0} → (List ℕ → Type 0) → Stream W → ℕ → Type 0
+EndsWritten IsText output zero = WrittenWhole IsText output
+EndsWritten IsText output (suc zero) = WrittenInPart IsText output
+EndsWritten IsText output (suc (suc n)) = ⊥
 
 -- the program's title, and what else clap tells
 abbrev pub IsHelp : List ℕ → Type 0
-IsHelp text = (told : List ℕ) × (text ≡ TITLE.now ++ told)
+IsHelp text = (answered : List ℕ) × (text ≡ TITLE.now ++ answered)
 
 -- the audit of a world, and a line feed
 abbrev pub IsAuditLine : WorldValue → List ℕ → Type 0
 IsAuditLine world text = (audit : List ℕ) × IsAudit world audit × (text ≡ audit ++ 10 ∷ [])
 
 -- after the replies comes the audit where it was asked for, and else nothing
-abbrev pub AuditTold : {W : Type 0} → Bool → WorldValue → Stream W → Type 0
-AuditTold true world output = ShownWhole (IsAuditLine world) output
-AuditTold false world output = IsUntouched output
+abbrev pub AuditWritten : {W : Type 0} → Bool → WorldValue → Stream W → Type 0
+AuditWritten true world output = WrittenWhole (IsAuditLine world) output
+AuditWritten false world output = IsUntouched output
 
--- or it was asked for, and was not told whole
+-- or it was asked for, and was not written whole
 abbrev pub AuditCut : {W : Type 0} → Bool → WorldValue → Stream W → Type 0
-AuditCut true world output = ShownInPart (IsAuditLine world) output
+AuditCut true world output = WrittenInPart (IsAuditLine world) output
 AuditCut false world output = ⊥
 
 -- each line, where they are known, has its reply, in order, of a world that began without queues and is this one now
@@ -100,8 +100,8 @@ StopsEarly options input output =
 -- Status 0: what was asked for is done. A script has served options, a reply to each line, and its audit where one was asked
 -- for; a text was shown whole, and nothing was read.
 abbrev pub EndsWell : {R W : Type 0} → Result Mode Refused → Stream R → Stream W → Type 0
-EndsWell (Ok (Script mode)) input output = IsServed mode.options × AnswersAll mode.options input output (AuditTold mode.audit)
-EndsWell (Err (refused.Text error)) input output = IsUntouched input × ShownWhole IsHelp output
+EndsWell (Ok (Script mode)) input output = IsServed mode.options × AnswersAll mode.options input output (AuditWritten mode.audit)
+EndsWell (Err (refused.Text error)) input output = IsUntouched input × WrittenWhole IsHelp output
 EndsWell (Err (refused.Mistake error)) input output = ⊥
 EndsWell (Err refused.NoMemory) input output = ⊥
 
@@ -110,7 +110,7 @@ EndsWell (Err refused.NoMemory) input output = ⊥
 abbrev pub EndsByFault : {R W : Type 0} → Result Mode Refused → Stream R → Stream W → Type 0
 EndsByFault (Ok (Script mode)) input output =
     IsServed mode.options × ((IsUntouched input × IsUntouched output) ⊎ (StopsEarly mode.options input output ⊎ AnswersAll mode.options input output (AuditCut mode.audit)))
-EndsByFault (Err (refused.Text error)) input output = IsUntouched input × ShownInPart IsHelp output
+EndsByFault (Err (refused.Text error)) input output = IsUntouched input × WrittenInPart IsHelp output
 EndsByFault (Err (refused.Mistake error)) input output = ⊥
 EndsByFault (Err refused.NoMemory) input output = IsUntouched input × IsUntouched output
 
@@ -123,13 +123,13 @@ EndsRefused (Err refused.NoMemory) input output = ⊥
 
 -- no other status is there
 abbrev pub Ends : {R W : Type 0} → Result Mode Refused → Stream R → Stream W → ℕ → Type 0
-Ends asked input output zero = EndsWell asked input output
-Ends asked input output (suc zero) = EndsByFault asked input output
-Ends asked input output (suc (suc zero)) = EndsRefused asked input output
-Ends asked input output (suc (suc (suc n))) = ⊥
+Ends parsed input output zero = EndsWell parsed input output
+Ends parsed input output (suc zero) = EndsByFault parsed input output
+Ends parsed input output (suc (suc zero)) = EndsRefused parsed input output
+Ends parsed input output (suc (suc (suc n))) = ⊥
 
 -- the words ask for something, and the program ends as is right for it
 pub record EndsFor {R W : Type 0} (words : List Text) (input : Stream R) (output : Stream W) (status : ℕ) : Type 0 where
-  pub asked : Result Mode Refused
-  pub asks : Asks words asked
-  pub ends : Ends asked input output status
+  pub parsed : Result Mode Refused
+  pub parses : ParsesTo words parsed
+  pub ends : Ends parsed input output status

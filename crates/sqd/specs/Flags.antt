@@ -19,25 +19,25 @@ pub record IsWhole (text : List ℕ) (n : ℕ) : Type 0 where
   pub value : n ≡ digits_value 10 (without_leading_plus text)
 
 -- n is the number of a flag with this text, or the default of one with none, and within bounds
-pub record IsNumberOf (given : Option Text) (least greatest default n : ℕ) : Type 0 where
-  pub there : (text : Text) → given ≡ Some text → IsWhole text n
-  pub absent : given ≡ None → n ≡ default
+pub record IsNumberOf (of_flag : Option Text) (least greatest default n : ℕ) : Type 0 where
+  pub when_set : (text : Text) → of_flag ≡ Some text → IsWhole text n
+  pub when_unset : of_flag ≡ None → n ≡ default
   pub from : least ≤ n
   pub up_to : n ≤ greatest
 
--- the options are those of the flags, where `given` tells each one's text by its name
-pub record AreOptionsOf (given : Text → Option Text) (o : Options) : Type 0 where
-  pub homes : IsNumberOf (given (codes "homes")) 1 16 4 o.homes
-  pub sample : IsNumberOf (given (codes "sample")) 1 16 (min o.homes 2) o.sample
-  pub queues : IsNumberOf (given (codes "queues")) 1 1024 64 o.queues
-  pub rows : IsNumberOf (given (codes "rows")) 1 1048576 1048576 o.rows
-  pub flights : IsNumberOf (given (codes "flights")) 1 120000 120000 o.flights
-  pub transit : IsNumberOf (given (codes "transit")) 1 100000 10000 o.transit
-  pub seed : IsNumberOf (given (codes "seed")) 0 18446744073709551615 0 o.seed
+-- the options are those of the flags, where `text_of` gives each one's text by its name
+pub record AreOptionsOf (text_of : Text → Option Text) (o : Options) : Type 0 where
+  pub homes : IsNumberOf (text_of (codes "homes")) 1 16 4 o.homes
+  pub sample : IsNumberOf (text_of (codes "sample")) 1 16 (min o.homes 2) o.sample
+  pub queues : IsNumberOf (text_of (codes "queues")) 1 1024 64 o.queues
+  pub rows : IsNumberOf (text_of (codes "rows")) 1 1048576 1048576 o.rows
+  pub flights : IsNumberOf (text_of (codes "flights")) 1 120000 120000 o.flights
+  pub transit : IsNumberOf (text_of (codes "transit")) 1 100000 10000 o.transit
+  pub seed : IsNumberOf (text_of (codes "seed")) 0 18446744073709551615 0 o.seed
 
 -- a flag without a value stands among the words: clap gives it this text
 abbrev pub IsFlagOf : Option Text → Bool → Type 0
-IsFlagOf given there = IsTrue there ↔ (given ≡ Some (codes "true"))
+IsFlagOf text is_set = IsTrue is_set ↔ (text ≡ Some (codes "true"))
 
 -- the words ask for a run in this mode: clap has no fault in them, they name the subcommand, its flags give the options,
 -- and an audit is asked for where its flag is there
@@ -45,7 +45,7 @@ pub record AsksForScript (words : List Text) (mode : ScriptMode) : Type 0 where
   pub rows : List Row
   pub taken : fault_of program_app words ≡ []
   pub named : subcommand_of program_app words ≡ Some (codes "script", rows)
-  pub given : AreOptionsOf (λ name. first_of name rows) mode.options
+  pub options : AreOptionsOf (λ name. first_of name rows) mode.options
   pub audit : IsFlagOf (first_of (codes "audit") rows) mode.audit
 
 -- what the words ask for
@@ -74,11 +74,11 @@ abbrev pub AreMistaken : List Text → Error → Type 0
 AreMistaken words error = ((mode : ScriptMode) → ¬ AsksForScript words mode) × IsMistake (kind_of error) × IsKindFor (fault_of program_app words) (kind_of error)
 
 -- what the words ask for, or that there was no memory to tell
-abbrev pub Asks : List Text → Result Mode Refused → Type 0
-Asks words (Ok mode) = IsModeOf words mode
-Asks words (Err (refused.Text error)) = AsksForText words error
-Asks words (Err (refused.Mistake error)) = AreMistaken words error
-Asks words (Err refused.NoMemory) = ⊤
+abbrev pub ParsesTo : List Text → Result Mode Refused → Type 0
+ParsesTo words (Ok mode) = IsModeOf words mode
+ParsesTo words (Err (refused.Text error)) = AsksForText words error
+ParsesTo words (Err (refused.Mistake error)) = AreMistaken words error
+ParsesTo words (Err refused.NoMemory) = ⊤
 
 -- an error of clap as a refusal
 abbrev pub IsRefusalOf : Error → Refused → Type 0

@@ -6,7 +6,7 @@ ghost use Rattle.clap.specs.declared.Command.TheViews.{out-Command as fields_of}
 ghost use Rattle.sqd.specs.CommandLine.{audit_rule, number_rule, numbers_app, program_app, script_app, with_audit, with_number};
 ghost use Rattle.sq_merge.specs.declared.options.Options.{Options as OptionsValue};
 ghost use Rattle.sqd.specs.declared.flags.Refused.TheVariants.{NoMemory as RefusedNoMemory};
-ghost use Rattle.sqd.specs.Flags.{IsWhole, IsNumberOf, IsFlagOf, AreOptionsOf, IsRefusalOf, Asks};
+ghost use Rattle.sqd.specs.Flags.{IsWhole, IsNumberOf, IsFlagOf, AreOptionsOf, IsRefusalOf, ParsesTo};
 
 use clap::builder::ValueParser;
 use clap::error::ErrorKind;
@@ -18,7 +18,7 @@ use std::alloc::{AllocError, Global};
 #[derive(Clone, Copy, PartialEq, Eq, Debug)]
 pub struct ScriptMode {
     pub options: Options,
-    /// Whether an audit is told after the last reply.
+    /// Whether an audit is written after the last reply.
     pub audit: bool,
 }
 
@@ -201,8 +201,8 @@ fn number<'a>(
     default: u64,
 ) -> Result<u64, &'a str>
     requires { (least ≤ default) × (default ≤ greatest) }
-    ensures there { IfOk result (λ n. IsNumberOf (first_value (found_of matches.now) name.entry.now) least greatest default n) }
-    ensures absent { first_value (found_of matches.now) name.entry.now ≡ None → result ≡ Ok default }
+    ensures when_found { IfOk result (λ n. IsNumberOf (first_value (found_of matches.now) name.entry.now) least greatest default n) }
+    ensures when_unset { first_value (found_of matches.now) name.entry.now ≡ None → result ≡ Ok default }
     ensures refused { IfErr result (λ e. (e ≡ name.entry) × ((n : ℕ) → ¬ IsNumberOf (first_value (found_of matches.now) name.entry.now) least greatest default n)) }
 {
     match matches.get_str(name) {
@@ -252,7 +252,7 @@ fn usage(alloc: Global, command: &mut Command<'_>, name: &str) -> Result<Error, 
 
 /// What words ask for. The first of them is the program's own name.
 pub fn flags<'a>(alloc: Global, words: &'a [&'a str]) -> Result<Mode, Refused>
-    ensures { Asks (map (λ word. word.now) words.entry.now) result }
+    ensures { ParsesTo (map (λ word. word.now) words.entry.now) result }
 {
     let mut command = program_command(alloc)?;
     let matches = command.try_get_matches_from_mut(words)?;

@@ -1,8 +1,8 @@
 //! The program as a function of its words, its input and its outputs.
-ghost use Rattle.std.specs.Prelude.{◌≡◌, ◌≢◌, ◌++◌, ℕ, map, take, OnOk, OnErr};
+ghost use Rattle.std.specs.Prelude.{◌≡◌, ◌≢◌, ◌++◌, ℕ, map, take, length, ◌<◌, OnOk, OnErr};
 ghost use Rattle.std.specs.Io.KnownBytes.{Appends};
 ghost use Rattle.sq_lines.specs.Lines.{OneMore};
-ghost use Rattle.sqd.specs.Endings.{stream, EndsFor, Ends, EndsShown, IsHelp, IsAuditLine};
+ghost use Rattle.sqd.specs.Endings.{stream, EndsFor, Ends, EndsWritten, IsHelp, IsAuditLine};
 ghost use Rattle.sqd.specs.declared.flags.Mode.TheVariants.{Script as ByScript};
 
 use crate::flags::{Mode, Refused, ScriptMode, flags};
@@ -19,6 +19,11 @@ use std::io::{Read, Write};
 
 /// What the text of help begins with.
 const TITLE: &str = "A queue service in the manner of Amazon SQS standard queues\n\n";
+
+// It does nothing: its contract is the law that help is never empty.
+fn title_is_there()
+    ensures { 0 < length TITLE.now }
+{}
 
 // Tells why a run ended early. Nobody can be told that this failed.
 fn report<E: Write>(errors: &mut E, fault: ServeFault) -> u8
@@ -58,7 +63,7 @@ struct Unwritten;
 fn put_out<W: Write>(output: &mut Counted<W>, text: &[u8], end: &[u8]) -> Result<(), Unwritten>
     ensures ok { OnOk result (Appends (W.contents output.old.inner) (W.contents output.new.inner) (text.now ++ end.now)) }
     ensures err { OnErr result ((part : ℕ) × Appends (W.contents output.old.inner) (W.contents output.new.inner) (take part (text.now ++ end.now))) }
-    ensures same { OnOk result (output.new.failed ≡ output.old.failed) }
+    ensures no_failure { OnOk result (output.new.failed ≡ output.old.failed) }
     ensures count { OnErr result (OneMore output.old.failed output.new.failed) }
 {
     if let Err(_count) = put(output, text) {
@@ -80,7 +85,7 @@ fn show<W: Write, E: Write>(
     output: &mut Counted<W>,
     errors: &mut E,
 ) -> u8
-    ensures { EndsShown IsHelp (stream W.contents output.old output.new) result }
+    ensures { EndsWritten IsHelp (stream W.contents output.old output.new) result }
 {
     let Ok(text) = format!(in alloc; "{error}") else {
         return no_memory(errors);
@@ -123,7 +128,7 @@ fn tell_audit<W: Write, E: Write>(
     output: &mut Counted<W>,
     errors: &mut E,
 ) -> u8
-    ensures { EndsShown (IsAuditLine world) (stream W.contents output.old output.new) result }
+    ensures { EndsWritten (IsAuditLine world) (stream W.contents output.old output.new) result }
 {
     let text = match audit_world(alloc, world) {
         Ok(text) => text,
@@ -164,14 +169,14 @@ fn script<R: Read, W: Write, E: Write>(
 // Does what was asked for.
 fn carry_out<R: Read, W: Write, E: Write>(
     alloc: Global,
-    asked: Result<Mode, Refused>,
+    parsed: Result<Mode, Refused>,
     input: &mut Counted<R>,
     output: &mut Counted<W>,
     errors: &mut E,
 ) -> u8
-    ensures { Ends asked (stream R.remaining input.old input.new) (stream W.contents output.old output.new) result }
+    ensures { Ends parsed (stream R.remaining input.old input.new) (stream W.contents output.old output.new) result }
 {
-    match asked {
+    match parsed {
         Ok(Mode::Script(mode)) => script(alloc, mode, input, output, errors),
         Err(Refused::Text(error)) => show(alloc, &error, output, errors),
         Err(Refused::Mistake(error)) => explain(&error, errors),
@@ -190,6 +195,6 @@ pub fn run<R: Read, W: Write, E: Write>(
 ) -> u8
     ensures { EndsFor (map (λ word. word.now) words.now) (stream R.remaining input.old input.new) (stream W.contents output.old output.new) result }
 {
-    let asked = flags(alloc, words);
-    carry_out(alloc, asked, input, output, errors)
+    let parsed = flags(alloc, words);
+    carry_out(alloc, parsed, input, output, errors)
 }

@@ -197,7 +197,7 @@ fn tells_a_fault_of_writing(rt: HostRuntime) -> Result<(), Fail> {
     let words = ["sqd", "script", "--homes", "1", "--audit"];
     let replies = FOUR_REPLIES.len();
     let all = replies + FOUR_AUDITED.len();
-    for (bytes, flushes, told) in [
+    for (bytes, flushes, answered) in [
         (0, 0, "sqd: write failed after 0 requests\n"),
         (replies, 5, "sqd: write failed after 4 requests\n"),
         (replies + 1, 5, "sqd: write failed after 4 requests\n"),
@@ -207,7 +207,7 @@ fn tells_a_fault_of_writing(rt: HostRuntime) -> Result<(), Fail> {
         let narrow = Narrow { bytes, flushes };
         let (status, output, errors) = run_to(rt.alloc(), &words, FOUR_LINES.as_bytes(), narrow);
         assert!(rt; status == 1, "{bytes} bytes, {flushes} flushes");
-        assert!(rt; errors.as_slice() == told.as_bytes());
+        assert!(rt; errors.as_slice() == answered.as_bytes());
         assert!(rt; output.failed() == 1);
     }
     Ok(())
@@ -242,9 +242,9 @@ fn tells_what_it_cannot_begin_or_end(rt: HostRuntime) -> Result<(), Fail> {
 }
 
 #[test]
-fn shows_help(rt: HostRuntime) -> Result<(), Fail> {
+fn writes_help(rt: HostRuntime) -> Result<(), Fail> {
     let audit = "After the last reply, tell the run of all that was done and where each message is";
-    for (words, told) in [
+    for (words, answered) in [
         (
             ["sqd", "script", "--help"].as_slice(),
             ["1 to 16 [default: 4]", "--transit", "--audit", audit].as_slice(),
@@ -257,7 +257,7 @@ fn shows_help(rt: HostRuntime) -> Result<(), Fail> {
         let (status, output, errors) = run_to(rt.alloc(), words, b"one\n", Vec::new(rt.alloc()));
         assert!(rt; status == 0 && errors.is_empty());
         let help = str::from_utf8(output.inner().as_slice()).unwrap_or("");
-        for text in told {
+        for text in answered {
             assert!(rt; help.contains(*text), "{text}");
         }
     }

@@ -3,4 +3,4 @@ use Rattle.sq_audit.specs.RowStates.{looked}
 use Rattle.sq_audit.proofs.home_states.receive_all.Given as goal
 
 abbrev pub invariant-loop-row : goal.invariant-loop-row
-invariant-loop-row l = l.rows ≡ map (looked l.given) (take l.row-index l.initial.rows) ++ drop l.row-index l.initial.rows
+invariant-loop-row l = l.rows ≡ map (looked l.picked) (take l.row-index l.initial.rows) ++ drop l.row-index l.initial.rows

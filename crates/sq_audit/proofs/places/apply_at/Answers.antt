@@ -4,8 +4,8 @@ use Rattle.sq_audit.proofs.ListLaws.{read_grown}
 use Rattle.sq_audit.proofs.places.apply_at.Goals as goal
 
 -- the home as it was
-was : (c : goal.In_ok-apply) → c.index_mut.result.now ≡ get_or c.args.homes.now.items c.args.place no_states
-was c = read_grown (c.args.place + 1) c.args.homes.now.items c.grow.new.homes.items c.args.place c.index_mut.result.now c.in_ok-grow.ensures.homes (omega arith) c.index_mut.ensures.value
+was : (c : goal.In_ok-apply) → c.index_mut.result.now ≡ get_or c.args.homes.now.items c.args.index no_states
+was c = read_grown (c.args.index + 1) c.args.homes.now.items c.grow.new.homes.items c.args.index c.index_mut.result.now c.in_ok-grow.ensures.homes (omega arith) c.index_mut.ensures.value
 
 pub returns-clause-homes : goal.returns-clause-homes
 returns-clause-homes c = rw (c.in_ok-grow.ensures.homes, c.in_ok-apply.ensures.home, was c) refl

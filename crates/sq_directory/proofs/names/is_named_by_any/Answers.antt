@@ -13,10 +13,10 @@ loop-index-preserved c =
     let queue = c.args.kept.now.home.queue in
     let event = c.index-events-index.result in
     let lt : c.loop-index.index < length c.events-events.result.now = search rules in
-    let there : slice_get d c.loop-index.index ≡ Some event = read_at c.events-events.result.now d c.loop-index.index event c.events-events.ensures.items lt c.index-events-index.is in
+    let in_list : slice_get d c.loop-index.index ≡ Some event = read_at c.events-events.result.now d c.loop-index.index event c.events-events.ensures.items lt c.index-events-index.is in
     let other : Below event.stamp stamp → IsCreate event c.args.name.now queue → ⊥ = λ b k. let t = c.is_named_by.ensures.1 (b, k) in search rules in
     below_more (λ k. (e : DirectoryEvent) → slice_get d k ≡ Some e → Below e.stamp stamp → IsCreate e c.args.name.now queue → ⊥) c.loop-index.index c.loop-index.invariant
-    (λ e too. subst (λ (x : DirectoryEvent). Below x.stamp stamp → IsCreate x c.args.name.now queue → ⊥) (some_same (sym there ∙ too)) other)
+    (λ e too. subst (λ (x : DirectoryEvent). Below x.stamp stamp → IsCreate x c.args.name.now queue → ⊥) (some_same (sym in_list ∙ too)) other)
 
 pub returns : goal.returns
 returns c = (

@@ -6,7 +6,7 @@ abbrev pub invariant-loop-at : goal.invariant-loop-at
 invariant-loop-at g l = record {
   within : l.at ≤ length l.text;
   appends : Appends (g.W.Write.contents l.fn.writer.inner) (g.W.Write.contents l.writer.inner) (take l.at l.text);
-  same : l.writer.failed ≡ l.fn.writer.failed;
+  no_failure : l.writer.failed ≡ l.fn.writer.failed;
 }
 
 abbrev pub decreases-loop-at : goal.decreases-loop-at

@@ -16,6 +16,6 @@ loop-number-preserved g c =
     let a = Configure c.args.made.now.settings c.args.made.now.version in
     record {
       known = c.at_home.ensures.known;
-      same = c.at_home.ensures.same ∙ c.loop-number.invariant.same;
+      same = c.at_home.ensures.same_counts ∙ c.loop-number.invariant.same;
       asked = more_passed _ _ _ _ c.args.name c.args.made.now.queue a c.loop-number.number c.at_home.result c.loop-number.invariant.asked (rw c.of.ensures at c.at_home.ensures.did) (passed_done c.args.made.now.settings c.args.made.now.version c.at_home.result c.at_home.ensures.reply c.in_ok-pass_closed.ensures.passed);
     }

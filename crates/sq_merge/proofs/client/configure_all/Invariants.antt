@@ -2,7 +2,7 @@ use Rattle.std.proofs.Common.{◌≡◌, List}
 use Rattle.sq_history.specs.declared.act.HomeAct.TheVariants.{Configure}
 use Rattle.sq_merge.specs.Asks.{Done}
 use Rattle.sq_merge.specs.Fits.{AskedAll}
-use Rattle.sq_merge.specs.Told.{Path}
+use Rattle.sq_merge.specs.Performs.{Path}
 use Rattle.sq_merge.proofs.client.configure_all.Given as goal
 
 abbrev pub invariant-loop-number : goal.invariant-loop-number

@@ -1,12 +1,12 @@
 use Rattle.std.proofs.Common.{◌≡◌, List}
 use Rattle.sq_merge.specs.Asks.{Done}
 use Rattle.sq_merge.specs.Fits.{InVain}
-use Rattle.sq_merge.specs.Told.{Path}
+use Rattle.sq_merge.specs.Performs.{Path}
 use Rattle.sq_merge.proofs.client.receive.Given as goal
 
-abbrev pub invariant-loop-place : goal.invariant-loop-place
-invariant-loop-place g l = record {
+abbrev pub invariant-loop-index : goal.invariant-loop-index
+invariant-loop-index g l = record {
   known : g.S.LockSteps.knows l.steps l.of.name l.of.queue;
   same : g.S.LockSteps.counts l.steps ≡ g.S.LockSteps.counts l.fn.steps;
-  asked : (trace : List Done) × Path g.S.LockSteps.stepped l.fn.steps trace l.steps × InVain l.call l.of.queue l.homes.items l.place l.over trace;
+  asked : (trace : List Done) × Path g.S.LockSteps.stepped l.fn.steps trace l.steps × InVain l.call l.of.queue l.homes.items l.index l.over trace;
 }

@@ -6,13 +6,13 @@ use Rattle.sq_audit.specs.SystemNow.{events_of, system_now}
 use Rattle.sq_audit.specs.HomeIds.{histories_of, IsNumbered}
 use Rattle.sq_wire.proofs.audit.audit_world.Goals as goal
 
-pub returns-in-Ok-clause-told : goal.returns-in-Ok-clause-told
-returns-in-Ok-clause-told c =
+pub returns-in-Ok-clause-listed : goal.returns-in-Ok-clause-listed
+returns-in-Ok-clause-listed c =
     let w = c.args.world in
-    let matched : IsMatched w.directory.events (histories_of w.homes) w.books = rw c.parts-parts.ensures.parts at c.in_ok-run.ensures.matched in
+    let matched : IsMatched w.directory.events (histories_of w.homes) w.journals = rw c.parts-parts.ensures.parts at c.in_ok-run.ensures.matched in
     let merged : IsMerged w.directory.events (events_of w.homes) c.in_ok-run.run' = rw c.parts-parts.ensures.parts at c.in_ok-run.ensures.merged in
     let is_run : IsRun w.directory.directory.places (map (λ h. h.site) w.homes) c.in_ok-run.run' (system_now w.directory w.homes) = rw c.parts-parts.ensures.parts at c.in_ok-run.ensures.run in
-    let apart : IsOnePlace (map (λ h. h.site) w.homes) = rw c.parts-parts.ensures.parts at c.in_ok-run.ensures.apart in
+    let one_place : IsOnePlace (map (λ h. h.site) w.homes) = rw c.parts-parts.ensures.parts at c.in_ok-run.ensures.one_place in
     let numbered : IsNumbered w.per_queue w.homes = rw c.parts-parts.ensures.parts at c.in_ok-run.ensures.numbered in
     record {
       run = c.in_ok-run.run';
@@ -22,6 +22,6 @@ returns-in-Ok-clause-told c =
       actors = c.in_ok-run.ensures.actors;
       parts = c.in_ok-run.ensures.parts;
       numbered = numbered;
-      apart = apart;
-      tells = c.in-Ok.ensures.told w.directory.directory.places (map (λ h. h.site) w.homes) (system_now w.directory w.homes) is_run.steps apart;
+      one_place = one_place;
+      tells = c.in-Ok.ensures.listed w.directory.directory.places (map (λ h. h.site) w.homes) (system_now w.directory w.homes) is_run.steps one_place;
     }

@@ -1,7 +1,7 @@
 use Rattle.std.proofs.Common.{rules, ◌≡◌, map, refl, []}
 use Rattle.clap.specs.Words.{HasKind, fault_of}
 use Rattle.sqd.specs.CommandLine.{program_app}
-use Rattle.sqd.proofs.ModeLaws.{asks, asks_for_no_options, asks_for_no_script, a_fault, entered, no_fault, passed_up_for_clap, passed_up_for_memory, refuses_for_own}
+use Rattle.sqd.proofs.ModeLaws.{parses, asks_for_no_options, asks_for_no_script, a_fault, entered, no_fault, passed_up_for_clap, passed_up_for_memory, refuses_for_own}
 use Rattle.sqd.proofs.flags.flags.Goals as goal
 
 pub returns-in_err-command : goal.returns-in_err-command
@@ -37,7 +37,7 @@ returns-in-Ok c =
     let command = c.in_ok-command.command in
     let taken : fault_of program_app words ≡ [] = no_fault command words c.in_ok-command.ensures.app c.in_ok-matches.ensures.kinds in
     let walked = entered command words m c.in_ok-command.ensures.app c.in_ok-matches.ensures.ok.2 in
-    asks words m c.in-Some.found.now (record { options = c.in-Ok.options; audit = c.asks_for_audit.result }) taken walked (c.in-Some.ensures.found.0 refl) c.in-Some.ensures.rows c.in-Ok.ensures.ok c.asks_for_audit.ensures
+    parses words m c.in-Some.found.now (record { options = c.in-Ok.options; audit = c.asks_for_audit.result }) taken walked (c.in-Some.ensures.found.0 refl) c.in-Some.ensures.rows c.in-Ok.ensures.ok c.asks_for_audit.ensures
 
 pub returns-in_err-usage-in-Err : goal.returns-in_err-usage-in-Err
 returns-in_err-usage-in-Err c =

@@ -7,7 +7,7 @@ pub returns-in_err-homes-clause-err : goal.returns-in_err-homes-clause-err
 returns-in_err-homes-clause-err c = no_options (first_value (found_of c.args.matches.now)) (λ o h. c.in_err-homes.ensures.refused.1 o.homes h.homes) _
 
 pub returns-in_err-sample-clause-err : goal.returns-in_err-sample-clause-err
-returns-in_err-sample-clause-err c = no_options (first_value (found_of c.args.matches.now)) (no_sample _ _ _ c.in_ok-homes.ensures.there (search rules) c.in_err-sample.ensures.refused.1) _
+returns-in_err-sample-clause-err c = no_options (first_value (found_of c.args.matches.now)) (no_sample _ _ _ c.in_ok-homes.ensures.when_found (search rules) c.in_err-sample.ensures.refused.1) _
 
 pub returns-in_err-number-clause-err : goal.returns-in_err-number-clause-err
 returns-in_err-number-clause-err c = no_options (first_value (found_of c.args.matches.now)) (λ o h. c.in_err-number.ensures.refused.1 o.queues h.queues) _

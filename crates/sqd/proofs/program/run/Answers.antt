@@ -1,4 +1,4 @@
 use Rattle.sqd.proofs.program.run.Goals as goal
 
 pub returns : goal.returns
-returns g c = record { asked = c.flags-asked.result; asks = c.flags-asked.ensures; ends = c.carry_out.ensures }
+returns g c = record { parsed = c.flags-parsed.result; parses = c.flags-parsed.ensures; ends = c.carry_out.ensures }

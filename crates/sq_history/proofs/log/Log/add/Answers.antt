@@ -3,10 +3,10 @@ use Rattle.sq_base.specs.Stamps.{start}
 use Rattle.sq_model.specs.Replays.{StampsRise}
 use Rattle.sq_model.proofs.ReplayLaws.{rise_push}
 use Rattle.sq_history.specs.Logs.{event_by}
-use Rattle.sq_history.proofs.log.Log.add.Given as given
+use Rattle.sq_history.proofs.log.Log.add.Given as picked
 use Rattle.sq_history.proofs.log.Log.add.Goals as goal
 
-rises : (g : given.Over) (c : goal.After-stamp-1 g) → StampsRise start c.push.new.self.items c.args.stamp
+rises : (g : picked.Over) (c : goal.After-stamp-1 g) → StampsRise start c.push.new.self.items c.args.stamp
 rises g c =
     let event = event_by c.args.stamp c.args.by.now c.args.component c.args.kept.0 c.args.kept.1 in
     let events = c.self.inside.events.items in

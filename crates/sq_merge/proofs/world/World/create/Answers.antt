@@ -1,9 +1,9 @@
 use Rattle.std.proofs.Common.{rules, ◌≡◌, length, Err, arith, subst}
 use Rattle.std.specs.List.{slice_index_or}
-use Rattle.sq_model.specs.Notes.{Book}
+use Rattle.sq_model.specs.RecordValues.{Journal}
 use Rattle.sq_model.specs.declared.directory.DirectoryCall.TheVariants.{Create}
-use Rattle.sq_steps.specs.Books.{place_in, opened, IsCreateRefused}
-use Rattle.sq_steps.proofs.BookListLaws.{opened_is}
+use Rattle.sq_steps.specs.Journals.{index_in, opened, IsCreateRefused}
+use Rattle.sq_steps.proofs.JournalListLaws.{opened_is}
 use Rattle.sq_merge.specs.WorldValue.{WorldValue}
 use Rattle.sq_merge.proofs.StepLaws.{created_opened, create_unmade, closed_again}
 use Rattle.sq_merge.proofs.WorldLaws.{kept_created}
@@ -11,50 +11,50 @@ use Rattle.sq_merge.proofs.world.World.create.Goals as goal
 
 pub returns-in_err-at-clause-refusal : goal.returns-in_err-at-clause-refusal
 returns-in_err-at-clause-refusal c =
-    let old : WorldValue = record { directory = c.self.inside.directory; per_queue = c.self.inside.per_queue; sample = c.self.inside.sample; homes = c.self.inside.homes.items; books = c.self.inside.books.items } in
+    let old : WorldValue = record { directory = c.self.inside.directory; per_queue = c.self.inside.per_queue; sample = c.self.inside.sample; homes = c.self.inside.homes.items; journals = c.self.inside.journals.items } in
     let refused : c.from_residual.result ≡ Err c.in_err-at.field-0.0 = search rules in
-    rw (refused, c.in_err-at.ensures.refused.0, ← c.self.view_is) (create_unmade old c.args.actor c.args.now c.args.name.now c.args.given.now c.in_err-at.ensures.refused.1)
+    rw (refused, c.in_err-at.ensures.refused.0, ← c.self.view_is) (create_unmade old c.args.actor c.args.now c.args.name.now c.args.attributes.now c.in_err-at.ensures.refused.1)
 
 pub invariant_of-self-in-Ok : goal.invariant_of-self-in-Ok
 invariant_of-self-in-Ok c =
-    let old : WorldValue = record { directory = c.self.inside.directory; per_queue = c.self.inside.per_queue; sample = c.self.inside.sample; homes = c.self.inside.homes.items; books = c.self.inside.books.items } in
-    let own : c.index_mut-book.result.now ≡ slice_index_or (opened c.args.actor old.books) (place_in c.args.actor old.books) c.index_mut-book.result.now = rw (c.in_ok-at.ensures.opened, c.in_ok-at.ensures.place) at c.index_mut-book.ensures.value in
+    let old : WorldValue = record { directory = c.self.inside.directory; per_queue = c.self.inside.per_queue; sample = c.self.inside.sample; homes = c.self.inside.homes.items; journals = c.self.inside.journals.items } in
+    let own : c.index_mut-journal.result.now ≡ slice_index_or (opened c.args.actor old.journals) (index_in c.args.actor old.journals) c.index_mut-journal.result.now = rw (c.in_ok-at.ensures.opened, c.in_ok-at.ensures.index) at c.index_mut-journal.ensures.value in
     record {
-      kept = rw (c.in_ok-at.ensures.opened, c.in_ok-at.ensures.place)
-          (kept_created old c.args.actor c.args.now c.args.name.now c.args.given.now c.in-Ok.made _ c.self.invariant.kept
-          (created_opened old c.args.actor c.args.now c.args.name.now c.args.given.now c.in-Ok.made c.create_step.new.directory c.index_mut-book.result.now c.create_step.new.book own c.in-Ok.ensures.step));
+      kept = rw (c.in_ok-at.ensures.opened, c.in_ok-at.ensures.index)
+          (kept_created old c.args.actor c.args.now c.args.name.now c.args.attributes.now c.in-Ok.made _ c.self.invariant.kept
+          (created_opened old c.args.actor c.args.now c.args.name.now c.args.attributes.now c.in-Ok.made c.create_step.new.directory c.index_mut-journal.result.now c.create_step.new.journal own c.in-Ok.ensures.step));
       sample = c.self.invariant.sample;
       few = c.self.invariant.few;
     }
 
 pub returns-in-Ok-clause-created : goal.returns-in-Ok-clause-created
 returns-in-Ok-clause-created c =
-    let old : WorldValue = record { directory = c.self.inside.directory; per_queue = c.self.inside.per_queue; sample = c.self.inside.sample; homes = c.self.inside.homes.items; books = c.self.inside.books.items } in
-    let own : c.index_mut-book.result.now ≡ slice_index_or (opened c.args.actor old.books) (place_in c.args.actor old.books) c.index_mut-book.result.now = rw (c.in_ok-at.ensures.opened, c.in_ok-at.ensures.place) at c.index_mut-book.ensures.value in
-    rw (← c.self.view_is, c.in_ok-at.ensures.opened, c.in_ok-at.ensures.place)
-    (created_opened old c.args.actor c.args.now c.args.name.now c.args.given.now c.in-Ok.made c.create_step.new.directory c.index_mut-book.result.now c.create_step.new.book own c.in-Ok.ensures.step)
+    let old : WorldValue = record { directory = c.self.inside.directory; per_queue = c.self.inside.per_queue; sample = c.self.inside.sample; homes = c.self.inside.homes.items; journals = c.self.inside.journals.items } in
+    let own : c.index_mut-journal.result.now ≡ slice_index_or (opened c.args.actor old.journals) (index_in c.args.actor old.journals) c.index_mut-journal.result.now = rw (c.in_ok-at.ensures.opened, c.in_ok-at.ensures.index) at c.index_mut-journal.ensures.value in
+    rw (← c.self.view_is, c.in_ok-at.ensures.opened, c.in_ok-at.ensures.index)
+    (created_opened old c.args.actor c.args.now c.args.name.now c.args.attributes.now c.in-Ok.made c.create_step.new.directory c.index_mut-journal.result.now c.create_step.new.journal own c.in-Ok.ensures.step)
 
 pub invariant_of-self-in-Err : goal.invariant_of-self-in-Err
 invariant_of-self-in-Err c =
-    let old : WorldValue = record { directory = c.self.inside.directory; per_queue = c.self.inside.per_queue; sample = c.self.inside.sample; homes = c.self.inside.homes.items; books = c.self.inside.books.items } in
-    let own : c.index_mut-book.result.now ≡ slice_index_or (opened c.args.actor old.books) (place_in c.args.actor old.books) c.index_mut-book.result.now = rw (c.in_ok-at.ensures.opened, c.in_ok-at.ensures.place) at c.index_mut-book.ensures.value in
-    let count : c.len-count.result ≡ length old.books = omega (arith, c.len-count.ensures, c.self.inside.books.ok.0) in
-    let front : c.truncate.new.self.items ≡ old.books =
-    rw (c.truncate.ensures.items, count, c.in-Err.ensures.book_err, c.in_ok-at.ensures.opened, c.in_ok-at.ensures.place) (closed_again c.args.actor old.books c.index_mut-book.result.now own) in
+    let old : WorldValue = record { directory = c.self.inside.directory; per_queue = c.self.inside.per_queue; sample = c.self.inside.sample; homes = c.self.inside.homes.items; journals = c.self.inside.journals.items } in
+    let own : c.index_mut-journal.result.now ≡ slice_index_or (opened c.args.actor old.journals) (index_in c.args.actor old.journals) c.index_mut-journal.result.now = rw (c.in_ok-at.ensures.opened, c.in_ok-at.ensures.index) at c.index_mut-journal.ensures.value in
+    let count : c.len-count.result ≡ length old.journals = omega (arith, c.len-count.ensures, c.self.inside.journals.ok.0) in
+    let front : c.truncate.new.self.items ≡ old.journals =
+    rw (c.truncate.ensures.items, count, c.in-Err.ensures.journal_err, c.in_ok-at.ensures.opened, c.in_ok-at.ensures.index) (closed_again c.args.actor old.journals c.index_mut-journal.result.now own) in
     rw (c.in-Err.ensures.directory_err, front) (record { kept = c.self.invariant.kept; sample = c.self.invariant.sample; few = c.self.invariant.few })
 
 pub returns-in-Err-clause-refusal : goal.returns-in-Err-clause-refusal
 returns-in-Err-clause-refusal c =
-    let old : WorldValue = record { directory = c.self.inside.directory; per_queue = c.self.inside.per_queue; sample = c.self.inside.sample; homes = c.self.inside.homes.items; books = c.self.inside.books.items } in
-    let own : c.index_mut-book.result.now ≡ slice_index_or (opened c.args.actor old.books) (place_in c.args.actor old.books) c.index_mut-book.result.now = rw (c.in_ok-at.ensures.opened, c.in_ok-at.ensures.place) at c.index_mut-book.ensures.value in
+    let old : WorldValue = record { directory = c.self.inside.directory; per_queue = c.self.inside.per_queue; sample = c.self.inside.sample; homes = c.self.inside.homes.items; journals = c.self.inside.journals.items } in
+    let own : c.index_mut-journal.result.now ≡ slice_index_or (opened c.args.actor old.journals) (index_in c.args.actor old.journals) c.index_mut-journal.result.now = rw (c.in_ok-at.ensures.opened, c.in_ok-at.ensures.index) at c.index_mut-journal.ensures.value in
     rw (← c.self.view_is)
-    (subst (λ (b : Book). IsCreateRefused old.directory b c.args.now (Create c.args.name.now c.args.given.now) c.in-Err.refusal) (opened_is c.args.actor old.books c.index_mut-book.result.now own) c.in-Err.ensures.refusal)
+    (subst (λ (b : Journal). IsCreateRefused old.directory b c.args.now (Create c.args.name.now c.args.attributes.now) c.in-Err.refusal) (opened_is c.args.actor old.journals c.index_mut-journal.result.now own) c.in-Err.ensures.refusal)
 
 pub returns-in-Err-clause-err : goal.returns-in-Err-clause-err
 returns-in-Err-clause-err c =
-    let old : WorldValue = record { directory = c.self.inside.directory; per_queue = c.self.inside.per_queue; sample = c.self.inside.sample; homes = c.self.inside.homes.items; books = c.self.inside.books.items } in
-    let own : c.index_mut-book.result.now ≡ slice_index_or (opened c.args.actor old.books) (place_in c.args.actor old.books) c.index_mut-book.result.now = rw (c.in_ok-at.ensures.opened, c.in_ok-at.ensures.place) at c.index_mut-book.ensures.value in
-    let count : c.len-count.result ≡ length old.books = omega (arith, c.len-count.ensures, c.self.inside.books.ok.0) in
-    let front : c.truncate.new.self.items ≡ old.books =
-    rw (c.truncate.ensures.items, count, c.in-Err.ensures.book_err, c.in_ok-at.ensures.opened, c.in_ok-at.ensures.place) (closed_again c.args.actor old.books c.index_mut-book.result.now own) in
+    let old : WorldValue = record { directory = c.self.inside.directory; per_queue = c.self.inside.per_queue; sample = c.self.inside.sample; homes = c.self.inside.homes.items; journals = c.self.inside.journals.items } in
+    let own : c.index_mut-journal.result.now ≡ slice_index_or (opened c.args.actor old.journals) (index_in c.args.actor old.journals) c.index_mut-journal.result.now = rw (c.in_ok-at.ensures.opened, c.in_ok-at.ensures.index) at c.index_mut-journal.ensures.value in
+    let count : c.len-count.result ≡ length old.journals = omega (arith, c.len-count.ensures, c.self.inside.journals.ok.0) in
+    let front : c.truncate.new.self.items ≡ old.journals =
+    rw (c.truncate.ensures.items, count, c.in-Err.ensures.journal_err, c.in_ok-at.ensures.opened, c.in_ok-at.ensures.index) (closed_again c.args.actor old.journals c.index_mut-journal.result.now own) in
     rw (c.in-Err.ensures.directory_err, front) c.self.view_is

@@ -8,7 +8,7 @@ loop-step-preserved c =
     let within : c.loop-step.step-index < length c.args.steps.now = search rules in
     elim c.match-step.branch [
       | in-Ok w ↦ record {
-        schedule = rw w.done-is (more_done c.args.self.now c.args.steps.now c.loop-step.step-index c.loop-step.done c.loop-step.self c.step.new.self c.step-item.result _ within c.step-item.is c.loop-step.invariant.schedule w.in-Ok.ensures.told);
+        schedule = rw w.done-is (more_done c.args.self.now c.args.steps.now c.loop-step.step-index c.loop-step.done c.loop-step.self c.step.new.self c.step-item.result _ within c.step-item.is c.loop-step.invariant.schedule w.in-Ok.ensures.answered);
         bound = omega (arith, w.done-is, c.loop-step.invariant.bound);
       }
       | in-Err w ↦ record {

@@ -1,5 +1,5 @@
 use Rattle.std.proofs.Common.{rules, ◌≡◌, length, Some, None, Err, inl}
-use Rattle.sq_audit.specs.HomeIds.{home_place}
+use Rattle.sq_audit.specs.HomeIds.{home_index}
 use Rattle.sq_audit.proofs.HomeIdLaws.{place_none}
 use Rattle.sq_merge.specs.WorldValue.{WorldValue}
 use Rattle.sq_merge.proofs.StepLaws.{home_there}
@@ -7,8 +7,8 @@ use Rattle.sq_merge.proofs.world.World.step.Goals as goal
 
 pub returns-in_err-act-in-Home-clause-refusal : goal.returns-in_err-act-in-Home-clause-refusal
 returns-in_err-act-in-Home-clause-refusal c =
-    let old : WorldValue = record { directory = c.self.inside.directory; per_queue = c.self.inside.per_queue; sample = c.self.inside.sample; homes = c.self.inside.homes.items; books = c.self.inside.books.items } in
-    let place : home_place old.per_queue (length old.homes) c.in-Home.id ≡ Some c.in-Some.field-0 = search rules in
+    let old : WorldValue = record { directory = c.self.inside.directory; per_queue = c.self.inside.per_queue; sample = c.self.inside.sample; homes = c.self.inside.homes.items; journals = c.self.inside.journals.items } in
+    let place : home_index old.per_queue (length old.homes) c.in-Home.id ≡ Some c.in-Some.field-0 = search rules in
     let refused : c.from_residual-in_err-act-in-Home.result ≡ Err c.in_err-act-in-Home.field-0.0 = search rules in
     rw (refused, c.in-Home.is, ← c.self.view_is)
-    (inl (c.in_err-act-in-Home.ensures.refused.0, (c.in_err-act-in-Home.ensures.refused.1, home_there old c.in-Home.id c.in-Some.field-0 c.self.invariant.kept.numbered c.home_place.ensures.queue place)))
+    (inl (c.in_err-act-in-Home.ensures.refused.0, (c.in_err-act-in-Home.ensures.refused.1, home_there old c.in-Home.id c.in-Some.field-0 c.self.invariant.kept.numbered c.home_index.ensures.queue place)))

@@ -12,5 +12,5 @@ returns-clause-look c =
     let m = c.args.moment in
     let rows = c.args.self.now.rows.items in
     let look = first_is_look s m c.args.until c.args.max (trimmed s m rows) c.requires.0 (rises_trimmed s m 0 rows c.requires.0 c.requires.1) in
-    IfOk-weaker c.pick.result _ _ (λ given e. subst (λ (g : List Row). IsLook s m c.args.until c.args.max (trimmed s m rows) g)
-    (sym (e ∙ ap (λ (r : List Row). take c.args.max (map (received m c.args.until) (filter (is_live s m) (trimmed s m r)))) c.deref.ensures.value)) look) c.pick.ensures.given
+    IfOk-weaker c.pick.result _ _ (λ picked e. subst (λ (g : List Row). IsLook s m c.args.until c.args.max (trimmed s m rows) g)
+    (sym (e ∙ ap (λ (r : List Row). take c.args.max (map (received m c.args.until) (filter (is_live s m) (trimmed s m r)))) c.deref.ensures.value)) look) c.pick.ensures.picked

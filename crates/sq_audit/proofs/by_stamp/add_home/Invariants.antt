@@ -1,0 +1,8 @@
+use Rattle.std.proofs.Common.{◌≡◌, ◌++◌, take}
+use Rattle.std.specs.Prelude.{map}
+use Rattle.sq_model.specs.Systems.{OfHome}
+use Rattle.sq_audit.specs.Tags.{tags_of}
+use Rattle.sq_audit.proofs.by_stamp.add_home.Given as goal
+
+abbrev pub invariant-loop-event : goal.invariant-loop-event
+invariant-loop-event l = tags_of l.all.items ≡ tags_of l.initial.all.items ++ map (λ e. OfHome l.index e) (take l.event-index l.events)

@@ -1,7 +1,0 @@
-use Rattle.std.proofs.Common.{◌≡◌, take}
-use Rattle.std.specs.Prelude.{◌-◌, ◌^◌, min, length}
-use Rattle.sq_audit.specs.SystemNow.{by_part, events_of}
-use Rattle.sq_audit.proofs.sorted.count.Given as goal
-
-abbrev pub invariant-loop-home : goal.invariant-loop-home
-invariant-loop-home l = l.count ≡ min (length (by_part l.directory.events (events_of (take l.home-index l.homes)))) (2 ^ 64 - 1)

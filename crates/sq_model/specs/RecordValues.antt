@@ -1,0 +1,63 @@
+-- What an actor keeps of the steps that it did.
+use Rattle.std.specs.Prelude.{ℕ, ◌<◌, List, [], ◌∷◌, Option}
+use Rattle.std.specs.List.{AllByRecursion}
+use Rattle.sq_base.specs.StampValue.{StampValue}
+use Rattle.sq_base.specs.Stamps.{Below}
+use Rattle.sq_base.specs.declared.ids.HomeId.{HomeId}
+use Rattle.sq_model.specs.declared.calls.HomeCall.{HomeCall}
+use Rattle.sq_model.specs.declared.replies.HomeReply.{HomeReply}
+use Rattle.sq_model.specs.declared.directory.DirectoryCall.{DirectoryCall}
+use Rattle.sq_model.specs.declared.directory.DirectoryReply.{DirectoryReply}
+use Rattle.sq_model.specs.declared.event.Actor.{Actor}
+use Rattle.sq_model.specs.declared.event.StepRecord.{StepRecord}
+use Rattle.sq_model.specs.Replays.{HomeEvent}
+use Rattle.sq_model.specs.Systems.{DirectoryEvent}
+
+-- of a step of a home: the number of the step among the actor's, its stamp, its home, its place in the home's history, what was asked and answered, and the queue's name that the actor used
+pub record HomeRecordValue : Type 0 where
+  pub place : ℕ
+  pub stamp : StampValue
+  pub home : HomeId
+  pub index : ℕ
+  pub call : HomeCall
+  pub reply : HomeReply
+  pub name : Option (List ℕ)
+
+-- of a step of the directory
+abbrev pub DirectoryRecordValue : Type 0
+DirectoryRecordValue = StepRecord DirectoryCall DirectoryReply
+
+pub data RecordValue : Type 0 where
+  OfDirectory : DirectoryRecordValue → RecordValue
+  OfHome : HomeRecordValue → RecordValue
+
+abbrev pub place_of_record : RecordValue → ℕ
+place_of_record (OfDirectory n) = n.place
+place_of_record (OfHome n) = n.place
+
+abbrev pub stamp_of : RecordValue → StampValue
+stamp_of (OfDirectory n) = n.stamp
+stamp_of (OfHome n) = n.stamp
+
+-- an actor: the number of its next step, what it has seen, and its records in their order
+pub record Journal : Type 0 where
+  pub actor : ℕ
+  pub next : ℕ
+  pub seen : StampValue
+  pub records : List RecordValue
+
+abbrev pub actor_of : Journal → Actor
+actor_of journal = record { number = journal.actor; place = journal.next; seen = journal.seen }
+
+-- of two records the later one has the higher number and the higher stamp
+abbrev pub RecordsRise : List RecordValue → Type 0
+RecordsRise [] = Unit {0}
+RecordsRise (n ∷ ns) = AllByRecursion (λ m. (place_of_record n < place_of_record m) × Below (stamp_of n) (stamp_of m)) ns × RecordsRise ns
+
+-- the record of an event of the directory, the index-th of its history
+abbrev pub directory_record_of : ℕ → DirectoryEvent → DirectoryRecordValue
+directory_record_of index e = record { place = e.place; stamp = e.stamp; index = index; call = e.call; reply = e.reply }
+
+-- the record of an event of this home, the index-th of its history, by an actor that used this name
+abbrev pub home_record_of : HomeId → ℕ → Option (List ℕ) → HomeEvent → HomeRecordValue
+home_record_of home index name e = record { place = e.place; stamp = e.stamp; home = home; index = index; call = e.call; reply = e.reply; name = name }

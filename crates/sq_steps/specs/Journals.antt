@@ -1,0 +1,110 @@
+-- What an actor has seen and recorded, and how that goes on.
+use Rattle.std.specs.Prelude.{◌≡◌, ◌≢◌, ◌⊎◌, ◌==◌, Bool, not, ℕ, ◌+◌, ◌<◌, nat_le, if◌then◌else◌, List, [], ◌∷◌, ◌++◌, map, filter, slice_get, Option, Some}
+use Rattle.std.specs.List.{AllByRecursion, position_or_len}
+use Rattle.std.specs.Ordering.{is_lt}
+use Rattle.sq_base.specs.StampValue.{StampValue}
+use Rattle.sq_base.specs.Stamps.{start, stamp_end, stamp_cmp}
+use Rattle.sq_base.specs.declared.refusal.Refusal.{Refusal}
+use Rattle.sq_base.specs.declared.refusal.Refusal.TheVariants.{ClockRange, Worn}
+use Rattle.sq_model.specs.declared.calls.HomeCall.{HomeCall}
+use Rattle.sq_model.specs.declared.replies.HomeReply.{HomeReply}
+use Rattle.sq_model.specs.declared.directory.DirectoryCall.{DirectoryCall}
+use Rattle.sq_model.specs.declared.directory.DirectoryReply.{DirectoryReply}
+use Rattle.sq_model.specs.RecordValues.{HomeRecordValue, DirectoryRecordValue, RecordValue, OfDirectory, OfHome, place_of_record, stamp_of, Journal, actor_of, RecordsRise}
+use Rattle.sq_history.specs.HistoryValue.{HistoryValue}
+use Rattle.sq_history.specs.Histories as home
+use Rattle.sq_directory.specs.DirectoryHistory.{DirectoryHistory}
+use Rattle.sq_directory.specs.DirectoryHistories as directory
+use Rattle.sq_directory.specs.Makers.{IsSeen}
+
+-- the number of no step
+abbrev pub last_place : ℕ
+last_place = 18446744073709551615
+
+-- an actor that did nothing yet
+abbrev pub new_journal : ℕ → Journal
+new_journal actor = record { actor = actor; next = 0; seen = start; records = [] }
+
+-- True of each actor: its records rise, their numbers are below its next, and it has seen their stamps.
+pub record IsJournal (journal : Journal) : Type 0 where
+  pub rise : RecordsRise journal.records
+  pub below : AllByRecursion (λ n. place_of_record n < journal.next) journal.records
+  pub saw : AllByRecursion (λ n. IsSeen (stamp_of n) journal.seen) journal.records
+
+-- the records of the actor at a place rise
+abbrev pub RecordsRiseAt : List Journal → ℕ → Type 0
+RecordsRiseAt journals b = (journal : Journal) → slice_get journals b ≡ Some journal → RecordsRise journal.records
+
+-- one step more, with its record
+abbrev pub with_record : Journal → RecordValue → Journal
+with_record journal n = record { actor = journal.actor; next = journal.next + 1; seen = stamp_of n; records = journal.records ++ n ∷ [] }
+
+-- the greater of two stamps
+abbrev pub later : StampValue → StampValue → StampValue
+later a b = if is_lt (stamp_cmp a b) then b else a
+
+-- it has read a part whose last stamp is this
+abbrev pub having_seen : Journal → StampValue → Journal
+having_seen journal stamp = record journal { seen = later journal.seen stamp }
+
+-- A home goes on by one event of the actor, that has the record of it and gets its reply.
+pub record HomeMoves (old new : HistoryValue) (journal recorded_in : Journal) (now : ℕ) (name : Option (List ℕ)) (call : HomeCall) (reply : HomeReply) : Type 0 where
+  pub its_record : HomeRecordValue
+  pub does : home.RecordsStep old new (actor_of journal) now name call its_record
+  pub answered : its_record.reply ≡ reply
+  pub recorded_as : recorded_in ≡ with_record journal (OfHome its_record)
+
+-- The directory goes on by one event of the actor, that has the record of it and gets its reply.
+pub record DirectoryMoves (old new : DirectoryHistory) (journal recorded_in : Journal) (now : ℕ) (call : DirectoryCall) (reply : DirectoryReply) : Type 0 where
+  pub its_record : DirectoryRecordValue
+  pub does : directory.DirectoryRecords old new (actor_of journal) now call its_record
+  pub answered : its_record.reply ≡ reply
+  pub recorded_as : recorded_in ≡ with_record journal (OfDirectory its_record)
+
+-- an actor whose count of steps is at its end does no step
+abbrev pub worn_at : ℕ → Refusal
+worn_at now = if nat_le stamp_end now then ClockRange else Worn
+
+-- why an actor's step of a home is refused
+abbrev pub IsHomeRefused : HistoryValue → Journal → ℕ → HomeCall → Refusal → Type 0
+IsHomeRefused old journal now call e = ((journal.next ≡ last_place) × (e ≡ worn_at now)) ⊎ ((journal.next ≢ last_place) × home.IsRefused old (actor_of journal) now call e)
+
+-- why an actor's step of the directory is refused
+abbrev pub IsCreateRefused : DirectoryHistory → Journal → ℕ → DirectoryCall → Refusal → Type 0
+IsCreateRefused old journal now call e = ((journal.next ≡ last_place) × (e ≡ worn_at now)) ⊎ ((journal.next ≢ last_place) × directory.IsDirectoryRefused old (actor_of journal) now call e)
+
+-- this is the actor's of this number
+abbrev pub is_of : ℕ → Journal → Bool
+is_of actor journal = journal.actor == actor
+
+-- what the actor of this number has
+abbrev pub journal_of : ℕ → List Journal → Journal
+journal_of actor [] = new_journal actor
+journal_of actor (journal ∷ journals) = if journal.actor == actor then journal else journal_of actor journals
+
+-- where an actor stands among all, or would as the last
+abbrev pub index_in : ℕ → List Journal → ℕ
+index_in actor journals = position_or_len (is_of actor) journals
+
+-- all actors, with this one, which did nothing yet where it was not there
+abbrev pub opened : ℕ → List Journal → List Journal
+opened actor [] = new_journal actor ∷ []
+opened actor (x ∷ xs) = if x.actor == actor then x ∷ xs else x ∷ opened actor xs
+
+-- in the place of what its actor had, or last where it had nothing
+abbrev pub put_journal : Journal → List Journal → List Journal
+put_journal journal [] = journal ∷ []
+put_journal journal (x ∷ journals) = if x.actor == journal.actor then journal ∷ journals else x ∷ put_journal journal journals
+
+-- what an actor has without the record of this number
+abbrev pub without_record : ℕ → Journal → Journal
+without_record place journal = record journal { records = filter (λ n. not (place_of_record n == place)) journal.records }
+
+-- the same actors in the same order, where this one has no record of this number
+abbrev pub without : ℕ → ℕ → List Journal → List Journal
+without actor place journals = map (λ b. if b.actor == actor then without_record place b else b) journals
+
+-- each actor is there once
+abbrev pub AreDistinct : List Journal → Type 0
+AreDistinct [] = Unit {0}
+AreDistinct (x ∷ xs) = AllByRecursion (λ y. y.actor ≢ x.actor) xs × AreDistinct xs

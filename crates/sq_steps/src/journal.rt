@@ -1,0 +1,183 @@
+//! What an actor has seen, and the records of its steps; a step with its record.
+ghost use Rattle.std.specs.Prelude.{◌≡◌, ◌≢◌, ◌⊎◌, ◌==◌, ◌+◌, ◌<◌, ◌++◌, ◌∷◌, [], IfOk, IfErr, OnOk, OnErr, vec_len, vec_capacity};
+ghost use Rattle.std.specs.List.{list_any};
+ghost use Rattle.sq_model.specs.RecordValues.{RecordsRise, place_of_record, stamp_of};
+ghost use Rattle.sq_model.specs.declared.directory.DirectoryCall.TheVariants.{Create};
+ghost use Rattle.sq_model.specs.declared.directory.DirectoryReply.TheVariants.{Made};
+ghost use Rattle.sq_history.specs.Acts.{call_of};
+ghost use Rattle.sq_steps.specs.Records.{value_of_record, values_of_records};
+ghost use Rattle.sq_steps.specs.Journals.{new_journal, having_seen, without_record, last_place, worn_at, HomeMoves, DirectoryMoves, IsHomeRefused, IsCreateRefused};
+
+use crate::act::HomeAct;
+use crate::capacity::push_within_capacity;
+use crate::record::Record;
+use sq_base::name::QueueName;
+use sq_base::refusal::Refusal;
+use sq_base::stamp::{STAMP_END, Stamp};
+use sq_directory::directory::Directory;
+use sq_history::recorded::Home;
+use sq_model::directory::{Attributes, QueueSettings};
+use sq_model::event::Actor;
+use sq_model::replies::HomeReply;
+use std::alloc::Global;
+use std::marker::Model;
+
+/// An actor: the number of its next step, the last stamp that it saw, and the records of its steps. Of two records the
+/// later one has the higher number and the higher stamp.
+#[derive(Drop)]
+pub struct Journal {
+    by: Actor,
+    records: Vec<Record>,
+}
+
+impl Model for Journal {
+    ghost use Rattle.sq_model.specs.RecordValues.{Journal};
+    ghost use Rattle.sq_steps.specs.Records.{value_of_record, values_of_records};
+    ghost use Rattle.sq_steps.specs.Journals.{IsJournal};
+
+    ghost Value = { Journal };
+
+    ghost view = { λ b. record { actor = b.by.number; next = b.by.place; seen = b.by.seen; records = values_of_records b.records.items } };
+
+    ghost invariant = { λ b. IsJournal (record { actor = b.by.number; next = b.by.place; seen = b.by.seen; records = values_of_records b.records.items }) };
+}
+
+impl Journal {
+    /// An actor that did nothing yet.
+    pub fn new(alloc: Global, actor: u32) -> Journal
+        ensures { result ≡ new_journal actor }
+    {
+        Journal {
+            by: Actor {
+                number: actor,
+                place: 0,
+                seen: Stamp::start(),
+            },
+            records: Vec::new(alloc),
+        }
+    }
+
+    /// The number of the actor.
+    pub fn actor(&self) -> u32
+        ensures { result ≡ self.now.actor }
+    {
+        self.by.number
+    }
+
+    /// The records of its steps, the first first.
+    pub fn records(&self) -> &[Record]
+        ensures records { values_of_records result.now ≡ self.now.records }
+        ensures rise { RecordsRise (values_of_records result.now) }
+    {
+        self.records.as_slice()
+    }
+
+    /// The actor has read a part of the system whose last stamp is this.
+    pub fn see(&mut self, stamp: Stamp)
+        ensures { self.new ≡ having_seen self.old stamp }
+    {
+        if self.by.seen < stamp {
+            self.by.seen = stamp;
+        }
+    }
+
+    // Takes out the record of the step of this number, and tells whether it was there.
+    pub(crate) fn drop_record(&mut self, place: u64) -> bool
+        ensures answered { result ≡ list_any (λ n. place_of_record n == place) self.old.records }
+        ensures dropped { self.new ≡ without_record place self.old }
+    {
+        let found = has_place(&self.records, place);
+        self.records.retain(|record| record.place() != place);
+        found
+    }
+}
+
+// Whether a record of the step of this number is there.
+fn has_place(records: &[Record], place: u64) -> bool
+    ensures { result ≡ list_any (λ r. place_of_record (value_of_record r) == place) records.now }
+{
+    records.iter().any(|record| record.place() == place)
+}
+
+// Where the count of an actor's steps is at its end.
+fn worn_at(now: u64) -> Refusal
+    ensures { result ≡ worn_at now }
+{
+    if now >= STAMP_END {
+        Refusal::ClockRange
+    } else {
+        Refusal::Worn
+    }
+}
+
+// Makes room for the record of an actor's next step. Refused where the count of its steps is at its end, and then as
+// NoMemory.
+fn ready(by: &Actor, records: &mut Vec<Record>, now: u64) -> Result<(), Refusal>
+    ensures items { records.new.items ≡ records.old.items }
+    ensures room { OnOk result (vec_len records.new < vec_capacity records.new) }
+    ensures more { OnOk result (by.now.place < last_place) }
+    ensures refused { IfErr result (λ e. ((by.now.place ≡ last_place) × (e ≡ worn_at now)) ⊎ ((by.now.place ≢ last_place) × (e ≡ Refusal.NoMemory))) }
+{
+    if by.place == u64::MAX {
+        return Err(worn_at(now));
+    }
+    records.try_reserve(1)?;
+    Ok(())
+}
+
+// Counts an actor's step that was done, and keeps the record of it.
+fn keep(by: &mut Actor, records: &mut Vec<Record>, kept: Record)
+    requires more { by.old.place < last_place }
+    requires room { vec_len records.old < vec_capacity records.old }
+    ensures counted { by.new ≡ record { number = by.old.number; place = by.old.place + 1; seen = stamp_of (value_of_record kept) } }
+    ensures kept { records.new.items ≡ records.old.items ++ kept ∷ [] }
+{
+    by.place += 1;
+    by.seen = kept.stamp();
+    push_within_capacity(records, kept);
+}
+
+/// A step of a home that is lent, by an actor that is lent; all that grows does so before it. A clock reading is in ms.
+/// Refused as NoMemory, ClockRange, Worn, and then as the home's call.
+pub fn home_step(
+    alloc: Global,
+    home: &mut Home,
+    journal: &mut Journal,
+    now: u64,
+    name: Option<QueueName>,
+    act: HomeAct,
+) -> Result<HomeReply, Refusal>
+    ensures step { IfOk result (λ reply. HomeMoves home.old home.new journal.old journal.new now name (call_of act) reply) }
+    ensures refusal { IfErr result (IsHomeRefused home.old journal.old now (call_of act)) }
+    ensures home_err { OnErr result (home.new ≡ home.old) }
+    ensures journal_err { OnErr result (journal.new ≡ journal.old) }
+{
+    ready(&journal.by, &mut journal.records, now)?;
+    let (reply, record) = home.step(alloc, &journal.by, now, name, act)?;
+    keep(&mut journal.by, &mut journal.records, Record::Home(record));
+    Ok(reply)
+}
+
+/// A step of the directory that is lent, by an actor that is lent; all that grows does so before it. A clock reading is
+/// in ms. Refused as NoMemory, ClockRange, Worn, QueueNameExists, TableFull.
+pub fn create_step(
+    directory: &mut Directory,
+    journal: &mut Journal,
+    now: u64,
+    name: &QueueName,
+    attributes: &Attributes,
+) -> Result<QueueSettings, Refusal>
+    ensures step { IfOk result (λ made. DirectoryMoves directory.old directory.new journal.old journal.new now (Create name.now attributes.now) (Made made)) }
+    ensures refusal { IfErr result (IsCreateRefused directory.old journal.old now (Create name.now attributes.now)) }
+    ensures directory_err { OnErr result (directory.new ≡ directory.old) }
+    ensures journal_err { OnErr result (journal.new ≡ journal.old) }
+{
+    ready(&journal.by, &mut journal.records, now)?;
+    let (made, record) = directory.create(&journal.by, now, name, attributes)?;
+    keep(
+        &mut journal.by,
+        &mut journal.records,
+        Record::Directory(record),
+    );
+    Ok(made)
+}
