@@ -12,6 +12,7 @@ use Rattle.sq_model.specs.Directories.{DirectoryStep, directory_refusal}
 use Rattle.sq_model.specs.Replays.{Replays, StampsRise}
 use Rattle.sq_model.specs.Systems.{DirectoryEvent, AreDirectory}
 use Rattle.sq_model.specs.RecordValues.{DirectoryRecordValue, directory_record_of}
+use Rattle.sq_history.specs.Rooms.{KeepsRoom}
 use Rattle.sq_history.specs.Logs.{event_by}
 use Rattle.sq_directory.specs.DirectoryHistory.{DirectoryHistory}
 
@@ -24,12 +25,13 @@ pub record DirectoryRecords (old new : DirectoryHistory) (by : Actor) (now : ℕ
   pub step : DirectoryStep old.directory its_record.stamp.moment call its_record.reply new.directory
   pub last : new.last ≡ its_record.stamp
   pub events : new.events ≡ old.events ++ directory_event its_record.stamp by call its_record.reply ∷ []
+  pub room : KeepsRoom old.room new.room
   pub record_is : its_record ≡ directory_record_of (length old.events) (directory_event its_record.stamp by call its_record.reply)
 
--- No memory was found, or the first check in order that fails: the clock's, the counts', the directory's.
+-- No memory was found for the event, or the first check in order that fails: the clock's, the counts', the directory's.
 abbrev pub IsDirectoryRefused : DirectoryHistory → Actor → ℕ → DirectoryCall → Refusal → Type 0
 IsDirectoryRefused old by now call e =
-    (e ≡ NoMemory)
+    ((e ≡ NoMemory) × (old.room ≡ 0))
     ⊎ (after old.last by.seen now ≡ Err e)
     ⊎ ((stamp : StampValue) × (after old.last by.seen now ≡ Ok stamp) × (directory_refusal old.directory stamp.moment call ≡ Some e))
 

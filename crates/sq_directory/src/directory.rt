@@ -16,7 +16,7 @@ use sq_history::log::Log;
 use sq_model::directory::{Attributes, DirectoryCall, DirectoryReply, QueueSettings};
 use sq_model::event::{Actor, Event};
 use sq_model::place::Component;
-use std::alloc::Global;
+use std::alloc::{AllocError, Global};
 use std::marker::Model;
 
 /// The queues with their history: they are always the replay of its events. Clock readings are in ms.
@@ -32,22 +32,22 @@ impl Model for Directory {
 
     ghost Value = { DirectoryHistory };
 
-    ghost view = { λ d. record { directory = d.queues; last = d.log.last; events = d.log.events } };
+    ghost view = { λ d. record { directory = d.queues; last = d.log.last; events = d.log.events; room = d.log.room } };
 
-    ghost invariant = { λ d. IsDirectoryKept (record { directory = d.queues; last = d.log.last; events = d.log.events }) };
+    ghost invariant = { λ d. IsDirectoryKept (record { directory = d.queues; last = d.log.last; events = d.log.events; room = d.log.room }) };
 }
 
 impl Directory {
     ghost use Rattle.sq_directory.specs.DirectoryHistories.{DirectoryRecords, IsDirectoryRefused, IsDirectoryKept};
 
-    /// No queue, no event, and room for so many queues.
-    pub fn new(alloc: Global, places: u32) -> Directory
-        ensures { result ≡ record { directory = record { queues = []; places = places }; last = start; events = [] } }
+    /// No queue, no event, and memory for so many queues. Refused where that is not found.
+    pub fn new(alloc: Global, places: u32) -> Result<Directory, AllocError>
+        ensures { IfOk result (λ directory. directory ≡ record { directory = record { queues = []; places = places }; last = start; events = []; room = 0 }) }
     {
-        Directory {
-            queues: Queues::new(alloc, places),
+        Ok(Directory {
+            queues: Queues::new(alloc, places)?,
             log: Log::new(alloc),
-        }
+        })
     }
 
     /// All events, the first first. The queues are always the replay of them.
@@ -76,7 +76,7 @@ impl Directory {
 
     /// Makes a queue of this name with these attributes, where there is none yet; else it must have them. Answers the
     /// queue, and the record of the step.
-    /// Refused as NoMemory, ClockRange, Worn, QueueNameExists, TableFull.
+    /// Refused as NoMemory (the history has room for none), ClockRange, Worn, QueueNameExists, TableFull.
     pub fn create(
         &mut self,
         by: &Actor,

@@ -10,7 +10,7 @@ use sq_base::ranges::{Delay, Retention, Timeout, WaitTime, Within};
 use sq_base::refusal::Refusal;
 use sq_base::settings::Settings;
 use sq_model::directory::{Attributes, Queue, QueueSettings};
-use std::alloc::Global;
+use std::alloc::{AllocError, Global};
 use std::marker::Model;
 
 /// The queues in order of creation. The n-th has number n; its place is never used again.
@@ -21,25 +21,24 @@ pub struct Queues {
 }
 
 impl Model for Queues {
-    ghost use Rattle.std.specs.Prelude.{◌≤◌, ◌<◌, length};
+    ghost use Rattle.std.specs.Prelude.{◌≤◌, ◌<◌, length, vec_capacity};
     ghost use Rattle.sq_model.specs.Directories.{Directory};
 
     ghost Value = { Directory };
 
     ghost view = { λ q. record { queues = q.made.items; places = q.places } };
 
-    ghost invariant = { λ q. record { within : length q.made.items ≤ q.places; few : length q.made.items < 4294967296 } };
+    ghost invariant = { λ q. record { within : length q.made.items ≤ q.places; few : length q.made.items < 4294967296; room : q.places ≤ vec_capacity q.made } };
 }
 
 impl Queues {
-    /// No queue, and room for so many.
-    pub fn new(alloc: Global, places: u32) -> Queues
-        ensures { result ≡ record { queues = []; places = places } }
+    /// No queue, and memory for so many. Refused where that is not found.
+    pub fn new(alloc: Global, places: u32) -> Result<Queues, AllocError>
+        ensures { IfOk result (λ queues. queues ≡ record { queues = []; places = places }) }
     {
-        Queues {
-            made: Vec::new(alloc),
-            places,
-        }
+        let mut made = Vec::new(alloc);
+        made.try_reserve(places as usize)?;
+        Ok(Queues { made, places })
     }
 
     /// The number of the queue of this name.
@@ -53,7 +52,7 @@ impl Queues {
     }
 
     /// Makes a queue of this name with these attributes, where there is none yet; else it must have them.
-    /// Refused as NoMemory, QueueNameExists, TableFull.
+    /// Refused as QueueNameExists, TableFull.
     #[tactic(auto, unfolding(sq_model::specs::Directories::DirectoryStep, sq_model::specs::Directories::directory_refusal))]
     pub fn create(
         &mut self,
@@ -61,7 +60,7 @@ impl Queues {
         attributes: &Attributes,
     ) -> Result<QueueSettings, Refusal>
         ensures step { (m : ℕ) → IfOk result (λ made. DirectoryStep self.old m (Create name.now attributes.now) (Made made) self.new) }
-        ensures refusal { (m : ℕ) → IfErr result (λ e. ((e ≡ Refusal.NoMemory) × (directory_refusal self.old m (Create name.now attributes.now) ≡ None)) ⊎ (directory_refusal self.old m (Create name.now attributes.now) ≡ Some e)) }
+        ensures refusal { (m : ℕ) → IfErr result (λ e. directory_refusal self.old m (Create name.now attributes.now) ≡ Some e) }
         ensures err { OnErr result (self.new ≡ self.old) }
     {
         match index_of(&self.made, name) {
@@ -70,19 +69,17 @@ impl Queues {
         }
     }
 
-    // Puts a new queue last.
+    // Puts a new queue last, within the memory that `new` got.
     fn add(&mut self, name: &QueueName, attributes: &Attributes) -> Result<QueueSettings, Refusal>
         ensures made { IfOk result (λ made. (length self.old.queues < self.old.places) × (made ≡ settings_at (length self.old.queues) (new_queue name.now attributes.now)) × (self.new ≡ record self.old { queues = self.old.queues ++ new_queue name.now attributes.now ∷ [] })) }
-        ensures refusal { IfErr result (λ e. ((length self.old.queues < self.old.places) × (e ≡ Refusal.NoMemory)) ⊎ ((self.old.places ≤ length self.old.queues) × (e ≡ Refusal.TableFull))) }
+        ensures refusal { IfErr result (λ e. (self.old.places ≤ length self.old.queues) × (e ≡ Refusal.TableFull)) }
         ensures err { OnErr result (self.new ≡ self.old) }
     {
         if self.made.len() >= self.places as usize {
             return Err(Refusal::TableFull);
         }
-        self.made.try_reserve(1)?;
         let queue = new_queue(name, attributes);
         let made = settings_at(self.made.len(), &queue);
-        // Memory for it was reserved above.
         let _ = self.made.push(queue);
         Ok(made)
     }
@@ -145,13 +142,13 @@ fn settings_of(attributes: &Attributes) -> Settings
 }
 
 fn is_or_none<const LEAST: u32, const GREATEST: u32>(
-    attributes: Option<Within<LEAST, GREATEST>>,
+    asked: Option<Within<LEAST, GREATEST>>,
     number: Within<LEAST, GREATEST>,
 ) -> bool
-    ensures { result ≡ is_or_none attributes.entry number.entry }
+    ensures { result ≡ is_or_none asked.entry number.entry }
 {
-    match attributes {
-        Some(attributes) => attributes == number,
+    match asked {
+        Some(asked) => asked == number,
         None => true,
     }
 }

@@ -14,7 +14,9 @@ use Rattle.sq_model.specs.Homes.{Unopened, HomeStep, home_refusal}
 use Rattle.sq_model.specs.Replays.{HomeEvent, Replays, StampsRise}
 use Rattle.sq_model.specs.Systems.{is_alone}
 use Rattle.sq_model.specs.RecordValues.{HomeRecordValue}
+use Rattle.sq_history.specs.Acts.{CopiesBytes}
 use Rattle.sq_history.specs.Logs.{event_by}
+use Rattle.sq_history.specs.Rooms.{KeepsRoom}
 use Rattle.sq_history.specs.HistoryValue.{HistoryValue}
 
 abbrev pub new_event : StampValue → Actor → HomeId → HomeCall → HomeReply → HomeEvent
@@ -31,14 +33,16 @@ pub record RecordsStep (old new : HistoryValue) (by : Actor) (now : ℕ) (name :
   pub site : new.site ≡ old.site
   pub last : new.last ≡ its_record.stamp
   pub events : new.events ≡ old.events ++ new_event its_record.stamp by old.site.home call its_record.reply ∷ []
+  pub room : KeepsRoom old.room new.room
   pub record_is : its_record ≡ new_record its_record.stamp by old.site.home (length old.events) call its_record.reply name
 
--- No memory was found, or the first check in order that fails: the clock's, the counts', the home's.
+-- No memory was found for the event, or the first check in order that fails: the clock's, the counts', that of the memory for copies, the home's.
 abbrev pub IsRefused : HistoryValue → Actor → ℕ → HomeCall → Refusal → Type 0
 IsRefused old by now call e =
-    (e ≡ NoMemory)
+    ((e ≡ NoMemory) × (old.room ≡ 0))
     ⊎ (after old.last by.seen now ≡ Err e)
-    ⊎ ((stamp : StampValue) × (after old.last by.seen now ≡ Ok stamp) × (home_refusal old.site old.home stamp.moment call ≡ Some e))
+    ⊎ ((stamp : StampValue) × (after old.last by.seen now ≡ Ok stamp)
+    × (((e ≡ NoMemory) × CopiesBytes old.home stamp.moment call) ⊎ (home_refusal old.site old.home stamp.moment call ≡ Some e)))
 
 -- True of every recorded home: it is the replay of its events, whose stamps rise, and each event is its own alone.
 pub record IsKept (h : HistoryValue) : Type 0 where

@@ -1,5 +1,5 @@
 -- What contracts see of a recorded home.
-use Rattle.std.specs.Prelude.{List}
+use Rattle.std.specs.Prelude.{ℕ, List}
 use Rattle.sq_base.specs.StampValue.{StampValue}
 use Rattle.sq_model.specs.declared.place.Site.{Site}
 use Rattle.sq_model.specs.Homes.{Home}
@@ -10,3 +10,5 @@ pub record HistoryValue : Type 0 where
   pub home : Home
   pub last : StampValue
   pub events : List HomeEvent
+  -- for how many events more there was memory when the last one was added
+  pub room : ℕ

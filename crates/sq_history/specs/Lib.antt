@@ -1,3 +1,4 @@
+pub mod Rooms
 pub mod LogValue
 pub mod Logs
 pub mod Acts

@@ -14,10 +14,10 @@ abbrev pub event_by : {K R : Type 0} → StampValue → Actor → Component → 
 event_by {K} {R} stamp by component call reply =
     record { stamp = stamp; actor = by.number; place = by.place; component = component; call = call; reply = reply }
 
--- The log is full and no memory was found.
+-- The log had room for none, and no memory was found.
 abbrev pub IsFull : {K R : Type 0} → LogValue K R → Refusal → Type 0
 IsFull {K} {R} old e = (e ≡ NoMemory) × (old.room ≡ 0)
 
--- No event can be begun: the log is full, or the first check that fails is the clock's, and then the counts'.
+-- No event can be begun: no memory was found, or the first check that fails is the clock's, and then the counts'.
 abbrev pub IsUnready : {K R : Type 0} → LogValue K R → Actor → ℕ → Refusal → Type 0
 IsUnready {K} {R} old by now e = IsFull old e ⊎ (after old.last by.seen now ≡ Err e)

@@ -3,6 +3,7 @@
 
 pub mod act;
 pub mod events;
+pub mod growing;
 pub mod log;
 pub mod record;
 pub mod recorded;

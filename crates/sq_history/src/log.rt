@@ -1,9 +1,11 @@
 //! The events of a part of the system, in order.
-ghost use Rattle.std.specs.Prelude.{◌≡◌, ◌<◌, ◌++◌, ◌∷◌, [], OnOk, IfOk, IfErr, Ok, length};
+ghost use Rattle.std.specs.Prelude.{◌≡◌, ◌++◌, ◌∷◌, [], OnOk, IfOk, IfErr, Ok, length};
 ghost use Rattle.sq_base.specs.Stamps.{start, after, Below};
 ghost use Rattle.sq_model.specs.Replays.{StampsRise};
 ghost use Rattle.sq_history.specs.Logs.{event_by, IsFull, IsUnready};
+ghost use Rattle.sq_history.specs.Rooms.{IsReady, KeepsRoom};
 
+use crate::growing::Growing;
 use sq_base::refusal::Refusal;
 use sq_base::stamp::Stamp;
 use sq_model::event::{Actor, Event, StepRecord};
@@ -15,18 +17,17 @@ use std::marker::Model;
 #[derive(Drop)]
 pub struct Log<K, R> {
     last: Stamp,
-    events: Vec<Event<K, R>>,
+    events: Growing<Event<K, R>>,
 }
 
 impl<K, R> Model for Log<K, R> {
-    ghost use Rattle.std.specs.Prelude.{◌-◌, vec_len, vec_capacity};
     ghost use Rattle.sq_base.specs.Stamps.{start};
     ghost use Rattle.sq_model.specs.Replays.{StampsRise};
     ghost use Rattle.sq_history.specs.LogValue.{LogValue};
 
     ghost Value = { LogValue K R };
 
-    ghost view = { λ l. record { last = l.last; events = l.events.items; room = vec_capacity l.events - vec_len l.events } };
+    ghost view = { λ l. record { last = l.last; events = l.events.items; room = l.events.room; reserved = l.events.reserved } };
 
     ghost invariant = { λ l. StampsRise start l.events.items l.last };
 }
@@ -36,10 +37,11 @@ impl<K: Drop, R: Drop> Log<K, R> {
     pub fn new(alloc: Global) -> Log<K, R>
         ensures last { result.last ≡ start }
         ensures events { result.events ≡ [] }
+        ensures room { result.room ≡ 0 }
     {
         Log {
             last: Stamp::start(),
-            events: Vec::new(alloc),
+            events: Growing::new(alloc),
         }
     }
 
@@ -58,23 +60,24 @@ impl<K: Drop, R: Drop> Log<K, R> {
         self.events.as_slice()
     }
 
-    /// Makes room for one event more. Refused as NoMemory where the list is full.
+    /// Gets memory for one event more. Refused as NoMemory where there was room for none.
     pub fn reserve(&mut self) -> Result<(), Refusal>
         ensures last { self.new.last ≡ self.old.last }
         ensures events { self.new.events ≡ self.old.events }
-        ensures room { OnOk result (0 < self.new.room) }
+        ensures room { self.new.room ≡ self.old.room }
+        ensures ready { OnOk result (IsReady self.new.room self.new.reserved) }
         ensures refused { IfErr result (IsFull self.old) }
     {
-        self.events.try_reserve(1)?;
-        Ok(())
+        self.events.reserve()
     }
 
-    /// Makes room for one event more, and gives its stamp: above the last one, and above what the actor saw.
-    /// Refused as NoMemory (the list is full), ClockRange, Worn.
+    /// Gets memory for one event more, and gives its stamp: above the last one, and above what the actor saw.
+    /// Refused as NoMemory (there was room for none), ClockRange, Worn.
     pub fn begin(&mut self, by: &Actor, now: u64) -> Result<Stamp, Refusal>
         ensures last { self.new.last ≡ self.old.last }
         ensures events { self.new.events ≡ self.old.events }
-        ensures room { OnOk result (0 < self.new.room) }
+        ensures room { self.new.room ≡ self.old.room }
+        ensures ready { OnOk result (IsReady self.new.room self.new.reserved) }
         ensures stamped { IfOk result (λ stamp. after self.old.last by.now.seen now ≡ Ok stamp) }
         ensures above { IfOk result (Below self.old.last) }
         ensures refused { IfErr result (IsUnready self.old by.now now) }
@@ -83,7 +86,7 @@ impl<K: Drop, R: Drop> Log<K, R> {
         Stamp::after(self.last, by.seen, now)
     }
 
-    /// Adds the event of a step, where there is room for it, with the call and reply that are kept. Gives the actor's
+    /// Adds the event of a step, for which `begin` got memory, with the call and reply that are kept. Gives the actor's
     /// record of it, with those that are recorded.
     pub fn add(
         &mut self,
@@ -93,14 +96,15 @@ impl<K: Drop, R: Drop> Log<K, R> {
         kept: (K, R),
         for_record: (K, R),
     ) -> StepRecord<K, R>
-        requires room { 0 < self.old.room }
+        requires ready { IsReady self.old.room self.old.reserved }
         requires above { Below self.old.last stamp }
         ensures last { self.new.last ≡ stamp }
         ensures events { self.new.events ≡ self.old.events ++ event_by stamp by.now component kept.0 kept.1 ∷ [] }
         ensures rising { StampsRise start self.new.events self.new.last }
+        ensures room { KeepsRoom self.old.room self.new.room }
         ensures for_record { result ≡ record { place = by.now.place; stamp = stamp; index = length self.old.events; call = for_record.0; reply = for_record.1 } }
     {
-        let index = self.events.len() as u64;
+        let index = self.events.as_slice().len() as u64;
         let (call, reply) = kept;
         let event = Event {
             stamp,
@@ -110,8 +114,7 @@ impl<K: Drop, R: Drop> Log<K, R> {
             call,
             reply,
         };
-        // Memory for it was reserved by `begin`.
-        let _ = self.events.push(event);
+        self.events.push(event);
         self.last = stamp;
         let (call, reply) = for_record;
         StepRecord {

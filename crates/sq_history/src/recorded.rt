@@ -39,9 +39,9 @@ impl<S: Store> Model for Recorded<S> {
 
     ghost Value = { HistoryValue };
 
-    ghost view = { λ a. record { site = a.shard.site; home = a.shard.home; last = a.log.last; events = a.log.events } };
+    ghost view = { λ a. record { site = a.shard.site; home = a.shard.home; last = a.log.last; events = a.log.events; room = a.log.room } };
 
-    ghost invariant = { λ a. IsKept (record { site = a.shard.site; home = a.shard.home; last = a.log.last; events = a.log.events }) };
+    ghost invariant = { λ a. IsKept (record { site = a.shard.site; home = a.shard.home; last = a.log.last; events = a.log.events; room = a.log.room }) };
 }
 
 impl<S: Store> Recorded<S> {
@@ -50,7 +50,7 @@ impl<S: Store> Recorded<S> {
     /// A home that was never opened, with no event.
     pub fn unopened(alloc: Global, shard: Shard<S>) -> Recorded<S>
         requires { shard.home ≡ Never }
-        ensures { result ≡ record { site = shard.site; home = Never; last = start; events = [] } }
+        ensures { result ≡ record { site = shard.site; home = Never; last = start; events = []; room = 0 } }
     {
         Recorded {
             shard,
@@ -74,10 +74,12 @@ impl<S: Store> Recorded<S> {
     }
 
     /// Does one act, at its stamp. What it tells is what its record says.
-    /// Refused as NoMemory, ClockRange, Worn, and then as the home's call: QueueDoesNotExist (not serving; closed already,
-    /// where it is configured or closed), Worn and OverLimit (a send, for want of serials or full), ReceiptHandleIsInvalid
-    /// (a serial that was never given), MessageNotInflight (a change, with no row in flight on which slot, serial and
-    /// receive number agree), InvalidParameterValue (a change, later than 12 hours after the last receive).
+    /// Refused as NoMemory (the history has room for none, or bytes are copied: of a send, and of a look where a live
+    /// message is there), ClockRange, Worn, and then as the home's call: QueueDoesNotExist (not serving; closed
+    /// already, where it is configured or closed), Worn and OverLimit (a send, for want of serials or full),
+    /// ReceiptHandleIsInvalid (a serial that was never given), MessageNotInflight (a change, with no row in flight on
+    /// which slot, serial and receive number agree), InvalidParameterValue (a change, later than 12 hours after the
+    /// last receive).
     pub fn step(
         &mut self,
         alloc: Global,

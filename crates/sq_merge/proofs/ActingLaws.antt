@@ -22,7 +22,8 @@ use Rattle.sq_history.specs.declared.act.HomeAct.{HomeAct}
 use Rattle.sq_history.specs.declared.act.HomeAct.TheVariants as act
 use Rattle.sq_history.specs.Acts.{call_of}
 use Rattle.sq_merge.specs.Asks.{Resolve, Directed, AtHome, IsReplyTo, IsOfAnyStep, IsOfAct, MayRefuse}
-use Rattle.sq_steps.specs.Journals.{journal_of, worn_at}
+use Rattle.sq_steps.specs.Journals.{journal_of, worn_at, IsNotReady}
+use Rattle.sq_model.specs.RecordValues.{Journal}
 use Rattle.sq_merge.specs.WorldValue.{WorldValue}
 use Rattle.sq_merge.specs.Worlds.{HomeStepped, HomeRefused, Created, CreateRefused, NameRefused, IsKnown}
 use Rattle.sq_merge.proofs.ReceivedLaws.{step_received}
@@ -121,17 +122,21 @@ after_refused a b now e h =
 worn_refused : (now : ℕ) (e : Refusal) → e ≡ worn_at now → IsOfAnyStep e
 worn_refused now e h = elim (nat_le stamp_end now) as (λ v. e ≡ (if v then ClockRange else Worn) → IsOfAnyStep e) [ true ↦ (λ k. inr (inl k)) | false ↦ (λ k. inr (inr k)) ] h
 
+-- why an actor does no step
+not_ready : (journal : Journal) (now : ℕ) (e : Refusal) → IsNotReady journal now e → IsOfAnyStep e
+not_ready journal now e h = elim h [ inl worn ↦ worn_refused now e worn.1 | inr full ↦ inl full.1 ]
+
 -- why a step of a home is refused
 pub home_may : (w : WorldValue) (actor now : ℕ) (name : List ℕ) (id : HomeId) (a : HomeAct) (e : Refusal) → HomeRefused w actor now id (call_of a) e → MayRefuse (AtHome name id a) e
 home_may w actor now name id a e h = elim h [
   | inl no_such_home ↦ elim (nat_le stamp_end now) as (λ v. e ≡ (if v then ClockRange else QueueDoesNotExist) → MayRefuse (AtHome name id a) e) [ true ↦ (λ k. inl (inr (inl k))) | false ↦ (λ k. inr (inl k)) ] no_such_home.1
   | inr in_list ↦ elim in_list.3 [
-    | inl worn ↦ inl (worn_refused now e worn.1)
+    | inl unready ↦ inl (not_ready (journal_of actor w.journals) now e unready)
     | inr step ↦ elim step.1 [
-      | inl memory ↦ inl (inl memory)
+      | inl memory ↦ inl (inl memory.0)
       | inr rest ↦ elim rest [
         | inl clock ↦ inl (after_refused _ _ now e clock)
-        | inr own ↦ refusal_is _ _ _ a e own.2
+        | inr own ↦ elim own.2 [ inl copied ↦ inl (inl copied.0) | inr refused ↦ refusal_is _ _ _ a e refused ]
       ]
     ]
   ]
@@ -148,9 +153,9 @@ directory_cases d m name attributes e h = create_cases d attributes (queue_at d.
 -- why a queue is not made
 pub create_may : (w : WorldValue) (actor now : ℕ) (name : List ℕ) (attributes : Attributes) (e : Refusal) → CreateRefused w actor now name attributes e → MayRefuse (Directed (Create name attributes)) e
 create_may w actor now name attributes e h = elim h [
-  | inl worn ↦ inl (worn_refused now e worn.1)
+  | inl unready ↦ inl (not_ready (journal_of actor w.journals) now e unready)
   | inr step ↦ elim step.1 [
-    | inl memory ↦ inl (inl memory)
+    | inl memory ↦ inl (inl memory.0)
     | inr rest ↦ elim rest [
       | inl clock ↦ inl (after_refused _ _ now e clock)
       | inr own ↦ inr (directory_cases _ _ name attributes e own.2)

@@ -84,11 +84,11 @@ pub refused_unmade : (old : WorldValue) (actor now : ℕ) (id : HomeId) (call : 
     → HomeRefused old actor now id call NoMemory
 refused_unmade old actor now id call place numbered least found pos =
     let home = home_there old id place numbered least found in
-    inr (home.0, home.1, home.2, subst (λ (b : Journal). IsHomeRefused home.1 b now call NoMemory) (sym (lost_there actor old.journals pos)) (inr (new_is_not_worn actor, inl refl)))
+    inr (home.0, home.1, home.2, subst (λ (b : Journal). IsHomeRefused home.1 b now call NoMemory) (sym (lost_there actor old.journals pos)) (inl (inr (new_is_not_worn actor, refl, refl))))
 
 pub create_unmade : (old : WorldValue) (actor now : ℕ) (name : List ℕ) (attributes : Attributes) → position (is_of actor) old.journals ≡ None → CreateRefused old actor now name attributes NoMemory
 create_unmade old actor now name attributes pos =
-    subst (λ (b : Journal). IsCreateRefused old.directory b now (Create name attributes) NoMemory) (sym (lost_there actor old.journals pos)) (inr (new_is_not_worn actor, inl refl))
+    subst (λ (b : Journal). IsCreateRefused old.directory b now (Create name attributes) NoMemory) (sym (lost_there actor old.journals pos)) (inl (inr (new_is_not_worn actor, refl, refl)))
 
 pub created_opened : (old : WorldValue) (actor now : ℕ) (name : List ℕ) (attributes : Attributes) (made : QueueSettings) (after : DirectoryHistory) (mine recorded_in : Journal)
     → mine ≡ slice_index_or (opened actor old.journals) (index_in actor old.journals) mine

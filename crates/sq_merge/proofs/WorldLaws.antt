@@ -69,10 +69,10 @@ recorded_kept journals actor recorded_in a P own more h =
     ]
 
 -- the new one is there
-new_recorded : (journals : List Journal) (actor : ℕ) (n : RecordValue) (P : RecordValue → Type 0) → P n → IsRecorded (put_journal (with_record (journal_of actor journals) n) journals) actor P
-new_recorded journals actor n P p =
-    let t = put_there (with_record (journal_of actor journals) n) journals in
-    record { at = t.0; index = length (journal_of actor journals).records; journal = with_record (journal_of actor journals) n; its_record = n; in_list = record { in_journals = t.1; in_records = get_new (journal_of actor journals).records n }; of_actor = journal_own actor journals; of_event = p }
+new_recorded : (journals : List Journal) (actor : ℕ) (n : RecordValue) (room : ℕ) (P : RecordValue → Type 0) → P n → IsRecorded (put_journal (with_record (journal_of actor journals) n room) journals) actor P
+new_recorded journals actor n room P p =
+    let t = put_there (with_record (journal_of actor journals) n room) journals in
+    record { at = t.0; index = length (journal_of actor journals).records; journal = with_record (journal_of actor journals) n room; its_record = n; in_list = record { in_journals = t.1; in_records = get_new (journal_of actor journals).records n }; of_actor = journal_own actor journals; of_event = p }
 
 -- a record that was there before, of the same actor
 record WasRecord (journals : List Journal) (i : ℕ) (actor : ℕ) (m : RecordValue) : Type 0 where
@@ -88,9 +88,9 @@ was_own journals actor i m h = elim (journal_there actor journals) [
 ]
 
 -- a record after a step was there, or is the new one
-old_or_new : (journals : List Journal) (actor : ℕ) (n : RecordValue) (b i : ℕ) (x : Journal) (m : RecordValue) → IsRecordAt (put_journal (with_record (journal_of actor journals) n) journals) b i x m
+old_or_new : (journals : List Journal) (actor : ℕ) (n : RecordValue) (room : ℕ) (b i : ℕ) (x : Journal) (m : RecordValue) → IsRecordAt (put_journal (with_record (journal_of actor journals) n room) journals) b i x m
     → WasRecord journals i x.actor m ⊎ ((x.actor ≡ actor) × (i ≡ length (journal_of actor journals).records) × (m ≡ n))
-old_or_new journals actor n b i x m h = elim (put_cases (with_record (journal_of actor journals) n) journals b x h.in_journals) [
+old_or_new journals actor n room b i x m h = elim (put_cases (with_record (journal_of actor journals) n room) journals b x h.in_journals) [
   | inl k ↦ inl (record { at = b; journal = x; in_list = record { in_journals = k; in_records = h.in_records }; own = refl })
   | inr same ↦ (
       let own : x.actor ≡ actor = ap (λ (y : Journal). y.actor) same ∙ journal_own actor journals in
@@ -107,14 +107,14 @@ journal_counted journals actor counted = elim (journal_there actor journals) [
   | inr none ↦ rw none refl
 ]
 
-exact_more : (w : WorldValue) (actor : ℕ) (n : RecordValue) → IsKeptWorld w → place_of_record n ≡ (journal_of actor w.journals).next → (b i : ℕ) (x : Journal) (m : RecordValue) → IsRecordAt (put_journal (with_record (journal_of actor w.journals) n) w.journals) b i x m → place_of_record m ≡ i
-exact_more w actor n kept place b i x m h = elim (old_or_new w.journals actor n b i x m h) [
+exact_more : (w : WorldValue) (actor : ℕ) (n : RecordValue) (room : ℕ) → IsKeptWorld w → place_of_record n ≡ (journal_of actor w.journals).next → (b i : ℕ) (x : Journal) (m : RecordValue) → IsRecordAt (put_journal (with_record (journal_of actor w.journals) n room) w.journals) b i x m → place_of_record m ≡ i
+exact_more w actor n room kept place b i x m h = elim (old_or_new w.journals actor n room b i x m h) [
   | inl was ↦ kept.exact was.at i was.journal m was.in_list
   | inr new ↦ ap place_of_record new.2 ∙ place ∙ journal_counted w.journals actor kept.counted ∙ sym new.1
 ]
 
-counted_more : (w : WorldValue) (actor : ℕ) (n : RecordValue) → IsKeptWorld w → (b : ℕ) (x : Journal) → slice_get (put_journal (with_record (journal_of actor w.journals) n) w.journals) b ≡ Some x → x.next ≡ length x.records
-counted_more w actor n kept b x h = elim (put_cases (with_record (journal_of actor w.journals) n) w.journals b x h) [
+counted_more : (w : WorldValue) (actor : ℕ) (n : RecordValue) (room : ℕ) → IsKeptWorld w → (b : ℕ) (x : Journal) → slice_get (put_journal (with_record (journal_of actor w.journals) n room) w.journals) b ≡ Some x → x.next ≡ length x.records
+counted_more w actor n room kept b x h = elim (put_cases (with_record (journal_of actor w.journals) n room) w.journals b x h) [
   | inl k ↦ kept.counted b x k
   | inr same ↦ rw same (omega (arith, length-append (journal_of actor w.journals).records (n ∷ []), journal_counted w.journals actor kept.counted))
 ]
@@ -146,7 +146,7 @@ module _ (old : WorldValue) (actor now : ℕ) (name : Option (List ℕ)) (id : H
   homes = slice_set old.homes s.at s.after
 
   abbrev journals : List Journal
-  journals = put_journal (with_record (journal_of actor old.journals) (OfHome its_record)) old.journals
+  journals = put_journal (with_record (journal_of actor old.journals) (OfHome its_record) s.recorded_in.room) old.journals
 
   same_home : s.after.site.home ≡ s.before.site.home
   same_home = ap (λ (x : _). x.home) s.moves.does.site
@@ -182,14 +182,14 @@ module _ (old : WorldValue) (actor now : ℕ) (name : Option (List ℕ)) (id : H
   )
 
   all_have_events : (b i : ℕ) (journal : Journal) (n : RecordValue) → IsRecordAt journals b i journal n → HasItsEvent old.directory.events (histories_of homes) journal.actor n
-  all_have_events b i journal n h = elim (old_or_new old.journals actor (OfHome its_record) b i journal n h) [
+  all_have_events b i journal n h = elim (old_or_new old.journals actor (OfHome its_record) s.recorded_in.room b i journal n h) [
     | inl was ↦ subst (λ (a : ℕ). HasItsEvent old.directory.events (histories_of homes) a n) was.own
         (its_event_stays old.directory.events old.directory.events (histories_of old.homes) (histories_of homes) was.journal.actor n (λ k e g. g) home_grown (kept.has_its_event was.at i was.journal n was.in_list))
     | inr new ↦ subst (λ (a : ℕ). HasItsEvent old.directory.events (histories_of homes) a n) (sym new.0) (subst (λ (m : RecordValue). HasItsEvent old.directory.events (histories_of homes) actor m) (sym new.2) new_has_event)
   ]
 
   stays : (a : ℕ) (P : RecordValue → Type 0) → IsRecorded old.journals a P → IsRecorded journals a P
-  stays a P h = recorded_kept old.journals actor (with_record (journal_of actor old.journals) (OfHome its_record)) a P (journal_own actor old.journals) (λ i m g. get_old (journal_of actor old.journals).records (OfHome its_record) m i g) h
+  stays a P h = recorded_kept old.journals actor (with_record (journal_of actor old.journals) (OfHome its_record) s.recorded_in.room) a P (journal_own actor old.journals) (λ i m g. get_old (journal_of actor old.journals).records (OfHome its_record) m i g) h
 
   of_after : (k : ℕ) (e : HomeEvent) → slice_get s.after.events k ≡ Some e → IsRecorded journals e.actor (IsOfHome s.after.site.home k e)
   of_after k e h = elim (get_cases s.before.events event e k (rw s.moves.does.events at h)) [
@@ -197,7 +197,7 @@ module _ (old : WorldValue) (actor now : ℕ) (name : Option (List ℕ)) (id : H
     | inr g ↦ (
         let index : its_record.index ≡ k = ap (λ (n : HomeRecordValue). n.index) s.moves.does.record_is ∙ sym g.0 in
         let is : IsOfHome s.after.site.home k event (OfHome its_record) = (its_record.name, ap OfHome (subst (λ (x : ℕ). its_record ≡ home_record_of s.after.site.home x its_record.name event) index (same_record its_record by s.before.site.home s.after.site.home (length s.before.events) call name s.moves.does.record_is same_home))) in
-        subst (λ (x : HomeEvent). IsRecorded journals x.actor (IsOfHome s.after.site.home k x)) (sym g.1) (subst (λ (a : ℕ). IsRecorded journals a (IsOfHome s.after.site.home k event)) (sym (journal_own actor old.journals)) (new_recorded old.journals actor (OfHome its_record) (IsOfHome s.after.site.home k event) is)))
+        subst (λ (x : HomeEvent). IsRecorded journals x.actor (IsOfHome s.after.site.home k x)) (sym g.1) (subst (λ (a : ℕ). IsRecorded journals a (IsOfHome s.after.site.home k event)) (sym (journal_own actor old.journals)) (new_recorded old.journals actor (OfHome its_record) s.recorded_in.room (IsOfHome s.after.site.home k event) is)))
   ]
 
   all_recorded : (j k : ℕ) (h : HomeHistory) (e : HomeEvent) → IsHomeEvent (histories_of homes) j k h e → IsRecorded journals e.actor (IsOfHome h.home k e)
@@ -221,9 +221,9 @@ module _ (old : WorldValue) (actor now : ℕ) (name : Option (List ℕ)) (id : H
     has_its_event = all_have_events;
     directory_recorded = λ k e h. stays e.actor (IsOfDirectory k e) (kept.directory_recorded k e h);
     homes_recorded = all_recorded;
-    exact = exact_more old actor (OfHome its_record) kept (ap (λ (n : HomeRecordValue). n.place) s.moves.does.record_is);
-    counted = counted_more old actor (OfHome its_record) kept;
-    distinct = put_distinct (with_record (journal_of actor old.journals) (OfHome its_record)) old.journals kept.distinct;
+    exact = exact_more old actor (OfHome its_record) s.recorded_in.room kept (ap (λ (n : HomeRecordValue). n.place) s.moves.does.record_is);
+    counted = counted_more old actor (OfHome its_record) s.recorded_in.room kept;
+    distinct = put_distinct (with_record (journal_of actor old.journals) (OfHome its_record) s.recorded_in.room) old.journals kept.distinct;
   })
 
 module _ (old : WorldValue) (actor now : ℕ) (name : List ℕ) (attributes : Attributes) (made : QueueSettings) (new : WorldValue) (kept : IsKeptWorld old) (s : Created old new actor now name attributes made) where
@@ -240,7 +240,7 @@ module _ (old : WorldValue) (actor now : ℕ) (name : List ℕ) (attributes : At
   made_record = s.moves.its_record
 
   abbrev made_journals : List Journal
-  made_journals = put_journal (with_record (journal_of actor old.journals) (OfDirectory made_record)) old.journals
+  made_journals = put_journal (with_record (journal_of actor old.journals) (OfDirectory made_record) s.recorded_in.room) old.journals
 
   made_index : made_record.index ≡ length old.directory.events
   made_index = ap (λ (n : DirectoryRecordValue). n.index) s.moves.does.record_is
@@ -249,7 +249,7 @@ module _ (old : WorldValue) (actor now : ℕ) (name : List ℕ) (attributes : At
   made_grows k e h = rw s.moves.does.events (get_old old.directory.events made_event e k h)
 
   made_stays : (a : ℕ) (P : RecordValue → Type 0) → IsRecorded old.journals a P → IsRecorded made_journals a P
-  made_stays a P h = recorded_kept old.journals actor (with_record (journal_of actor old.journals) (OfDirectory made_record)) a P (journal_own actor old.journals) (λ i m g. get_old (journal_of actor old.journals).records (OfDirectory made_record) m i g) h
+  made_stays a P h = recorded_kept old.journals actor (with_record (journal_of actor old.journals) (OfDirectory made_record) s.recorded_in.room) a P (journal_own actor old.journals) (λ i m g. get_old (journal_of actor old.journals).records (OfDirectory made_record) m i g) h
 
   made_is : made_record ≡ directory_record_of made_record.index made_event
   made_is = subst (λ (i : ℕ). made_record ≡ directory_record_of i made_event) (sym made_index) s.moves.does.record_is
@@ -259,7 +259,7 @@ module _ (old : WorldValue) (actor now : ℕ) (name : List ℕ) (attributes : At
       (subst (λ (k : ℕ). slice_get (old.directory.events ++ made_event ∷ []) k ≡ Some made_event) (sym made_index) (get_new old.directory.events made_event))
 
   made_have_events : (b i : ℕ) (journal : Journal) (n : RecordValue) → IsRecordAt made_journals b i journal n → HasItsEvent s.after.events (histories_of old.homes) journal.actor n
-  made_have_events b i journal n h = elim (old_or_new old.journals actor (OfDirectory made_record) b i journal n h) [
+  made_have_events b i journal n h = elim (old_or_new old.journals actor (OfDirectory made_record) s.recorded_in.room b i journal n h) [
     | inl was ↦ subst (λ (a : ℕ). HasItsEvent s.after.events (histories_of old.homes) a n) was.own
         (its_event_stays old.directory.events s.after.events (histories_of old.homes) (histories_of old.homes) was.journal.actor n made_grows (λ j h g. record { new = h; in_list = g; same = refl; more = λ k e f. f }) (kept.has_its_event was.at i was.journal n was.in_list))
     | inr new ↦ subst (λ (a : ℕ). HasItsEvent s.after.events (histories_of old.homes) a n) (sym new.0) (subst (λ (m : RecordValue). HasItsEvent s.after.events (histories_of old.homes) actor m) (sym new.2) (made_event, made_there, journal_own actor old.journals, made_is))
@@ -271,7 +271,7 @@ module _ (old : WorldValue) (actor now : ℕ) (name : List ℕ) (attributes : At
     | inr g ↦ (
         let index : made_record.index ≡ k = made_index ∙ sym g.0 in
         let is : IsOfDirectory k made_event (OfDirectory made_record) = ap OfDirectory (subst (λ (x : ℕ). made_record ≡ directory_record_of x made_event) index made_is) in
-        subst (λ (x : DirectoryEvent). IsRecorded made_journals x.actor (IsOfDirectory k x)) (sym g.1) (subst (λ (a : ℕ). IsRecorded made_journals a (IsOfDirectory k made_event)) (sym (journal_own actor old.journals)) (new_recorded old.journals actor (OfDirectory made_record) (IsOfDirectory k made_event) is)))
+        subst (λ (x : DirectoryEvent). IsRecorded made_journals x.actor (IsOfDirectory k x)) (sym g.1) (subst (λ (a : ℕ). IsRecorded made_journals a (IsOfDirectory k made_event)) (sym (journal_own actor old.journals)) (new_recorded old.journals actor (OfDirectory made_record) s.recorded_in.room (IsOfDirectory k made_event) is)))
   ]
 
   pub kept_created : IsKeptWorld new
@@ -280,9 +280,9 @@ module _ (old : WorldValue) (actor now : ℕ) (name : List ℕ) (attributes : At
     has_its_event = made_have_events;
     directory_recorded = made_recorded;
     homes_recorded = λ j k h e at. made_stays e.actor (IsOfHome h.home k e) (kept.homes_recorded j k h e at);
-    exact = exact_more old actor (OfDirectory made_record) kept (ap (λ (n : DirectoryRecordValue). n.place) s.moves.does.record_is);
-    counted = counted_more old actor (OfDirectory made_record) kept;
-    distinct = put_distinct (with_record (journal_of actor old.journals) (OfDirectory made_record)) old.journals kept.distinct;
+    exact = exact_more old actor (OfDirectory made_record) s.recorded_in.room kept (ap (λ (n : DirectoryRecordValue). n.place) s.moves.does.record_is);
+    counted = counted_more old actor (OfDirectory made_record) s.recorded_in.room kept;
+    distinct = put_distinct (with_record (journal_of actor old.journals) (OfDirectory made_record) s.recorded_in.room) old.journals kept.distinct;
   })
 
 -- an actor that has read the directory has the same records

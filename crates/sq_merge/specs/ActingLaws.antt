@@ -1,12 +1,12 @@
 -- A step of a call leaves its record with its actor, and no others.
 use Rattle.std.specs.Prelude.{◌≡◌, ℕ, List, Result, Ok, Err}
-use Rattle.std.proofs.Common.{◌∙◌, refl, ap}
+use Rattle.std.proofs.Common.{◌∙◌, refl, ap, sym, subst}
 use Rattle.sq_base.specs.declared.refusal.Refusal.{Refusal}
 use Rattle.sq_base.proofs.StampLaws.{after_above_second}
 use Rattle.sq_model.specs.declared.directory.DirectoryCall.TheVariants.{Create}
 use Rattle.sq_model.specs.declared.directory.DirectoryReply.TheVariants.{Made}
 use Rattle.sq_model.specs.RecordValues.{HomeRecordValue, DirectoryRecordValue, OfDirectory, OfHome, Journal}
-use Rattle.sq_steps.specs.Journals.{journal_of, put_journal, having_seen}
+use Rattle.sq_steps.specs.Journals.{journal_of, put_journal, having_seen, with_record}
 use Rattle.sq_steps.proofs.JournalListLaws.{journal_own, journal_put}
 use Rattle.sq_merge.specs.Acting.{ActorDoes, ActorStepped}
 use Rattle.sq_merge.specs.Asks.{Ask, Resolve, Directed, AtHome, Gave, Found, Answered, Replied, LeavesOf}
@@ -31,7 +31,7 @@ does_leaves actor now s t (Directed (Create name attributes)) (Answered (Made ma
       (
         ap (λ (m : DirectoryRecordValue). m.place) h.moves.does.record_is,
         after_above_second s.directory.last (journal_of actor s.journals).seen now h.moves.its_record.stamp h.moves.does.stamped,
-        mine_is actor s t h.recorded_in own (ap (λ (v : WorldValue). v.journals) h.changed) ∙ h.moves.recorded_as,
+        subst (λ (b : Journal). b ≡ with_record (journal_of actor s.journals) (OfDirectory h.moves.its_record) b.room) (sym (mine_is actor s t h.recorded_in own (ap (λ (v : WorldValue). v.journals) h.changed))) h.moves.recorded_as,
       ),
     )
 does_leaves actor now s t (AtHome name id act) (Replied reply) h =
@@ -48,7 +48,7 @@ does_leaves actor now s t (AtHome name id act) (Replied reply) h =
       (
         ap (λ (m : HomeRecordValue). m.place) h.moves.does.record_is,
         after_above_second h.before.last (journal_of actor s.journals).seen now h.moves.its_record.stamp h.moves.does.stamped,
-        mine_is actor s t h.recorded_in own (ap (λ (v : WorldValue). v.journals) h.changed) ∙ h.moves.recorded_as,
+        subst (λ (b : Journal). b ≡ with_record (journal_of actor s.journals) (OfHome h.moves.its_record) b.room) (sym (mine_is actor s t h.recorded_in own (ap (λ (v : WorldValue). v.journals) h.changed))) h.moves.recorded_as,
       ),
     )
 does_leaves actor now s t ask gave h = elim h [ ]

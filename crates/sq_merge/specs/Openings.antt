@@ -19,7 +19,7 @@ pub record IsServed (o : Options) : Type 0 where
 
 -- a home that was never opened
 abbrev pub never_opened : ℕ → Limits → ℕ → HistoryValue
-never_opened per_queue limits at = record { site = record { home = home_id per_queue at; limits = limits }; home = Unopened; last = start; events = [] }
+never_opened per_queue limits at = record { site = record { home = home_id per_queue at; limits = limits }; home = Unopened; last = start; events = []; room = 0 }
 
 -- so many of them
 abbrev pub never_opened_homes : ℕ → Limits → ℕ → List HistoryValue
@@ -33,7 +33,7 @@ limits_of o = record { rows = o.rows; flights = o.flights / o.homes }
 -- no queue is made yet, and nothing was done
 unfoldable pub new_world : Options → WorldValue
 new_world o = record {
-  directory = record { directory = record { queues = []; places = o.queues }; last = start; events = [] };
+  directory = record { directory = record { queues = []; places = o.queues }; last = start; events = []; room = 0 };
   per_queue = o.homes;
   sample = o.sample;
   homes = never_opened_homes o.homes (limits_of o) (o.queues * o.homes);

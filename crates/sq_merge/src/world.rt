@@ -78,7 +78,7 @@ impl World {
             flights: options.flights / options.homes,
         };
         Ok(World {
-            directory: Directory::new(alloc, options.queues),
+            directory: Directory::new(alloc, options.queues)?,
             per_queue,
             sample: HomeCount::of(options.sample),
             homes: never_opened_homes(alloc, options.queues, per_queue, &limits)?,

@@ -39,12 +39,13 @@ abbrev pub stamp_of : RecordValue → StampValue
 stamp_of (OfDirectory n) = n.stamp
 stamp_of (OfHome n) = n.stamp
 
--- an actor: the number of its next step, what it has seen, and its records in their order
+-- an actor: the number of its next step, what it has seen, its records in their order, and for how many more there was memory when the last one was kept
 pub record Journal : Type 0 where
   pub actor : ℕ
   pub next : ℕ
   pub seen : StampValue
   pub records : List RecordValue
+  pub room : ℕ
 
 abbrev pub actor_of : Journal → Actor
 actor_of journal = record { number = journal.actor; place = journal.next; seen = journal.seen }

@@ -1,5 +1,5 @@
 //! Lists of rows.
-ghost use Rattle.std.specs.Prelude.{◌≡◌, [], ◌∷◌, ◌++◌, OnOk, IfErr, IfOk, length};
+ghost use Rattle.std.specs.Prelude.{◌≡◌, ◌<◌, [], ◌∷◌, ◌++◌, OnOk, IfErr, IfOk, length};
 
 use sq_base::body::Body;
 use sq_base::refusal::Refusal;
@@ -74,10 +74,10 @@ pub fn copy_row(row: &Row) -> Result<Row, Refusal>
     })
 }
 
-/// The same rows.
+/// The same rows. Refused as NoMemory, where there are any.
 pub fn copy_rows(alloc: Global, rows: &[Row]) -> Result<Rows, Refusal>
     ensures copy { IfOk result (λ copy. copy ≡ rows.now) }
-    ensures err { IfErr result (λ e. e ≡ Refusal.NoMemory) }
+    ensures err { IfErr result (λ e. (e ≡ Refusal.NoMemory) × (0 < length rows.now)) }
 {
     let mut copies = Rows::new(alloc);
     for row in rows {

@@ -1,9 +1,10 @@
 -- A look, by what it gives: the rows, or none where too many are in flight.
-use Rattle.std.specs.Prelude.{ℕ, ◌+◌, List, map, Option, Some, None, unwrap_or}
+use Rattle.std.specs.Prelude.{◌≡◌, ℕ, ◌+◌, ◌<◌, true, List, length, map, Option, Some, None, unwrap_or}
+use Rattle.std.specs.List.{list_any}
 use Rattle.sq_base.specs.declared.row.Row.{Row}
 use Rattle.sq_model.specs.declared.replies.HomeReply.{HomeReply}
 use Rattle.sq_model.specs.declared.replies.HomeReply.TheVariants.{Looked, Over}
-use Rattle.sq_model.specs.Rows.{ms, trimmed, serials_of, received_if}
+use Rattle.sq_model.specs.Rows.{ms, trimmed, is_live, serials_of, received_if}
 use Rattle.sq_model.specs.Homes.{Home, Unopened, Serving, Closed}
 
 abbrev pub look_reply : Option (List Row) → HomeReply
@@ -16,6 +17,17 @@ look_after (Serving s v n rows) m timeout None = Serving s v n (trimmed s m rows
 look_after (Serving s v n rows) m timeout (Some picked) =
     Serving s v n (map (received_if s (serials_of picked) m (m + ms (unwrap_or timeout s.timeout))) (trimmed s m rows))
 look_after home m timeout picked = home
+
+-- a message that a look may give is there
+abbrev pub HasLive : Home → ℕ → Type 0
+HasLive (Serving s v n rows) m = list_any (is_live s m) (trimmed s m rows) ≡ true
+HasLive Unopened m = ⊥
+HasLive Closed m = ⊥
+
+-- rows are given
+abbrev pub GivesRows : Option (List Row) → Type 0
+GivesRows None = ⊥
+GivesRows (Some picked) = 0 < length picked
 
 -- the home takes requests
 abbrev pub IsServing : Home → Type 0

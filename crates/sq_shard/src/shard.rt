@@ -5,7 +5,7 @@ ghost use Rattle.sq_model.specs.Homes.{HomeStep, home_refusal};
 ghost use Rattle.sq_model.specs.Homes.{Unopened as Never, Closed as Gone};
 ghost use Rattle.sq_model.specs.declared.calls.HomeCall.TheVariants.{Configure, Close, Send, Look, Delete, Change, Purge, Count};
 ghost use Rattle.sq_model.specs.declared.replies.HomeReply.TheVariants.{Done, Sent, Counted};
-ghost use Rattle.sq_shard.specs.Looks.{look_reply, look_after, IsServing};
+ghost use Rattle.sq_shard.specs.Looks.{look_reply, look_after, GivesRows, HasLive, IsServing};
 ghost use Rattle.sq_model.specs.Rows.{ms};
 
 use crate::rows;
@@ -160,8 +160,8 @@ impl<S: Store> Shard<S> {
 
     /// What a look at this moment gives, as it stands after it, and nothing is changed yet: up to `max` messages,
     /// or none where live messages are there and too many are in flight.
-    /// Refused as QueueDoesNotExist (not serving), NoMemory.
-    #[tactic(auto, unfolding(sq_model::specs::Homes::HomeStep, sq_model::specs::Homes::home_refusal), using(sq_model::proofs::RowLaws::rises_trimmed, crate::proofs::Few::few_trimmed, sq_model::proofs::RowLaws::rises_received, crate::proofs::Few::few_mapped))]
+    /// Refused as QueueDoesNotExist (not serving), NoMemory (where a live message is there).
+    #[tactic(auto, unfolding(sq_model::specs::Homes::HomeStep, sq_model::specs::Homes::home_refusal), using(sq_model::proofs::RowLaws::rises_trimmed, crate::proofs::Few::few_trimmed, sq_model::proofs::RowLaws::rises_received, crate::proofs::Few::few_mapped, crate::proofs::LookLaws::nothing_given))]
     pub fn choose(
         &self,
         alloc: Global,
@@ -171,15 +171,20 @@ impl<S: Store> Shard<S> {
     ) -> Result<Option<Rows>, Refusal>
         requires { moment < stamp_end }
         ensures step { IfOk result (λ picked. HomeStep self.now.site self.now.home moment (Look max timeout) (look_reply picked) (look_after self.now.home moment timeout picked)) }
-        ensures refusal { IfErr result (λ e. ((e ≡ Refusal.NoMemory) × IsServing self.now.home) ⊎ (home_refusal self.now.site self.now.home moment (Look max timeout) ≡ Some e)) }
+        ensures live { IfOk result (λ picked. GivesRows picked → HasLive self.now.home moment) }
+        ensures refusal { IfErr result (λ e. ((e ≡ Refusal.NoMemory) × HasLive self.now.home moment) ⊎ (home_refusal self.now.site self.now.home moment (Look max timeout) ≡ Some e)) }
     {
         // The status is checked before a look asks for memory.
         let Status::Serving = self.status else {
             return Err(Refusal::QueueDoesNotExist);
         };
+        // Nor is any asked for where nothing is given.
+        if !self.store.has_live(&self.settings, moment) {
+            return Ok(Some(Rows::new(alloc)));
+        }
         let flying = self.store.count_flying(&self.settings, moment);
         let room = (self.site.limits.flights as usize).saturating_sub(flying);
-        if room == 0 && self.store.has_live(&self.settings, moment) {
+        if room == 0 {
             return Ok(None);
         }
         let until = after_seconds(moment, timeout.unwrap_or(self.settings.timeout).get());

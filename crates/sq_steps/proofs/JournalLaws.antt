@@ -50,8 +50,8 @@ less_below a b less = elim (below_or a b) [
   ]
 ]
 
-pub journal_more : (b : Journal) (n : RecordValue) → IsJournal b → place_of_record n ≡ b.next → Below b.seen (stamp_of n) → IsJournal (with_record b n)
-journal_more b n is place above =
+pub journal_more : (b : Journal) (n : RecordValue) (room : ℕ) → IsJournal b → place_of_record n ≡ b.next → Below b.seen (stamp_of n) → IsJournal (with_record b n room)
+journal_more b n room is place above =
     let low = all_weaken (λ m. place_of_record m < b.next) (λ m. place_of_record m < place_of_record n) b.records (λ m lt. omega (arith, lt, place)) is.below in
     let under = all_weaken (λ m. IsSeen (stamp_of m) b.seen) (λ m. Below (stamp_of m) (stamp_of n)) b.records (λ m s. seen_below (stamp_of m) b.seen (stamp_of n) s above) is.saw in
     record {
@@ -69,16 +69,16 @@ journal_above b stamp is less = record {
 }
 
 -- the record of a step of a home is above what its actor has
-pub home_journal_more : (old new : HistoryValue) (journal : Journal) (now : ℕ) (name : Option (List ℕ)) (call : HomeCall) (its_record : HomeRecordValue)
-    → IsJournal journal → RecordsStep old new (actor_of journal) now name call its_record → IsJournal (with_record journal (OfHome its_record))
-home_journal_more old new journal now name call its_record is more =
-    journal_more journal (OfHome its_record) is (ap (λ (n : HomeRecordValue). n.place) more.record_is) (after_above_second old.last journal.seen now its_record.stamp more.stamped)
+pub home_journal_more : (old new : HistoryValue) (journal : Journal) (now : ℕ) (name : Option (List ℕ)) (call : HomeCall) (its_record : HomeRecordValue) (room : ℕ)
+    → IsJournal journal → RecordsStep old new (actor_of journal) now name call its_record → IsJournal (with_record journal (OfHome its_record) room)
+home_journal_more old new journal now name call its_record room is more =
+    journal_more journal (OfHome its_record) room is (ap (λ (n : HomeRecordValue). n.place) more.record_is) (after_above_second old.last journal.seen now its_record.stamp more.stamped)
 
 -- and so is that of a step of the directory
-pub directory_journal_more : (old new : DirectoryHistory) (journal : Journal) (now : ℕ) (call : DirectoryCall) (its_record : DirectoryRecordValue)
-    → IsJournal journal → DirectoryRecords old new (actor_of journal) now call its_record → IsJournal (with_record journal (OfDirectory its_record))
-directory_journal_more old new journal now call its_record is more =
-    journal_more journal (OfDirectory its_record) is (ap (λ (n : DirectoryRecordValue). n.place) more.record_is) (after_above_second old.last journal.seen now its_record.stamp more.stamped)
+pub directory_journal_more : (old new : DirectoryHistory) (journal : Journal) (now : ℕ) (call : DirectoryCall) (its_record : DirectoryRecordValue) (room : ℕ)
+    → IsJournal journal → DirectoryRecords old new (actor_of journal) now call its_record → IsJournal (with_record journal (OfDirectory its_record) room)
+directory_journal_more old new journal now call its_record room is more =
+    journal_more journal (OfDirectory its_record) room is (ap (λ (n : DirectoryRecordValue). n.place) more.record_is) (after_above_second old.last journal.seen now its_record.stamp more.stamped)
 
 -- of two stamps the later is not below either
 pub later_first : (a b : StampValue) → IsSeen a (later a b)

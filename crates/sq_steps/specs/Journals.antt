@@ -5,12 +5,13 @@ use Rattle.std.specs.Ordering.{is_lt}
 use Rattle.sq_base.specs.StampValue.{StampValue}
 use Rattle.sq_base.specs.Stamps.{start, stamp_end, stamp_cmp}
 use Rattle.sq_base.specs.declared.refusal.Refusal.{Refusal}
-use Rattle.sq_base.specs.declared.refusal.Refusal.TheVariants.{ClockRange, Worn}
+use Rattle.sq_base.specs.declared.refusal.Refusal.TheVariants.{ClockRange, NoMemory, Worn}
 use Rattle.sq_model.specs.declared.calls.HomeCall.{HomeCall}
 use Rattle.sq_model.specs.declared.replies.HomeReply.{HomeReply}
 use Rattle.sq_model.specs.declared.directory.DirectoryCall.{DirectoryCall}
 use Rattle.sq_model.specs.declared.directory.DirectoryReply.{DirectoryReply}
 use Rattle.sq_model.specs.RecordValues.{HomeRecordValue, DirectoryRecordValue, RecordValue, OfDirectory, OfHome, place_of_record, stamp_of, Journal, actor_of, RecordsRise}
+use Rattle.sq_history.specs.Rooms.{KeepsRoom}
 use Rattle.sq_history.specs.HistoryValue.{HistoryValue}
 use Rattle.sq_history.specs.Histories as home
 use Rattle.sq_directory.specs.DirectoryHistory.{DirectoryHistory}
@@ -23,7 +24,7 @@ last_place = 18446744073709551615
 
 -- an actor that did nothing yet
 abbrev pub new_journal : ℕ → Journal
-new_journal actor = record { actor = actor; next = 0; seen = start; records = [] }
+new_journal actor = record { actor = actor; next = 0; seen = start; records = []; room = 0 }
 
 -- True of each actor: its records rise, their numbers are below its next, and it has seen their stamps.
 pub record IsJournal (journal : Journal) : Type 0 where
@@ -35,9 +36,9 @@ pub record IsJournal (journal : Journal) : Type 0 where
 abbrev pub RecordsRiseAt : List Journal → ℕ → Type 0
 RecordsRiseAt journals b = (journal : Journal) → slice_get journals b ≡ Some journal → RecordsRise journal.records
 
--- one step more, with its record
-abbrev pub with_record : Journal → RecordValue → Journal
-with_record journal n = record { actor = journal.actor; next = journal.next + 1; seen = stamp_of n; records = journal.records ++ n ∷ [] }
+-- one step more, with its record, and room for so many more
+abbrev pub with_record : Journal → RecordValue → ℕ → Journal
+with_record journal n room = record { actor = journal.actor; next = journal.next + 1; seen = stamp_of n; records = journal.records ++ n ∷ []; room = room }
 
 -- the greater of two stamps
 abbrev pub later : StampValue → StampValue → StampValue
@@ -52,26 +53,32 @@ pub record HomeMoves (old new : HistoryValue) (journal recorded_in : Journal) (n
   pub its_record : HomeRecordValue
   pub does : home.RecordsStep old new (actor_of journal) now name call its_record
   pub answered : its_record.reply ≡ reply
-  pub recorded_as : recorded_in ≡ with_record journal (OfHome its_record)
+  pub recorded_as : recorded_in ≡ with_record journal (OfHome its_record) recorded_in.room
+  pub room : KeepsRoom journal.room recorded_in.room
 
 -- The directory goes on by one event of the actor, that has the record of it and gets its reply.
 pub record DirectoryMoves (old new : DirectoryHistory) (journal recorded_in : Journal) (now : ℕ) (call : DirectoryCall) (reply : DirectoryReply) : Type 0 where
   pub its_record : DirectoryRecordValue
   pub does : directory.DirectoryRecords old new (actor_of journal) now call its_record
   pub answered : its_record.reply ≡ reply
-  pub recorded_as : recorded_in ≡ with_record journal (OfDirectory its_record)
+  pub recorded_as : recorded_in ≡ with_record journal (OfDirectory its_record) recorded_in.room
+  pub room : KeepsRoom journal.room recorded_in.room
 
 -- an actor whose count of steps is at its end does no step
 abbrev pub worn_at : ℕ → Refusal
 worn_at now = if nat_le stamp_end now then ClockRange else Worn
 
+-- why an actor does no step: the count of its steps is at its end, or no memory was found for a record
+abbrev pub IsNotReady : Journal → ℕ → Refusal → Type 0
+IsNotReady journal now e = ((journal.next ≡ last_place) × (e ≡ worn_at now)) ⊎ ((journal.next ≢ last_place) × (e ≡ NoMemory) × (journal.room ≡ 0))
+
 -- why an actor's step of a home is refused
 abbrev pub IsHomeRefused : HistoryValue → Journal → ℕ → HomeCall → Refusal → Type 0
-IsHomeRefused old journal now call e = ((journal.next ≡ last_place) × (e ≡ worn_at now)) ⊎ ((journal.next ≢ last_place) × home.IsRefused old (actor_of journal) now call e)
+IsHomeRefused old journal now call e = IsNotReady journal now e ⊎ ((journal.next ≢ last_place) × home.IsRefused old (actor_of journal) now call e)
 
 -- why an actor's step of the directory is refused
 abbrev pub IsCreateRefused : DirectoryHistory → Journal → ℕ → DirectoryCall → Refusal → Type 0
-IsCreateRefused old journal now call e = ((journal.next ≡ last_place) × (e ≡ worn_at now)) ⊎ ((journal.next ≢ last_place) × directory.IsDirectoryRefused old (actor_of journal) now call e)
+IsCreateRefused old journal now call e = IsNotReady journal now e ⊎ ((journal.next ≢ last_place) × directory.IsDirectoryRefused old (actor_of journal) now call e)
 
 -- this is the actor's of this number
 abbrev pub is_of : ℕ → Journal → Bool

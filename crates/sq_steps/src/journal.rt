@@ -1,20 +1,21 @@
 //! What an actor has seen, and the records of its steps; a step with its record.
-ghost use Rattle.std.specs.Prelude.{◌≡◌, ◌≢◌, ◌⊎◌, ◌==◌, ◌+◌, ◌<◌, ◌++◌, ◌∷◌, [], IfOk, IfErr, OnOk, OnErr, vec_len, vec_capacity};
+ghost use Rattle.std.specs.Prelude.{◌≡◌, ◌≢◌, ◌⊎◌, ◌==◌, ◌+◌, ◌<◌, ◌++◌, ◌∷◌, [], IfOk, IfErr, OnOk, OnErr};
 ghost use Rattle.std.specs.List.{list_any};
 ghost use Rattle.sq_model.specs.RecordValues.{RecordsRise, place_of_record, stamp_of};
 ghost use Rattle.sq_model.specs.declared.directory.DirectoryCall.TheVariants.{Create};
 ghost use Rattle.sq_model.specs.declared.directory.DirectoryReply.TheVariants.{Made};
 ghost use Rattle.sq_history.specs.Acts.{call_of};
+ghost use Rattle.sq_history.specs.Rooms.{IsReady, KeepsRoom};
 ghost use Rattle.sq_steps.specs.Records.{value_of_record, values_of_records};
 ghost use Rattle.sq_steps.specs.Journals.{new_journal, having_seen, without_record, last_place, worn_at, HomeMoves, DirectoryMoves, IsHomeRefused, IsCreateRefused};
 
 use crate::act::HomeAct;
-use crate::capacity::push_within_capacity;
 use crate::record::Record;
 use sq_base::name::QueueName;
 use sq_base::refusal::Refusal;
 use sq_base::stamp::{STAMP_END, Stamp};
 use sq_directory::directory::Directory;
+use sq_history::growing::Growing;
 use sq_history::recorded::Home;
 use sq_model::directory::{Attributes, QueueSettings};
 use sq_model::event::Actor;
@@ -27,7 +28,7 @@ use std::marker::Model;
 #[derive(Drop)]
 pub struct Journal {
     by: Actor,
-    records: Vec<Record>,
+    records: Growing<Record>,
 }
 
 impl Model for Journal {
@@ -37,9 +38,9 @@ impl Model for Journal {
 
     ghost Value = { Journal };
 
-    ghost view = { λ b. record { actor = b.by.number; next = b.by.place; seen = b.by.seen; records = values_of_records b.records.items } };
+    ghost view = { λ b. record { actor = b.by.number; next = b.by.place; seen = b.by.seen; records = values_of_records b.records.items; room = b.records.room } };
 
-    ghost invariant = { λ b. IsJournal (record { actor = b.by.number; next = b.by.place; seen = b.by.seen; records = values_of_records b.records.items }) };
+    ghost invariant = { λ b. IsJournal (record { actor = b.by.number; next = b.by.place; seen = b.by.seen; records = values_of_records b.records.items; room = b.records.room }) };
 }
 
 impl Journal {
@@ -53,7 +54,7 @@ impl Journal {
                 place: 0,
                 seen: Stamp::start(),
             },
-            records: Vec::new(alloc),
+            records: Growing::new(alloc),
         }
     }
 
@@ -86,7 +87,7 @@ impl Journal {
         ensures answered { result ≡ list_any (λ n. place_of_record n == place) self.old.records }
         ensures dropped { self.new ≡ without_record place self.old }
     {
-        let found = has_place(&self.records, place);
+        let found = has_place(self.records.as_slice(), place);
         self.records.retain(|record| record.place() != place);
         found
     }
@@ -110,35 +111,37 @@ fn worn_at(now: u64) -> Refusal
     }
 }
 
-// Makes room for the record of an actor's next step. Refused where the count of its steps is at its end, and then as
-// NoMemory.
-fn ready(by: &Actor, records: &mut Vec<Record>, now: u64) -> Result<(), Refusal>
+// Gets memory for the record of an actor's next step. Refused where the count of its steps is at its end, and then as
+// NoMemory where there was room for none.
+fn ready(by: &Actor, records: &mut Growing<Record>, now: u64) -> Result<(), Refusal>
     ensures items { records.new.items ≡ records.old.items }
-    ensures room { OnOk result (vec_len records.new < vec_capacity records.new) }
+    ensures room { records.new.room ≡ records.old.room }
+    ensures ready { OnOk result (IsReady records.new.room records.new.reserved) }
     ensures more { OnOk result (by.now.place < last_place) }
-    ensures refused { IfErr result (λ e. ((by.now.place ≡ last_place) × (e ≡ worn_at now)) ⊎ ((by.now.place ≢ last_place) × (e ≡ Refusal.NoMemory))) }
+    ensures refused { IfErr result (λ e. ((by.now.place ≡ last_place) × (e ≡ worn_at now)) ⊎ ((by.now.place ≢ last_place) × (e ≡ Refusal.NoMemory) × (records.old.room ≡ 0))) }
 {
     if by.place == u64::MAX {
         return Err(worn_at(now));
     }
-    records.try_reserve(1)?;
-    Ok(())
+    records.reserve()
 }
 
 // Counts an actor's step that was done, and keeps the record of it.
-fn keep(by: &mut Actor, records: &mut Vec<Record>, kept: Record)
+fn keep(by: &mut Actor, records: &mut Growing<Record>, kept: Record)
     requires more { by.old.place < last_place }
-    requires room { vec_len records.old < vec_capacity records.old }
+    requires ready { IsReady records.old.room records.old.reserved }
     ensures counted { by.new ≡ record { number = by.old.number; place = by.old.place + 1; seen = stamp_of (value_of_record kept) } }
     ensures kept { records.new.items ≡ records.old.items ++ kept ∷ [] }
+    ensures room { KeepsRoom records.old.room records.new.room }
 {
     by.place += 1;
     by.seen = kept.stamp();
-    push_within_capacity(records, kept);
+    records.push(kept);
 }
 
 /// A step of a home that is lent, by an actor that is lent; all that grows does so before it. A clock reading is in ms.
-/// Refused as NoMemory, ClockRange, Worn, and then as the home's call.
+/// Refused as NoMemory (the actor's records or the home's history have room for none, or bytes are copied: of a send,
+/// and of a look where a live message is there), ClockRange, Worn, and then as the home's call.
 pub fn home_step(
     alloc: Global,
     home: &mut Home,
@@ -159,7 +162,8 @@ pub fn home_step(
 }
 
 /// A step of the directory that is lent, by an actor that is lent; all that grows does so before it. A clock reading is
-/// in ms. Refused as NoMemory, ClockRange, Worn, QueueNameExists, TableFull.
+/// in ms. Refused as NoMemory (the actor's records or the directory's history have room for none), ClockRange, Worn,
+/// QueueNameExists, TableFull.
 pub fn create_step(
     directory: &mut Directory,
     journal: &mut Journal,

@@ -247,7 +247,7 @@ fn made(rt: &impl Abort, alloc: Global, names: &[&str]) -> Parts {
 
 fn with_another_directory(rt: &impl Abort, alloc: Global) -> Option<AuditFault> {
     let mut parts = made(rt, alloc, &["a", "b"]);
-    parts.directory = Directory::new(alloc, 2);
+    parts.directory = Directory::new(alloc, 2).expect(rt, "memory");
     fault(alloc, &parts)
 }
 

@@ -6,4 +6,4 @@ use Rattle.sq_steps.proofs.journal.home_step.Goals as goal
 pub invariant_of-journal-2 : goal.invariant_of-journal-2
 invariant_of-journal-2 c =
     rw (c.keep.ensures.counted, c.keep.ensures.kept, c.ready.ensures.items, map-append value_of_record c.journal.inside.records.items)
-    (home_journal_more _ _ _ c.args.now c.args.name _ c.in_ok-reply.record c.journal.invariant c.in_ok-reply.ensures.recorded)
+    (home_journal_more _ _ _ c.args.now c.args.name _ c.in_ok-reply.record c.keep.new.records.room c.journal.invariant c.in_ok-reply.ensures.recorded)

@@ -13,12 +13,12 @@ left c =
     ap values_of_records kept ∙ filter_under value_of_record (λ n. not (place_of_record n == c.args.place)) c.self.inside.records.items
 
 pub invariant_of-self : goal.invariant_of-self
-invariant_of-self c = rw (left c) (journal_less _ c.args.place c.self.invariant)
+invariant_of-self c = rw (c.retain.ensures.room, left c) (journal_less _ c.args.place c.self.invariant)
 
 pub returns-clause-answered : goal.returns-clause-answered
-returns-clause-answered c = rw (← c.self.view_is) ((rw c.deref.ensures.value at c.has_place-found.ensures) ∙ sym (any_map value_of_record (λ n. place_of_record n == c.args.place) c.self.inside.records.items))
+returns-clause-answered c = rw (← c.self.view_is) ((rw c.as_slice.ensures at c.has_place-found.ensures) ∙ sym (any_map value_of_record (λ n. place_of_record n == c.args.place) c.self.inside.records.items))
 
 pub returns-clause-dropped : goal.returns-clause-dropped
 returns-clause-dropped c =
-    rw (← c.self.view_is)
-    (ap (λ (ns : List RecordValue). record { actor = c.self.inside.by.number; next = c.self.inside.by.place; seen = c.self.inside.by.seen; records = ns }) (left c))
+    rw (← c.self.view_is, c.retain.ensures.room)
+    (ap (λ (ns : List RecordValue). record { actor = c.self.inside.by.number; next = c.self.inside.by.place; seen = c.self.inside.by.seen; records = ns; room = c.self.inside.records.room }) (left c))

@@ -1,0 +1,18 @@
+-- For how many more items a list has memory, and what a step leaves of it.
+use Rattle.std.specs.Prelude.{◌≡◌, ℕ, ◌+◌, ◌<◌, ◌≤◌, List}
+
+-- What contracts see of a list that gets memory before a step: its items, for how many more there was memory when the last one was put, and for how many there is now.
+pub record GrowingValue (T : Type 0) : Type 0 where
+  pub items : List T
+  pub room : ℕ
+  pub reserved : ℕ
+
+-- there is memory for one item more, and for four where it shows room for none
+pub record IsReady (room reserved : ℕ) : Type 0 where
+  pub there : 0 < reserved
+  pub got : room ≡ 0 → 4 ≤ reserved
+
+-- one item more uses room for one; where there was none, there is room for three more
+pub record KeepsRoom (old new : ℕ) : Type 0 where
+  pub used : old ≤ new + 1
+  pub got : old ≡ 0 → 3 ≤ new

@@ -1,0 +1,80 @@
+//! Lists that grow within memory that was got before.
+ghost use Rattle.std.specs.Prelude.{◌≡◌, ◌++◌, ◌∷◌, [], OnOk, IfErr};
+ghost use Rattle.std.specs.Fn.{CalledAt};
+ghost use Rattle.std.specs.List.Retain.{IsFiltered};
+ghost use Rattle.sq_history.specs.Rooms.{IsReady, KeepsRoom};
+
+use sq_base::refusal::Refusal;
+use std::alloc::Global;
+use std::marker::Model;
+
+/// A list that gets memory before a step, and shows for how many more items it had memory when its last item was put: a
+/// step that is refused may have got more, and changes nothing of what is shown.
+#[derive(Drop)]
+pub struct Growing<T> {
+    items: Vec<T>,
+    room: usize,
+}
+
+impl<T> Model for Growing<T> {
+    ghost use Rattle.std.specs.Prelude.{◌-◌, ◌≤◌, vec_len, vec_capacity};
+    ghost use Rattle.sq_history.specs.Rooms.{GrowingValue};
+
+    ghost Value = { GrowingValue T };
+
+    ghost view = { λ g. record { items = g.items.items; room = g.room; reserved = vec_capacity g.items - vec_len g.items } };
+
+    ghost invariant = { λ g. g.room ≤ vec_capacity g.items - vec_len g.items };
+}
+
+impl<T: Drop> Growing<T> {
+    /// No item, and memory for none.
+    pub fn new(alloc: Global) -> Growing<T>
+        ensures { result ≡ record { items = []; room = 0; reserved = 0 } }
+    {
+        Growing {
+            items: Vec::new(alloc),
+            room: 0,
+        }
+    }
+
+    /// The items in order.
+    pub fn as_slice(&self) -> &[T]
+        ensures { result.now ≡ self.now.items }
+    {
+        self.items.as_slice()
+    }
+
+    /// Gets memory for one item more, and for four at once where it shows room for none. Refused as NoMemory, there
+    /// alone.
+    pub fn reserve(&mut self) -> Result<(), Refusal>
+        ensures items { self.new.items ≡ self.old.items }
+        ensures room { self.new.room ≡ self.old.room }
+        ensures ready { OnOk result (IsReady self.new.room self.new.reserved) }
+        ensures refused { IfErr result (λ e. (e ≡ Refusal.NoMemory) × (self.old.room ≡ 0)) }
+    {
+        if self.room == 0 {
+            self.items.try_reserve(4)?;
+        }
+        Ok(())
+    }
+
+    /// Puts an item last, for which `reserve` got memory.
+    pub fn push(&mut self, item: T)
+        requires { IsReady self.old.room self.old.reserved }
+        ensures items { self.new.items ≡ self.old.items ++ item ∷ [] }
+        ensures room { KeepsRoom self.old.room self.new.room }
+    {
+        let _ = self.items.push(item);
+        self.room = self.items.capacity() - self.items.len();
+    }
+
+    /// Takes out the items that this does not hold of.
+    pub fn retain<F: FnMut(&T) -> bool>(&mut self, f: F)
+        requires { F.IsAlwaysCallable f }
+        ensures filtered { IsFiltered (CalledAt F.FnMut) f self.old.items self.new.items }
+        ensures room { self.new.room ≡ self.old.room }
+    {
+        self.items.retain(f);
+    }
+}
