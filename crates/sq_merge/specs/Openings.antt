@@ -7,15 +7,16 @@ use Rattle.sq_history.specs.HistoryValue.{HistoryValue}
 use Rattle.sq_merge.specs.WorldValue.{WorldValue}
 use Rattle.sq_audit.specs.HomeIds.{home_id}
 use Rattle.sq_merge.specs.declared.options.Options.{Options}
+use Rattle.sq_merge.specs.declared.options.TheConstants.{MOST_HOMES, MOST_QUEUES, MOST_ROWS, MOST_FLIGHTS, MOST_TRANSIT}
 
 -- all are in their ranges
 pub record IsServed (o : Options) : Type 0 where
-  pub homes : (1 ≤ o.homes) × (o.homes ≤ 16)
+  pub homes : (1 ≤ o.homes) × (o.homes ≤ MOST_HOMES)
   pub sample : (1 ≤ o.sample) × (o.sample ≤ o.homes)
-  pub queues : (1 ≤ o.queues) × (o.queues ≤ 1024)
-  pub rows : (1 ≤ o.rows) × (o.rows ≤ 1048576)
-  pub flights : (o.homes ≤ o.flights) × (o.flights ≤ 120000)
-  pub transit : (1 ≤ o.transit) × (o.transit ≤ 100000)
+  pub queues : (1 ≤ o.queues) × (o.queues ≤ MOST_QUEUES)
+  pub rows : (1 ≤ o.rows) × (o.rows ≤ MOST_ROWS)
+  pub flights : (o.homes ≤ o.flights) × (o.flights ≤ MOST_FLIGHTS)
+  pub transit : (1 ≤ o.transit) × (o.transit ≤ MOST_TRANSIT)
 
 -- a home that was never opened
 abbrev pub never_opened : ℕ → Limits → ℕ → HistoryValue

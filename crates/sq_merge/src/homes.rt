@@ -3,6 +3,7 @@ ghost use Rattle.std.specs.Prelude.{◌≡◌, ◌*◌, ◌≤◌, ◌<◌, nat_
 ghost use Rattle.sq_base.specs.Stamps.{stamp_end};
 ghost use Rattle.sq_base.specs.declared.refusal.Refusal.TheVariants.{ClockRange, QueueDoesNotExist};
 ghost use Rattle.sq_merge.specs.Openings.{never_opened, never_opened_homes};
+ghost use Rattle.sq_merge.specs.declared.options.TheConstants.{MOST_QUEUES};
 
 use sq_base::ids::{HomeId, HomeNo, QueueNo};
 use sq_base::refusal::Refusal;
@@ -47,7 +48,7 @@ pub(crate) fn never_opened_homes(
     per_queue: HomeCount,
     limits: &Limits,
 ) -> Result<Vec<Home>, Refusal>
-    requires { queues ≤ 1024 }
+    requires { queues ≤ MOST_QUEUES }
     ensures homes { IfOk result (λ homes. homes.items ≡ never_opened_homes per_queue limits.now (queues * per_queue)) }
     ensures refused { IfErr result (λ e. e ≡ Refusal.NoMemory) }
 {

@@ -16,7 +16,7 @@ ghost use Rattle.sq_model.specs.Matches.{IsMatched};
 use crate::acting::{Acting, call_at};
 use crate::calls::{Answer, Call};
 use crate::homes::{never_opened_homes, no_such_home};
-use crate::options::Options;
+use crate::options::{MOST_FLIGHTS, MOST_HOMES, MOST_QUEUES, MOST_ROWS, MOST_TRANSIT, Options};
 use sq_audit::homes::{Homes, home_index};
 use sq_audit::parts::Parts;
 use sq_base::ids::{HomeId, HomeNo, QueueNo};
@@ -282,10 +282,10 @@ impl World {
 fn is_served(o: &Options) -> bool
     ensures { result ≡ true ↔ IsServed o.now }
 {
-    (1 <= o.homes && o.homes <= 16)
+    (1 <= o.homes && o.homes <= MOST_HOMES)
         && (1 <= o.sample && o.sample <= o.homes)
-        && (1 <= o.queues && o.queues <= 1024)
-        && (1 <= o.rows && o.rows <= 1_048_576)
-        && (o.homes <= o.flights && o.flights <= 120_000)
-        && (1 <= o.transit && o.transit <= 100_000)
+        && (1 <= o.queues && o.queues <= MOST_QUEUES)
+        && (1 <= o.rows && o.rows <= MOST_ROWS)
+        && (o.homes <= o.flights && o.flights <= MOST_FLIGHTS)
+        && (1 <= o.transit && o.transit <= MOST_TRANSIT)
 }

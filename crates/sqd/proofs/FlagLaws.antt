@@ -3,6 +3,7 @@ use Rattle.std.proofs.Common.{◌≡◌, ◌∙◌, ℕ, Bool, Option, Some, Non
 use Rattle.clap.specs.Words.{Text, is_simple, is_simple_and_free}
 use Rattle.clap.proofs.OnLiterals.{clap_on_literals}
 use Rattle.sq_merge.specs.declared.options.Options.{Options}
+use Rattle.sq_merge.specs.declared.options.TheConstants.{MOST_HOMES}
 use Rattle.sqd.specs.CommandLine.{program_app}
 use Rattle.sqd.specs.Flags.{IsNumberOf, IsFlagOf, AreOptionsOf}
 
@@ -35,11 +36,11 @@ one_number None least greatest default n m a b = a.when_unset refl ∙ sym (b.wh
 one_number (Some text) least greatest default n m a b = (a.when_set text refl).value ∙ sym ((b.when_set text refl).value)
 
 -- the sample has its default from the homes that are asked for
-pub no_sample : (text_of : Text → Option Text) (homes default : ℕ) → IsNumberOf (text_of (codes "homes")) 1 16 4 homes → default ≡ min homes 2
-    → ((n : ℕ) → ¬ IsNumberOf (text_of (codes "sample")) 1 16 default n) → (o : Options) → ¬ AreOptionsOf text_of o
+pub no_sample : (text_of : Text → Option Text) (homes default : ℕ) → IsNumberOf (text_of (codes "homes")) 1 MOST_HOMES 4 homes → default ≡ min homes 2
+    → ((n : ℕ) → ¬ IsNumberOf (text_of (codes "sample")) 1 MOST_HOMES default n) → (o : Options) → ¬ AreOptionsOf text_of o
 no_sample text_of homes default found is refused o h =
     let same : min o.homes 2 ≡ default = ap (λ x. min x 2) (one_number _ _ _ _ _ _ h.homes found) ∙ sym is in
-    refused o.sample (subst (λ (d : ℕ). IsNumberOf (text_of (codes "sample")) 1 16 d o.sample) same h.sample)
+    refused o.sample (subst (λ (d : ℕ). IsNumberOf (text_of (codes "sample")) 1 MOST_HOMES d o.sample) same h.sample)
 
 -- two ways to tell the text of a flag without a value
 pub same_flag : (a b : Option Text) (is_set : Bool) → a ≡ b → IsFlagOf a is_set → IsFlagOf b is_set

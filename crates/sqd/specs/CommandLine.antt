@@ -2,6 +2,7 @@
 use Rattle.std.specs.Prelude.{ℕ, Some, codes, true}
 use Rattle.clap.specs.Words.{App, Rule, Text, new_app, new_rule, with_rule, with_subcommand}
 use Rattle.clap.specs.declared.builder.action.ArgAction.TheVariants.{SetTrue}
+use Rattle.sq_merge.specs.declared.options.TheConstants.{MOST_HOMES, MOST_QUEUES, MOST_ROWS, MOST_FLIGHTS, MOST_TRANSIT}
 use Rattle.clap.specs.declared.builder.value_parser.ValueParser.TheVariants.{Unsigned}
 
 -- a flag that takes a whole number within bounds
@@ -22,12 +23,12 @@ with_audit app = with_rule app audit_rule
 abbrev pub numbers_app : App
 numbers_app =
     with_number (codes "seed") 0 18446744073709551615
-    (with_number (codes "transit") 1 100000
-    (with_number (codes "flights") 1 120000
-    (with_number (codes "rows") 1 1048576
-    (with_number (codes "queues") 1 1024
-    (with_number (codes "sample") 1 16
-    (with_number (codes "homes") 1 16 (new_app (codes "script"))))))))
+    (with_number (codes "transit") 1 MOST_TRANSIT
+    (with_number (codes "flights") 1 MOST_FLIGHTS
+    (with_number (codes "rows") 1 MOST_ROWS
+    (with_number (codes "queues") 1 MOST_QUEUES
+    (with_number (codes "sample") 1 MOST_HOMES
+    (with_number (codes "homes") 1 MOST_HOMES (new_app (codes "script"))))))))
 
 abbrev pub script_app : App
 script_app = with_audit numbers_app

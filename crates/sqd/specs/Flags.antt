@@ -6,6 +6,7 @@ use Rattle.clap.specs.declared.error.kind.ErrorKind.{ErrorKind}
 use Rattle.clap.specs.declared.error.kind.ErrorKind.TheVariants.{DisplayHelp, DisplayVersion, OutOfMemory}
 use Rattle.clap.specs.declared.error.Error.{Error}
 use Rattle.sq_merge.specs.declared.options.Options.{Options}
+use Rattle.sq_merge.specs.declared.options.TheConstants.{MOST_HOMES, MOST_QUEUES, MOST_ROWS, MOST_FLIGHTS, MOST_TRANSIT}
 use Rattle.sqd.specs.CommandLine.{program_app}
 use Rattle.sqd.specs.declared.flags.ScriptMode.{ScriptMode}
 use Rattle.sqd.specs.declared.flags.Mode.{Mode}
@@ -27,12 +28,12 @@ pub record IsNumberOf (of_flag : Option Text) (least greatest default n : ℕ) :
 
 -- the options are those of the flags, where `text_of` gives each one's text by its name
 pub record AreOptionsOf (text_of : Text → Option Text) (o : Options) : Type 0 where
-  pub homes : IsNumberOf (text_of (codes "homes")) 1 16 4 o.homes
-  pub sample : IsNumberOf (text_of (codes "sample")) 1 16 (min o.homes 2) o.sample
-  pub queues : IsNumberOf (text_of (codes "queues")) 1 1024 64 o.queues
-  pub rows : IsNumberOf (text_of (codes "rows")) 1 1048576 1048576 o.rows
-  pub flights : IsNumberOf (text_of (codes "flights")) 1 120000 120000 o.flights
-  pub transit : IsNumberOf (text_of (codes "transit")) 1 100000 10000 o.transit
+  pub homes : IsNumberOf (text_of (codes "homes")) 1 MOST_HOMES 4 o.homes
+  pub sample : IsNumberOf (text_of (codes "sample")) 1 MOST_HOMES (min o.homes 2) o.sample
+  pub queues : IsNumberOf (text_of (codes "queues")) 1 MOST_QUEUES 64 o.queues
+  pub rows : IsNumberOf (text_of (codes "rows")) 1 MOST_ROWS MOST_ROWS o.rows
+  pub flights : IsNumberOf (text_of (codes "flights")) 1 MOST_FLIGHTS MOST_FLIGHTS o.flights
+  pub transit : IsNumberOf (text_of (codes "transit")) 1 MOST_TRANSIT 10000 o.transit
   pub seed : IsNumberOf (text_of (codes "seed")) 0 18446744073709551615 0 o.seed
 
 -- a flag without a value stands among the words: clap gives it this text

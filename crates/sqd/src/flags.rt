@@ -11,7 +11,7 @@ ghost use Rattle.sqd.specs.Flags.{IsWhole, IsNumberOf, IsFlagOf, AreOptionsOf, I
 use clap::builder::ValueParser;
 use clap::error::ErrorKind;
 use clap::{Arg, ArgAction, ArgMatches, Command, Error};
-use sq_merge::options::Options;
+use sq_merge::options::{MOST_FLIGHTS, MOST_HOMES, MOST_QUEUES, MOST_ROWS, MOST_TRANSIT, Options};
 use std::alloc::{AllocError, Global};
 
 /// How the lines of the standard input are answered.
@@ -115,61 +115,139 @@ fn with_audit<'a>(alloc: Global, command: Command<'a>) -> Result<Command<'a>, Al
     command.arg(audit_flag(alloc))
 }
 
-const HOMES: &str = "Homes of a queue: 1 to 16 [default: 4]";
+// The defaults of flags: that of a flag without one here is its greatest number.
+const HOMES: u32 = 4;
 
-const SAMPLE: &str = "Homes that a receive looks at: 1 to N of --homes [default: 2, or 1 of 1]";
+const SAMPLE: u32 = 2;
 
-const QUEUES: &str = "Queues that are ever made: 1 to 1024 [default: 64]";
+const QUEUES: u32 = 64;
 
-const ROWS: &str = "Messages of a home: 1 to 1048576 [default: 1048576]";
+const TRANSIT: u32 = 10_000;
 
-const FLIGHTS: &str = "Messages of a queue in flight: N of --homes to 120000 [default: 120000]";
+// What help says of the flags whose bounds are options' bounds.
+#[derive(Drop)]
+struct Texts {
+    homes: String,
+    sample: String,
+    queues: String,
+    rows: String,
+    flights: String,
+    transit: String,
+}
 
-const TRANSIT: &str = "Messages between queues: 1 to 100000 [default: 10000]";
+impl Texts {
+    fn new(alloc: Global) -> Result<Texts, AllocError> {
+        Ok(Texts {
+            homes: bounded(alloc, "Homes of a queue", "1", MOST_HOMES, HOMES)?,
+            sample: sample_text(alloc, SAMPLE)?,
+            queues: bounded(alloc, "Queues that are ever made", "1", MOST_QUEUES, QUEUES)?,
+            rows: bounded(alloc, "Messages of a home", "1", MOST_ROWS, MOST_ROWS)?,
+            flights: bounded(
+                alloc,
+                "Messages of a queue in flight",
+                "N of --homes",
+                MOST_FLIGHTS,
+                MOST_FLIGHTS,
+            )?,
+            transit: bounded(alloc, "Messages between queues", "1", MOST_TRANSIT, TRANSIT)?,
+        })
+    }
+}
+
+fn bounded(
+    alloc: Global,
+    what: &str,
+    least: &str,
+    greatest: u32,
+    default: u32,
+) -> Result<String, AllocError> {
+    format!(in alloc; "{what}: {least} to {greatest} [default: {default}]")
+}
+
+fn sample_text(alloc: Global, default: u32) -> Result<String, AllocError> {
+    format!(in alloc;
+        "Homes that a receive looks at: 1 to N of --homes [default: {default}, or 1 of 1]"
+    )
+}
 
 const SEED: &str = "What the choices of homes begin from: any u64 [default: 0]";
 
 const AUDIT: &str =
     "After the last reply, tell the run of all that was done and where each message is";
 
-const SCRIPT_FLAGS: &str = "Flags of script, each with a whole number N:
-      --homes    1 to 16, homes of a queue [default: 4]
-      --sample   1 to N of --homes, homes that a receive looks at [default: 2, or 1 of 1]
-      --queues   1 to 1024, queues that are ever made [default: 64]
-      --rows     1 to 1048576, messages of a home [default: 1048576]
-      --flights  N of --homes to 120000, messages of a queue in flight [default: 120000]
-      --transit  1 to 100000, messages between queues [default: 10000]
-      --seed     any u64, what the choices of homes begin from [default: 0]
-and one without a value:
-      --audit    after the last reply, tell the run of all that was done and where each message is";
+const SCRIPT_FLAGS: &str =
+    "Flags of script: --homes N, --sample N, --queues N, --rows N, --flights N, --transit N, --seed N,
+--audit. 'sqd script --help' says of each what it is, its bounds and its default.";
 
 // The subcommand and its flags that take numbers.
-fn numbers_command<'a>(alloc: Global) -> Result<Command<'a>, AllocError>
+fn numbers_command<'a>(alloc: Global, texts: &'a Texts) -> Result<Command<'a>, AllocError>
     ensures app { IfOk result (λ c. app_of c ≡ numbers_app) }
     ensures local { IfOk result (λ c. (fields_of c).has_globals ≡ false) }
 {
     let command = Command::new(alloc, "script");
-    let command = with_number(alloc, command, "homes", 1, 16, HOMES)?;
-    let command = with_number(alloc, command, "sample", 1, 16, SAMPLE)?;
-    let command = with_number(alloc, command, "queues", 1, 1024, QUEUES)?;
-    let command = with_number(alloc, command, "rows", 1, 1_048_576, ROWS)?;
-    let command = with_number(alloc, command, "flights", 1, 120_000, FLIGHTS)?;
-    let command = with_number(alloc, command, "transit", 1, 100_000, TRANSIT)?;
+    let command = with_number(
+        alloc,
+        command,
+        "homes",
+        1,
+        MOST_HOMES as u64,
+        texts.homes.as_str(),
+    )?;
+    let command = with_number(
+        alloc,
+        command,
+        "sample",
+        1,
+        MOST_HOMES as u64,
+        texts.sample.as_str(),
+    )?;
+    let command = with_number(
+        alloc,
+        command,
+        "queues",
+        1,
+        MOST_QUEUES as u64,
+        texts.queues.as_str(),
+    )?;
+    let command = with_number(
+        alloc,
+        command,
+        "rows",
+        1,
+        MOST_ROWS as u64,
+        texts.rows.as_str(),
+    )?;
+    let command = with_number(
+        alloc,
+        command,
+        "flights",
+        1,
+        MOST_FLIGHTS as u64,
+        texts.flights.as_str(),
+    )?;
+    let command = with_number(
+        alloc,
+        command,
+        "transit",
+        1,
+        MOST_TRANSIT as u64,
+        texts.transit.as_str(),
+    )?;
     with_number(alloc, command, "seed", 0, u64::MAX, SEED)
 }
 
-fn script_command<'a>(alloc: Global) -> Result<Command<'a>, AllocError>
+fn script_command<'a>(alloc: Global, texts: &'a Texts) -> Result<Command<'a>, AllocError>
     ensures app { IfOk result (λ c. app_of c ≡ script_app) }
     ensures local { IfOk result (λ c. (fields_of c).has_globals ≡ false) }
 {
-    let command = numbers_command(alloc)?;
+    let command = numbers_command(alloc, texts)?;
     with_audit(alloc, command)
 }
 
-fn program_command<'a>(alloc: Global) -> Result<Command<'a>, AllocError>
+fn program_command<'a>(alloc: Global, texts: &'a Texts) -> Result<Command<'a>, AllocError>
     ensures app { IfOk result (λ c. app_of c ≡ program_app) }
 {
-    let script = script_command(alloc)?;
+    let script = script_command(alloc, texts)?;
     let script = script.about(
         "Answers each line of the standard input, a request in JSON, with a line",
     );
@@ -219,15 +297,27 @@ pub fn options_of(matches: &ArgMatches<'_>) -> Result<Options, &'static str>
     ensures ok { IfOk result (λ o. AreOptionsOf (first_value (found_of matches.now)) o) }
     ensures err { IfErr result (λ _. (o : OptionsValue) → ¬ AreOptionsOf (first_value (found_of matches.now)) o) }
 {
-    let homes = number(matches, "homes", 1, 16, 4)? as u32;
-    let sample = number(matches, "sample", 1, 16, (homes as u64).min(2))? as u32;
+    let homes = number(matches, "homes", 1, MOST_HOMES as u64, HOMES as u64)? as u32;
+    let sample = number(
+        matches,
+        "sample",
+        1,
+        MOST_HOMES as u64,
+        homes.min(SAMPLE) as u64,
+    )? as u32;
     Ok(Options {
         homes,
         sample,
-        queues: number(matches, "queues", 1, 1024, 64)? as u32,
-        rows: number(matches, "rows", 1, 1_048_576, 1_048_576)? as u32,
-        flights: number(matches, "flights", 1, 120_000, 120_000)? as u32,
-        transit: number(matches, "transit", 1, 100_000, 10_000)? as u32,
+        queues: number(matches, "queues", 1, MOST_QUEUES as u64, QUEUES as u64)? as u32,
+        rows: number(matches, "rows", 1, MOST_ROWS as u64, MOST_ROWS as u64)? as u32,
+        flights: number(
+            matches,
+            "flights",
+            1,
+            MOST_FLIGHTS as u64,
+            MOST_FLIGHTS as u64,
+        )? as u32,
+        transit: number(matches, "transit", 1, MOST_TRANSIT as u64, TRANSIT as u64)? as u32,
         seed: number(matches, "seed", 0, u64::MAX, 0)?,
     })
 }
@@ -254,7 +344,8 @@ fn usage(alloc: Global, command: &mut Command<'_>, name: &str) -> Result<Error, 
 pub fn flags<'a>(alloc: Global, words: &'a [&'a str]) -> Result<Mode, Refused>
     ensures { ParsesTo (map (λ word. word.now) words.entry.now) result }
 {
-    let mut command = program_command(alloc)?;
+    let texts = Texts::new(alloc)?;
+    let mut command = program_command(alloc, &texts)?;
     let matches = command.try_get_matches_from_mut(words)?;
     let Some(found) = matches.subcommand_matches("script") else {
         let error = command.error(ErrorKind::MissingSubcommand, "a subcommand is required")?;

@@ -247,11 +247,20 @@ fn writes_help(rt: HostRuntime) -> Result<(), Fail> {
     for (words, answered) in [
         (
             ["sqd", "script", "--help"].as_slice(),
-            ["1 to 16 [default: 4]", "--transit", "--audit", audit].as_slice(),
+            [
+                "1 to 16 [default: 4]",
+                "1 to N of --homes [default: 2, or 1 of 1]",
+                "1 to 1024 [default: 64]",
+                "1 to 1048576 [default: 1048576]",
+                "N of --homes to 120000 [default: 120000]",
+                "1 to 100000 [default: 10000]",
+                audit,
+            ]
+            .as_slice(),
         ),
         (
             ["sqd", "--help"].as_slice(),
-            ["--transit  1 to 100000", "--audit"].as_slice(),
+            ["--transit N", "--audit", "sqd script --help"].as_slice(),
         ),
     ] {
         let (status, output, errors) = run_to(rt.alloc(), words, b"one\n", Vec::new(rt.alloc()));

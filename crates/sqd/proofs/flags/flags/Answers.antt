@@ -4,10 +4,15 @@ use Rattle.sqd.specs.CommandLine.{program_app}
 use Rattle.sqd.proofs.ModeLaws.{parses, asks_for_no_options, asks_for_no_script, a_fault, entered, no_fault, passed_up_for_clap, passed_up_for_memory, refuses_for_own}
 use Rattle.sqd.proofs.flags.flags.Goals as goal
 
+pub returns-in_err-texts : goal.returns-in_err-texts
+returns-in_err-texts c =
+    let words = map (λ word. word.now) c.args.words.now in
+    passed_up_for_memory words c.from_residual.result c.from_residual.ensures.1
+
 pub returns-in_err-command : goal.returns-in_err-command
 returns-in_err-command c =
     let words = map (λ word. word.now) c.args.words.now in
-    passed_up_for_memory words c.from_residual.result c.from_residual.ensures.1
+    passed_up_for_memory words c.from_residual-in_err-command.result c.from_residual-in_err-command.ensures.1
 
 pub returns-in_err-matches : goal.returns-in_err-matches
 returns-in_err-matches c =
