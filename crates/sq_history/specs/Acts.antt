@@ -1,9 +1,10 @@
 -- What is done at a home, as its call.
 use Rattle.std.specs.Prelude.{ℕ}
 use Rattle.sq_model.specs.declared.calls.HomeCall.{HomeCall}
+use Rattle.sq_model.specs.declared.place.Site.{Site}
 use Rattle.sq_model.specs.declared.calls.HomeCall.TheVariants as call
 use Rattle.sq_model.specs.Homes.{Home}
-use Rattle.sq_shard.specs.Looks.{HasLive}
+use Rattle.sq_shard.specs.Looks.{GivesAny}
 use Rattle.sq_history.specs.declared.act.HomeAct.{HomeAct}
 use Rattle.sq_history.specs.declared.act.HomeAct.TheVariants.{Configure, Close, Send, Look, Delete, Change, Purge, Count}
 
@@ -29,18 +30,18 @@ HasBytes Purge = ⊥
 HasBytes Count = ⊥
 
 -- bytes are copied where it is done at this home at this moment: a body, rows that may be given, a message on its way
-abbrev pub CopiesBytes : Home → ℕ → HomeCall → Type 0
-CopiesBytes home m (call.Configure settings version) = ⊥
-CopiesBytes home m call.Close = ⊥
-CopiesBytes home m (call.Send body delay) = Unit {0}
-CopiesBytes home m (call.Look max timeout) = HasLive home m
-CopiesBytes home m (call.Delete receipt) = ⊥
-CopiesBytes home m (call.Change receipt timeout) = ⊥
-CopiesBytes home m call.Purge = ⊥
-CopiesBytes home m call.Count = ⊥
-CopiesBytes home m call.LeaveDead = Unit {0}
-CopiesBytes home m (call.LeaveTask task) = Unit {0}
-CopiesBytes home m (call.Enter item) = Unit {0}
-CopiesBytes home m (call.TurnBack item) = Unit {0}
-CopiesBytes home m (call.GiveBack item) = Unit {0}
-CopiesBytes home m (call.GiveUp item) = Unit {0}
+abbrev pub CopiesBytes : Site → Home → ℕ → HomeCall → Type 0
+CopiesBytes site home m (call.Configure settings version) = ⊥
+CopiesBytes site home m call.Close = ⊥
+CopiesBytes site home m (call.Send body delay) = Unit {0}
+CopiesBytes site home m (call.Look max timeout) = GivesAny site home m
+CopiesBytes site home m (call.Delete receipt) = ⊥
+CopiesBytes site home m (call.Change receipt timeout) = ⊥
+CopiesBytes site home m call.Purge = ⊥
+CopiesBytes site home m call.Count = ⊥
+CopiesBytes site home m call.LeaveDead = Unit {0}
+CopiesBytes site home m (call.LeaveTask task) = Unit {0}
+CopiesBytes site home m (call.Enter item) = Unit {0}
+CopiesBytes site home m (call.TurnBack item) = Unit {0}
+CopiesBytes site home m (call.GiveBack item) = Unit {0}
+CopiesBytes site home m (call.GiveUp item) = Unit {0}

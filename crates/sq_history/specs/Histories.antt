@@ -36,13 +36,13 @@ pub record RecordsStep (old new : HistoryValue) (by : Actor) (now : ℕ) (name :
   pub room : KeepsRoom old.room new.room
   pub record_is : its_record ≡ new_record its_record.stamp by old.site.home (length old.events) call its_record.reply name
 
--- No memory was found for the event, or the first check in order that fails: the clock's, the counts', that of the memory for copies, the home's.
+-- No memory was found for the event, or the clock's or the counts' check fails; then no memory was found for copies, or the home's first check that fails.
 abbrev pub IsRefused : HistoryValue → Actor → ℕ → HomeCall → Refusal → Type 0
 IsRefused old by now call e =
     ((e ≡ NoMemory) × (old.room ≡ 0))
     ⊎ (after old.last by.seen now ≡ Err e)
     ⊎ ((stamp : StampValue) × (after old.last by.seen now ≡ Ok stamp)
-    × (((e ≡ NoMemory) × CopiesBytes old.home stamp.moment call) ⊎ (home_refusal old.site old.home stamp.moment call ≡ Some e)))
+    × (((e ≡ NoMemory) × CopiesBytes old.site old.home stamp.moment call) ⊎ (home_refusal old.site old.home stamp.moment call ≡ Some e)))
 
 -- True of every recorded home: it is the replay of its events, whose stamps rise, and each event is its own alone.
 pub record IsKept (h : HistoryValue) : Type 0 where

@@ -1,5 +1,5 @@
 -- What is done to a log, of whatever calls and replies.
-use Rattle.std.specs.Prelude.{◌≡◌, ◌⊎◌, ℕ, Err}
+use Rattle.std.specs.Prelude.{◌≡◌, ◌⊎◌, ◌<◌, ℕ, Err}
 use Rattle.sq_base.specs.StampValue.{StampValue}
 use Rattle.sq_base.specs.Stamps.{after}
 use Rattle.sq_base.specs.declared.refusal.Refusal.{Refusal}
@@ -14,9 +14,9 @@ abbrev pub event_by : {K R : Type 0} → StampValue → Actor → Component → 
 event_by {K} {R} stamp by component call reply =
     record { stamp = stamp; actor = by.number; place = by.place; component = component; call = call; reply = reply }
 
--- The log had room for none, and no memory was found.
+-- The log shows room for none, it has memory for fewer than four, and no more was found.
 abbrev pub IsFull : {K R : Type 0} → LogValue K R → Refusal → Type 0
-IsFull {K} {R} old e = (e ≡ NoMemory) × (old.room ≡ 0)
+IsFull {K} {R} old e = (e ≡ NoMemory) × (old.room ≡ 0) × (old.reserved < 4)
 
 -- No event can be begun: no memory was found, or the first check that fails is the clock's, and then the counts'.
 abbrev pub IsUnready : {K R : Type 0} → LogValue K R → Actor → ℕ → Refusal → Type 0

@@ -4,7 +4,7 @@ ghost use Rattle.sq_base.specs.Stamps.{stamp_end};
 ghost use Rattle.sq_model.specs.Homes.{HomeStep, home_refusal};
 ghost use Rattle.sq_model.specs.declared.calls.HomeCall.TheVariants.{Look as AsLook};
 ghost use Rattle.sq_model.specs.declared.replies.HomeReply.TheVariants.{Done, Sent, Counted};
-ghost use Rattle.sq_shard.specs.Looks.{look_reply, GivesRows, HasLive};
+ghost use Rattle.sq_shard.specs.Looks.{look_reply, GivesAny, GivesRows};
 ghost use Rattle.sq_history.specs.Acts.{call_of, CopiesBytes, HasBytes};
 
 use sq_base::body::Body;
@@ -77,8 +77,8 @@ impl HomeAct {
         })
     }
 
-    // Asks it of a home's rows at a moment in ms. Refused as NoMemory (of a send, and of a look where a live message is
-    // there), and then as the home's call.
+    // Asks it of a home's rows at a moment in ms. Refused as NoMemory (of a send, and of a look that gives messages),
+    // and then as the home's call.
     pub(crate) fn ask<S: Store>(
         self,
         alloc: Global,
@@ -88,7 +88,7 @@ impl HomeAct {
         requires { moment < stamp_end }
         ensures step { IfOk result (λ reply. HomeStep shard.old.site shard.old.home moment (call_of self) reply shard.new.home) }
         ensures site { shard.new.site ≡ shard.old.site }
-        ensures refusal { IfErr result (λ e. ((e ≡ Refusal.NoMemory) × CopiesBytes shard.old.home moment (call_of self)) ⊎ (home_refusal shard.old.site shard.old.home moment (call_of self) ≡ Some e)) }
+        ensures refusal { IfErr result (λ e. ((e ≡ Refusal.NoMemory) × CopiesBytes shard.old.site shard.old.home moment (call_of self)) ⊎ (home_refusal shard.old.site shard.old.home moment (call_of self) ≡ Some e)) }
         ensures err { OnErr result (shard.new ≡ shard.old) }
     {
         match self {
@@ -184,7 +184,7 @@ fn look<S: Store>(
     requires { moment < stamp_end }
     ensures step { IfOk result (λ reply. HomeStep shard.old.site shard.old.home moment (AsLook max timeout) reply shard.new.home) }
     ensures site { shard.new.site ≡ shard.old.site }
-    ensures refusal { IfErr result (λ e. ((e ≡ Refusal.NoMemory) × HasLive shard.old.home moment) ⊎ (home_refusal shard.old.site shard.old.home moment (AsLook max timeout) ≡ Some e)) }
+    ensures refusal { IfErr result (λ e. ((e ≡ Refusal.NoMemory) × GivesAny shard.old.site shard.old.home moment) ⊎ (home_refusal shard.old.site shard.old.home moment (AsLook max timeout) ≡ Some e)) }
     ensures err { OnErr result (shard.new ≡ shard.old) }
 {
     let chosen_for = timeout;

@@ -1,5 +1,5 @@
 //! Lists that grow within memory that was got before.
-ghost use Rattle.std.specs.Prelude.{◌≡◌, ◌++◌, ◌∷◌, [], OnOk, IfErr};
+ghost use Rattle.std.specs.Prelude.{◌≡◌, ◌+◌, ◌<◌, ◌≤◌, ◌++◌, ◌∷◌, [], OnOk, IfErr};
 ghost use Rattle.std.specs.Fn.{CalledAt};
 ghost use Rattle.std.specs.List.Retain.{IsFiltered};
 ghost use Rattle.sq_history.specs.Rooms.{IsReady, KeepsRoom};
@@ -8,8 +8,8 @@ use sq_base::refusal::Refusal;
 use std::alloc::Global;
 use std::marker::Model;
 
-/// A list that gets memory before a step, and shows for how many more items it had memory when its last item was put: a
-/// step that is refused may have got more, and changes nothing of what is shown.
+/// A list that gets memory before a step, and shows for how many more items it had memory when its last item was put. A
+/// step that is refused may have got more, and leaves what is shown.
 #[derive(Drop)]
 pub struct Growing<T> {
     items: Vec<T>,
@@ -45,13 +45,14 @@ impl<T: Drop> Growing<T> {
         self.items.as_slice()
     }
 
-    /// Gets memory for one item more, and for four at once where it shows room for none. Refused as NoMemory, there
-    /// alone.
+    /// Gets memory for one item more, and for four at once where it shows room for none. Refused as NoMemory where it
+    /// shows room for none and has memory for fewer than four.
     pub fn reserve(&mut self) -> Result<(), Refusal>
         ensures items { self.new.items ≡ self.old.items }
         ensures room { self.new.room ≡ self.old.room }
+        ensures kept { self.old.reserved ≤ self.new.reserved }
         ensures ready { OnOk result (IsReady self.new.room self.new.reserved) }
-        ensures refused { IfErr result (λ e. (e ≡ Refusal.NoMemory) × (self.old.room ≡ 0)) }
+        ensures refused { IfErr result (λ e. (e ≡ Refusal.NoMemory) × (self.old.room ≡ 0) × (self.old.reserved < 4)) }
     {
         if self.room == 0 {
             self.items.try_reserve(4)?;
@@ -63,6 +64,8 @@ impl<T: Drop> Growing<T> {
     pub fn push(&mut self, item: T)
         requires { IsReady self.old.room self.old.reserved }
         ensures items { self.new.items ≡ self.old.items ++ item ∷ [] }
+        ensures shown { self.new.room ≡ self.new.reserved }
+        ensures kept { self.old.reserved ≤ self.new.reserved + 1 }
         ensures room { KeepsRoom self.old.room self.new.room }
     {
         let _ = self.items.push(item);
@@ -74,6 +77,7 @@ impl<T: Drop> Growing<T> {
         requires { F.IsAlwaysCallable f }
         ensures filtered { IsFiltered (CalledAt F.FnMut) f self.old.items self.new.items }
         ensures room { self.new.room ≡ self.old.room }
+        ensures kept { self.old.reserved ≤ self.new.reserved }
     {
         self.items.retain(f);
     }

@@ -1,5 +1,5 @@
 //! The events of a part of the system, in order.
-ghost use Rattle.std.specs.Prelude.{◌≡◌, ◌++◌, ◌∷◌, [], OnOk, IfOk, IfErr, Ok, length};
+ghost use Rattle.std.specs.Prelude.{◌≡◌, ◌≤◌, ◌++◌, ◌∷◌, [], OnOk, IfOk, IfErr, Ok, length};
 ghost use Rattle.sq_base.specs.Stamps.{start, after, Below};
 ghost use Rattle.sq_model.specs.Replays.{StampsRise};
 ghost use Rattle.sq_history.specs.Logs.{event_by, IsFull, IsUnready};
@@ -65,6 +65,7 @@ impl<K: Drop, R: Drop> Log<K, R> {
         ensures last { self.new.last ≡ self.old.last }
         ensures events { self.new.events ≡ self.old.events }
         ensures room { self.new.room ≡ self.old.room }
+        ensures kept { self.old.reserved ≤ self.new.reserved }
         ensures ready { OnOk result (IsReady self.new.room self.new.reserved) }
         ensures refused { IfErr result (IsFull self.old) }
     {
@@ -77,6 +78,7 @@ impl<K: Drop, R: Drop> Log<K, R> {
         ensures last { self.new.last ≡ self.old.last }
         ensures events { self.new.events ≡ self.old.events }
         ensures room { self.new.room ≡ self.old.room }
+        ensures kept { self.old.reserved ≤ self.new.reserved }
         ensures ready { OnOk result (IsReady self.new.room self.new.reserved) }
         ensures stamped { IfOk result (λ stamp. after self.old.last by.now.seen now ≡ Ok stamp) }
         ensures above { IfOk result (Below self.old.last) }
@@ -101,6 +103,7 @@ impl<K: Drop, R: Drop> Log<K, R> {
         ensures last { self.new.last ≡ stamp }
         ensures events { self.new.events ≡ self.old.events ++ event_by stamp by.now component kept.0 kept.1 ∷ [] }
         ensures rising { StampsRise start self.new.events self.new.last }
+        ensures shown { self.new.room ≡ self.new.reserved }
         ensures room { KeepsRoom self.old.room self.new.room }
         ensures for_record { result ≡ record { place = by.now.place; stamp = stamp; index = length self.old.events; call = for_record.0; reply = for_record.1 } }
     {

@@ -74,12 +74,11 @@ impl<S: Store> Recorded<S> {
     }
 
     /// Does one act, at its stamp. What it tells is what its record says.
-    /// Refused as NoMemory (the history has room for none, or bytes are copied: of a send, and of a look where a live
-    /// message is there), ClockRange, Worn, and then as the home's call: QueueDoesNotExist (not serving; closed
-    /// already, where it is configured or closed), Worn and OverLimit (a send, for want of serials or full),
-    /// ReceiptHandleIsInvalid (a serial that was never given), MessageNotInflight (a change, with no row in flight on
-    /// which slot, serial and receive number agree), InvalidParameterValue (a change, later than 12 hours after the
-    /// last receive).
+    /// Refused as NoMemory (the history has room for none, or bytes are copied: of a send, and of a look that gives
+    /// messages), ClockRange, Worn, and then as the home's call: QueueDoesNotExist (not serving; closed already, where
+    /// it is configured or closed), Worn and OverLimit (a send, for want of serials or full), ReceiptHandleIsInvalid (a
+    /// serial that was never given), MessageNotInflight (a change, with no row in flight on which slot, serial and
+    /// receive number agree), InvalidParameterValue (a change, later than 12 hours after the last receive).
     pub fn step(
         &mut self,
         alloc: Global,

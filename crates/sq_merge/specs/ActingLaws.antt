@@ -6,6 +6,7 @@ use Rattle.sq_base.proofs.StampLaws.{after_above_second}
 use Rattle.sq_model.specs.declared.directory.DirectoryCall.TheVariants.{Create}
 use Rattle.sq_model.specs.declared.directory.DirectoryReply.TheVariants.{Made}
 use Rattle.sq_model.specs.RecordValues.{HomeRecordValue, DirectoryRecordValue, OfDirectory, OfHome, Journal}
+use Rattle.sq_history.specs.Rooms.{KeepsRoom}
 use Rattle.sq_steps.specs.Journals.{journal_of, put_journal, having_seen, with_record}
 use Rattle.sq_steps.proofs.JournalListLaws.{journal_own, journal_put}
 use Rattle.sq_merge.specs.Acting.{ActorDoes, ActorStepped}
@@ -20,7 +21,8 @@ does_leaves : (actor now : ℕ) (s t : WorldValue) (ask : Ask) (gave : Gave) →
 does_leaves actor now s t (Resolve name) (Found queue) h =
     (s.directory.last, mine_is actor s t (having_seen (journal_of actor s.journals) s.directory.last) (journal_own actor s.journals) (ap (λ (v : WorldValue). v.journals) h.1))
 does_leaves actor now s t (Directed (Create name attributes)) (Answered (Made made)) h =
-    let own : h.recorded_in.actor ≡ actor = ap (λ (b : Journal). b.actor) h.moves.recorded_as ∙ journal_own actor s.journals in (
+    let own : h.recorded_in.actor ≡ actor = ap (λ (b : Journal). b.actor) h.moves.recorded_as ∙ journal_own actor s.journals in
+    let after = mine_is actor s t h.recorded_in own (ap (λ (v : WorldValue). v.journals) h.changed) in (
       OfDirectory h.moves.its_record,
       record {
         its_record = h.moves.its_record;
@@ -31,11 +33,13 @@ does_leaves actor now s t (Directed (Create name attributes)) (Answered (Made ma
       (
         ap (λ (m : DirectoryRecordValue). m.place) h.moves.does.record_is,
         after_above_second s.directory.last (journal_of actor s.journals).seen now h.moves.its_record.stamp h.moves.does.stamped,
-        subst (λ (b : Journal). b ≡ with_record (journal_of actor s.journals) (OfDirectory h.moves.its_record) b.room) (sym (mine_is actor s t h.recorded_in own (ap (λ (v : WorldValue). v.journals) h.changed))) h.moves.recorded_as,
+        subst (λ (b : Journal). b ≡ with_record (journal_of actor s.journals) (OfDirectory h.moves.its_record) b.room) (sym after) h.moves.recorded_as,
+        subst (λ (b : Journal). KeepsRoom (journal_of actor s.journals).room b.room) (sym after) h.moves.room,
       ),
     )
 does_leaves actor now s t (AtHome name id act) (Replied reply) h =
-    let own : h.recorded_in.actor ≡ actor = ap (λ (b : Journal). b.actor) h.moves.recorded_as ∙ journal_own actor s.journals in (
+    let own : h.recorded_in.actor ≡ actor = ap (λ (b : Journal). b.actor) h.moves.recorded_as ∙ journal_own actor s.journals in
+    let after = mine_is actor s t h.recorded_in own (ap (λ (v : WorldValue). v.journals) h.changed) in (
       OfHome h.moves.its_record,
       record {
         its_record = h.moves.its_record;
@@ -48,7 +52,8 @@ does_leaves actor now s t (AtHome name id act) (Replied reply) h =
       (
         ap (λ (m : HomeRecordValue). m.place) h.moves.does.record_is,
         after_above_second h.before.last (journal_of actor s.journals).seen now h.moves.its_record.stamp h.moves.does.stamped,
-        subst (λ (b : Journal). b ≡ with_record (journal_of actor s.journals) (OfHome h.moves.its_record) b.room) (sym (mine_is actor s t h.recorded_in own (ap (λ (v : WorldValue). v.journals) h.changed))) h.moves.recorded_as,
+        subst (λ (b : Journal). b ≡ with_record (journal_of actor s.journals) (OfHome h.moves.its_record) b.room) (sym after) h.moves.recorded_as,
+        subst (λ (b : Journal). KeepsRoom (journal_of actor s.journals).room b.room) (sym after) h.moves.room,
       ),
     )
 does_leaves actor now s t ask gave h = elim h [ ]

@@ -18,6 +18,7 @@ use Rattle.sq_history.specs.declared.act.HomeAct.{HomeAct}
 use Rattle.sq_history.specs.declared.act.HomeAct.TheVariants as act
 use Rattle.sq_history.specs.Acts.{call_of}
 use Rattle.sq_directory.specs.Makers.{IsSeen}
+use Rattle.sq_history.specs.Rooms.{KeepsRoom}
 use Rattle.sq_steps.specs.Journals.{having_seen, with_record}
 use Rattle.sq_merge.specs.declared.calls.NamedQueue.{NamedQueue}
 use Rattle.sq_merge.specs.ReceivedValue.{AreReceived}
@@ -125,7 +126,7 @@ AreOf (d ∷ ds) ns = (front : List RecordValue) × (rest : List RecordValue) ×
 
 -- a record is the actor's next one: it has the next number, and a stamp above all that the actor had seen, which it has seen then
 abbrev pub IsNext : Journal → RecordValue → Journal → Type 0
-IsNext before n after = (place_of_record n ≡ before.next) × Below before.seen (stamp_of n) × (after ≡ with_record before n after.room)
+IsNext before n after = (place_of_record n ≡ before.next) × Below before.seen (stamp_of n) × (after ≡ with_record before n after.room) × KeepsRoom before.room after.room
 
 -- A step leaves its one record with its actor; a read leaves none, and raises what the actor has seen; what is refused changes nothing.
 abbrev pub LeavesOf : Ask → Result Gave Refusal → Journal → Journal → Type 0

@@ -1,5 +1,5 @@
 -- Rows stay as few as they may be.
-use Rattle.std.proofs.Common.{◌≡◌, ℕ, ◌+◌, ◌<◌, ◌≤◌, List, [], ◌∷◌, ◌++◌, length, map, Option, Some, Bool, true, false, not, cond, arith, refl, subst}
+use Rattle.std.proofs.Common.{◌≡◌, ℕ, ◌+◌, ◌<◌, ◌≤◌, List, [], ◌∷◌, ◌++◌, length, map, Option, Some, None, Bool, true, false, not, cond, arith, refl, subst}
 use Rattle.std.specs.Prelude.{filter, count_by, nat_le}
 use Rattle.std.proofs.lemmas.Grind.{common_steps}
 use Rattle.std.proofs.lemmas.List.{length-map}
@@ -50,3 +50,8 @@ pub full_refused : (l : Limits) (next : ℕ) (s : Settings) (m : ℕ) (rows : Li
 full_refused l next s m rows later low fits within full =
     let kept = few_trimmed s m rows l.rows within in
     rw (above next last_serial low, above (length (trimmed s m rows)) slots (omega (arith, fits, kept)), upto l.rows (length (trimmed s m rows)) full) refl
+
+-- and one that is not full, with serials left, refuses no row
+pub place_left : (l : Limits) (next : ℕ) (s : Settings) (m : ℕ) (rows : List Row) → next < last_serial → l.rows < slots → length (trimmed s m rows) < l.rows → place_refusal l next (trimmed s m rows) None ≡ None
+place_left l next s m rows low fits room =
+    rw (above next last_serial low, above (length (trimmed s m rows)) slots (omega (arith, fits, room)), above (length (trimmed s m rows)) l.rows room) refl

@@ -2,9 +2,10 @@
 use Rattle.std.specs.Prelude.{◌≡◌, ℕ, ◌+◌, ◌<◌, true, List, length, map, Option, Some, None, unwrap_or}
 use Rattle.std.specs.List.{list_any}
 use Rattle.sq_base.specs.declared.row.Row.{Row}
+use Rattle.sq_model.specs.declared.place.Site.{Site}
 use Rattle.sq_model.specs.declared.replies.HomeReply.{HomeReply}
 use Rattle.sq_model.specs.declared.replies.HomeReply.TheVariants.{Looked, Over}
-use Rattle.sq_model.specs.Rows.{ms, trimmed, is_live, serials_of, received_if}
+use Rattle.sq_model.specs.Rows.{ms, trimmed, is_live, room, serials_of, received_if}
 use Rattle.sq_model.specs.Homes.{Home, Unopened, Serving, Closed}
 
 abbrev pub look_reply : Option (List Row) → HomeReply
@@ -18,19 +19,13 @@ look_after (Serving s v n rows) m timeout (Some picked) =
     Serving s v n (map (received_if s (serials_of picked) m (m + ms (unwrap_or timeout s.timeout))) (trimmed s m rows))
 look_after home m timeout picked = home
 
--- a message that a look may give is there
-abbrev pub HasLive : Home → ℕ → Type 0
-HasLive (Serving s v n rows) m = list_any (is_live s m) (trimmed s m rows) ≡ true
-HasLive Unopened m = ⊥
-HasLive Closed m = ⊥
+-- a look gives rows: a live one is there, and fewer are in flight than may be
+abbrev pub GivesAny : Site → Home → ℕ → Type 0
+GivesAny site (Serving s v n rows) m = (list_any (is_live s m) (trimmed s m rows) ≡ true) × (0 < room site.limits.flights m (trimmed s m rows))
+GivesAny site Unopened m = ⊥
+GivesAny site Closed m = ⊥
 
 -- rows are given
 abbrev pub GivesRows : Option (List Row) → Type 0
 GivesRows None = ⊥
 GivesRows (Some picked) = 0 < length picked
-
--- the home takes requests
-abbrev pub IsServing : Home → Type 0
-IsServing (Serving s v n rows) = Unit {0}
-IsServing Unopened = ⊥
-IsServing Closed = ⊥

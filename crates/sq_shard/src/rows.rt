@@ -218,7 +218,9 @@ pub fn trim(rows: &mut Vec<Row>, settings: &Settings, moment: u64)
 }
 
 pub fn take(rows: &mut Vec<Row>, receipt: &Receipt)
-    ensures { rows.new.items ≡ model.without receipt.now rows.old.items }
+    ensures rows { rows.new.items ≡ model.without receipt.now rows.old.items }
+    ensures len { vec_len rows.new ≤ vec_len rows.old }
+    ensures capacity { vec_capacity rows.new ≡ vec_capacity rows.old }
 {
     rows.retain(|row| !is_named(receipt, row))
 }

@@ -5,7 +5,7 @@ ghost use Rattle.sq_model.specs.Homes.{HomeStep, home_refusal};
 ghost use Rattle.sq_model.specs.Homes.{Unopened as Never, Closed as Gone};
 ghost use Rattle.sq_model.specs.declared.calls.HomeCall.TheVariants.{Configure, Close, Send, Look, Delete, Change, Purge, Count};
 ghost use Rattle.sq_model.specs.declared.replies.HomeReply.TheVariants.{Done, Sent, Counted};
-ghost use Rattle.sq_shard.specs.Looks.{look_reply, look_after, GivesRows, HasLive, IsServing};
+ghost use Rattle.sq_shard.specs.Looks.{look_reply, look_after, GivesAny, GivesRows};
 ghost use Rattle.sq_model.specs.Rows.{ms};
 
 use crate::rows;
@@ -123,8 +123,8 @@ impl<S: Store> Shard<S> {
     }
 
     /// Puts a message last; without a delay the home's is taken.
-    /// Refused as QueueDoesNotExist (not serving), NoMemory, Worn (no serial is left), OverLimit (full).
-    #[tactic(auto, unfolding(sq_model::specs::Homes::HomeStep, sq_model::specs::Homes::home_refusal), using(sq_model::proofs::RowLaws::rises_trimmed, crate::proofs::Few::few_trimmed, sq_model::proofs::RowLaws::rises_push, crate::proofs::Few::few_pushed, crate::proofs::Few::full_refused))]
+    /// Refused as QueueDoesNotExist (not serving), Worn (no serial is left), OverLimit (full), NoMemory.
+    #[tactic(auto, unfolding(sq_model::specs::Homes::HomeStep, sq_model::specs::Homes::home_refusal), using(sq_model::proofs::RowLaws::rises_trimmed, crate::proofs::Few::few_trimmed, sq_model::proofs::RowLaws::rises_push, crate::proofs::Few::few_pushed, crate::proofs::Few::full_refused, crate::proofs::Few::place_left))]
     pub fn send(
         &mut self,
         moment: u64,
@@ -134,20 +134,20 @@ impl<S: Store> Shard<S> {
         requires { moment < stamp_end }
         ensures step { IfOk result (λ sent. HomeStep self.old.site self.old.home moment (Send body delay) (Sent sent) self.new.home) }
         ensures site { self.new.site ≡ self.old.site }
-        ensures refusal { IfErr result (λ e. ((e ≡ Refusal.NoMemory) × IsServing self.old.home) ⊎ (home_refusal self.old.site self.old.home moment (Send body delay) ≡ Some e)) }
+        ensures refusal { IfErr result (λ e. ((e ≡ Refusal.NoMemory) × (home_refusal self.old.site self.old.home moment (Send body delay) ≡ None)) ⊎ (home_refusal self.old.site self.old.home moment (Send body delay) ≡ Some e)) }
         ensures err { OnErr result (self.new ≡ self.old) }
     {
-        // The status is checked before a message asks for memory.
+        // What refuses a message is checked before it asks for memory.
         let Status::Serving = self.status else {
             return Err(Refusal::QueueDoesNotExist);
         };
-        self.store.reserve()?;
         let Some(after) = Serial::new(self.next.get() + 1) else {
             return Err(Refusal::Worn);
         };
         if self.store.count_kept(&self.settings, moment) >= self.site.limits.rows as usize {
             return Err(Refusal::OverLimit);
         }
+        self.store.reserve()?;
         self.store.trim(&self.settings, moment);
         let delay = delay.unwrap_or(self.settings.delay);
         let until = after_seconds(moment, delay.get());
@@ -160,7 +160,7 @@ impl<S: Store> Shard<S> {
 
     /// What a look at this moment gives, as it stands after it, and nothing is changed yet: up to `max` messages,
     /// or none where live messages are there and too many are in flight.
-    /// Refused as QueueDoesNotExist (not serving), NoMemory (where a live message is there).
+    /// Refused as QueueDoesNotExist (not serving), NoMemory (where it gives a message).
     #[tactic(auto, unfolding(sq_model::specs::Homes::HomeStep, sq_model::specs::Homes::home_refusal), using(sq_model::proofs::RowLaws::rises_trimmed, crate::proofs::Few::few_trimmed, sq_model::proofs::RowLaws::rises_received, crate::proofs::Few::few_mapped, crate::proofs::LookLaws::nothing_given))]
     pub fn choose(
         &self,
@@ -171,8 +171,8 @@ impl<S: Store> Shard<S> {
     ) -> Result<Option<Rows>, Refusal>
         requires { moment < stamp_end }
         ensures step { IfOk result (λ picked. HomeStep self.now.site self.now.home moment (Look max timeout) (look_reply picked) (look_after self.now.home moment timeout picked)) }
-        ensures live { IfOk result (λ picked. GivesRows picked → HasLive self.now.home moment) }
-        ensures refusal { IfErr result (λ e. ((e ≡ Refusal.NoMemory) × HasLive self.now.home moment) ⊎ (home_refusal self.now.site self.now.home moment (Look max timeout) ≡ Some e)) }
+        ensures live { IfOk result (λ picked. GivesRows picked → GivesAny self.now.site self.now.home moment) }
+        ensures refusal { IfErr result (λ e. ((e ≡ Refusal.NoMemory) × GivesAny self.now.site self.now.home moment) ⊎ (home_refusal self.now.site self.now.home moment (Look max timeout) ≡ Some e)) }
     {
         // The status is checked before a look asks for memory.
         let Status::Serving = self.status else {
@@ -214,7 +214,7 @@ impl<S: Store> Shard<S> {
     }
 
     /// Receives up to `max` messages, and gives them as they stand then: `choose` and `give` in one.
-    /// Refused as QueueDoesNotExist (not serving), NoMemory.
+    /// Refused as QueueDoesNotExist (not serving), NoMemory (where it gives a message).
     pub fn look(
         &mut self,
         alloc: Global,
@@ -225,7 +225,7 @@ impl<S: Store> Shard<S> {
         requires { moment < stamp_end }
         ensures step { IfOk result (λ picked. HomeStep self.old.site self.old.home moment (Look max timeout) (look_reply picked) self.new.home) }
         ensures site { self.new.site ≡ self.old.site }
-        ensures refusal { IfErr result (λ e. ((e ≡ Refusal.NoMemory) × IsServing self.old.home) ⊎ (home_refusal self.old.site self.old.home moment (Look max timeout) ≡ Some e)) }
+        ensures refusal { IfErr result (λ e. ((e ≡ Refusal.NoMemory) × GivesAny self.old.site self.old.home moment) ⊎ (home_refusal self.old.site self.old.home moment (Look max timeout) ≡ Some e)) }
         ensures err { OnErr result (self.new ≡ self.old) }
     {
         let hidden_for = timeout;

@@ -84,21 +84,26 @@ pub trait Store: Drop {
         requires reserved { 0 < reserved self.old }
         requires slot { length (rows self.old) < 4294967296 }
         ensures free { is_free result (rows self.old) ≡ true }
-        ensures rows { rows self.new ≡ rows self.old ++ record row { slot = result } ∷ [] };
+        ensures rows { rows self.new ≡ rows self.old ++ record row { slot = result } ∷ [] }
+        ensures reserved { reserved self.old ≤ reserved self.new + 1 };
 
     /// Receives the live rows with the serials of these.
     fn receive(&mut self, settings: &Settings, picked: &[Row], moment: u64, until: u64)
-        ensures { rows self.new ≡ map (received_if settings.now (serials_of picked.now) moment until) (rows self.old) };
+        ensures rows { rows self.new ≡ map (received_if settings.now (serials_of picked.now) moment until) (rows self.old) }
+        ensures reserved { reserved self.old ≤ reserved self.new };
 
     /// Takes out the row on which slot, serial and receive number agree.
     fn take(&mut self, receipt: &Receipt)
-        ensures { rows self.new ≡ without receipt.now (rows self.old) };
+        ensures rows { rows self.new ≡ without receipt.now (rows self.old) }
+        ensures reserved { reserved self.old ≤ reserved self.new };
 
     /// Hides the row of a receipt until another moment, where it is in flight.
     fn change(&mut self, receipt: &Receipt, moment: u64, until: u64)
-        ensures { rows self.new ≡ map (changed_if moment receipt.now until) (rows self.old) };
+        ensures rows { rows self.new ≡ map (changed_if moment receipt.now until) (rows self.old) }
+        ensures reserved { reserved self.old ≤ reserved self.new };
 
     /// Takes out all rows.
     fn clear(&mut self)
-        ensures { rows self.new ≡ [] };
+        ensures rows { rows self.new ≡ [] }
+        ensures reserved { reserved self.old ≤ reserved self.new };
 }

@@ -118,7 +118,7 @@ fn ready(by: &Actor, records: &mut Growing<Record>, now: u64) -> Result<(), Refu
     ensures room { records.new.room ≡ records.old.room }
     ensures ready { OnOk result (IsReady records.new.room records.new.reserved) }
     ensures more { OnOk result (by.now.place < last_place) }
-    ensures refused { IfErr result (λ e. ((by.now.place ≡ last_place) × (e ≡ worn_at now)) ⊎ ((by.now.place ≢ last_place) × (e ≡ Refusal.NoMemory) × (records.old.room ≡ 0))) }
+    ensures refused { IfErr result (λ e. ((by.now.place ≡ last_place) × (e ≡ worn_at now)) ⊎ ((by.now.place ≢ last_place) × (e ≡ Refusal.NoMemory) × (records.old.room ≡ 0) × (records.old.reserved < 4))) }
 {
     if by.place == u64::MAX {
         return Err(worn_at(now));
@@ -141,7 +141,7 @@ fn keep(by: &mut Actor, records: &mut Growing<Record>, kept: Record)
 
 /// A step of a home that is lent, by an actor that is lent; all that grows does so before it. A clock reading is in ms.
 /// Refused as NoMemory (the actor's records or the home's history have room for none, or bytes are copied: of a send,
-/// and of a look where a live message is there), ClockRange, Worn, and then as the home's call.
+/// and of a look that gives messages), ClockRange, Worn, and then as the home's call.
 pub fn home_step(
     alloc: Global,
     home: &mut Home,

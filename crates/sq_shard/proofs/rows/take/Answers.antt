@@ -3,5 +3,5 @@ use Rattle.std.proofs.lemmas.Fn.{filter_same}
 use Rattle.sq_model.specs.Rows.{is_named}
 use Rattle.sq_shard.proofs.rows.take.Goals as goal
 
-pub returns : goal.returns
-returns c = filter_same _ (λ row. not (is_named c.args.receipt.now row)) _ (λ x b f k. search rules) _ _ c.retain.ensures.filtered
+pub returns-clause-rows : goal.returns-clause-rows
+returns-clause-rows c = filter_same _ (λ row. not (is_named c.args.receipt.now row)) _ (λ x b f k. search rules) _ _ c.retain.ensures.filtered

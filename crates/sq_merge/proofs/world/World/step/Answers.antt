@@ -1,6 +1,5 @@
-use Rattle.std.proofs.Common.{rules, ◌≡◌, length, Some, None, Err, inl}
+use Rattle.std.proofs.Common.{rules, ◌≡◌, length, Some, Err, inl}
 use Rattle.sq_audit.specs.HomeIds.{home_index}
-use Rattle.sq_audit.proofs.HomeIdLaws.{place_none}
 use Rattle.sq_merge.specs.WorldValue.{WorldValue}
 use Rattle.sq_merge.proofs.StepLaws.{home_there}
 use Rattle.sq_merge.proofs.world.World.step.Goals as goal
