@@ -1,6 +1,7 @@
 -- What was written grows by what was written then.
-use Rattle.std.proofs.Common.{◌≡◌, ℕ, ◌+◌, ◌-◌, ◌≤◌, List, [], ◌∷◌, ◌++◌, length, take, drop, take-add, length-drop, Option, Some, None, sym, ap, ◌∙◌, append_assoc, refl, arith, zero, suc}
+use Rattle.std.proofs.Common.{◌≡◌, ℕ, ◌+◌, ◌-◌, ◌≤◌, List, [], ◌∷◌, ◌++◌, length, take, drop, take-add, length-drop, Option, Some, None, sym, ap, ◌∙◌, append_assoc, refl, arith, zero, suc, zero-add}
 use Rattle.std.specs.Io.KnownBytes.{Appends, Keeps}
+use Rattle.std.proofs.Math.Nat.{suc-add}
 use Rattle.std.proofs.lemmas.List.{append-nil}
 use Rattle.std.proofs.Math.Seq.{take-length}
 
@@ -35,14 +36,25 @@ front_of text more zero le = refl
 front_of [] more (suc n) le = absurd (omega arith)
 front_of (x ∷ text) more (suc n) le = ap (λ (r : List ℕ). x ∷ r) (front_of text more n (omega arith))
 
--- a front of a text is a front of it and more
-pub appends_front : (a b : Option (List ℕ)) (text more : List ℕ) (n : ℕ) → n ≤ length text → Appends a b (take n text) → Appends a b (take n (text ++ more))
-appends_front a b text more n le p = rw (front_of text more n le) p
+-- ---- a text and its end, written in part
 
-whole_front : (text more : List ℕ) → take (length text) (text ++ more) ≡ text
-whole_front [] more = refl
-whole_front (x ∷ text) more = ap (λ (r : List ℕ). x ∷ r) (whole_front text more)
+-- a front that ends in the second part
+front_past : (text end : List ℕ) (n : ℕ) → take (length text + n) (text ++ end) ≡ text ++ take n end
+front_past [] end n = ap (λ (k : ℕ). take k end) (zero-add n)
+front_past (b ∷ text) end n = rw suc-add (ap (λ (r : List ℕ). b ∷ r) (front_past text end n))
 
--- a text was written, and nothing behind it
-pub appends_text : (a b c : Option (List ℕ)) (text more : List ℕ) → Appends a b text → Appends b c [] → Appends a c (take (length text) (text ++ more))
-appends_text a b c text more p q = let h = appends_more a b c text [] p q in rw (whole_front text more) (rw (append-nil text) at h)
+abbrev PutsPart : Option (List ℕ) → Option (List ℕ) → List ℕ → Type 0
+PutsPart old new all = (part : ℕ) × Appends old new (take part all)
+
+-- the write of the text failed
+pub part_of_text : (old new : Option (List ℕ)) (text end : List ℕ) (n : ℕ) → n ≤ length text → Appends old new (take n text) → PutsPart old new (text ++ end)
+part_of_text old new text end n le p = (n, rw (front_of text end n le) p)
+
+-- or of its end
+pub part_of_end : (old mid new : Option (List ℕ)) (text end : List ℕ) (n : ℕ) → Appends old mid text → Appends mid new (take n end) → PutsPart old new (text ++ end)
+part_of_end old mid new text end n p q = (length text + n, rw front_past (appends_more old mid new text (take n end) p q))
+
+-- or the flush behind them
+pub part_unflushed : (old mid held new : Option (List ℕ)) (text end : List ℕ) → Appends old mid text → Appends mid held end → Keeps held new → PutsPart old new (text ++ end)
+part_unflushed old mid held new text end p q k =
+    (length (text ++ end), appends_whole old new (text ++ end) (appends_keeps old held new (text ++ end) (appends_more old mid held text end p q) k))

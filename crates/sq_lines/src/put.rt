@@ -1,13 +1,17 @@
 //! Writing all of a text.
-ghost use Rattle.std.specs.Prelude.{◌≡◌, ◌<◌, ◌≤◌, ◌++◌, ◌∷◌, [], take, OnOk, IfErr, length};
+ghost use Rattle.std.specs.Prelude.{◌≡◌, ◌<◌, ◌≤◌, ◌++◌, ◌∷◌, [], take, OnOk, OnErr, IfErr, ℕ, length};
 ghost use Rattle.std.specs.Io.KnownBytes.{Appends};
 ghost use Rattle.sq_lines.specs.Lines.{OneMore};
 
 use crate::counted::Counted;
 use std::io::Write;
 
-/// Writes all of a text, or answers how many of its bytes were written.
-pub fn put<W: Write>(writer: &mut Counted<W>, text: &[u8]) -> Result<(), usize>
+/// A write or a flush failed, which its writer has counted.
+#[derive(Drop)]
+pub struct Unwritten;
+
+// Writes all of a text, or answers how many of its bytes were written.
+fn put<W: Write>(writer: &mut Counted<W>, text: &[u8]) -> Result<(), usize>
     ensures ok { OnOk result (Appends (W.contents writer.old.inner) (W.contents writer.new.inner) text.now) }
     ensures err { IfErr result (λ n. Appends (W.contents writer.old.inner) (W.contents writer.new.inner) (take n text.now)) }
     ensures within { IfErr result (λ n. n < length text.now) }
@@ -25,17 +29,31 @@ pub fn put<W: Write>(writer: &mut Counted<W>, text: &[u8]) -> Result<(), usize>
     Ok(())
 }
 
-/// Writes a text and a line feed, or answers how many of their bytes were written.
-pub fn put_line<W: Write>(writer: &mut Counted<W>, text: &[u8]) -> Result<(), usize>
-    ensures ok { OnOk result (Appends (W.contents writer.old.inner) (W.contents writer.new.inner) (text.now ++ 10 ∷ [])) }
-    ensures err { IfErr result (λ n. Appends (W.contents writer.old.inner) (W.contents writer.new.inner) (take n (text.now ++ 10 ∷ []))) }
-    ensures within { IfErr result (λ n. n ≤ length text.now) }
+/// Writes a text and what it ends with, and flushes them. Where a call failed, what went out is a front of both.
+pub fn put_out<W: Write>(writer: &mut Counted<W>, text: &[u8], end: &[u8]) -> Result<(), Unwritten>
+    ensures ok { OnOk result (Appends (W.contents writer.old.inner) (W.contents writer.new.inner) (text.now ++ end.now)) }
+    ensures err { OnErr result ((part : ℕ) × Appends (W.contents writer.old.inner) (W.contents writer.new.inner) (take part (text.now ++ end.now))) }
     ensures no_failure { OnOk result (writer.new.failed ≡ writer.old.failed) }
-    ensures count { IfErr result (λ _. OneMore writer.old.failed writer.new.failed) }
+    ensures count { OnErr result (OneMore writer.old.failed writer.new.failed) }
 {
-    put(writer, text)?;
-    match put(writer, b"\n") {
-        Ok(()) => Ok(()),
-        Err(_) => Err(text.len()),
+    if let Err(_count) = put(writer, text) {
+        return Err(Unwritten);
     }
+    if let Err(_count) = put(writer, end) {
+        return Err(Unwritten);
+    }
+    match writer.flush() {
+        Ok(()) => Ok(()),
+        Err(_) => Err(Unwritten),
+    }
+}
+
+/// Writes a text and a line feed, and flushes them. Where a call failed, what went out is a front of both.
+pub fn put_line<W: Write>(writer: &mut Counted<W>, text: &[u8]) -> Result<(), Unwritten>
+    ensures ok { OnOk result (Appends (W.contents writer.old.inner) (W.contents writer.new.inner) (text.now ++ 10 ∷ [])) }
+    ensures err { OnErr result ((part : ℕ) × Appends (W.contents writer.old.inner) (W.contents writer.new.inner) (take part (text.now ++ 10 ∷ []))) }
+    ensures no_failure { OnOk result (writer.new.failed ≡ writer.old.failed) }
+    ensures count { OnErr result (OneMore writer.old.failed writer.new.failed) }
+{
+    put_out(writer, text, b"\n")
 }

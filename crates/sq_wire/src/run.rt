@@ -63,10 +63,7 @@ pub fn run_script<R: Read, W: Write>(
         let Ok(text) = answer(alloc, world, &mut clock, &line) else {
             return Err(ServeFault::NoMemory(answered));
         };
-        if let Err(_part) = put_line(writer, text.as_bytes()) {
-            return Err(ServeFault::Write(answered));
-        }
-        let Ok(()) = writer.flush() else {
+        let Ok(()) = put_line(writer, text.as_bytes()) else {
             return Err(ServeFault::Write(answered));
         };
     }

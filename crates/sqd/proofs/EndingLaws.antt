@@ -1,11 +1,8 @@
 -- How a run ends, from how its parts did.
-use Rattle.std.proofs.Common.{◌≡◌, ◌≤◌, ℕ, zero, suc, ◌+◌, true, false, Some, None, List, [], ◌∷◌, ◌++◌, length, take, Option, IfSome, Ok, Err, refl, ap, inr, arith, zero-add}
-use Rattle.std.specs.Io.KnownBytes.{Appends, Keeps}
-use Rattle.std.proofs.Math.Nat.{suc-add}
+use Rattle.std.proofs.Common.{◌≡◌, ◌≤◌, ℕ, zero, suc, true, false, Some, None, List, length, Option, IfSome, Ok, Err, refl, inr, arith}
 use Rattle.clap.specs.Words.{Text}
 use Rattle.clap.specs.declared.error.Error.{Error}
 use Rattle.sq_lines.specs.declared.counted.Counted.{Counted}
-use Rattle.sq_lines.proofs.WriteLaws.{appends_front, appends_keeps, appends_more, appends_whole}
 use Rattle.sq_merge.specs.Openings.{new_world, IsServed}
 use Rattle.sq_merge.specs.WorldValue.{WorldValue}
 use Rattle.sq_merge.specs.declared.options.Options.{Options}
@@ -15,31 +12,6 @@ use Rattle.sqd.specs.Endings.{Stream, stream, Ends, EndsFor, EndsWritten, HasNoF
 use Rattle.sqd.specs.declared.flags.Mode.TheVariants.{Script}
 use Rattle.sqd.specs.declared.flags.Refused.TheVariants as refused
 use Rattle.sqd.specs.declared.flags.ScriptMode.{ScriptMode}
-
--- ---- a text and its end, written in part
-
--- a front that ends in the second part
-front_past : (text end : List ℕ) (n : ℕ) → take (length text + n) (text ++ end) ≡ text ++ take n end
-front_past [] end n = ap (λ (k : ℕ). take k end) (zero-add n)
-front_past (b ∷ text) end n = rw suc-add (ap (λ (r : List ℕ). b ∷ r) (front_past text end n))
-
-abbrev PutsPart : Option (List ℕ) → Option (List ℕ) → List ℕ → Type 0
-PutsPart old new all = (part : ℕ) × Appends old new (take part all)
-
--- the write of the text failed
-pub part_of_text : (old new : Option (List ℕ)) (text end : List ℕ) (n : ℕ) → n ≤ length text → Appends old new (take n text) → PutsPart old new (text ++ end)
-part_of_text old new text end n le p = (n, appends_front old new text end n le p)
-
--- or of its end
-pub part_of_end : (old mid new : Option (List ℕ)) (text end : List ℕ) (n : ℕ) → Appends old mid text → Appends mid new (take n end) → PutsPart old new (text ++ end)
-part_of_end old mid new text end n p q = (length text + n, rw front_past (appends_more old mid new text (take n end) p q))
-
--- or the flush behind them
-pub part_unflushed : (old mid held new : Option (List ℕ)) (text end : List ℕ) → Appends old mid text → Appends mid held end → Keeps held new → PutsPart old new (text ++ end)
-part_unflushed old mid held new text end p q k =
-    (length (text ++ end), appends_whole old new (text ++ end) (appends_keeps old held new (text ++ end) (appends_more old mid held text end p q) k))
-
--- ---- the whole program
 
 -- what the words ask for was shown
 pub ends_written : {R W : Type 0} (error : Error) (input : Stream R) (output : Stream W) (status : ℕ) → IsUntouched input → EndsWritten IsHelp output status → Ends (Err (refused.Text error)) input output status

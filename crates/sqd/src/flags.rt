@@ -173,11 +173,26 @@ fn sample_text(alloc: Global, default: u32) -> Result<String, AllocError> {
 const SEED: &str = "What the choices of homes begin from: any u64 [default: 0]";
 
 const AUDIT: &str =
-    "After the last reply, tell the run of all that was done and where each message is";
+    "After the last reply, write the run of all that was done and where each message is";
 
 const SCRIPT_FLAGS: &str =
     "Flags of script: --homes N, --sample N, --queues N, --rows N, --flights N, --transit N, --seed N,
 --audit. 'sqd script --help' says of each what it is, its bounds and its default.";
+
+// Adds a flag that takes a whole number from 1 to a bound of the options.
+fn with_bounded<'a>(
+    alloc: Global,
+    command: Command<'a>,
+    name: &'a str,
+    greatest: u32,
+    help: &'a String,
+) -> Result<Command<'a>, AllocError>
+    requires { (fields_of command).has_globals ≡ false }
+    ensures app { IfOk result (λ c. app_of c ≡ with_number name.entry.now 1 greatest (app_of command.entry)) }
+    ensures local { IfOk result (λ c. (fields_of c).has_globals ≡ false) }
+{
+    with_number(alloc, command, name, 1, greatest as u64, help.as_str())
+}
 
 // The subcommand and its flags that take numbers.
 fn numbers_command<'a>(alloc: Global, texts: &'a Texts) -> Result<Command<'a>, AllocError>
@@ -185,54 +200,12 @@ fn numbers_command<'a>(alloc: Global, texts: &'a Texts) -> Result<Command<'a>, A
     ensures local { IfOk result (λ c. (fields_of c).has_globals ≡ false) }
 {
     let command = Command::new(alloc, "script");
-    let command = with_number(
-        alloc,
-        command,
-        "homes",
-        1,
-        MOST_HOMES as u64,
-        texts.homes.as_str(),
-    )?;
-    let command = with_number(
-        alloc,
-        command,
-        "sample",
-        1,
-        MOST_HOMES as u64,
-        texts.sample.as_str(),
-    )?;
-    let command = with_number(
-        alloc,
-        command,
-        "queues",
-        1,
-        MOST_QUEUES as u64,
-        texts.queues.as_str(),
-    )?;
-    let command = with_number(
-        alloc,
-        command,
-        "rows",
-        1,
-        MOST_ROWS as u64,
-        texts.rows.as_str(),
-    )?;
-    let command = with_number(
-        alloc,
-        command,
-        "flights",
-        1,
-        MOST_FLIGHTS as u64,
-        texts.flights.as_str(),
-    )?;
-    let command = with_number(
-        alloc,
-        command,
-        "transit",
-        1,
-        MOST_TRANSIT as u64,
-        texts.transit.as_str(),
-    )?;
+    let command = with_bounded(alloc, command, "homes", MOST_HOMES, &texts.homes)?;
+    let command = with_bounded(alloc, command, "sample", MOST_HOMES, &texts.sample)?;
+    let command = with_bounded(alloc, command, "queues", MOST_QUEUES, &texts.queues)?;
+    let command = with_bounded(alloc, command, "rows", MOST_ROWS, &texts.rows)?;
+    let command = with_bounded(alloc, command, "flights", MOST_FLIGHTS, &texts.flights)?;
+    let command = with_bounded(alloc, command, "transit", MOST_TRANSIT, &texts.transit)?;
     with_number(alloc, command, "seed", 0, u64::MAX, SEED)
 }
 

@@ -6,8 +6,6 @@ ghost use Rattle.std.specs.Process.{exit_status};
 
 mod flags;
 mod program;
-#[cfg(test)]
-mod tests;
 
 use crate::program::{no_memory, no_text, run};
 use sq_lines::counted::Counted;

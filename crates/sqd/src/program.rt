@@ -1,15 +1,14 @@
 //! The program as a function of its words, its input and its outputs.
-ghost use Rattle.std.specs.Prelude.{◌≡◌, ◌≢◌, ◌++◌, ℕ, map, take, length, ◌<◌, OnOk, OnErr};
-ghost use Rattle.std.specs.Io.KnownBytes.{Appends};
-ghost use Rattle.sq_lines.specs.Lines.{OneMore};
+ghost use Rattle.std.specs.Prelude.{◌≡◌, ◌≢◌, ℕ, map, codes, length, ◌<◌};
 ghost use Rattle.sqd.specs.Endings.{stream, EndsFor, Ends, EndsWritten, IsHelp, IsAuditLine};
+ghost use Rattle.sqd.specs.Faults.{fault_name, fault_count};
 ghost use Rattle.sqd.specs.declared.flags.Mode.TheVariants.{Script as ByScript};
 
 use crate::flags::{Mode, Refused, ScriptMode, flags};
 use clap::Error;
 use sq_base::refusal::Refusal;
 use sq_lines::counted::Counted;
-use sq_lines::put::put;
+use sq_lines::put::{Unwritten, put_line, put_out};
 use sq_merge::AuditFault;
 use sq_merge::world::World;
 use sq_wire::audit::audit_world;
@@ -25,57 +24,54 @@ fn title_is_there()
     ensures { 0 < length TITLE.now }
 {}
 
-// Tells why a run ended early. Nobody can be told that this failed.
+// What standard error calls a fault.
+fn name_of(fault: ServeFault) -> &'static str
+    ensures { result.now ≡ fault_name fault }
+{
+    match fault {
+        ServeFault::Read(_) => "read failed",
+        ServeFault::Write(_) => "write failed",
+        ServeFault::NoMemory(_) => "no memory",
+        ServeFault::TooLong(_) => "line too long",
+    }
+}
+
+// How many lines were answered before a fault.
+fn count_of(fault: ServeFault) -> u64
+    ensures { result ≡ fault_count fault }
+{
+    match fault {
+        ServeFault::Read(count)
+        | ServeFault::Write(count)
+        | ServeFault::NoMemory(count)
+        | ServeFault::TooLong(count) => count,
+    }
+}
+
+// Reports why a run ended early. Nobody can be told that this failed.
 fn report<E: Write>(errors: &mut E, fault: ServeFault) -> u8
     ensures { result ≡ 1 }
 {
-    let (name, count) = match fault {
-        ServeFault::Read(count) => ("read failed", count),
-        ServeFault::Write(count) => ("write failed", count),
-        ServeFault::NoMemory(count) => ("no memory", count),
-        ServeFault::TooLong(count) => ("line too long", count),
-    };
+    let (name, count) = (name_of(fault), count_of(fault));
     let _ = writeln!(errors, "sqd: {name} after {count} requests");
     let _ = errors.flush();
     1
 }
 
-/// Tells that there was no memory before the first request.
+/// Reports that there was no memory before the first request.
 pub fn no_memory<E: Write>(errors: &mut E) -> u8
     ensures { result ≡ 1 }
 {
     report(errors, ServeFault::NoMemory(0))
 }
 
-/// Tells that the words are no text.
+/// Reports that the words are no text.
 pub fn no_text<E: Write>(errors: &mut E) -> u8
     ensures { result ≡ 2 }
 {
     let _ = errors.write_all(b"error: invalid UTF-8 was detected in one or more arguments\n");
     let _ = errors.flush();
     2
-}
-
-// A write or a flush failed.
-struct Unwritten;
-
-// Writes a text and its end, and hands them on.
-fn put_out<W: Write>(output: &mut Counted<W>, text: &[u8], end: &[u8]) -> Result<(), Unwritten>
-    ensures ok { OnOk result (Appends (W.contents output.old.inner) (W.contents output.new.inner) (text.now ++ end.now)) }
-    ensures err { OnErr result ((part : ℕ) × Appends (W.contents output.old.inner) (W.contents output.new.inner) (take part (text.now ++ end.now))) }
-    ensures no_failure { OnOk result (output.new.failed ≡ output.old.failed) }
-    ensures count { OnErr result (OneMore output.old.failed output.new.failed) }
-{
-    if let Err(_count) = put(output, text) {
-        return Err(Unwritten);
-    }
-    if let Err(_count) = put(output, end) {
-        return Err(Unwritten);
-    }
-    match output.flush() {
-        Ok(()) => Ok(()),
-        Err(_) => Err(Unwritten),
-    }
 }
 
 // Shows a text that was asked for.
@@ -96,7 +92,7 @@ fn show<W: Write, E: Write>(
     }
 }
 
-// Tells a mistake in the words.
+// Reports a mistake in the words.
 fn explain<E: Write>(error: &Error, errors: &mut E) -> u8
     ensures { result ≡ 2 }
 {
@@ -105,23 +101,35 @@ fn explain<E: Write>(error: &Error, errors: &mut E) -> u8
     2
 }
 
-/// Tells why there is no audit.
-pub fn audit_fault<E: Write>(errors: &mut E, fault: AuditFault) -> u8
+// What standard error calls a fault of an audit.
+fn audit_fault_name(fault: AuditFault) -> &'static str
+    ensures memory { fault ≡ AuditFault.NoMemory → result.now ≡ codes "no memory in audit" }
+    ensures missing { (actor index : ℕ) → fault ≡ AuditFault.RecordMissing actor index → result.now ≡ codes "audit: RecordMissing" }
+    ensures twice { (actor index : ℕ) → fault ≡ AuditFault.RecordTwice actor index → result.now ≡ codes "audit: RecordTwice" }
+{
+    match fault {
+        AuditFault::NoMemory => "no memory in audit",
+        AuditFault::RecordMissing(_, _) => "audit: RecordMissing",
+        AuditFault::RecordTwice(_, _) => "audit: RecordTwice",
+    }
+}
+
+// Reports why there is no audit.
+fn report_audit<E: Write>(errors: &mut E, fault: AuditFault) -> u8
     ensures memory { fault ≡ AuditFault.NoMemory → result ≡ 1 }
     ensures wrong { fault ≢ AuditFault.NoMemory → result ≡ 3 }
 {
-    let (text, status) = match fault {
-        AuditFault::NoMemory => ("no memory in audit", 1),
-        AuditFault::RecordMissing(_, _) => ("audit: RecordMissing", 3),
-        AuditFault::RecordTwice(_, _) => ("audit: RecordTwice", 3),
-    };
-    let _ = writeln!(errors, "sqd: {text}");
+    let name = audit_fault_name(fault);
+    let _ = writeln!(errors, "sqd: {name}");
     let _ = errors.flush();
-    status
+    match fault {
+        AuditFault::NoMemory => 1,
+        AuditFault::RecordMissing(_, _) | AuditFault::RecordTwice(_, _) => 3,
+    }
 }
 
 // Writes the audit of a world that answered so many requests.
-fn tell_audit<W: Write, E: Write>(
+fn write_audit<W: Write, E: Write>(
     alloc: Global,
     world: World,
     answered: u64,
@@ -132,15 +140,15 @@ fn tell_audit<W: Write, E: Write>(
 {
     let text = match audit_world(alloc, world) {
         Ok(text) => text,
-        Err(fault) => return audit_fault(errors, fault),
+        Err(fault) => return report_audit(errors, fault),
     };
-    match put_out(output, text.as_bytes(), b"\n") {
+    match put_line(output, text.as_bytes()) {
         Ok(()) => 0,
         Err(Unwritten) => report(errors, ServeFault::Write(answered)),
     }
 }
 
-// Answers each line of the input over a world of its own, and tells its audit where one is asked for.
+// Answers each line of the input over a world of its own, and writes its audit where one is asked for.
 fn script<R: Read, W: Write, E: Write>(
     alloc: Global,
     mode: ScriptMode,
@@ -161,7 +169,7 @@ fn script<R: Read, W: Write, E: Write>(
     };
     match run_script(alloc, input, output, &mut world) {
         Ok(_) if !mode.audit => 0,
-        Ok(answered) => tell_audit(alloc, world, answered, output, errors),
+        Ok(answered) => write_audit(alloc, world, answered, output, errors),
         Err(fault) => report(errors, fault),
     }
 }

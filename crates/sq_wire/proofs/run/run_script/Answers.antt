@@ -1,6 +1,5 @@
 use Rattle.std.proofs.Common.{arith, rules, refl, inr, None, ◌≡◌}
 use Rattle.sq_wire.proofs.RunLaws.{done_at, stops_at, so_far_none, so_far_done, so_far_more, so_far_part, so_far_stops, so_far_lost, so_far_loses}
-use Rattle.sq_lines.proofs.WriteLaws.{appends_whole, appends_keeps}
 use Rattle.sq_wire.specs.declared.run.TheConstants.{TURNS}
 use Rattle.sq_wire.specs.declared.run.ServeFault.TheVariants as fault
 use Rattle.sq_wire.proofs.run.run_script.Goals as goal
@@ -20,26 +19,19 @@ returns-in_default-answer-clause-err g c =
     (so_far_loses _ _ _ _ _ _ _ _ _ _ _ c.loop-answered.invariant.so_far (rw c.in-Ok-Some.field-0-is at c.in-Ok-Some.ensures.taken) (rw c.in-Ok-Some.field-0-is at c.in-Ok-Some.ensures.within)
     (rw c.deref.ensures.value at c.in_default-answer.ensures.err)))
 
-pub returns-in-Err-clause-err : goal.returns-in-Err-clause-err
-returns-in-Err-clause-err g c =
+pub returns-in_default-put_line-clause-err : goal.returns-in_default-put_line-clause-err
+returns-in_default-put_line-clause-err g c =
+    let cut = rw c.as_bytes.ensures at c.in_default-put_line.ensures.err in
     inr (stops_at _ (fault.Write c.loop-answered.answered) None _ _ _ _ _
-    (so_far_part _ _ _ _ _ _ _ _ _ _ _ _ c.in-Err._part
+    (so_far_part _ _ _ _ _ _ _ _ _ _ _ _ cut.0
     c.loop-answered.invariant.so_far (rw c.in-Ok-Some.field-0-is at c.in-Ok-Some.ensures.taken) (rw c.in-Ok-Some.field-0-is at c.in-Ok-Some.ensures.within)
-    (rw c.deref.ensures.value at c.in-Ok-answer.ensures.ok) (rw c.as_bytes.ensures at c.in-Err.ensures.err)))
-
-pub returns-in_default-flush-clause-err : goal.returns-in_default-flush-clause-err
-returns-in_default-flush-clause-err g c =
-    inr (stops_at _ (fault.Write c.loop-answered.answered) None _ _ _ _ _
-    (so_far_part _ _ _ _ _ _ _ _ _ _ _ _ _
-    c.loop-answered.invariant.so_far (rw c.in-Ok-Some.field-0-is at c.in-Ok-Some.ensures.taken) (rw c.in-Ok-Some.field-0-is at c.in-Ok-Some.ensures.within)
-    (rw c.deref.ensures.value at c.in-Ok-answer.ensures.ok)
-    (appends_whole _ _ _ (appends_keeps _ _ _ _ (rw c.as_bytes.ensures at c.in_default-put_line.ensures.ok) c.flush.ensures.bytes))))
+    (rw c.deref.ensures.value at c.in-Ok-answer.ensures.ok) cut.1))
 
 pub loop-answered-preserved : goal.loop-answered-preserved
 loop-answered-preserved g c = record {
   so_far = so_far_more _ _ _ _ _ _ _ _ _ _ _ _
       c.loop-answered.invariant.so_far (rw c.in-Ok-Some.field-0-is at c.in-Ok-Some.ensures.taken) (rw c.in-Ok-Some.field-0-is at c.in-Ok-Some.ensures.within) (rw c.deref.ensures.value at c.in-Ok-answer.ensures.ok)
-      (appends_keeps _ _ _ _ (rw c.as_bytes.ensures at c.in_default-put_line.ensures.ok) c.flush.ensures.bytes);
+      (rw c.as_bytes.ensures at c.in-Ok-put_line.ensures.ok);
   reads = search rules;
   writes = search rules;
 }

@@ -15,6 +15,6 @@ pub returns-in-Ok-2 : goal.returns-in-Ok-2
 returns-in-Ok-2 g c =
     let parsed : c.args.mode.audit ≡ true = search rules in
     let input = stream g.R.Read.remaining c.args.input.now c.run_script.new.reader in
-    let output = stream g.W.Write.contents c.args.output.now c.tell_audit.new.output in
+    let output = stream g.W.Write.contents c.args.output.now c.write_audit.new.output in
     let all = c.in-Ok-2.ensures in
-    ends_audited c.args.mode input output c.run_script.new.world c.run_script.new.writer c.tell_audit.result parsed c.in-Ok.ensures.served all.no_failure.0 all.no_failure.1 (replies_to_all _ _ _ _ _ _ (rw c.in-Ok.ensures.ok at all.ok)) c.tell_audit.ensures
+    ends_audited c.args.mode input output c.run_script.new.world c.run_script.new.writer c.write_audit.result parsed c.in-Ok.ensures.served all.no_failure.0 all.no_failure.1 (replies_to_all _ _ _ _ _ _ (rw c.in-Ok.ensures.ok at all.ok)) c.write_audit.ensures
