@@ -14,11 +14,11 @@ use Rattle.sq_base.specs.Stamps.{start, Below, stamp_cmp}
 use Rattle.sq_base.proofs.StampLaws.{below_less, below_trans, below_not_itself}
 use Rattle.sq_model.specs.declared.event.Event.{Event}
 use Rattle.sq_model.specs.Replays.{HomeEvent, StampsRise}
-use Rattle.sq_model.specs.Systems.{DirectoryEvent, Tag, OfDirectory, OfHome, stamp_of}
-use Rattle.sq_model.specs.Merges.{of_directory, of_home, history_at, rank_of, is_before, InOrder, IsMerged}
+use Rattle.sq_model.specs.Systems.{DirectoryEvent, Tag, OfDirectory, OfLedger, OfHome, stamp_of}
+use Rattle.sq_model.specs.Merges.{NothingMoves, of_directory, of_home, history_at, rank_of, is_before, InOrder, IsMerged}
 use Rattle.sq_history.specs.HistoryValue.{HistoryValue}
 use Rattle.sq_history.specs.Histories.{IsKept}
-use Rattle.sq_audit.specs.SystemNow.{events_of}
+use Rattle.sq_audit.specs.SystemNow.{events_of, nothing_moved}
 use Rattle.sq_audit.specs.Actors.{event_actor, event_place, ActorsRise, PartsRise, PlacesAgree, PlacesApart, Rises}
 
 all_above : {K R : Type 0} (s low : StampValue) (es : List (Event K R)) (last : StampValue) → StampsRise low es last → ((x : StampValue) → Below low x → Below s x) → AllByRecursion (λ e. Below s e.stamp) es
@@ -28,13 +28,15 @@ all_above s low (e ∷ es) last r over = (over e.stamp r.0, all_above s e.stamp 
 directory_above : (s : StampValue) (ts : List Tag) → AllByRecursion (λ e. Below s e.stamp) (of_directory ts) → AllByRecursion (λ u. rank_of u ≡ 0 → Below s (stamp_of u)) ts
 directory_above s [] h = tt
 directory_above s (OfDirectory e ∷ ts) h = (λ same. h.0, directory_above s ts h.1)
+directory_above s (OfLedger e ∷ ts) h = (λ same. absurd (omega (arith, same)), directory_above s ts h)
 directory_above s (OfHome i e ∷ ts) h = (λ same. absurd (omega (arith, same)), directory_above s ts h)
 
-home_above : (s : StampValue) (j : ℕ) (ts : List Tag) → AllByRecursion (λ e. Below s e.stamp) (of_home j ts) → AllByRecursion (λ u. rank_of u ≡ suc j → Below s (stamp_of u)) ts
+home_above : (s : StampValue) (j : ℕ) (ts : List Tag) → AllByRecursion (λ e. Below s e.stamp) (of_home j ts) → AllByRecursion (λ u. rank_of u ≡ suc (suc j) → Below s (stamp_of u)) ts
 home_above s j [] h = tt
 home_above s j (OfDirectory e ∷ ts) h = (λ same. absurd (omega (arith, same)), home_above s j ts h)
+home_above s j (OfLedger e ∷ ts) h = (λ same. absurd (omega (arith, same)), home_above s j ts h)
 home_above s j (OfHome i e ∷ ts) h =
-    elim (eqb_tells i j) as (λ _. AllByRecursion (λ u. rank_of u ≡ suc j → Below s (stamp_of u)) (OfHome i e ∷ ts)) [
+    elim (eqb_tells i j) as (λ _. AllByRecursion (λ u. rank_of u ≡ suc (suc j) → Below s (stamp_of u)) (OfHome i e ∷ ts)) [
       | inl p ↦ (let k = rw p.0 at h in (λ same. k.0, home_above s j ts k.1))
       | inr p ↦ (let k = rw p.0 at h in (λ same. let e : i ≡ j = omega (arith, same) in absurd (p.1 e), home_above s j ts k))
     ]
@@ -49,13 +51,14 @@ rises_left : (b : Bool) (e : HomeEvent) (es : List HomeEvent) → Rises (cond b 
 rises_left true e es h = rises_tail e es h
 rises_left false e es h = h
 
-parts_rise : (ts : List Tag) → Rises (of_directory ts) → ((i : ℕ) → Rises (of_home i ts)) → PartsRise ts
-parts_rise [] directory homes = tt
-parts_rise (OfDirectory e ∷ ts) directory homes =
-    (directory_above e.stamp ts (all_above e.stamp e.stamp (of_directory ts) directory.last directory.rising.1 (λ x h. h)), parts_rise ts (rises_tail e (of_directory ts) directory) homes)
-parts_rise (OfHome i e ∷ ts) directory homes =
+parts_rise : (ts : List Tag) → NothingMoves ts → Rises (of_directory ts) → ((i : ℕ) → Rises (of_home i ts)) → PartsRise ts
+parts_rise [] still directory homes = tt
+parts_rise (OfDirectory e ∷ ts) still directory homes =
+    (directory_above e.stamp ts (all_above e.stamp e.stamp (of_directory ts) directory.last directory.rising.1 (λ x h. h)), parts_rise ts still.1 (rises_tail e (of_directory ts) directory) homes)
+parts_rise (OfLedger e ∷ ts) still directory homes = absurd cc
+parts_rise (OfHome i e ∷ ts) still directory homes =
     let mine : Rises (e ∷ of_home i ts) = rw (same_number i) at (homes i) in
-    (home_above e.stamp i ts (all_above e.stamp e.stamp (of_home i ts) mine.last mine.rising.1 (λ x h. h)), parts_rise ts directory (λ j. rises_left (i == j) e (of_home j ts) (homes j)))
+    (home_above e.stamp i ts (all_above e.stamp e.stamp (of_home i ts) mine.last mine.rising.1 (λ x h. h)), parts_rise ts still.1 directory (λ j. rises_left (i == j) e (of_home j ts) (homes j)))
 
 less_first : (o r : Ordering) → is_lt o ≡ true → is_lt (ordering_then o r) ≡ true
 less_first Less r h = refl
@@ -97,14 +100,14 @@ all_rise (t ∷ ts) order parts agree differ = (
 )
 
 -- in the list of all events of histories whose stamps rise, those of each part stand in their order
-pub merged_parts_rise : (directory : List DirectoryEvent) (homes : List (List HomeEvent)) (run : List Tag) → IsMerged directory homes run → Rises directory → ((i : ℕ) → Rises (history_at homes i)) → PartsRise run
-merged_parts_rise directory homes run merged own each = parts_rise run (rw merged.of_the_directory own) (λ i. rw (merged.of_each_home i) (each i))
+pub merged_parts_rise : (directory : List DirectoryEvent) (homes : List (List HomeEvent)) (run : List Tag) → IsMerged directory nothing_moved homes run → NothingMoves run → Rises directory → ((i : ℕ) → Rises (history_at homes i)) → PartsRise run
+merged_parts_rise directory homes run merged still own each = parts_rise run still (rw merged.of_the_directory own) (λ i. rw (merged.of_each_home i) (each i))
 
 -- in the list of all events of histories whose stamps rise, each actor's events stand in its order
-pub actors_rise : (directory : List DirectoryEvent) (homes : List (List HomeEvent)) (run : List Tag) → IsMerged directory homes run
+pub actors_rise : (directory : List DirectoryEvent) (homes : List (List HomeEvent)) (run : List Tag) → IsMerged directory nothing_moved homes run → NothingMoves run
     → Rises directory → ((i : ℕ) → Rises (history_at homes i)) → PlacesAgree run → PlacesApart run → ActorsRise run
-actors_rise directory homes run merged own each agree differ =
-    all_rise run merged.in_order (merged_parts_rise directory homes run merged own each) agree differ
+actors_rise directory homes run merged still own each agree differ =
+    all_rise run merged.in_order (merged_parts_rise directory homes run merged still own each) agree differ
 
 -- the stamps of each home rise
 pub homes_rise : (hs : List HistoryValue) (i : ℕ) → All IsKept hs → Rises (history_at (events_of hs) i)
@@ -116,8 +119,10 @@ homes_rise (h ∷ hs) (suc i) kept = homes_rise hs i (All-tail IsKept h hs kept)
 pub in_directory : (run : List Tag) (i : ℕ) (e : DirectoryEvent) → slice_get run i ≡ Some (OfDirectory e) → (k : ℕ) × (slice_get (of_directory run) k ≡ Some e)
 in_directory [] i e is = absurd cc
 in_directory (OfDirectory d ∷ ts) zero e is = (0, cc)
+in_directory (OfLedger d ∷ ts) zero e is = absurd cc
 in_directory (OfHome j d ∷ ts) zero e is = absurd cc
 in_directory (OfDirectory d ∷ ts) (suc i) e is = let rest = in_directory ts i e is in (suc rest.0, rest.1)
+in_directory (OfLedger d ∷ ts) (suc i) e is = in_directory ts i e is
 in_directory (OfHome j d ∷ ts) (suc i) e is = in_directory ts i e is
 
 in_left : (b : Bool) (d e : HomeEvent) (es : List HomeEvent) → (k : ℕ) × (slice_get es k ≡ Some e) → (k : ℕ) × (slice_get (cond b (d ∷ es) es) k ≡ Some e)
@@ -127,9 +132,11 @@ in_left false d e es in_list = in_list
 pub in_home : (run : List Tag) (i j : ℕ) (e : HomeEvent) → slice_get run i ≡ Some (OfHome j e) → (k : ℕ) × (slice_get (of_home j run) k ≡ Some e)
 in_home [] i j e is = absurd cc
 in_home (OfDirectory d ∷ ts) zero j e is = absurd cc
+in_home (OfLedger d ∷ ts) zero j e is = absurd cc
 in_home (OfHome n d ∷ ts) zero j e is =
     let place : n ≡ j = cc in
     let event : d ≡ e = cc in
     rw (place, same_number j) (0, ap Some event)
 in_home (OfDirectory d ∷ ts) (suc i) j e is = in_home ts i j e is
+in_home (OfLedger d ∷ ts) (suc i) j e is = in_home ts i j e is
 in_home (OfHome n d ∷ ts) (suc i) j e is = in_left (n == j) d e (of_home j ts) (in_home ts i j e is)

@@ -13,7 +13,9 @@ use Rattle.sq_model.specs.declared.place.Site.{Site}
 use Rattle.sq_model.specs.Homes.{Home, IsRising}
 use Rattle.sq_model.specs.Lineages.{Cause, Expired, Ending, home_ends, home_sends, same_id, ends_with, sends_with}
 use Rattle.sq_model.specs.Places.{place_after, first_end, place_in, run_ends, run_sends}
-use Rattle.sq_model.specs.Systems.{HomeAt, HomeSteps, System, Tag, OfDirectory, OfHome, RunFrom, opening, IsOnePlace}
+use Rattle.sq_model.specs.Merges.{NothingMoves}
+use Rattle.sq_model.specs.Ledgers.{Ledger}
+use Rattle.sq_model.specs.Systems.{HomeAt, HomeSteps, System, Tag, OfDirectory, OfLedger, OfHome, RunFrom, opening, IsOnePlace}
 use Rattle.sq_model.proofs.SystemLaws.{one_place}
 use Rattle.sq_audit.specs.declared.state.RowState.{RowState}
 use Rattle.sq_audit.specs.declared.state.Policy.{Policy}
@@ -23,6 +25,7 @@ use Rattle.sq_audit.specs.RowStates.{states_of, Effect, Stays, Arrives, Looks, L
 use Rattle.sq_audit.specs.HomeValues.{HomeValue, AuditValue}
 use Rattle.sq_audit.specs.Audits.{no_states, placed, placed_left, home_after, placed_ends, grown, no_audit, audit_step}
 use Rattle.sq_audit.specs.AllPlaces.{after_send, after_end, listed_place}
+use Rattle.sq_audit.proofs.StillLaws.{alone_of, ends_alone, ledger_still}
 use Rattle.sq_audit.proofs.StateLaws.{GoesBy, mirrors}
 use Rattle.sq_audit.proofs.MessageStateLaws.{sends_first}
 use Rattle.sq_audit.proofs.FollowLaws.{opened}
@@ -73,26 +76,30 @@ record Finds (a : AuditValue) (sends : List MessageId) (ends : List Ending) (fou
   all_sends : found.sends ≡ a.sends ++ sends
   all_ends : found.ends ≡ a.ends ++ map placed_of ends
 
-audit_law : (before : System) (ts : List Tag) (after : System) (r : RunFrom before ts after) (a : AuditValue) → AllMirrored before.homes a.homes → Finds a (run_sends ts) (run_ends before ts after r) (fold audit_step a ts)
-audit_law before [] after r a all = record { all_sends = sym (append-nil a.sends); all_ends = sym (append-nil a.ends) }
-audit_law before (OfDirectory e ∷ ts) after r a all = audit_law r.0 ts after r.2 a (rw r.1.homes all)
-audit_law before (OfHome i e ∷ ts) after r a all =
+audit_law : (before : System) (ts : List Tag) (after : System) (r : RunFrom before ts after) (a : AuditValue) → AllMirrored before.homes a.homes → NothingMoves ts → Finds a (run_sends ts) (run_ends before ts after r) (fold audit_step a ts)
+audit_law before [] after r a all still = record { all_sends = sym (append-nil a.sends); all_ends = sym (append-nil a.ends) }
+audit_law before (OfDirectory e ∷ ts) after r a all still = audit_law r.0 ts after r.2 a (rw r.1.homes all) still.1
+audit_law before (OfLedger e ∷ ts) after r a all still = absurd cc
+audit_law before (OfHome i e ∷ ts) after r a all still =
+    let alone = alone_of i e still.0 in
     let h : HomeSteps before i e r.0 = r.1 in
     let v : HomeValue = get_or a.homes i no_states in
     let m = e.stamp.moment in
     let fit : MirroredAt h.old.home v = all i h.old h.in_list in
-    let mirror = mirrors h.old.site h.old.home v.policy m e.call e.reply h.new h.step h.alone fit.0 fit.1 in
+    let mirror = mirrors h.old.site h.old.home v.policy m e.call e.reply h.new h.step alone fit.0 fit.1 in
     let effect = effect_of e.call e.reply in
     let rows : states_after m effect (kept_states v.policy m v.rows) ≡ states_of h.new = ap (λ (rs : List RowState). states_after m effect (kept_states v.policy m rs)) fit.2 ∙ sym mirror.states in
     let gone : placed_ends e v ≡ map placed_of (home_ends h.old.home m e.call) =
     ap (λ (rs : List RowState). placed at.Expired (past_states v.policy m rs) ++ placed_left effect (kept_states v.policy m rs)) fit.2
     ∙ sym (ends_placed v.policy m effect (states_of h.old.home)) ∙ ap (map placed_of) (sym mirror.ends) in
     let next : MirroredAt h.new (home_after e v) = (mirror.rising, mirror.goes_by, rows) in
-    let rest = audit_law r.0 ts after r.2 (audit_step a (OfHome i e)) (rw h.homes (mirrored_set before.homes a.homes i h.old h.new (home_after e v) h.in_list all next)) in
+    let rest = audit_law r.0 ts after r.2 (audit_step a (OfHome i e)) (rw h.homes (mirrored_set before.homes a.homes i h.old h.new (home_after e v) h.in_list all next)) still.1 in
+    let leaving = ends_alone h.old.home m e.call alone in
     record {
       all_sends = rest.all_sends ∙ append_assoc a.sends (home_sends e.reply) (run_sends ts);
       all_ends = rest.all_ends ∙ append_assoc a.ends (placed_ends e v) (map placed_of (run_ends r.0 ts after r.2))
-          ∙ ap (λ (es : List (MessageId × Place)). a.ends ++ es) (ap (λ (es : List (MessageId × Place)). es ++ map placed_of (run_ends r.0 ts after r.2)) gone ∙ sym (map-append placed_of (home_ends h.old.home m e.call) (run_ends r.0 ts after r.2)));
+          ∙ ap (λ (es : List (MessageId × Place)). a.ends ++ es) (ap (λ (es : List (MessageId × Place)). es ++ map placed_of (run_ends r.0 ts after r.2)) gone ∙ sym (map-append placed_of (home_ends h.old.home m e.call) (run_ends r.0 ts after r.2))
+          ∙ ap (λ (es : List Ending). map placed_of (es ++ run_ends r.0 ts after r.2)) (sym leaving));
     }
 
 fold_tags : (a : AuditValue) (ts : List Tagged) → fold audit_step a (tags_of ts) ≡ fold (λ (b : AuditValue) (t : Tagged). audit_step b (tag_of t)) a ts
@@ -128,23 +135,27 @@ listed_other x place (e ∷ ends) none =
     [ true ↦ (λ q. absurd (omega (arith, q, none))) | false ↦ (λ q. listed_other x place ends (omega (arith, q, none))) ] (ends_first x e ends)
 
 -- of one that ends once its end is listed
-listed_once : (x : MessageId) (ends : List Ending) → ends_with x ends ≤ 1 → fold (after_end x) (Some at.InHome) (map placed_of ends) ≡ Some (first_end x ends)
+listed_once : (x : MessageId) (ends : List Ending) → ends_with x ends ≤ 1 → fold (after_end x) (Some at.InHome) (map placed_of ends) ≡ Some (first_end x ends [])
 listed_once x [] once = refl
 listed_once x (e ∷ ends) once =
-    elim (same_id x e.line) as (λ v. ends_with x (e ∷ ends) ≡ cond v 1 0 + ends_with x ends → fold (after_end x) (if v then Some (place_after e.cause) else Some at.InHome) (map placed_of ends) ≡ Some (if v then place_after e.cause else first_end x ends))
+    elim (same_id x e.line) as (λ v. ends_with x (e ∷ ends) ≡ cond v 1 0 + ends_with x ends → fold (after_end x) (if v then Some (place_after e.cause) else Some at.InHome) (map placed_of ends) ≡ Some (if v then place_after e.cause else first_end x ends []))
     [ true ↦ (λ q. listed_other x (Some (place_after e.cause)) ends (omega (arith, q, once))) | false ↦ (λ q. listed_once x ends (omega (arith, q, once))) ] (ends_first x e ends)
 
-listed_law : (x : MessageId) (sends : List MessageId) (ends : List Ending) → ends_with x ends ≤ sends_with x sends → sends_with x sends ≤ 1 → listed_place x sends (map placed_of ends) ≡ place_in x sends ends
+listed_law : (x : MessageId) (sends : List MessageId) (ends : List Ending) → ends_with x ends ≤ sends_with x sends → sends_with x sends ≤ 1 → listed_place x sends (map placed_of ends) ≡ place_in x sends ends []
 listed_law x sends ends fewer once =
-    rw (sent_from x None sends) (elim (nat_lt 0 (sends_with x sends)) as (λ v. nat_lt 0 (sends_with x sends) ≡ v → fold (after_end x) (if v then Some at.InHome else None) (map placed_of ends) ≡ (if v then Some (first_end x ends) else None)) [
+    rw (sent_from x None sends) (elim (nat_lt 0 (sends_with x sends)) as (λ v. nat_lt 0 (sends_with x sends) ≡ v → fold (after_end x) (if v then Some at.InHome else None) (map placed_of ends) ≡ (if v then Some (first_end x ends []) else None)) [
       | true ↦ (λ e. listed_once x ends (omega (arith, fewer, once)))
       | false ↦ (λ e. listed_other x None ends (omega (arith, fewer, none_below (sends_with x sends) e)))
     ] refl)
 
 -- the pass tells where each message is
-pub audit_places : (x : MessageId) (places : ℕ) (sites : List Site) (ts : List Tagged) (run : List Tag) → tags_of ts ≡ run → (after : System) (r : RunFrom (opening places sites) run after) (a : AuditValue) → IsOnePlace sites
-    → a ≡ fold (λ (b : AuditValue) (t : Tagged). audit_step b (tag_of t)) no_audit ts → listed_place x a.sends a.ends ≡ place_in x (run_sends run) (run_ends (opening places sites) run after r)
-audit_places x places sites ts run same after r a one is =
-    let once = one_place x places sites run after r one in
-    let found = audit_law (opening places sites) run after r no_audit (λ i h e. rw (opened sites i h e) (tt, refl, refl)) in
-    rw (is, sym (fold_tags no_audit ts), same, found.all_sends, found.all_ends) (listed_law x (run_sends run) (run_ends (opening places sites) run after r) (omega (arith, once.0)) once.1)
+pub audit_places : (x : MessageId) (places limit : ℕ) (sites : List Site) (ts : List Tagged) (run : List Tag) → tags_of ts ≡ run → (after : System) (r : RunFrom (opening places limit sites) run after) (a : AuditValue) → IsOnePlace sites → NothingMoves run
+    → a ≡ fold (λ (b : AuditValue) (t : Tagged). audit_step b (tag_of t)) no_audit ts → listed_place x a.sends a.ends ≡ place_in x (run_sends run) (run_ends (opening places limit sites) run after r) after.ledger.items
+audit_places x places limit sites ts run same after r a one still is =
+    let once = one_place x places limit sites run after r one in
+    let none : after.ledger.items ≡ [] = ap (λ (l : Ledger). l.items) (ledger_still (opening places limit sites) run after r still) in
+    let found = audit_law (opening places limit sites) run after r no_audit (λ i h e. rw (opened sites i h e) (tt, refl, refl)) still in
+    let ends = run_ends (opening places limit sites) run after r in
+    let listed : listed_place x a.sends a.ends ≡ place_in x (run_sends run) ends [] =
+    rw (is, sym (fold_tags no_audit ts), same, found.all_sends, found.all_ends) (listed_law x (run_sends run) ends (omega (arith, once.0)) once.1) in
+    listed ∙ ap (place_in x (run_sends run) ends) (sym none)

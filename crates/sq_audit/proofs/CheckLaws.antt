@@ -10,9 +10,11 @@ use Rattle.sq_base.specs.Stamps.{Below}
 use Rattle.sq_base.specs.declared.ids.HomeId.{HomeId}
 use Rattle.sq_model.specs.Replays.{HomeEvent}
 use Rattle.sq_model.specs.Systems.{DirectoryEvent}
-use Rattle.sq_model.specs.RecordValues.{HomeRecordValue, DirectoryRecordValue, RecordValue, OfDirectory, OfHome, place_of_record, stamp_of, Journal, RecordsRise, directory_record_of, home_record_of}
+use Rattle.sq_model.specs.RecordValues.{HomeRecordValue, DirectoryRecordValue, RecordValue, OfDirectory, OfLedger, OfHome, place_of_record, stamp_of, Journal, RecordsRise, directory_record_of, home_record_of}
 use Rattle.sq_model.specs.Matches.{HomeHistory, IsHomeEvent, IsRecordAt, IsNamed, HasItsEvent, IsRecorded, IsOfDirectory, IsOfHome, IsMatched}
 use Rattle.sq_history.specs.HistoryValue.{HistoryValue}
+use Rattle.sq_model.specs.Ledgers.{LedgerEvent}
+use Rattle.sq_audit.specs.SystemNow.{nothing_moved}
 use Rattle.sq_audit.specs.HomeIds.{history_of, histories_of, home_id, IsNumbered, home_index}
 use Rattle.sq_steps.specs.Journals.{AreDistinct, RecordsRiseAt, is_of}
 use Rattle.sq_audit.specs.declared.check.AuditFault.{AuditFault}
@@ -88,7 +90,7 @@ read_record journals b i journal records kept lt is values within own = record {
 }
 
 -- a record of a home that is not there did not happen
-pub no_event_found : (per_queue : ℕ) (homes : List HistoryValue) (d : List DirectoryEvent) (a : ℕ) (n : HomeRecordValue) → 1 ≤ per_queue → 1 ≤ n.home.queue → IsNumbered per_queue homes → home_index per_queue (length homes) n.home ≡ None → HasItsEvent d (histories_of homes) a (OfHome n) → ⊥
+pub no_event_found : (per_queue : ℕ) (homes : List HistoryValue) (d : List DirectoryEvent) (a : ℕ) (n : HomeRecordValue) → 1 ≤ per_queue → 1 ≤ n.home.queue → IsNumbered per_queue homes → home_index per_queue (length homes) n.home ≡ None → HasItsEvent d nothing_moved (histories_of homes) a (OfHome n) → ⊥
 no_event_found per_queue homes d a n some least numbered none h =
     let t = get_mapped history_of homes h.0 h.1 h.3.in_homes in
     place_none per_queue homes n.home some numbered none h.0 t.0 t.1 (sym (ap (λ (m : HomeRecordValue). m.home) h.5 ∙ ap (λ (x : HomeHistory). x.home) t.2))
@@ -101,7 +103,7 @@ module _ (per_queue : ℕ) (homes : List HistoryValue) (d : List DirectoryEvent)
   home_own = home_at per_queue (length homes) n.home place least found ∙ sym (numbered place home home_there)
 
   -- a record of the home at an index happened
-  pub did_happen : HasHomeEvent home.events a n → IsNamed d n n.name → HasItsEvent d (histories_of homes) a (OfHome n)
+  pub did_happen : HasHomeEvent home.events a n → IsNamed d n n.name → HasItsEvent d nothing_moved (histories_of homes) a (OfHome n)
   did_happen h named = (
     place,
     history_of home,
@@ -112,7 +114,7 @@ module _ (per_queue : ℕ) (homes : List HistoryValue) (d : List DirectoryEvent)
     named,
   )
 
-  pub finds_its_event : HasItsEvent d (histories_of homes) a (OfHome n) → HasHomeEvent home.events a n × IsNamed d n n.name
+  pub finds_its_event : HasItsEvent d nothing_moved (histories_of homes) a (OfHome n) → HasHomeEvent home.events a n × IsNamed d n n.name
   finds_its_event h =
       let at : h.0 ≡ place = home_once per_queue homes numbered h.0 place h.1 (history_of home) h.3.in_homes (get_map history_of homes place home home_there) (sym (ap (λ (m : HomeRecordValue). m.home) h.5) ∙ home_own) in
       let same : h.1 ≡ history_of home = some_same (sym h.3.in_homes ∙ ap (slice_get (histories_of homes)) at ∙ get_map history_of homes place home home_there) in (
@@ -157,15 +159,15 @@ pub record_wrong : (d : List DirectoryEvent) (hs : List HomeHistory) (journals :
     → ((j : ℕ) → j < i → RecordFits d hs journals b j) → IsRecordAt journals b i journal n → IsRecordFault d hs journal.actor i n f → IsWrong d hs journals f
 record_wrong d hs journals b i journal n f distinct rise before in_list wrong = elim wrong [
   | inl p ↦ subst (λ (x : AuditFault). IsWrong d hs journals x) (sym p.1) (inr (inr (place_gap d hs journals b i journal n distinct rise before in_list p.0)))
-  | inr p ↦ subst (λ (x : AuditFault). IsWrong d hs journals x) (sym p.1) (inr (inl (recorded_by journals b i journal n (λ m. (place_of_record m ≡ place_of_record n) × (HasItsEvent d hs journal.actor m → ⊥)) in_list (refl, p.0))))
+  | inr p ↦ subst (λ (x : AuditFault). IsWrong d hs journals x) (sym p.1) (inr (inl (recorded_by journals b i journal n (λ m. (place_of_record m ≡ place_of_record n) × (HasItsEvent d nothing_moved hs journal.actor m → ⊥)) in_list (refl, p.0))))
 ]
 
 -- a record that fits
-pub record_fits : (d : List DirectoryEvent) (hs : List HomeHistory) (journals : List Journal) (b i : ℕ) (journal : Journal) (n : RecordValue) → IsRecordAt journals b i journal n → place_of_record n ≡ i → HasItsEvent d hs journal.actor n → RecordFits d hs journals b i
+pub record_fits : (d : List DirectoryEvent) (hs : List HomeHistory) (journals : List Journal) (b i : ℕ) (journal : Journal) (n : RecordValue) → IsRecordAt journals b i journal n → place_of_record n ≡ i → HasItsEvent d nothing_moved hs journal.actor n → RecordFits d hs journals b i
 record_fits d hs journals b i journal n in_list place has_its_event x m too =
     let same : x ≡ journal = some_same (sym too.in_journals ∙ in_list.in_journals) in
     let its_record : m ≡ n = some_same (sym too.in_records ∙ ap (λ (y : Journal). slice_get y.records i) same ∙ in_list.in_records) in
-    (ap place_of_record its_record ∙ place, subst (λ (y : Journal). HasItsEvent d hs y.actor m) (sym same) (subst (λ (y : RecordValue). HasItsEvent d hs journal.actor y) (sym its_record) has_its_event))
+    (ap place_of_record its_record ∙ place, subst (λ (y : Journal). HasItsEvent d nothing_moved hs y.actor m) (sym same) (subst (λ (y : RecordValue). HasItsEvent d nothing_moved hs journal.actor y) (sym its_record) has_its_event))
 
 pub all_records : (d : List DirectoryEvent) (hs : List HomeHistory) (journals : List Journal) (b : ℕ) (journal : Journal) → slice_get journals b ≡ Some journal → ((i : ℕ) → i < length journal.records → RecordFits d hs journals b i) → (i : ℕ) → RecordFits d hs journals b i
 all_records d hs journals b journal in_list each i x m too =
@@ -185,10 +187,15 @@ all_rise_at journals each b x in_list = each b (slice_get_within journals b x in
 pub all_homes : (homes : List HistoryValue) (journals : List Journal) → ((j : ℕ) → j < length homes → (k : ℕ) → HomeFits (histories_of homes) journals j k) → (j k : ℕ) → HomeFits (histories_of homes) journals j k
 all_homes homes journals each j k h e in_list = let t = get_mapped history_of homes j h in_list.in_homes in each j (slice_get_within homes j t.0 t.1) k h e in_list
 
+-- nothing moved
+none_there : (k : ℕ) (e : LedgerEvent) → slice_get nothing_moved k ≡ Some e → ⊥
+none_there k e there = absurd cc
+
 -- where all fit, all is matched
-pub fits_match : (d : List DirectoryEvent) (hs : List HomeHistory) (journals : List Journal) → AreDistinct journals → ((b i : ℕ) → RecordFits d hs journals b i) → ((k : ℕ) → DirectoryFits d journals k) → ((j k : ℕ) → HomeFits hs journals j k) → IsMatched d hs journals
+pub fits_match : (d : List DirectoryEvent) (hs : List HomeHistory) (journals : List Journal) → AreDistinct journals → ((b i : ℕ) → RecordFits d hs journals b i) → ((k : ℕ) → DirectoryFits d journals k) → ((j k : ℕ) → HomeFits hs journals j k) → IsMatched d nothing_moved hs journals
 fits_match d hs journals distinct each every all = record {
   has_its_event = λ b i journal n h. (each b i journal n h).1;
+  ledger_recorded = λ k e there own. absurd (none_there k e there);
   directory_recorded = every;
   homes_recorded = all;
   once = λ b c i j journal other n m h g actor place. (journal_once journals distinct b c journal other h.in_journals g.in_journals actor, sym (each b i journal n h).0 ∙ place ∙ (each c j other m g).0);
@@ -224,14 +231,16 @@ module _ (per_queue : ℕ) (homes : List HistoryValue) (numbered : IsNumbered pe
   abbrev hs : List HomeHistory
   hs = histories_of homes
 
-  of_directory : (a k : ℕ) (e : DirectoryEvent) (n : RecordValue) → IsAt per_queue None k n → HasItsEvent d hs a n → slice_get d k ≡ Some e → IsOfDirectory k e n
+  of_directory : (a k : ℕ) (e : DirectoryEvent) (n : RecordValue) → IsAt per_queue None k n → HasItsEvent d nothing_moved hs a n → slice_get d k ≡ Some e → IsOfDirectory k e n
   of_directory a k e (OfDirectory n) at h in_list =
       let same : h.0 ≡ e = some_same (sym h.1 ∙ ap (slice_get d) at ∙ in_list) in
       ap OfDirectory (h.3 ∙ ap (λ (i : ℕ). directory_record_of i h.0) at ∙ ap (directory_record_of k) same)
+  of_directory a k e (OfLedger n) at h in_list = absurd at
   of_directory a k e (OfHome n) at h in_list = absurd at
 
-  of_home : (a j k : ℕ) (x : HomeHistory) (e : HomeEvent) (n : RecordValue) → IsAt per_queue (Some j) k n → HasItsEvent d hs a n → IsHomeEvent hs j k x e → IsOfHome x.home k e n
+  of_home : (a j k : ℕ) (x : HomeHistory) (e : HomeEvent) (n : RecordValue) → IsAt per_queue (Some j) k n → HasItsEvent d nothing_moved hs a n → IsHomeEvent hs j k x e → IsOfHome x.home k e n
   of_home a j k x e (OfDirectory n) at h in_list = absurd at
+  of_home a j k x e (OfLedger n) at h in_list = absurd at
   of_home a j k x e (OfHome n) at h in_list =
       let place : h.0 ≡ j = home_once per_queue homes numbered h.0 j h.1 x h.3.in_homes in_list.in_homes (sym (ap (λ (m : HomeRecordValue). m.home) h.5) ∙ at.0 ∙ sym (numbered_home per_queue homes numbered j x in_list.in_homes)) in
       let same : h.1 ≡ x = some_same (sym h.3.in_homes ∙ ap (slice_get hs) place ∙ in_list.in_homes) in
@@ -245,13 +254,14 @@ module _ (per_queue : ℕ) (homes : List HistoryValue) (numbered : IsNumbered pe
     in_directory : (k : ℕ) → event_index ≡ InDirectory k → IsAt per_queue None k n
     in_home : (j k : ℕ) → event_index ≡ InHome j k → IsAt per_queue (Some j) k n
 
-  event_index_of : (a place : ℕ) (n : RecordValue) → HasItsEvent d hs a n → place_of_record n ≡ place → HasSpot a place n
+  event_index_of : (a place : ℕ) (n : RecordValue) → HasItsEvent d nothing_moved hs a n → place_of_record n ≡ place → HasSpot a place n
   event_index_of a place (OfDirectory n) h e = record {
     event_index = InDirectory n.index;
     by = (h.0, h.1, h.2, sym (ap (λ (m : DirectoryRecordValue). m.place) h.3) ∙ e);
     in_directory = λ k p. cc;
     in_home = λ j k p. absurd cc;
   }
+  event_index_of a place (OfLedger n) h e = absurd (none_there n.index h.0 h.1)
   event_index_of a place (OfHome n) h e = record {
     event_index = InHome h.0 n.index;
     by = (h.1, h.2, h.3, h.4, sym (ap (λ (m : HomeRecordValue). m.place) h.5) ∙ e);
@@ -270,7 +280,7 @@ module _ (per_queue : ℕ) (homes : List HistoryValue) (numbered : IsNumbered pe
     two_events : (a place : ℕ) (other : EventIndex) (P : RecordValue → Type 0) (x : IsRecordedAt journals a place P) → IsBy d hs a place other → ((s : HasSpot a place x.0.its_record) → s.event_index ≡ other → ⊥) → TwoEvents d hs a place
     two_events a place other P (x, here) by differ =
         let f = fit x.at x.index x.journal x.its_record x.in_list in
-        let s = event_index_of a place x.its_record (subst (λ (y : ℕ). HasItsEvent d hs y x.its_record) x.of_actor f.1) (f.0 ∙ here) in
+        let s = event_index_of a place x.its_record (subst (λ (y : ℕ). HasItsEvent d nothing_moved hs y x.its_record) x.of_actor f.1) (f.0 ∙ here) in
         record { one = s.event_index; other = other; differ = differ s; first = s.by; second = by }
 
     pub directory_fits : ((k : ℕ) → EventFits per_queue journals None d k) → (k : ℕ) → DirectoryFits d journals k
@@ -316,10 +326,12 @@ module _ (per_queue : ℕ) (homes : List HistoryValue) (numbered : IsNumbered pe
 
   abbrev index_of : RecordValue → ℕ
   index_of (OfDirectory n) = n.index
+  index_of (OfLedger n) = n.index
   index_of (OfHome n) = n.index
 
   abbrev home_in : RecordValue → Option HomeId
   home_in (OfDirectory n) = None
+  home_in (OfLedger n) = None
   home_in (OfHome n) = Some n.home
 
   one_event_index : (s t : EventIndex) (n : RecordValue) → RecordsIndex s n → RecordsIndex t n → s ≡ t
@@ -330,7 +342,7 @@ module _ (per_queue : ℕ) (homes : List HistoryValue) (numbered : IsNumbered pe
       let place : j ≡ i = home_once per_queue homes numbered j i p.0 q.0 p.3 q.3 (some_same (sym (ap home_in p.4) ∙ ap home_in q.4)) in
       ap (λ (x : ℕ). InHome x k) place ∙ ap (InHome i) (sym (ap index_of p.4) ∙ ap index_of q.4)
 
-  module _ (journals : List Journal) (matched : IsMatched d hs journals) where
+  module _ (journals : List Journal) (matched : IsMatched d nothing_moved hs journals) where
     recorded_of : (a place : ℕ) (s : EventIndex) → IsBy d hs a place s → IsRecorded journals a (λ n. (place_of_record n ≡ place) × RecordsIndex s n)
     recorded_of a place (InDirectory k) by =
         let x = matched.directory_recorded k by.0 by.1 in
@@ -358,7 +370,7 @@ module _ (per_queue : ℕ) (homes : List HistoryValue) (numbered : IsNumbered pe
     wrong_refutes (RecordMissing a p) w = elim w [
       | inl e ↦ not_alone a p e.event_index e.by e.alone
       | inr v ↦ (elim v [
-        | inl n ↦ n.of_event.1 (subst (λ (x : ℕ). HasItsEvent d hs x n.its_record) n.of_actor (matched.has_its_event n.at n.index n.journal n.its_record n.in_list))
+        | inl n ↦ n.of_event.1 (subst (λ (x : ℕ). HasItsEvent d nothing_moved hs x n.its_record) n.of_actor (matched.has_its_event n.at n.index n.journal n.its_record n.in_list))
         | inr g ↦ g.0 (subst (λ (x : ℕ). IsRecorded journals x (λ m. place_of_record m ≡ p)) g.1.of_actor (matched.full g.1.at g.1.index g.1.journal g.1.its_record p g.1.in_list g.1.of_event))
       ])
     ]

@@ -11,9 +11,11 @@ use Rattle.sq_model.specs.declared.calls.HomeCall.TheVariants.{Close, Send}
 use Rattle.sq_model.specs.declared.replies.HomeReply.{HomeReply}
 use Rattle.sq_model.specs.declared.replies.HomeReply.TheVariants.{Sent}
 use Rattle.sq_model.specs.Homes.{Home, Unopened, Serving, HomeStep, IsRising, fresh_id}
-use Rattle.sq_model.specs.Lineages.{Ending, home_ends, home_sends, rows_of, same_id, rows_with, ends_with, sends_with}
+use Rattle.sq_model.specs.Lineages.{Ending, given_up, home_ends, home_sends, rows_of, same_id, rows_with, ends_with, sends_with}
 use Rattle.sq_model.specs.Places.{place_after, first_end, place_in, run_ends, run_sends}
-use Rattle.sq_model.specs.Systems.{HomeAt, HomeSteps, System, Tag, OfDirectory, OfHome, RunFrom, opening, same_home, IsOnePlace}
+use Rattle.sq_model.specs.Merges.{NothingMoves}
+use Rattle.sq_model.specs.Ledgers.{Ledger}
+use Rattle.sq_model.specs.Systems.{HomeAt, HomeSteps, System, Tag, OfDirectory, OfLedger, OfHome, RunFrom, opening, same_home, IsOnePlace}
 use Rattle.sq_model.proofs.LineageLaws.{home_law}
 use Rattle.sq_model.proofs.SystemLaws.{none_in, one_place, sends_append}
 use Rattle.sq_audit.specs.declared.tagged.Tagged.{Tagged}
@@ -24,6 +26,7 @@ use Rattle.sq_audit.specs.Tags.{tag_of, tags_of}
 use Rattle.sq_audit.specs.RowStates.{states_of, effect_of, effect_sends}
 use Rattle.sq_audit.specs.MessagePasses.{home_of_message, is_at, next_pass, pass_step, start, answer}
 use Rattle.sq_directory.proofs.ElementLaws.{get_same, get_other}
+use Rattle.sq_audit.proofs.StillLaws.{alone_of, ends_alone, ledger_still}
 use Rattle.sq_audit.proofs.StateLaws.{GoesBy, mirrors}
 use Rattle.sq_audit.proofs.MessageStateLaws.{mine, rows_at, sent_at, place_from, place_now, sends_first, follows_event}
 
@@ -99,17 +102,17 @@ other_sends x site home m call (Sent sent) after h e = elim h [ ]
 other_sends x site home m call reply after h e = refl
 
 -- what ends others does not matter
-first_other : (x : MessageId) (es fs : List Ending) → ends_with x es ≡ 0 → first_end x (es ++ fs) ≡ first_end x fs
+first_other : (x : MessageId) (es fs : List Ending) → ends_with x es ≡ 0 → first_end x (es ++ fs) [] ≡ first_end x fs []
 first_other x [] fs none = refl
 first_other x (e ∷ es) fs none =
     let split = sum_by-cons (λ (f : Ending). cond (same_id x f.line) 1 0) e es in
-    elim (same_id x e.line) as (λ v. ends_with x (e ∷ es) ≡ cond v 1 0 + ends_with x es → (if v then place_after e.cause else first_end x (es ++ fs)) ≡ first_end x fs)
+    elim (same_id x e.line) as (λ v. ends_with x (e ∷ es) ≡ cond v 1 0 + ends_with x es → (if v then place_after e.cause else first_end x (es ++ fs) []) ≡ first_end x fs [])
     [ true ↦ (λ q. absurd (omega (arith, q, none))) | false ↦ (λ q. first_other x es fs (omega (arith, q, none))) ] split
 
 place_other : (x : MessageId) (state : MessageState) (before sends : List MessageId) (es ends : List Ending) → sends_with x before ≡ 0 → ends_with x es ≡ 0 → place_from x state (before ++ sends) (es ++ ends) ≡ place_from x state sends ends
 place_other x Unsent before sends es ends none nothing =
     let e : sends_with x (before ++ sends) ≡ sends_with x sends = omega (arith, sends_append x before sends, none) in
-    rw (first_other x es ends nothing) (ap (λ (k : ℕ). if nat_lt 0 k then Some (first_end x ends) else None) e)
+    rw (first_other x es ends nothing) (ap (λ (k : ℕ). if nat_lt 0 k then Some (first_end x ends []) else None) e)
 place_other x (Here row) before sends es ends none nothing = ap Some (first_other x es ends nothing)
 place_other x (Gone place) before sends es ends none nothing = refl
 
@@ -118,45 +121,49 @@ fold_tags x k [] = refl
 fold_tags x k (t ∷ ts) = fold_tags x (pass_step x k (tag_of t)) ts
 
 -- the pass goes on from a system that it fits
-follow_law : (x : MessageId) (before : System) (ts : List Tag) (after : System) (r : RunFrom before ts after) (k : MessagePass) → IsOnePlace (sites_of before.homes) → Fits x before.homes k → sends_with x (run_sends ts) + sent_at k.state ≤ 1
+follow_law : (x : MessageId) (before : System) (ts : List Tag) (after : System) (r : RunFrom before ts after) (k : MessagePass) → IsOnePlace (sites_of before.homes) → Fits x before.homes k → sends_with x (run_sends ts) + sent_at k.state ≤ 1 → NothingMoves ts
     → place_from x k.state (run_sends ts) (run_ends before ts after r) ≡ answer (fold (pass_step x) k ts).state
-follow_law x before [] after r k one fits least = place_now x k.state
-follow_law x before (OfDirectory e ∷ ts) after r k one fits least =
-    follow_law x r.0 ts after r.2 k (rw r.1.homes one) (rw r.1.homes fits) least
-follow_law x before (OfHome i e ∷ ts) after r k one fits least =
+follow_law x before [] after r k one fits least still = place_now x k.state
+follow_law x before (OfDirectory e ∷ ts) after r k one fits least still =
+    follow_law x r.0 ts after r.2 k (rw r.1.homes one) (rw r.1.homes fits) least still.1
+follow_law x before (OfLedger e ∷ ts) after r k one fits least still = absurd cc
+follow_law x before (OfHome i e ∷ ts) after r k one fits least still =
     let h : HomeSteps before i e r.0 = r.1 in
     let m = e.stamp.moment in
     let sites : IsOnePlace (sites_of r.0.homes) = rw (h.homes, sites_set before.homes i h.old h.new h.in_list) one in
     let sends = run_sends ts in
     let ends = run_ends r.0 ts after r.2 in
     let split = sends_append x (home_sends e.reply) sends in
+    let alone = alone_of i e still.0 in
+    let leaving = ends_alone h.old.home m e.call alone in
     elim (same_home (home_of_message x) h.old.site.home) as (λ v. same_home (home_of_message x) h.old.site.home ≡ v → place_from x k.state (run_sends (OfHome i e ∷ ts)) (run_ends before (OfHome i e ∷ ts) after r) ≡ answer (fold (pass_step x) k (OfHome i e ∷ ts)).state) [
       | true ↦ (λ here.
           let fit : FitsAt x true h.old.home k = subst (λ (v : Bool). FitsAt x v h.old.home k) here (fits i h.old h.in_list) in
-          let mirror = mirrors h.old.site h.old.home k.policy m e.call e.reply h.new h.step h.alone fit.0 fit.1 in
+          let mirror = mirrors h.old.site h.old.home k.policy m e.call e.reply h.new h.step alone fit.0 fit.1 in
           let effect = effect_of e.call e.reply in
           let known : sends_with x (effect_sends effect) ≡ sends_with x (home_sends e.reply) = ap (sends_with x) (sym mirror.sends) in
           let event = follows_event x k.policy m effect (states_of h.old.home) k.state fit.2 (omega (arith, split, least, known)) in
           let next = next_pass x k e in
           let now : FitsAt x (same_home (home_of_message x) h.old.site.home) h.new next = subst (λ (v : Bool). FitsAt x v h.new next) (sym here) (mirror.rising, mirror.goes_by, ap (mine x) mirror.states ∙ event.left) in
-          let rest = follow_law x r.0 ts after r.2 next sites (rw h.homes (fits_set x before.homes i h.old h.new next h.in_list now (other_fits x before.homes i h.old k next one fits h.in_list here))) (omega (arith, split, least, known, event.sent)) in
+          let rest = follow_law x r.0 ts after r.2 next sites (rw h.homes (fits_set x before.homes i h.old h.new next h.in_list now (other_fits x before.homes i h.old k next one fits h.in_list here))) (omega (arith, split, least, known, event.sent)) still.1 in
           let in_list : is_at x e.component ≡ true = rw h.component here in
-          subst (λ (v : Bool). place_from x k.state (home_sends e.reply ++ sends) (home_ends h.old.home m e.call ++ ends) ≡ answer (fold (pass_step x) (if v then next else k) ts).state) (sym in_list)
-          (ap (λ (zs : List MessageId). place_from x k.state (zs ++ sends) (home_ends h.old.home m e.call ++ ends)) mirror.sends
+          subst (λ (v : Bool). place_from x k.state (home_sends e.reply ++ sends) ((home_ends h.old.home m e.call ++ given_up e.call) ++ ends) ≡ answer (fold (pass_step x) (if v then next else k) ts).state) (sym in_list)
+          (ap (λ (es : List Ending). place_from x k.state (home_sends e.reply ++ sends) (es ++ ends)) leaving
+          ∙ ap (λ (zs : List MessageId). place_from x k.state (zs ++ sends) (home_ends h.old.home m e.call ++ ends)) mirror.sends
           ∙ ap (λ (es : List Ending). place_from x k.state (effect_sends effect ++ sends) (es ++ ends)) mirror.ends
           ∙ event.place sends ends ∙ rest))
       | false ↦ (λ away.
           let was : rows_with x (rows_of h.old.home) ≡ 0 = subst (λ (v : Bool). FitsAt x v h.old.home k) away (fits i h.old h.in_list) in
           let none = other_sends x h.old.site h.old.home m e.call e.reply h.new h.step away in
           let law = home_law x h.old.site h.old.home m e.call e.reply h.new h.step in
-          let count = rw (none_in e.call h.alone) at law in
+          let count = rw (none_in e.call alone) at law in
           let gone : rows_with x (rows_of h.new) ≡ 0 = omega (arith, count, was, none) in
           let nothing : ends_with x (home_ends h.old.home m e.call) ≡ 0 = omega (arith, count, was, none) in
           let now : FitsAt x (same_home (home_of_message x) h.old.site.home) h.new k = subst (λ (v : Bool). FitsAt x v h.new k) (sym away) gone in
-          let rest = follow_law x r.0 ts after r.2 k sites (rw h.homes (fits_set x before.homes i h.old h.new k h.in_list now (λ j a ne e. fits j a e))) (omega (arith, split, least)) in
+          let rest = follow_law x r.0 ts after r.2 k sites (rw h.homes (fits_set x before.homes i h.old h.new k h.in_list now (λ j a ne e. fits j a e))) (omega (arith, split, least)) still.1 in
           let in_list : is_at x e.component ≡ false = rw h.component away in
-          subst (λ (v : Bool). place_from x k.state (home_sends e.reply ++ sends) (home_ends h.old.home m e.call ++ ends) ≡ answer (fold (pass_step x) (if v then next_pass x k e else k) ts).state) (sym in_list)
-          (place_other x k.state (home_sends e.reply) sends (home_ends h.old.home m e.call) ends none nothing ∙ rest))
+          subst (λ (v : Bool). place_from x k.state (home_sends e.reply ++ sends) ((home_ends h.old.home m e.call ++ given_up e.call) ++ ends) ≡ answer (fold (pass_step x) (if v then next_pass x k e else k) ts).state) (sym in_list)
+          (ap (λ (es : List Ending). place_from x k.state (home_sends e.reply ++ sends) (es ++ ends)) leaving ∙ place_other x k.state (home_sends e.reply) sends (home_ends h.old.home m e.call) ends none nothing ∙ rest))
     ] refl
 
 pub opened : (sites : List Site) (i : ℕ) (h : HomeAt) → slice_get (map (λ site. record { site = site; home = Unopened }) sites) i ≡ Some h → h.home ≡ Unopened
@@ -173,10 +180,12 @@ fits_opening x true = (tt, refl, refl)
 fits_opening x false = refl
 
 -- the pass gives the place
-pub place_law : (x : MessageId) (places : ℕ) (sites : List Site) (ts : List Tagged) (run : List Tag) → tags_of ts ≡ run → (after : System) (r : RunFrom (opening places sites) run after) → IsOnePlace sites
-    → place_in x (run_sends run) (run_ends (opening places sites) run after r) ≡ answer (fold (λ (k : MessagePass) (t : Tagged). pass_step x k (tag_of t)) start ts).state
-place_law x places sites ts run is after r one =
-    let once = one_place x places sites run after r one in
-    follow_law x (opening places sites) run after r start (rw (sites_opening sites) one) (λ i h e. rw (opened sites i h e) (fits_opening x (same_home (home_of_message x) h.site.home))) (omega (arith, once.1))
+pub place_law : (x : MessageId) (places limit : ℕ) (sites : List Site) (ts : List Tagged) (run : List Tag) → tags_of ts ≡ run → (after : System) (r : RunFrom (opening places limit sites) run after) → IsOnePlace sites → NothingMoves run
+    → place_in x (run_sends run) (run_ends (opening places limit sites) run after r) after.ledger.items ≡ answer (fold (λ (k : MessagePass) (t : Tagged). pass_step x k (tag_of t)) start ts).state
+place_law x places limit sites ts run is after r one still =
+    let once = one_place x places limit sites run after r one in
+    let none : after.ledger.items ≡ [] = ap (λ (l : Ledger). l.items) (ledger_still (opening places limit sites) run after r still) in
+    ap (place_in x (run_sends run) (run_ends (opening places limit sites) run after r)) none
+    ∙ follow_law x (opening places limit sites) run after r start (rw (sites_opening sites) one) (λ i h e. rw (opened sites i h e) (fits_opening x (same_home (home_of_message x) h.site.home))) (omega (arith, once.1)) still
     ∙ ap (λ (us : List Tag). answer (fold (pass_step x) start us).state) (sym is)
     ∙ ap (λ (k : MessagePass). answer k.state) (fold_tags x start ts)

@@ -1,5 +1,6 @@
 pub mod OrderLaws
 pub mod PartLaws
+pub mod StillLaws
 pub mod MergeLaws
 pub mod ActorLaws
 pub mod StateLaws

@@ -18,15 +18,16 @@ use Rattle.sq_model.specs.declared.event.Event.{Event}
 use Rattle.sq_model.specs.declared.place.Component.TheVariants as part
 use Rattle.sq_model.specs.Homes.{Unopened}
 use Rattle.sq_model.specs.Replays.{HomeEvent, StampsRise}
-use Rattle.sq_model.specs.Systems.{Tag, OfDirectory, OfHome, stamp_of, is_alone, AreOwn, HomeGoes, IsRun}
-use Rattle.sq_model.specs.Merges.{of_directory, of_home, history_at, rank_of, tag_cmp, is_before, InOrder, IsMerged}
+use Rattle.sq_model.specs.Systems.{Tag, OfDirectory, OfHome, stamp_of, is_alone, AreOfHome, HomeGoes, IsRun}
+use Rattle.sq_model.specs.Merges.{NothingMoves, is_move, of_directory, of_home, history_at, rank_of, tag_cmp, is_before, InOrder, IsMerged}
 use Rattle.sq_model.proofs.RunLaws.{merged_run}
 use Rattle.sq_history.specs.HistoryValue.{HistoryValue}
 use Rattle.sq_history.specs.Histories.{IsKept}
 use Rattle.sq_directory.specs.DirectoryHistory.{DirectoryHistory}
 use Rattle.sq_directory.specs.DirectoryHistories.{IsDirectoryKept}
-use Rattle.sq_audit.specs.SystemNow.{system_now, events_of, by_part}
+use Rattle.sq_audit.specs.SystemNow.{system_now, events_of, by_part, nothing_moved}
 use Rattle.sq_audit.proofs.OrderLaws.{order_under, order_over, sorted_from, order_from, part_stays}
+use Rattle.sq_audit.proofs.StillLaws.{ledger_alone, no_ledger, none_moves, still_parts}
 use Rattle.sq_steps.proofs.FilterLaws.{filter_under}
 use Rattle.sq_audit.proofs.PartLaws.{is_directory, is_home, directory_part, home_part, directory_alone, home_alone, directory_of_all, home_of_all, rank_less, all_ranked}
 
@@ -88,24 +89,33 @@ module _ {X : Type 0} (tag : X → Tag) (all by_stamp : List X) (up : IsSortedBy
       (λ tie. ties_stay_sorted (λ x y. rank_less (tag x) (tag y)) (λ x y. tag_less (tag x) (tag y)) (ranks_by nat_cmp_total (λ x. rank_of (tag x))) (ranks_by stamps_total (λ x. stamp_of (tag x))) all by_stamp (sorted_from (λ x y. rank_less (tag x) (tag y)) all (order_under tag rank_less all ranked)) stable k d high
       (subst (λ (v : Ordering). not (is_lt v) && not (is_lt (stamp_cmp (stamp_of (tag y)) (stamp_of (tag x)))) ≡ true) (sym (stamps_total.antisymm (stamp_of (tag x)) (stamp_of (tag y)))) tie))))
 
+  -- among the events of homes that are kept no message moves
+  pub sorted_still : (directory : DirectoryHistory) (homes : List HistoryValue) → All IsKept homes → map tag all ≡ by_part directory.events (events_of homes) → NothingMoves (map tag by_stamp)
+  sorted_still directory homes kept is =
+      let none : filter is_move (map tag all) ≡ [] = ap (filter is_move) is ∙ still_parts directory.events homes kept in
+      none_moves (map tag by_stamp) (part_unmoved is_move (rw none tt) ∙ none)
+
   -- a stable sort of what stands part by part merges
-  pub sorted_merges : (directory : DirectoryHistory) (homes : List HistoryValue) → IsDirectoryKept directory → All IsKept homes → map tag all ≡ by_part directory.events (events_of homes) → IsMerged directory.events (events_of homes) (map tag by_stamp)
+  pub sorted_merges : (directory : DirectoryHistory) (homes : List HistoryValue) → IsDirectoryKept directory → All IsKept homes → map tag all ≡ by_part directory.events (events_of homes) → IsMerged directory.events nothing_moved (events_of homes) (map tag by_stamp)
   sorted_merges directory homes own kept is =
       let directory_order : InOrder tag_less (filter is_directory (map tag all)) =
       rw (is, directory_part (by_part directory.events (events_of homes)), directory_of_all directory.events (events_of homes)) (order_over OfDirectory tag_less directory.events (rising_order start directory.events directory.last own.rising)) in
       let part_order : (i : ℕ) → InOrder tag_less (filter (is_home i) (map tag all)) =
       λ i. rw (is, home_part i (by_part directory.events (events_of homes)), home_of_all directory.events (events_of homes) i) (order_over (λ e. OfHome i e) tag_less (history_at (events_of homes) i) (home_order homes i kept)) in
+      let still = sorted_still directory homes kept is in
       record {
+        of_the_ledger = no_ledger (map tag by_stamp) still;
+        ledger_is_alone = ledger_alone (map tag by_stamp) still;
         of_the_directory = sym (directory_alone (map tag by_stamp)) ∙ ap of_directory (part_unmoved is_directory directory_order) ∙ directory_alone (map tag all) ∙ ap of_directory is ∙ directory_of_all directory.events (events_of homes);
         of_each_home = λ i. sym (home_alone i (map tag by_stamp)) ∙ ap (of_home i) (part_unmoved (is_home i) (part_order i)) ∙ home_alone i (map tag all) ∙ ap (of_home i) is ∙ home_of_all directory.events (events_of homes) i;
         in_order = sorted_order (rw is (all_ranked directory.events (events_of homes)));
       }
 
-own_from : (home : HomeId) (es : List HomeEvent) → All (λ e. (e.component ≡ part.Home home) × (is_alone e.call ≡ true)) es → AreOwn home es
+own_from : (home : HomeId) (es : List HomeEvent) → All (λ e. (e.component ≡ part.Home home) × (is_alone e.call ≡ true)) es → AreOfHome home es
 own_from home [] all = tt
 own_from home (e ∷ es) all =
     let first = All-head (λ (e : HomeEvent). (e.component ≡ part.Home home) × (is_alone e.call ≡ true)) e es all in
-    (first.0, first.1, own_from home es (All-tail (λ (e : HomeEvent). (e.component ≡ part.Home home) × (is_alone e.call ≡ true)) e es all))
+    (first.0, own_from home es (All-tail (λ (e : HomeEvent). (e.component ≡ part.Home home) × (is_alone e.call ≡ true)) e es all))
 
 home_goes : (hs : List HistoryValue) (i : ℕ) → All IsKept hs
     → HomeGoes (slice_get (map (λ site. record { site = site; home = Unopened }) (map (λ h. h.site) hs)) i) (history_at (events_of hs) i) (slice_get (map (λ h. record { site = h.site; home = h.home }) hs) i)
@@ -114,7 +124,7 @@ home_goes (h ∷ hs) zero kept = let first = All-head IsKept h hs kept in (refl,
 home_goes (h ∷ hs) (suc i) kept = home_goes hs i (All-tail IsKept h hs kept)
 
 -- what is merged is a run to what the parts are now
-pub merged_is_run : (directory : DirectoryHistory) (homes : List HistoryValue) (run : List Tag) → IsDirectoryKept directory → All IsKept homes → IsMerged directory.events (events_of homes) run
-    → IsRun directory.directory.places (map (λ h. h.site) homes) run (system_now directory homes)
-merged_is_run directory homes run own kept merged =
-    merged_run directory.directory.places (map (λ h. h.site) homes) directory.events (events_of homes) run (system_now directory homes) merged (λ i. home_goes homes i kept) own.own own.replays
+pub merged_is_run : (limit : ℕ) (directory : DirectoryHistory) (homes : List HistoryValue) (run : List Tag) → IsDirectoryKept directory → All IsKept homes → IsMerged directory.events nothing_moved (events_of homes) run
+    → IsRun directory.directory.places limit (map (λ h. h.site) homes) run (system_now limit directory homes)
+merged_is_run limit directory homes run own kept merged =
+    merged_run directory.directory.places limit (map (λ h. h.site) homes) directory.events nothing_moved (events_of homes) run (system_now limit directory homes) merged (λ i. home_goes homes i kept) own.own own.replays tt refl

@@ -35,8 +35,8 @@ sent_at (Gone place) = 1
 
 -- the place, where this is known and the rest comes
 abbrev pub place_from : MessageId → MessageState → List MessageId → List Ending → Option Place
-place_from x Unsent sends ends = place_in x sends ends
-place_from x (Here row) sends ends = Some (first_end x ends)
+place_from x Unsent sends ends = place_in x sends ends []
+place_from x (Here row) sends ends = Some (first_end x ends [])
 place_from x (Gone place) sends ends = Some place
 
 pub place_now : (x : MessageId) (state : MessageState) → place_from x state [] [] ≡ answer state
@@ -49,17 +49,17 @@ filter_push p [] y = refl
 filter_push p (x ∷ xs) y = let rest = filter_push p xs y in elim (p x) as (λ v. cond v (x ∷ filter p (xs ++ y ∷ [])) (filter p (xs ++ y ∷ [])) ≡ cond v (x ∷ filter p xs) (filter p xs) ++ cond (p y) (y ∷ []) []) [ true ↦ ap (λ zs. x ∷ zs) rest | false ↦ rest ]
 
 -- none of those that left is of this message
-end_other : (x : MessageId) (cause : Cause) (rows : List RowState) (ends : List Ending) → mine x rows ≡ [] → first_end x (ended_states cause rows ++ ends) ≡ first_end x ends
+end_other : (x : MessageId) (cause : Cause) (rows : List RowState) (ends : List Ending) → mine x rows ≡ [] → first_end x (ended_states cause rows ++ ends) [] ≡ first_end x ends []
 end_other x cause [] ends none = refl
 end_other x cause (row ∷ rows) ends none =
-    elim (same_id x row.lineage) as (λ v. cond v (row ∷ mine x rows) (mine x rows) ≡ [] → (if v then place_after cause else first_end x (ended_states cause rows ++ ends)) ≡ first_end x ends)
+    elim (same_id x row.lineage) as (λ v. cond v (row ∷ mine x rows) (mine x rows) ≡ [] → (if v then place_after cause else first_end x (ended_states cause rows ++ ends) []) ≡ first_end x ends [])
     [ true ↦ (λ e. cc) | false ↦ (λ e. end_other x cause rows ends e) ] none
 
 -- one of them is
-end_this : (x : MessageId) (cause : Cause) (rows : List RowState) (ends : List Ending) (r : RowState) → mine x rows ≡ r ∷ [] → first_end x (ended_states cause rows ++ ends) ≡ place_after cause
+end_this : (x : MessageId) (cause : Cause) (rows : List RowState) (ends : List Ending) (r : RowState) → mine x rows ≡ r ∷ [] → first_end x (ended_states cause rows ++ ends) [] ≡ place_after cause
 end_this x cause [] ends r some = cc
 end_this x cause (row ∷ rows) ends r some =
-    elim (same_id x row.lineage) as (λ v. cond v (row ∷ mine x rows) (mine x rows) ≡ r ∷ [] → (if v then place_after cause else first_end x (ended_states cause rows ++ ends)) ≡ place_after cause)
+    elim (same_id x row.lineage) as (λ v. cond v (row ∷ mine x rows) (mine x rows) ≡ r ∷ [] → (if v then place_after cause else first_end x (ended_states cause rows ++ ends) []) ≡ place_after cause)
     [ true ↦ (λ e. refl) | false ↦ (λ e. end_this x cause rows ends r e) ] some
 
 one_leaves : (state : MessageState) (p : RowState → Bool) (place : Place) → filter (λ row. not (p row)) (rows_at state) ≡ rows_at (leaves p place state)
@@ -80,7 +80,7 @@ leave_place x rows Unsent p cause sends ends same =
 leave_place x rows (Gone other) p cause sends ends same = refl
 leave_place x rows (Here row) p cause sends ends same =
     let some : mine x (filter p rows) ≡ cond (p row) (row ∷ []) [] = filter_swap (λ row. same_id x row.lineage) p rows ∙ ap (filter p) same in
-    elim (p row) as (λ v. mine x (filter p rows) ≡ cond v (row ∷ []) [] → Some (first_end x (ended_states cause (filter p rows) ++ ends)) ≡ place_from x (if v then Gone (place_after cause) else Here row) sends ends)
+    elim (p row) as (λ v. mine x (filter p rows) ≡ cond v (row ∷ []) [] → Some (first_end x (ended_states cause (filter p rows) ++ ends) []) ≡ place_from x (if v then Gone (place_after cause) else Here row) sends ends)
     [ true ↦ (λ e. ap Some (end_this x cause (filter p rows) ends row e)) | false ↦ (λ e. ap Some (end_other x cause (filter p rows) ends e)) ] some
 
 trim_rows : (x : MessageId) (policy : Option Policy) (m : ℕ) (rows : List RowState) (state : MessageState) → mine x rows ≡ rows_at state → mine x (kept_states policy m rows) ≡ rows_at (trimmed_state policy m state)
@@ -138,21 +138,21 @@ sends_first x y sends = sum_by-cons (λ (z : MessageId). cond (same_id x z) 1 0)
 above_none : (n : ℕ) → nat_lt 0 (1 + n) ≡ true
 above_none n = grind (arith, common_steps)
 
-sent_this : (x y : MessageId) (sends : List MessageId) (ends : List Ending) → same_id x y ≡ true → place_in x (y ∷ sends) ends ≡ Some (first_end x ends)
+sent_this : (x y : MessageId) (sends : List MessageId) (ends : List Ending) → same_id x y ≡ true → place_in x (y ∷ sends) ends [] ≡ Some (first_end x ends [])
 sent_this x y sends ends e = rw (sends_first x y sends, e, above_none (sends_with x sends)) refl
 
 sent_other : (x y : MessageId) (state : MessageState) (sends : List MessageId) (ends : List Ending) → same_id x y ≡ false → place_from x state (y ∷ sends) ends ≡ place_from x state sends ends
 sent_other x y Unsent sends ends e =
     let none = ap (λ (v : Bool). cond {A = ℕ} v 1 0) e in
     let same : sends_with x (y ∷ sends) ≡ sends_with x sends = omega (arith, sends_first x y sends, none) in
-    ap (λ (k : ℕ). if nat_lt 0 k then Some (first_end x ends) else None) same
+    ap (λ (k : ℕ). if nat_lt 0 k then Some (first_end x ends []) else None) same
 sent_other x y (Here row) sends ends e = refl
 sent_other x y (Gone place) sends ends e = refl
 
 arrive_this : (x : MessageId) (m : ℕ) (sent : SentMessage) (rows : List RowState) (state : MessageState) → mine x rows ≡ rows_at state → sends_with x (sent.id ∷ []) + sent_at state ≤ 1 → same_id x sent.id ≡ true → Follows x m (Arrives sent) rows state
 arrive_this x m sent rows Unsent same once e = record {
   left = rw (filter_push (λ (row : RowState). same_id x row.lineage) rows (sent_state sent m), e, same) refl;
-  place = λ sends ends. subst (λ (v : Bool). place_in x (sent.id ∷ sends) ends ≡ place_from x (if v then Here (sent_state sent m) else Unsent) sends ends) (sym e) (sent_this x sent.id sends ends e);
+  place = λ sends ends. subst (λ (v : Bool). place_in x (sent.id ∷ sends) ends [] ≡ place_from x (if v then Here (sent_state sent m) else Unsent) sends ends) (sym e) (sent_this x sent.id sends ends e);
   sent = rw (sends_first x sent.id [], e) refl;
 }
 arrive_this x m sent rows (Here row) same once e = absurd (omega (arith, rw (sends_first x sent.id [], e) at once))

@@ -7,27 +7,31 @@ use Rattle.std.proofs.lemmas.Grind.{common_steps}
 use Rattle.std.proofs.lemmas.Bool.Decides.{eqb_tells}
 use Rattle.std.proofs.lemmas.List.{append-nil, take_more, length-take-le, length-map, map-append}
 use Rattle.sq_model.specs.Replays.{HomeEvent}
-use Rattle.sq_model.specs.Systems.{DirectoryEvent, Tag, OfDirectory, OfHome}
+use Rattle.sq_model.specs.Systems.{DirectoryEvent, Tag, OfDirectory, OfLedger, OfHome}
 use Rattle.sq_model.specs.Merges.{of_directory, of_home, history_at, rank_of, InOrder}
 use Rattle.sq_history.specs.HistoryValue.{HistoryValue}
 use Rattle.sq_audit.specs.SystemNow.{home_tags, by_part, events_of}
 
 abbrev pub is_directory : Tag → Bool
 is_directory (OfDirectory e) = true
+is_directory (OfLedger e) = false
 is_directory (OfHome i e) = false
 
 abbrev pub is_home : ℕ → Tag → Bool
 is_home j (OfDirectory e) = false
+is_home j (OfLedger e) = false
 is_home j (OfHome i e) = i == j
 
 pub directory_part : (ts : List Tag) → filter is_directory ts ≡ map OfDirectory (of_directory ts)
 directory_part [] = refl
 directory_part (OfDirectory e ∷ ts) = ap (λ us. OfDirectory e ∷ us) (directory_part ts)
+directory_part (OfLedger e ∷ ts) = directory_part ts
 directory_part (OfHome i e ∷ ts) = directory_part ts
 
 pub home_part : (j : ℕ) (ts : List Tag) → filter (is_home j) ts ≡ map (λ e. OfHome j e) (of_home j ts)
 home_part j [] = refl
 home_part j (OfDirectory e ∷ ts) = home_part j ts
+home_part j (OfLedger e ∷ ts) = home_part j ts
 home_part j (OfHome i e ∷ ts) =
     let rest = home_part j ts in
     elim (eqb_tells i j) as (λ _. cond (i == j) (OfHome i e ∷ filter (is_home j) ts) (filter (is_home j) ts) ≡ map (λ e. OfHome j e) (cond (i == j) (e ∷ of_home j ts) (of_home j ts))) [
@@ -39,11 +43,13 @@ home_part j (OfHome i e ∷ ts) =
 pub directory_alone : (ts : List Tag) → of_directory (filter is_directory ts) ≡ of_directory ts
 directory_alone [] = refl
 directory_alone (OfDirectory e ∷ ts) = ap (λ es. e ∷ es) (directory_alone ts)
+directory_alone (OfLedger e ∷ ts) = directory_alone ts
 directory_alone (OfHome i e ∷ ts) = directory_alone ts
 
 pub home_alone : (j : ℕ) (ts : List Tag) → of_home j (filter (is_home j) ts) ≡ of_home j ts
 home_alone j [] = refl
 home_alone j (OfDirectory e ∷ ts) = home_alone j ts
+home_alone j (OfLedger e ∷ ts) = home_alone j ts
 home_alone j (OfHome i e ∷ ts) =
     let rest = home_alone j ts in
     elim (i == j) as (λ v. (i == j) ≡ v → of_home j (cond v (OfHome i e ∷ filter (is_home j) ts) (filter (is_home j) ts)) ≡ cond v (e ∷ of_home j ts) (of_home j ts)) [
@@ -63,11 +69,13 @@ below a b h = grind (arith, common_steps)
 directory_append : (xs ys : List Tag) → of_directory (xs ++ ys) ≡ of_directory xs ++ of_directory ys
 directory_append [] ys = refl
 directory_append (OfDirectory e ∷ xs) ys = ap (λ es. e ∷ es) (directory_append xs ys)
+directory_append (OfLedger e ∷ xs) ys = directory_append xs ys
 directory_append (OfHome i e ∷ xs) ys = directory_append xs ys
 
 home_append : (j : ℕ) (xs ys : List Tag) → of_home j (xs ++ ys) ≡ of_home j xs ++ of_home j ys
 home_append j [] ys = refl
 home_append j (OfDirectory e ∷ xs) ys = home_append j xs ys
+home_append j (OfLedger e ∷ xs) ys = home_append j xs ys
 home_append j (OfHome i e ∷ xs) ys = let rest = home_append j xs ys in elim (i == j) as (λ v. cond v (e ∷ of_home j (xs ++ ys)) (of_home j (xs ++ ys)) ≡ cond v (e ∷ of_home j xs) (of_home j xs) ++ of_home j ys) [ true ↦ ap (λ es. e ∷ es) rest | false ↦ rest ]
 
 directory_mine : (es : List DirectoryEvent) → of_directory (map OfDirectory es) ≡ es
@@ -144,11 +152,11 @@ all_append : (P : Tag → Type 0) (xs ys : List Tag) → AllByRecursion P xs →
 all_append P [] ys h g = g
 all_append P (x ∷ xs) ys h g = (h.0, all_append P xs ys h.1 g)
 
-all_of_home : (low i : ℕ) (es : List HomeEvent) → low ≤ suc i → AllByRecursion (λ u. low ≤ rank_of u) (map (λ e. OfHome i e) es)
+all_of_home : (low i : ℕ) (es : List HomeEvent) → low ≤ suc (suc i) → AllByRecursion (λ u. low ≤ rank_of u) (map (λ e. OfHome i e) es)
 all_of_home low i [] h = tt
 all_of_home low i (e ∷ es) h = (h, all_of_home low i es h)
 
-all_above : (low c : ℕ) (homes : List (List HomeEvent)) → low ≤ suc c → AllByRecursion (λ u. low ≤ rank_of u) (home_tags c homes)
+all_above : (low c : ℕ) (homes : List (List HomeEvent)) → low ≤ suc (suc c) → AllByRecursion (λ u. low ≤ rank_of u) (home_tags c homes)
 all_above low c [] h = tt
 all_above low c (es ∷ rest) h = all_append (λ u. low ≤ rank_of u) (map (λ e. OfHome c e) es) (home_tags (c + 1) rest) (all_of_home low c es h) (all_above low (c + 1) rest (omega arith))
 
@@ -156,14 +164,14 @@ none_less : (t : Tag) (ts : List Tag) → AllByRecursion (λ u. rank_of t ≤ ra
 none_less t [] h = tt
 none_less t (u ∷ ts) h = (not_less (rank_of u) (rank_of t) h.0, none_less t ts h.1)
 
-home_first : (c : ℕ) (es : List HomeEvent) (ts : List Tag) → AllByRecursion (λ u. suc c ≤ rank_of u) ts → InOrder rank_less ts → InOrder rank_less (map (λ e. OfHome c e) es ++ ts)
+home_first : (c : ℕ) (es : List HomeEvent) (ts : List Tag) → AllByRecursion (λ u. suc (suc c) ≤ rank_of u) ts → InOrder rank_less ts → InOrder rank_less (map (λ e. OfHome c e) es ++ ts)
 home_first c [] ts all order = order
 home_first c (e ∷ es) ts all order =
-    (none_less (OfHome c e) (map (λ e. OfHome c e) es ++ ts) (all_append (λ u. suc c ≤ rank_of u) (map (λ e. OfHome c e) es) ts (all_of_home (suc c) c es (omega arith)) all), home_first c es ts all order)
+    (none_less (OfHome c e) (map (λ e. OfHome c e) es ++ ts) (all_append (λ u. suc (suc c) ≤ rank_of u) (map (λ e. OfHome c e) es) ts (all_of_home (suc (suc c)) c es (omega arith)) all), home_first c es ts all order)
 
 homes_ranked : (c : ℕ) (homes : List (List HomeEvent)) → InOrder rank_less (home_tags c homes)
 homes_ranked c [] = tt
-homes_ranked c (es ∷ rest) = home_first c es (home_tags (c + 1) rest) (all_above (suc c) (c + 1) rest (omega arith)) (homes_ranked (c + 1) rest)
+homes_ranked c (es ∷ rest) = home_first c es (home_tags (c + 1) rest) (all_above (suc (suc c)) (c + 1) rest (omega arith)) (homes_ranked (c + 1) rest)
 
 all_from_zero : (ts : List Tag) → AllByRecursion (λ u. 0 ≤ rank_of u) ts
 all_from_zero [] = tt

@@ -1,15 +1,19 @@
 -- The records of the actors order their events in a run.
-use Rattle.std.proofs.Common.{◌≡◌, ℕ, zero, suc, ◌<◌, List, [], ◌∷◌, refl, ap, sym, ◌∙◌, subst, inl, inr, arith, Some, slice_get}
+use Rattle.std.proofs.Common.{false, ◌≡◌, ℕ, zero, suc, ◌<◌, List, [], ◌∷◌, refl, ap, sym, ◌∙◌, subst, inl, inr, arith, Some, slice_get}
 use Rattle.std.specs.Prelude.{All}
 use Rattle.sq_base.specs.Stamps.{start, Below}
 use Rattle.sq_model.specs.Replays.{HomeEvent}
-use Rattle.sq_model.specs.Systems.{DirectoryEvent, Tag, OfDirectory, OfHome, stamp_of}
+use Rattle.sq_model.specs.Systems.{DirectoryEvent, Tag, OfDirectory, OfLedger, OfHome, stamp_of}
 use Rattle.sq_model.specs.Merges.{history_at, rank_of, IsMerged}
 use Rattle.sq_model.specs.RecordValues as kept
 use Rattle.sq_model.specs.RecordValues.{RecordValue, Journal, RecordsRise}
 use Rattle.sq_model.specs.Matches.{HomeHistory, IsRecorded, IsOfDirectory, IsOfHome, IsMatched}
 use Rattle.sq_history.specs.HistoryValue.{HistoryValue}
 use Rattle.sq_history.specs.Histories.{IsKept}
+use Rattle.sq_model.specs.Ledgers.{LedgerEvent}
+use Rattle.sq_model.specs.Merges.{NothingMoves, is_move}
+use Rattle.sq_audit.specs.SystemNow.{nothing_moved}
+use Rattle.sq_audit.proofs.StillLaws.{still_at}
 use Rattle.sq_audit.specs.Actors.{event_actor, event_place, ActorsRise, PartsRise, PlacesAgree, PlacesApart}
 use Rattle.sq_steps.specs.Journals.{RecordsRiseAt, AreDistinct}
 use Rattle.sq_directory.specs.DirectoryHistory.{DirectoryHistory}
@@ -39,9 +43,9 @@ records_below ns rise i j n m h g lt = elim (nat_compare i j) [
 
 -- a record and an event are of one part
 abbrev IsOfPart : List HomeHistory → RecordValue → Tag → Type 0
-IsOfPart homes (kept.OfDirectory n) (OfDirectory e) = Unit {0}
-IsOfPart homes (kept.OfHome n) (OfHome j e) = (h : HomeHistory) × (slice_get homes j ≡ Some h) × (n.home ≡ h.home)
-IsOfPart homes n t = ⊥
+IsOfPart homes (kept.OfDirectory n) t = rank_of t ≡ 0
+IsOfPart homes (kept.OfLedger n) t = rank_of t ≡ 1
+IsOfPart homes (kept.OfHome n) t = (j : ℕ) × (h : HomeHistory) × (slice_get homes j ≡ Some h) × (n.home ≡ h.home) × (rank_of t ≡ suc (suc j))
 
 -- a record has the number, the stamp and the part of an event
 record IsLike (homes : List HomeHistory) (t : Tag) (its_record : RecordValue) : Type 0 where
@@ -51,9 +55,12 @@ record IsLike (homes : List HomeHistory) (t : Tag) (its_record : RecordValue) : 
 
 module _ (per_queue : ℕ) (d : List DirectoryEvent) (homes : List HistoryValue) (journals : List Journal) (run : List Tag)
     (numbered : IsNumbered per_queue homes) (distinct : AreDistinct journals) (rise : (b : ℕ) → RecordsRiseAt journals b)
-    (matched : IsMatched d (histories_of homes) journals) (merged : IsMerged d (events_of homes) run) where
+    (matched : IsMatched d nothing_moved (histories_of homes) journals) (merged : IsMerged d nothing_moved (events_of homes) run) (still : NothingMoves run) where
   abbrev hs : List HomeHistory
   hs = histories_of homes
+
+  not_a_move : (i : ℕ) (e : LedgerEvent) → slice_get run i ≡ Some (OfLedger e) → ⊥
+  not_a_move i e is = let none : is_move (OfLedger e) ≡ false = still_at run i (OfLedger e) still is in absurd cc
 
   -- each event of the run has its record
   has_record : (i : ℕ) (t : Tag) → slice_get run i ≡ Some t → IsRecorded journals (event_actor t) (IsLike hs t)
@@ -61,24 +68,21 @@ module _ (per_queue : ℕ) (d : List DirectoryEvent) (homes : List HistoryValue)
       let at = in_directory run i e is in
       let x = matched.directory_recorded at.0 e (rw merged.of_the_directory at at.1) in
       recorded_as journals e.actor e.actor (IsOfDirectory at.0 e) (IsLike hs (OfDirectory e)) x refl
-      (subst (IsLike hs (OfDirectory e)) (sym x.of_event) (record { of_place = refl; of_stamp = refl; of_part = tt }))
+      (subst (IsLike hs (OfDirectory e)) (sym x.of_event) (record { of_place = refl; of_stamp = refl; of_part = refl }))
+  has_record i (OfLedger e) is = absurd (not_a_move i e is)
   has_record i (OfHome j e) is =
       let at = in_home run i j e is in
       let h = event_home homes j at.0 e (rw (merged.of_each_home j) at at.1) in
       let in_list = get_map history_of homes j h.0 h.1 in
       let x = matched.homes_recorded j at.0 (history_of h.0) e (record { in_homes = in_list; in_events = h.2 }) in
       recorded_as journals e.actor e.actor (IsOfHome h.0.site.home at.0 e) (IsLike hs (OfHome j e)) x refl
-      (subst (IsLike hs (OfHome j e)) (sym x.of_event.1) (record { of_place = refl; of_stamp = refl; of_part = (history_of h.0, in_list, refl) }))
+      (subst (IsLike hs (OfHome j e)) (sym x.of_event.1) (record { of_place = refl; of_stamp = refl; of_part = (j, history_of h.0, in_list, refl, refl) }))
 
   -- what is of one part with one record is of one part
   one_part : (t u : Tag) (n : RecordValue) → IsOfPart hs n t → IsOfPart hs n u → rank_of t ≡ rank_of u
-  one_part (OfDirectory e) (OfDirectory f) n p q = refl
-  one_part (OfDirectory e) (OfHome j f) (kept.OfDirectory n) p q = absurd q
-  one_part (OfDirectory e) (OfHome j f) (kept.OfHome n) p q = absurd p
-  one_part (OfHome i e) (OfDirectory f) (kept.OfDirectory n) p q = absurd p
-  one_part (OfHome i e) (OfDirectory f) (kept.OfHome n) p q = absurd q
-  one_part (OfHome i e) (OfHome j f) (kept.OfDirectory n) p q = absurd p
-  one_part (OfHome i e) (OfHome j f) (kept.OfHome n) p q = ap suc (home_once per_queue homes numbered i j p.0 q.0 p.1 q.1 (sym p.2 ∙ q.2))
+  one_part t u (kept.OfDirectory n) p q = p ∙ sym q
+  one_part t u (kept.OfLedger n) p q = p ∙ sym q
+  one_part t u (kept.OfHome n) p q = p.4 ∙ ap (λ (k : ℕ). suc (suc k)) (home_once per_queue homes numbered p.0 q.0 p.1 q.1 p.2 q.2 (sym p.3 ∙ q.3)) ∙ sym q.4
 
   places_agree : PlacesAgree run
   places_agree i j t u ti uj actor lt =
@@ -100,14 +104,14 @@ module _ (per_queue : ℕ) (d : List DirectoryEvent) (homes : List HistoryValue)
       (one_part t u y.its_record (subst (λ (n : RecordValue). IsOfPart hs n t) one x.of_event.of_part) y.of_event.of_part, sym x.of_event.of_stamp ∙ ap kept.stamp_of one ∙ y.of_event.of_stamp)
 
 -- the events of each part stand in their order in the run of them all
-pub kept_parts_rise : (directory : DirectoryHistory) (homes : List HistoryValue) (run : List Tag) → IsMerged directory.events (events_of homes) run → IsDirectoryKept directory → All IsKept homes → PartsRise run
-kept_parts_rise directory homes run merged own all =
-    merged_parts_rise directory.events (events_of homes) run merged (record { low = start; last = directory.last; rising = own.rising }) (λ i. homes_rise homes i all)
+pub kept_parts_rise : (directory : DirectoryHistory) (homes : List HistoryValue) (run : List Tag) → IsMerged directory.events nothing_moved (events_of homes) run → NothingMoves run → IsDirectoryKept directory → All IsKept homes → PartsRise run
+kept_parts_rise directory homes run merged still own all =
+    merged_parts_rise directory.events (events_of homes) run merged still (record { low = start; last = directory.last; rising = own.rising }) (λ i. homes_rise homes i all)
 
 -- where records and histories are matched, each actor's events stand in its order in the run of them all
 pub matched_rise : (per_queue : ℕ) (directory : DirectoryHistory) (homes : List HistoryValue) (journals : List Journal) (run : List Tag) → IsNumbered per_queue homes → AreDistinct journals → ((b : ℕ) → RecordsRiseAt journals b)
-    → IsMatched directory.events (histories_of homes) journals → IsMerged directory.events (events_of homes) run → IsDirectoryKept directory → All IsKept homes → ActorsRise run
-matched_rise per_queue directory homes journals run numbered distinct rise matched merged own all =
-    actors_rise directory.events (events_of homes) run merged (record { low = start; last = directory.last; rising = own.rising }) (λ i. homes_rise homes i all)
-    (places_agree per_queue directory.events homes journals run numbered distinct rise matched merged)
-    (places_apart per_queue directory.events homes journals run numbered distinct rise matched merged)
+    → IsMatched directory.events nothing_moved (histories_of homes) journals → IsMerged directory.events nothing_moved (events_of homes) run → NothingMoves run → IsDirectoryKept directory → All IsKept homes → ActorsRise run
+matched_rise per_queue directory homes journals run numbered distinct rise matched merged still own all =
+    actors_rise directory.events (events_of homes) run merged still (record { low = start; last = directory.last; rising = own.rising }) (λ i. homes_rise homes i all)
+    (places_agree per_queue directory.events homes journals run numbered distinct rise matched merged still)
+    (places_apart per_queue directory.events homes journals run numbered distinct rise matched merged still)

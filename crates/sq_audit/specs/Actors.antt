@@ -5,16 +5,18 @@ use Rattle.sq_base.specs.StampValue.{StampValue}
 use Rattle.sq_base.specs.Stamps.{Below}
 use Rattle.sq_model.specs.declared.event.Event.{Event}
 use Rattle.sq_model.specs.Replays.{StampsRise}
-use Rattle.sq_model.specs.Systems.{Tag, OfDirectory, OfHome, stamp_of}
+use Rattle.sq_model.specs.Systems.{Tag, OfDirectory, OfLedger, OfHome, stamp_of}
 use Rattle.sq_model.specs.Merges.{rank_of}
 
 abbrev pub event_actor : Tag → ℕ
 event_actor (OfDirectory e) = e.actor
+event_actor (OfLedger e) = e.actor
 event_actor (OfHome i e) = e.actor
 
 -- the number of the event among its actor's
 abbrev pub event_place : Tag → ℕ
 event_place (OfDirectory e) = e.place
+event_place (OfLedger e) = e.place
 event_place (OfHome i e) = e.place
 
 -- what stands later and is of the same actor has a higher place and a higher stamp

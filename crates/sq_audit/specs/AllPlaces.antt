@@ -6,6 +6,7 @@ use Rattle.std.specs.Map.{lookup, keys_of}
 use Rattle.std.specs.Ordering.{nat_cmp, ordering_then}
 use Rattle.std.specs.declared.cmp.Ordering.{Ordering}
 use Rattle.sq_base.specs.declared.message_id.MessageId.{MessageId}
+use Rattle.sq_model.specs.declared.item.Item.{Item}
 use Rattle.sq_model.specs.declared.place.Place.{Place}
 use Rattle.sq_model.specs.declared.place.Place.TheVariants as at
 use Rattle.sq_model.specs.Lineages.{Ending, same_id}
@@ -16,10 +17,10 @@ use Rattle.sq_model.specs.Systems.{Tag}
 abbrev pub id_cmp : MessageId → MessageId → Ordering
 id_cmp a b = ordering_then (nat_cmp a.queue b.queue) (ordering_then (nat_cmp a.home b.home) (nat_cmp a.serial b.serial))
 
--- each message that was sent stands once, in rising order of id, with its place; no other stands there
-pub record ArePlaces (sends : List MessageId) (ends : List Ending) (listed : List (MessageId × Place)) : Type 0 where
+-- each message that was sent stands once, in rising order of id, with its place, where these items are in transit; no other stands there
+pub record ArePlaces (sends : List MessageId) (ends : List Ending) (items : List Item) (listed : List (MessageId × Place)) : Type 0 where
   pub rising : IsStrictlySortedBy id_cmp (keys_of listed)
-  pub each : (x : MessageId) → lookup (same_id x) listed ≡ place_in x sends ends
+  pub each : (x : MessageId) → lookup (same_id x) listed ≡ place_in x sends ends items
 
 -- each message that was sent in a run stands once, in rising order of id; no other stands there
 pub record AreLineages (run : List Tag) (ids : List MessageId) : Type 0 where

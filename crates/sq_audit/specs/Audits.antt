@@ -9,7 +9,7 @@ use Rattle.sq_model.specs.declared.replies.HomeReply.TheVariants as reply
 use Rattle.sq_model.specs.Lineages.{home_sends}
 use Rattle.sq_model.specs.Places.{place_after}
 use Rattle.sq_model.specs.Replays.{HomeEvent}
-use Rattle.sq_model.specs.Systems.{Tag, OfDirectory, OfHome}
+use Rattle.sq_model.specs.Systems.{Tag, OfDirectory, OfLedger, OfHome}
 use Rattle.sq_audit.specs.declared.state.RowState.{RowState}
 use Rattle.sq_audit.specs.declared.home_states.Leaving.{Leaving}
 use Rattle.sq_audit.specs.declared.home_states.Leaving.TheVariants.{Past, Named, All}
@@ -60,6 +60,7 @@ no_audit = record { homes = []; sends = []; ends = [] }
 
 abbrev pub audit_step : AuditValue → Tag → AuditValue
 audit_step a (OfDirectory e) = a
+audit_step a (OfLedger e) = a
 audit_step a (OfHome i e) = record {
   homes = slice_set (grown (i + 1) a.homes) i (home_after e (get_or a.homes i no_states));
   sends = a.sends ++ home_sends e.reply;

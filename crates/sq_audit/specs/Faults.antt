@@ -6,6 +6,7 @@ use Rattle.sq_model.specs.Systems.{DirectoryEvent}
 use Rattle.sq_model.specs.RecordValues.{RecordValue, OfDirectory, OfHome, place_of_record, Journal}
 use Rattle.sq_model.specs.Matches.{HomeHistory, IsHomeEvent, IsRecordAt, HasItsEvent, IsRecorded, IsOfDirectory, IsOfHome}
 use Rattle.sq_audit.specs.HomeIds.{home_id}
+use Rattle.sq_audit.specs.SystemNow.{nothing_moved}
 use Rattle.sq_audit.specs.declared.check.AuditFault.{AuditFault}
 use Rattle.sq_audit.specs.declared.check.AuditFault.TheVariants.{NoMemory, RecordMissing, RecordTwice}
 
@@ -32,7 +33,7 @@ pub record EventWithoutRecord (directory : List DirectoryEvent) (homes : List Ho
 
 -- a record of this actor and number without its event, or without its name's queue
 abbrev pub RecordWithoutEvent : List DirectoryEvent → List HomeHistory → List Journal → ℕ → ℕ → Type 0
-RecordWithoutEvent directory homes journals actor place = IsRecorded journals actor (λ n. (place_of_record n ≡ place) × (HasItsEvent directory homes actor n → ⊥))
+RecordWithoutEvent directory homes journals actor place = IsRecorded journals actor (λ n. (place_of_record n ≡ place) × (HasItsEvent directory nothing_moved homes actor n → ⊥))
 
 -- no record of this number, but one of a higher number
 abbrev pub Gap : List Journal → ℕ → ℕ → Type 0
@@ -59,7 +60,7 @@ FaultHolds directory homes journals fault = IsWrong directory homes journals fau
 
 -- a record has the number of its place, and its event
 abbrev pub RecordFits : List DirectoryEvent → List HomeHistory → List Journal → ℕ → ℕ → Type 0
-RecordFits directory homes journals b i = (journal : Journal) (n : RecordValue) → IsRecordAt journals b i journal n → (place_of_record n ≡ i) × HasItsEvent directory homes journal.actor n
+RecordFits directory homes journals b i = (journal : Journal) (n : RecordValue) → IsRecordAt journals b i journal n → (place_of_record n ≡ i) × HasItsEvent directory nothing_moved homes journal.actor n
 
 -- an event has its record
 abbrev pub DirectoryFits : List DirectoryEvent → List Journal → ℕ → Type 0
@@ -72,7 +73,7 @@ HomeFits homes journals j k = (h : HomeHistory) (e : HomeEvent) → IsHomeEvent 
 abbrev pub IsRecordFault : List DirectoryEvent → List HomeHistory → ℕ → ℕ → RecordValue → AuditFault → Type 0
 IsRecordFault directory homes actor index n f =
     ((place_of_record n ≢ index) × (f ≡ RecordMissing actor index))
-    ⊎ ((HasItsEvent directory homes actor n → ⊥) × (f ≡ RecordMissing actor (place_of_record n)))
+    ⊎ ((HasItsEvent directory nothing_moved homes actor n → ⊥) × (f ≡ RecordMissing actor (place_of_record n)))
 
 -- a record names this event of the directory, or of the home at an index
 abbrev pub IsAt : ℕ → Option ℕ → ℕ → RecordValue → Type 0

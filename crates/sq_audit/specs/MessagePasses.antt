@@ -11,7 +11,7 @@ use Rattle.sq_model.specs.declared.replies.HomeReply.TheVariants as reply
 use Rattle.sq_model.specs.Lineages.{same_id}
 use Rattle.sq_model.specs.Places.{place_after}
 use Rattle.sq_model.specs.Replays.{HomeEvent}
-use Rattle.sq_model.specs.Systems.{Tag, OfDirectory, OfHome, same_home}
+use Rattle.sq_model.specs.Systems.{Tag, OfDirectory, OfLedger, OfHome, same_home}
 use Rattle.sq_audit.specs.declared.state.RowState.{RowState}
 use Rattle.sq_audit.specs.declared.state.Policy.{Policy}
 use Rattle.sq_audit.specs.declared.message_pass.MessageState.{MessageState}
@@ -61,6 +61,7 @@ next_pass x k e = record { policy = next_policy k.policy e.call; state = state_a
 
 abbrev pub pass_step : MessageId → MessagePass → Tag → MessagePass
 pass_step x k (OfDirectory e) = k
+pass_step x k (OfLedger e) = k
 pass_step x k (OfHome i e) = if is_at x e.component then next_pass x k e else k
 
 abbrev pub start : MessagePass

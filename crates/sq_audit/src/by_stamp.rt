@@ -1,11 +1,11 @@
 //! All events of the system in one order.
-ghost use Rattle.std.specs.Prelude.{◌≡◌, ◌≤◌, ◌-◌, ◌^◌, ◌++◌, min, map, length, All, OnOk, IfOk};
+ghost use Rattle.std.specs.Prelude.{◌≡◌, ◌≤◌, ◌-◌, ◌^◌, ◌++◌, min, map, length, ℕ, All, OnOk, IfOk};
 ghost use Rattle.sq_model.specs.Systems.{OfDirectory, OfHome, IsRun};
-ghost use Rattle.sq_model.specs.Merges.{IsMerged};
+ghost use Rattle.sq_model.specs.Merges.{IsMerged, NothingMoves};
 ghost use Rattle.sq_history.specs.Histories.{IsKept};
 ghost use Rattle.sq_directory.specs.DirectoryHistories.{IsDirectoryKept};
 ghost use Rattle.sq_audit.specs.Tags.{tags_of};
-ghost use Rattle.sq_audit.specs.SystemNow.{by_part, events_of, system_now};
+ghost use Rattle.sq_audit.specs.SystemNow.{by_part, events_of, nothing_moved, system_now};
 
 use crate::tagged::Tagged;
 use sq_directory::directory::Directory;
@@ -20,8 +20,9 @@ pub fn by_stamp<'a>(
     homes: &'a [Home],
 ) -> Result<Vec<Tagged<'a>>, AllocError>
     requires { length homes.now ≤ 4294967296 }
-    ensures merged { IfOk result (λ run. IsMerged directory.now.events (map (λ h. h.events) homes.now) (tags_of run.items)) }
-    ensures run { IfOk result (λ run. IsRun directory.now.directory.places (map (λ h. h.site) homes.now) (tags_of run.items) (system_now directory.now homes.now)) }
+    ensures merged { IfOk result (λ run. IsMerged directory.now.events nothing_moved (map (λ h. h.events) homes.now) (tags_of run.items)) }
+    ensures still { IfOk result (λ run. NothingMoves (tags_of run.items)) }
+    ensures run { IfOk result (λ run. (limit : ℕ) → IsRun directory.now.directory.places limit (map (λ h. h.site) homes.now) (tags_of run.items) (system_now limit directory.now homes.now)) }
     ensures directory { OnOk result (IsDirectoryKept directory.now) }
     ensures homes { OnOk result (All IsKept homes.now) }
 {

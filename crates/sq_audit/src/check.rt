@@ -4,6 +4,7 @@ ghost use Rattle.sq_model.specs.RecordValues.{OfHome, place_of_record};
 ghost use Rattle.sq_model.specs.Matches.{HasItsEvent, IsMatched};
 ghost use Rattle.sq_steps.specs.Records.{value_of_record};
 ghost use Rattle.sq_steps.specs.Journals.{RecordsRiseAt, AreDistinct};
+ghost use Rattle.sq_audit.specs.SystemNow.{nothing_moved};
 ghost use Rattle.sq_audit.specs.HomeIds.{histories_of, home_id};
 ghost use Rattle.sq_audit.specs.Faults.{FaultHolds, IsWrong, RecordFits, DirectoryFits, HomeFits, IsRecordFault, IsAt, IsRecordedAt, IsEventFault, EventFits, HasEventFault};
 
@@ -79,11 +80,11 @@ impl<'a> Evidence<'a> {
 /// Whether records and histories are of each other; else what is wrong. It takes no memory. The event that a queue's
 /// creation names is the first that is looked at for the queue's name.
 pub(crate) fn check(evidence: &Evidence<'_>) -> Result<(), AuditFault>
-    ensures ok { OnOk result (IsMatched evidence.now.directory evidence.now.homes evidence.now.journals) }
+    ensures ok { OnOk result (IsMatched evidence.now.directory nothing_moved evidence.now.homes evidence.now.journals) }
     ensures rise { OnOk result ((b : ℕ) → RecordsRiseAt evidence.now.journals b) }
     ensures fault { IfErr result (λ f. FaultHolds evidence.now.directory evidence.now.homes evidence.now.journals f) }
     ensures never { IfErr result (λ f. f ≢ AuditFault.NoMemory) }
-    ensures honest { IsMatched evidence.now.directory evidence.now.homes evidence.now.journals → IsOk result }
+    ensures honest { IsMatched evidence.now.directory nothing_moved evidence.now.homes evidence.now.journals → IsOk result }
 {
     // What is always true of the evidence is known to the prover once a part of it is read.
     let _ = &evidence.journals;
@@ -132,7 +133,7 @@ fn check_record(
     kept: &Record,
 ) -> Result<(), AuditFault>
     ensures place { OnOk result (place_of_record (value_of_record kept.now) ≡ index) }
-    ensures has_its_event { OnOk result (HasItsEvent evidence.now.directory evidence.now.homes actor (value_of_record kept.now)) }
+    ensures has_its_event { OnOk result (HasItsEvent evidence.now.directory nothing_moved evidence.now.homes actor (value_of_record kept.now)) }
     ensures fault { IfErr result (IsRecordFault evidence.now.directory evidence.now.homes actor index (value_of_record kept.now)) }
 {
     let place = kept.place();
@@ -148,7 +149,7 @@ fn check_record(
 
 // Whether a record is of an event of this actor.
 fn has_its_event(evidence: &Evidence<'_>, actor: u32, kept: &Record) -> bool
-    ensures { result ≡ true ↔ HasItsEvent evidence.now.directory evidence.now.homes actor (value_of_record kept.now) }
+    ensures { result ≡ true ↔ HasItsEvent evidence.now.directory nothing_moved evidence.now.homes actor (value_of_record kept.now) }
 {
     match kept {
         Record::Directory(kept) => has_directory_event(evidence.directory, actor, kept),
@@ -158,7 +159,7 @@ fn has_its_event(evidence: &Evidence<'_>, actor: u32, kept: &Record) -> bool
 
 // Whether a home has the event of a record, and the name that the record bears was its queue's.
 fn home_has_its_event(evidence: &Evidence<'_>, actor: u32, kept: &HomeRecord) -> bool
-    ensures { result ≡ true ↔ HasItsEvent evidence.now.directory evidence.now.homes actor (OfHome kept.now) }
+    ensures { result ≡ true ↔ HasItsEvent evidence.now.directory nothing_moved evidence.now.homes actor (OfHome kept.now) }
 {
     let homes = evidence.homes;
     let Some(index) = home_index(evidence.per_queue, homes.len(), kept.home()) else {

@@ -2,6 +2,7 @@
 ghost use Rattle.std.specs.Prelude.{◌≡◌, ℕ, true, List};
 ghost use Rattle.sq_model.specs.declared.place.Site.{Site};
 ghost use Rattle.sq_model.specs.Systems.{System, RunFrom, opening, IsOnePlace};
+ghost use Rattle.sq_model.specs.Merges.{NothingMoves};
 ghost use Rattle.sq_model.specs.Places.{run_ends, run_sends, place_in};
 ghost use Rattle.sq_model.specs.declared.place.Place.TheVariants as at;
 ghost use Rattle.sq_audit.specs.RowStates.{effect_of, is_named};
@@ -33,10 +34,11 @@ struct MessagePass {
     state: MessageState,
 }
 
-/// Where a message of a run is: some place exactly for those that were sent in it. It takes no memory.
+/// Where a message of a run is in which none moves between queues: some place exactly for those that were sent in it. It
+/// takes no memory.
 pub fn place_of(run: &Run<'_>, x: &MessageId) -> Option<Place>
-    ensures place { (places : ℕ) (sites : List Site) (after : System) (r : RunFrom (opening places sites) run.now after) → IsOnePlace sites
-        → result ≡ place_in x.now (run_sends run.now) (run_ends (opening places sites) run.now after r) }
+    ensures place { (places limit : ℕ) (sites : List Site) (after : System) (r : RunFrom (opening places limit sites) run.now after) → IsOnePlace sites → NothingMoves run.now
+        → result ≡ place_in x.now (run_sends run.now) (run_ends (opening places limit sites) run.now after r) after.ledger.items }
 {
     let mut message_pass = MessagePass {
         policy: None,

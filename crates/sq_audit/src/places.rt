@@ -5,6 +5,7 @@ ghost use Rattle.std.specs.BTreeMap.{get};
 ghost use Rattle.sq_base.specs.declared.message_id.MessageId.{MessageId};
 ghost use Rattle.sq_model.specs.declared.place.Site.{Site};
 ghost use Rattle.sq_model.specs.Lineages.{home_sends};
+ghost use Rattle.sq_model.specs.Merges.{NothingMoves};
 ghost use Rattle.sq_model.specs.Places.{run_ends, run_sends};
 ghost use Rattle.sq_model.specs.Systems.{System, OfHome, RunFrom, opening, IsOnePlace};
 ghost use Rattle.sq_audit.specs.AllPlaces.{ArePlaces, AreListed, id_cmp, after_end, sent_place};
@@ -40,10 +41,11 @@ impl Model for Audit {
     ghost view = { λ a. record { homes = a.homes.items; sends = a.sends.items; ends = a.ends.items } };
 }
 
-/// Where the messages of a run are: each that was sent in it, once, in rising order of id. Refused only where memory is out.
+/// Where the messages of a run are in which none moves between queues: each that was sent in it, once, in rising order of
+/// id. Refused only where memory is out.
 pub fn places_of(alloc: Global, run: &Run<'_>) -> Result<Vec<(MessageId, Place)>, Refusal>
-    ensures places { (places : ℕ) (sites : List Site) (after : System) (r : RunFrom (opening places sites) run.now after) → IsOnePlace sites
-        → IfOk result (λ listed. ArePlaces (run_sends run.now) (run_ends (opening places sites) run.now after r) listed.items) }
+    ensures places { (places limit : ℕ) (sites : List Site) (after : System) (r : RunFrom (opening places limit sites) run.now after) → IsOnePlace sites → NothingMoves run.now
+        → IfOk result (λ listed. ArePlaces (run_sends run.now) (run_ends (opening places limit sites) run.now after r) after.ledger.items listed.items) }
     ensures err { IfErr result (λ e. e ≡ Refusal.NoMemory) }
 {
     let audit = collect(alloc, run.events())?;

@@ -68,5 +68,8 @@ pub type MaxReceives = Within<1, 1000>;
 /// How many messages a task moves in a second (MaxNumberOfMessagesPerSecond).
 pub type Rate = Within<1, 500>;
 
+/// How many tasks are listed (MaxResults).
+pub type MaxResults = Within<1, 10>;
+
 /// A number of receives, of which there was one (ApproximateReceiveCount).
 pub type Receives = Within<1, 4294967295>;

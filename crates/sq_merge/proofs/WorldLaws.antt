@@ -14,13 +14,14 @@ use Rattle.sq_model.specs.declared.directory.DirectoryCall.{DirectoryCall}
 use Rattle.sq_model.specs.declared.directory.DirectoryCall.TheVariants.{Create}
 use Rattle.sq_model.specs.Replays.{HomeEvent}
 use Rattle.sq_model.specs.Systems.{DirectoryEvent}
-use Rattle.sq_model.specs.RecordValues.{HomeRecordValue, DirectoryRecordValue, RecordValue, OfDirectory, OfHome, place_of_record, Journal, actor_of, directory_record_of, home_record_of}
+use Rattle.sq_model.specs.RecordValues.{HomeRecordValue, DirectoryRecordValue, RecordValue, OfDirectory, OfLedger, OfHome, place_of_record, Journal, actor_of, directory_record_of, home_record_of}
 use Rattle.sq_model.specs.Matches.{HomeHistory, IsHomeEvent, IsRecordAt, IsNamed, HasItsEvent, IsRecorded, IsOfDirectory, IsOfHome, IsMatched}
 use Rattle.sq_history.specs.HistoryValue.{HistoryValue}
 use Rattle.sq_history.specs.Histories.{new_event, new_record}
 use Rattle.sq_directory.specs.DirectoryHistories.{directory_event}
 use Rattle.sq_steps.specs.Journals.{new_journal, journal_of, put_journal, with_record, having_seen}
 use Rattle.sq_merge.specs.WorldValue.{WorldValue}
+use Rattle.sq_audit.specs.SystemNow.{nothing_moved}
 use Rattle.sq_audit.specs.HomeIds.{history_of, histories_of, home_id}
 use Rattle.sq_merge.specs.Worlds.{IsKnown, IsKeptWorld, HomeStepped, Created, having_read}
 use Rattle.sq_directory.proofs.MakerLaws.{seen_below}
@@ -42,8 +43,9 @@ named_grows ds ds2 n (Some name) grow h = (h.0, h.1, grow h.0 h.1 h.2, h.3, h.4)
 its_event_stays : (ds ds2 : List DirectoryEvent) (hs hs2 : List HomeHistory) (actor : ℕ) (n : RecordValue)
     → ((k : ℕ) (e : DirectoryEvent) → slice_get ds k ≡ Some e → slice_get ds2 k ≡ Some e)
     → ((j : ℕ) (h : HomeHistory) → slice_get hs j ≡ Some h → Grown hs2 j h)
-    → HasItsEvent ds hs actor n → HasItsEvent ds2 hs2 actor n
+    → HasItsEvent ds nothing_moved hs actor n → HasItsEvent ds2 nothing_moved hs2 actor n
 its_event_stays ds ds2 hs hs2 actor (OfDirectory n) grow grown h = (h.0, grow n.index h.0 h.1, h.2, h.3)
+its_event_stays ds ds2 hs hs2 actor (OfLedger n) grow grown h = h
 its_event_stays ds ds2 hs hs2 actor (OfHome n) grow grown h =
     let g = grown h.0 h.1 h.3.in_homes in
     (h.0, g.new, h.2, record { in_homes = g.in_list; in_events = g.more n.index h.2 h.3.in_events }, h.4, subst (λ (x : HomeId). n ≡ home_record_of x n.index n.name h.2) (sym g.same) h.5, named_grows ds ds2 n n.name grow h.6)
@@ -164,7 +166,7 @@ module _ (old : WorldValue) (actor now : ℕ) (name : Option (List ℕ)) (id : H
         }
       ]
 
-  new_has_event : HasItsEvent old.directory.events (histories_of homes) actor (OfHome its_record)
+  new_has_event : HasItsEvent old.directory.events nothing_moved (histories_of homes) actor (OfHome its_record)
   new_has_event = (
     s.at,
     history_of s.after,
@@ -181,11 +183,11 @@ module _ (old : WorldValue) (actor now : ℕ) (name : Option (List ℕ)) (id : H
         (subst (λ (q : ℕ). IsKnown old.directory.events (journal_of actor old.journals) name q) (sym (ap (λ (n : HomeRecordValue). n.home.queue) s.moves.does.record_is ∙ ap (λ (x : HomeId). x.queue) s.home.has_id)) known)),
   )
 
-  all_have_events : (b i : ℕ) (journal : Journal) (n : RecordValue) → IsRecordAt journals b i journal n → HasItsEvent old.directory.events (histories_of homes) journal.actor n
+  all_have_events : (b i : ℕ) (journal : Journal) (n : RecordValue) → IsRecordAt journals b i journal n → HasItsEvent old.directory.events nothing_moved (histories_of homes) journal.actor n
   all_have_events b i journal n h = elim (old_or_new old.journals actor (OfHome its_record) s.recorded_in.room b i journal n h) [
-    | inl was ↦ subst (λ (a : ℕ). HasItsEvent old.directory.events (histories_of homes) a n) was.own
+    | inl was ↦ subst (λ (a : ℕ). HasItsEvent old.directory.events nothing_moved (histories_of homes) a n) was.own
         (its_event_stays old.directory.events old.directory.events (histories_of old.homes) (histories_of homes) was.journal.actor n (λ k e g. g) home_grown (kept.has_its_event was.at i was.journal n was.in_list))
-    | inr new ↦ subst (λ (a : ℕ). HasItsEvent old.directory.events (histories_of homes) a n) (sym new.0) (subst (λ (m : RecordValue). HasItsEvent old.directory.events (histories_of homes) actor m) (sym new.2) new_has_event)
+    | inr new ↦ subst (λ (a : ℕ). HasItsEvent old.directory.events nothing_moved (histories_of homes) a n) (sym new.0) (subst (λ (m : RecordValue). HasItsEvent old.directory.events nothing_moved (histories_of homes) actor m) (sym new.2) new_has_event)
   ]
 
   stays : (a : ℕ) (P : RecordValue → Type 0) → IsRecorded old.journals a P → IsRecorded journals a P
@@ -258,11 +260,11 @@ module _ (old : WorldValue) (actor now : ℕ) (name : List ℕ) (attributes : At
   made_there = subst (λ (es : List DirectoryEvent). slice_get es made_record.index ≡ Some made_event) (sym s.moves.does.events)
       (subst (λ (k : ℕ). slice_get (old.directory.events ++ made_event ∷ []) k ≡ Some made_event) (sym made_index) (get_new old.directory.events made_event))
 
-  made_have_events : (b i : ℕ) (journal : Journal) (n : RecordValue) → IsRecordAt made_journals b i journal n → HasItsEvent s.after.events (histories_of old.homes) journal.actor n
+  made_have_events : (b i : ℕ) (journal : Journal) (n : RecordValue) → IsRecordAt made_journals b i journal n → HasItsEvent s.after.events nothing_moved (histories_of old.homes) journal.actor n
   made_have_events b i journal n h = elim (old_or_new old.journals actor (OfDirectory made_record) s.recorded_in.room b i journal n h) [
-    | inl was ↦ subst (λ (a : ℕ). HasItsEvent s.after.events (histories_of old.homes) a n) was.own
+    | inl was ↦ subst (λ (a : ℕ). HasItsEvent s.after.events nothing_moved (histories_of old.homes) a n) was.own
         (its_event_stays old.directory.events s.after.events (histories_of old.homes) (histories_of old.homes) was.journal.actor n made_grows (λ j h g. record { new = h; in_list = g; same = refl; more = λ k e f. f }) (kept.has_its_event was.at i was.journal n was.in_list))
-    | inr new ↦ subst (λ (a : ℕ). HasItsEvent s.after.events (histories_of old.homes) a n) (sym new.0) (subst (λ (m : RecordValue). HasItsEvent s.after.events (histories_of old.homes) actor m) (sym new.2) (made_event, made_there, journal_own actor old.journals, made_is))
+    | inr new ↦ subst (λ (a : ℕ). HasItsEvent s.after.events nothing_moved (histories_of old.homes) a n) (sym new.0) (subst (λ (m : RecordValue). HasItsEvent s.after.events nothing_moved (histories_of old.homes) actor m) (sym new.2) (made_event, made_there, journal_own actor old.journals, made_is))
   ]
 
   made_recorded : (k : ℕ) (e : DirectoryEvent) → slice_get s.after.events k ≡ Some e → IsRecorded made_journals e.actor (IsOfDirectory k e)
@@ -298,7 +300,7 @@ kept_read w actor kept =
     let stays = λ (a : ℕ) (P : RecordValue → Type 0) (h : IsRecorded w.journals a P). recorded_kept w.journals actor recorded_in a P (journal_own actor w.journals) (λ i m g. g) h in
     record {
       numbered = kept.numbered;
-      has_its_event = λ b i x m h. let was = read_was w.journals actor w.directory.last b i x m h in subst (λ (a : ℕ). HasItsEvent w.directory.events (histories_of w.homes) a m) was.own (kept.has_its_event was.at i was.journal m was.in_list);
+      has_its_event = λ b i x m h. let was = read_was w.journals actor w.directory.last b i x m h in subst (λ (a : ℕ). HasItsEvent w.directory.events nothing_moved (histories_of w.homes) a m) was.own (kept.has_its_event was.at i was.journal m was.in_list);
       directory_recorded = λ k e h. stays e.actor (IsOfDirectory k e) (kept.directory_recorded k e h);
       homes_recorded = λ j k h e at. stays e.actor (IsOfHome h.home k e) (kept.homes_recorded j k h e at);
       exact = λ b i x m h. let was = read_was w.journals actor w.directory.last b i x m h in kept.exact was.at i was.journal m was.in_list;
@@ -307,6 +309,6 @@ kept_read w actor kept =
     }
 
 -- what a world leaves is matched
-pub kept_matched : (w : WorldValue) → IsKeptWorld w → IsMatched w.directory.events (histories_of w.homes) w.journals
+pub kept_matched : (w : WorldValue) → IsKeptWorld w → IsMatched w.directory.events nothing_moved (histories_of w.homes) w.journals
 kept_matched w kept =
     fits_match w.directory.events (histories_of w.homes) w.journals kept.distinct (λ b i journal n h. (kept.exact b i journal n h, kept.has_its_event b i journal n h)) kept.directory_recorded kept.homes_recorded

@@ -26,6 +26,7 @@ use Rattle.sq_history.specs.Acts.{call_of, HasBytes}
 use Rattle.sq_steps.specs.Journals.{is_of, journal_of, put_journal, having_seen, HomeMoves, DirectoryMoves, IsHomeRefused, IsCreateRefused, AreDistinct}
 use Rattle.sq_directory.specs.DirectoryHistory.{DirectoryHistory}
 use Rattle.sq_merge.specs.WorldValue.{WorldValue}
+use Rattle.sq_audit.specs.SystemNow.{nothing_moved}
 use Rattle.sq_audit.specs.HomeIds.{histories_of, IsNumbered}
 use Rattle.sq_directory.specs.Makers.{IsMadeBy}
 
@@ -97,7 +98,7 @@ Schedule w (s ∷ ss) done after =
 -- True of the system at all times: records and events are of each other, the n-th record of an actor has number n, each actor is there once.
 pub record IsKeptWorld (w : WorldValue) : Type 0 where
   pub numbered : IsNumbered w.per_queue w.homes
-  pub has_its_event : (b i : ℕ) (journal : Journal) (n : RecordValue) → IsRecordAt w.journals b i journal n → HasItsEvent w.directory.events (histories_of w.homes) journal.actor n
+  pub has_its_event : (b i : ℕ) (journal : Journal) (n : RecordValue) → IsRecordAt w.journals b i journal n → HasItsEvent w.directory.events nothing_moved (histories_of w.homes) journal.actor n
   pub directory_recorded : (k : ℕ) (e : DirectoryEvent) → slice_get w.directory.events k ≡ Some e → IsRecorded w.journals e.actor (IsOfDirectory k e)
   pub homes_recorded : (j k : ℕ) (h : HomeHistory) (e : HomeEvent) → IsHomeEvent (histories_of w.homes) j k h e → IsRecorded w.journals e.actor (IsOfHome h.home k e)
   pub exact : (b i : ℕ) (journal : Journal) (n : RecordValue) → IsRecordAt w.journals b i journal n → place_of_record n ≡ i

@@ -5,6 +5,7 @@ ghost use Rattle.sq_model.specs.Directories.{number_of};
 ghost use Rattle.sq_history.specs.Acts.{call_of};
 ghost use Rattle.sq_steps.specs.Journals.{is_of, journal_of};
 ghost use Rattle.sq_merge.specs.Worlds.{HomeStepped, HomeRefused, Created, CreateRefused, NameRefused, having_read, StepDone, StepRefused, Schedule, IsKnown, IsKeptWorld};
+ghost use Rattle.sq_audit.specs.SystemNow.{nothing_moved};
 ghost use Rattle.sq_audit.specs.HomeIds.{histories_of};
 ghost use Rattle.sq_merge.specs.Acting.{counts_of, ActorStepped};
 ghost use Rattle.sq_merge.specs.Fits.{CallFits};
@@ -159,7 +160,7 @@ impl World {
     /// Its parts with their histories, and the records of its actors: each record is of an event, each event has one.
     pub fn parts(self) -> Parts
         ensures parts { result ≡ parts_of self }
-        ensures matched { IsMatched result.directory.events (histories_of result.homes.homes) result.records }
+        ensures matched { IsMatched result.directory.events nothing_moved (histories_of result.homes.homes) result.records }
     {
         let World {
             directory,

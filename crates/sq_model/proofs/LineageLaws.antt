@@ -121,10 +121,10 @@ home_law x site (Serving s v n rows) m (LeaveTask task) (Left item) after h =
 home_law x site (Serving s v n rows) m (LeaveTask task) NoLiveRow after h = rw h.1 (omega (arith, trim_law x s m rows))
 home_law x site (Serving s v n rows) m (LeaveTask task) (NoOrigin serial) after h = rw h.1 (omega (arith, trim_law x s m rows))
 home_law x site Closed m (LeaveTask task) SourceClosed after h = rw h refl
-home_law x site (Serving s v n rows) m (Enter item) (Entered slot) after h =
-    rw h.2 (omega (arith, trim_law x s m rows, entered_push x (trimmed s m rows) item.reason site.home item.source n slot m item.row))
+home_law x site (Serving s v n rows) m (Enter item) (Entered entered) after h =
+    rw h.3 (omega (arith, trim_law x s m rows, entered_push x (trimmed s m rows) item.reason site.home item.source n entered.slot m item.row))
 home_law x site Closed m (TurnBack item) Done after h = rw h.1 refl
-home_law x site (Serving s v n rows) m (GiveBack item) (Entered slot) after h =
-    rw h.2 (omega (arith, trim_law x s m rows, returned_push x (trimmed s m rows) item.reason n slot m item.row))
+home_law x site (Serving s v n rows) m (GiveBack item) (Entered entered) after h =
+    rw h.3 (omega (arith, trim_law x s m rows, returned_push x (trimmed s m rows) item.reason n entered.slot m item.row))
 home_law x site Closed m (GiveUp item) Done after h = rw h.1 refl
 home_law x site home m call reply after h = elim h [ ]

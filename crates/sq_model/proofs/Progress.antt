@@ -22,19 +22,19 @@ use Rattle.sq_model.proofs.SlotLaws.{free_slot, not_false}
 abbrev Possible : Site → Home → ℕ → HomeCall → Type 0
 Possible site home m call = (reply : HomeReply) × (after : Home) × HasSlot reply × HomeStep site home m call reply after
 
-passed : (test : Bool) (refusal : Refusal) (later : Option Refusal) → refused_if test refusal later ≡ None → (test ≡ false) × (later ≡ None)
+pub passed : (test : Bool) (refusal : Refusal) (later : Option Refusal) → refused_if test refusal later ≡ None → (test ≡ false) × (later ≡ None)
 passed true refusal later h = absurd cc
 passed false refusal later h = (refl, h)
 
-neither : (a b : Bool) → (a || b) ≡ false → (a ≡ false) × (b ≡ false)
+pub neither : (a b : Bool) → (a || b) ≡ false → (a ≡ false) × (b ≡ false)
 neither true b h = absurd cc
 neither false b h = (refl, h)
 
-above : (a b : ℕ) → nat_le b a ≡ false → a < b
+pub above : (a b : ℕ) → nat_le b a ≡ false → a < b
 above a b h = grind (arith, common_steps)
 
 -- a place for a row more, and that no later check fails
-place_left : (l : Limits) (next : ℕ) (rows : List Row) (later : Option Refusal) → place_refusal l next rows later ≡ None
+pub place_left : (l : Limits) (next : ℕ) (rows : List Row) (later : Option Refusal) → place_refusal l next rows later ≡ None
     → ((slot : ℕ) × (slot < slots) × HasPlace l next slot rows) × (later ≡ None)
 place_left l next rows later h =
     let worn = passed (nat_le last_serial next || nat_le slots (length rows)) _ _ h in
@@ -45,7 +45,7 @@ place_left l next rows later h =
     ((found.0, omega (arith, left, found.1), record { not_worn = above _ _ counts.0; slot_left = left; within = above _ _ full.0; free = found.2 }), full.1)
 
 -- a row of a kind that is there can be taken out
-takes_one : (p : Row → Bool) (rows : List Row) → list_any p rows ≡ true → (row : Row) × (rest : List Row) × Takes row rows rest × (p row ≡ true)
+pub takes_one : (p : Row → Bool) (rows : List Row) → list_any p rows ≡ true → (row : Row) × (rest : List Row) × Takes row rows rest × (p row ≡ true)
 takes_one p [] h = absurd cc
 takes_one p (row ∷ rows) h =
     elim (p row) as (λ b. p row ≡ b → (b || list_any p rows) ≡ true → (r : Row) × (rest : List Row) × Takes r (row ∷ rows) rest × (p r ≡ true)) [
@@ -54,7 +54,7 @@ takes_one p (row ∷ rows) h =
           (t.0, row ∷ t.1, record { before = row ∷ t.2.before; after = t.2.after; at = ap (λ xs. row ∷ xs) t.2.at; left = ap (λ xs. row ∷ xs) t.2.left }, t.3))
     ] refl h
 
-has_target : (policy : Option Redrive) (visible : Bool) (row : Row) → (visible && is_spent policy row) ≡ true → (target : ℕ) × (Some target ≡ dead_target policy)
+pub has_target : (policy : Option Redrive) (visible : Bool) (row : Row) → (visible && is_spent policy row) ≡ true → (target : ℕ) × (Some target ≡ dead_target policy)
 has_target None true row h = absurd cc
 has_target None false row h = absurd cc
 has_target (Some redrive) visible row h = (redrive.target, refl)
@@ -131,10 +131,10 @@ step_possible site (Serving s v n rows) m (LeaveTask task) r h = inr (leave_task
 step_possible site Closed m (LeaveTask task) r h = inr (SourceClosed, _, tt, refl)
 step_possible site (Serving s v n rows) m (Enter item) r h =
     let p = place_left _ _ _ _ h in
-    inr (Entered p.0.0, _, p.0.1, (not_false _ (passed _ _ _ p.1).0, p.0.2, refl))
+    inr (Entered (record { serial = n; slot = p.0.0 }), _, p.0.1, (not_false _ (passed _ _ _ p.1).0, p.0.2, refl, refl))
 step_possible site Closed m (TurnBack item) r h = inr (Done, _, tt, (not_false _ (passed _ _ _ h).0, refl))
 step_possible site (Serving s v n rows) m (GiveBack item) r h =
     let p = place_left _ _ _ _ h in
-    inr (Entered p.0.0, _, p.0.1, (not_false _ (passed _ _ _ p.1).0, p.0.2, refl))
+    inr (Entered (record { serial = n; slot = p.0.0 }), _, p.0.1, (not_false _ (passed _ _ _ p.1).0, p.0.2, refl, refl))
 step_possible site Closed m (GiveUp item) r h = inr (Done, _, tt, (not_false _ (passed _ _ _ h).0, refl))
 step_possible site home m call r h = absurd cc

@@ -76,11 +76,11 @@ counted_step site (Serving s v n rows) m (LeaveTask task) (Left item) after h al
 counted_step site (Serving s v n rows) m (LeaveTask task) NoLiveRow after h all = rw h.1 (counted_trimmed s m rows all)
 counted_step site (Serving s v n rows) m (LeaveTask task) (NoOrigin serial) after h all = rw h.1 (counted_trimmed s m rows all)
 counted_step site Closed m (LeaveTask task) SourceClosed after h all = rw h (All-nil IsCounted)
-counted_step site (Serving s v n rows) m (Enter item) (Entered slot) after h all =
-    rw h.2 (counted_push (trimmed s m rows) (entered_row site.home n slot m item) (counted_trimmed s m rows all) (counted_entered item.reason site.home item.source n slot m item.row))
+counted_step site (Serving s v n rows) m (Enter item) (Entered entered) after h all =
+    rw h.3 (counted_push (trimmed s m rows) (entered_row site.home n entered.slot m item) (counted_trimmed s m rows all) (counted_entered item.reason site.home item.source n entered.slot m item.row))
 counted_step site Closed m (TurnBack item) Done after h all = rw h.1 (All-nil IsCounted)
-counted_step site (Serving s v n rows) m (GiveBack item) (Entered slot) after h all =
-    rw h.2 (counted_push (trimmed s m rows) (returned_row n slot m item) (counted_trimmed s m rows all) (counted_returned item.reason n slot m item.row))
+counted_step site (Serving s v n rows) m (GiveBack item) (Entered entered) after h all =
+    rw h.3 (counted_push (trimmed s m rows) (returned_row n entered.slot m item) (counted_trimmed s m rows all) (counted_returned item.reason n entered.slot m item.row))
 counted_step site Closed m (GiveUp item) Done after h all = rw h.1 (All-nil IsCounted)
 counted_step site home m call reply after h all = elim h [ ]
 

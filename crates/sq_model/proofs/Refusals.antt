@@ -12,13 +12,13 @@ use Rattle.sq_model.specs.declared.replies.HomeReply.{HomeReply}
 use Rattle.sq_model.specs.declared.replies.HomeReply.TheVariants.{Done, Sent, Looked, Over, Counted, Left, NoLiveRow, NoOrigin, SourceClosed, Entered}
 use Rattle.sq_model.specs.Homes.{Home, Unopened, Serving, Closed, HomeStep, home_refusal, place_refusal, refused_if, HasPlace}
 
-below : (a b : ℕ) → a < b → nat_le b a ≡ false
+pub below : (a b : ℕ) → a < b → nat_le b a ≡ false
 below a b h = grind (arith, common_steps)
 
-has_place : (l : Limits) (next slot : ℕ) (rows : List Row) (later : Option Refusal) → HasPlace l next slot rows → later ≡ None → place_refusal l next rows later ≡ None
+pub has_place : (l : Limits) (next slot : ℕ) (rows : List Row) (later : Option Refusal) → HasPlace l next slot rows → later ≡ None → place_refusal l next rows later ≡ None
 has_place l next slot rows later h e = rw (below _ _ h.not_worn, below _ _ h.slot_left, below _ _ h.within, e) refl
 
-passes : (test : Bool) (refusal : Refusal) → test ≡ true → refused_if (not test) refusal None ≡ None
+pub passes : (test : Bool) (refusal : Refusal) → test ≡ true → refused_if (not test) refusal None ≡ None
 passes test refusal e = rw e refl
 
 pub step_allowed : (site : Site) (home : Home) (m : ℕ) (call : HomeCall) (reply : HomeReply) (after : Home) → HomeStep site home m call reply after → home_refusal site home m call ≡ None
@@ -39,8 +39,8 @@ step_allowed site (Serving s v n rows) m (LeaveTask task) (Left item) after h = 
 step_allowed site (Serving s v n rows) m (LeaveTask task) NoLiveRow after h = refl
 step_allowed site (Serving s v n rows) m (LeaveTask task) (NoOrigin serial) after h = refl
 step_allowed site Closed m (LeaveTask task) SourceClosed after h = refl
-step_allowed site (Serving s v n rows) m (Enter item) (Entered slot) after h = has_place _ _ _ _ _ h.1 (passes _ _ h.0)
+step_allowed site (Serving s v n rows) m (Enter item) (Entered entered) after h = has_place _ _ _ _ _ h.1 (passes _ _ h.0)
 step_allowed site Closed m (TurnBack item) Done after h = passes _ _ h.0
-step_allowed site (Serving s v n rows) m (GiveBack item) (Entered slot) after h = has_place _ _ _ _ _ h.1 (passes _ _ h.0)
+step_allowed site (Serving s v n rows) m (GiveBack item) (Entered entered) after h = has_place _ _ _ _ _ h.1 (passes _ _ h.0)
 step_allowed site Closed m (GiveUp item) Done after h = passes _ _ h.0
 step_allowed site home m call reply after h = elim h [ ]

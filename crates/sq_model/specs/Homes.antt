@@ -132,15 +132,17 @@ HomeStep site (Serving s v n rows) m (LeaveTask task) (NoOrigin serial) after =
     ((row : Row) × (rest : List Row) × Takes row (trimmed s m rows) rest × (is_live s m row ≡ true) × (row.serial ≡ serial) × (row.origin ≡ None))
     × (after ≡ Serving s v n (trimmed s m rows))
 HomeStep site Closed m (LeaveTask task) SourceClosed after = after ≡ Closed
-HomeStep site (Serving s v n rows) m (Enter item) (Entered slot) after =
+HomeStep site (Serving s v n rows) m (Enter item) (Entered entered) after =
     (may_enter site.home item ≡ true)
-    × HasPlace site.limits n slot (trimmed s m rows)
-    × (after ≡ Serving s v (n + 1) (trimmed s m rows ++ entered_row site.home n slot m item ∷ []))
+    × HasPlace site.limits n entered.slot (trimmed s m rows)
+    × (entered.serial ≡ n)
+    × (after ≡ Serving s v (n + 1) (trimmed s m rows ++ entered_row site.home n entered.slot m item ∷ []))
 HomeStep site Closed m (TurnBack item) Done after = (may_enter site.home item ≡ true) × (after ≡ Closed)
-HomeStep site (Serving s v n rows) m (GiveBack item) (Entered slot) after =
+HomeStep site (Serving s v n rows) m (GiveBack item) (Entered entered) after =
     (may_return site.home item ≡ true)
-    × HasPlace site.limits n slot (trimmed s m rows)
-    × (after ≡ Serving s v (n + 1) (trimmed s m rows ++ returned_row n slot m item ∷ []))
+    × HasPlace site.limits n entered.slot (trimmed s m rows)
+    × (entered.serial ≡ n)
+    × (after ≡ Serving s v (n + 1) (trimmed s m rows ++ returned_row n entered.slot m item ∷ []))
 HomeStep site Closed m (GiveUp item) Done after = (may_return site.home item ≡ true) × (after ≡ Closed)
 -- no other reply is given
 HomeStep site home m call reply after = ⊥
@@ -191,7 +193,7 @@ IsRising Closed = Unit {0}
 -- a slot that was given is one of those that are there
 abbrev pub HasSlot : HomeReply → Type 0
 HasSlot (Sent sent) = sent.slot < slots
-HasSlot (Entered slot) = slot < slots
+HasSlot (Entered entered) = entered.slot < slots
 HasSlot Done = Unit {0}
 HasSlot (Looked picked) = Unit {0}
 HasSlot Over = Unit {0}

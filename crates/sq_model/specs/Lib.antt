@@ -4,6 +4,10 @@ pub mod Lineages
 pub mod Replays
 pub mod Worked
 pub mod Directories
+pub mod Tasks
+pub mod Ledgers
+pub mod Shared
+pub mod WorkedMoves
 pub mod Systems
 pub mod Places
 pub mod Merges

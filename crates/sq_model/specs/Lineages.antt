@@ -4,7 +4,8 @@ use Rattle.sq_base.specs.declared.message_id.MessageId.{MessageId}
 use Rattle.sq_base.specs.declared.row.Row.{Row}
 use Rattle.sq_base.specs.declared.settings.Settings.{Settings}
 use Rattle.sq_model.specs.declared.calls.HomeCall.{HomeCall}
-use Rattle.sq_model.specs.declared.calls.HomeCall.TheVariants.{Close, Delete, Purge, Enter, GiveBack}
+use Rattle.sq_model.specs.declared.calls.HomeCall.TheVariants.{Close, Delete, Purge, Enter, GiveBack, GiveUp}
+use Rattle.sq_model.specs.declared.item.Item.{Item}
 use Rattle.sq_model.specs.declared.replies.HomeReply.{HomeReply}
 use Rattle.sq_model.specs.declared.replies.HomeReply.TheVariants.{Sent, Left}
 use Rattle.sq_model.specs.Rows.{is_expired, trimmed, is_named}
@@ -49,6 +50,11 @@ home_ins (Enter item) = item.row ∷ []
 home_ins (GiveBack item) = item.row ∷ []
 home_ins call = []
 
+-- who is given up in a step, on the way back to a closed queue
+abbrev pub given_up : HomeCall → List Ending
+given_up (GiveUp item) = record { line = item.row.lineage; cause = GivenUp } ∷ []
+given_up call = []
+
 abbrev pub rows_of : Home → List Row
 rows_of (Serving s v n rows) = rows
 rows_of Unopened = []
@@ -56,6 +62,10 @@ rows_of Closed = []
 
 abbrev pub same_id : MessageId → MessageId → Bool
 same_id x y = (y.queue == x.queue) && (y.home == x.home) && (y.serial == x.serial)
+
+-- how often a message is in transit
+abbrev pub items_with : MessageId → List Item → ℕ
+items_with x items = count_by (λ item. same_id x item.row.lineage) items
 
 -- how often a message stands in a list
 abbrev pub rows_with : MessageId → List Row → ℕ

@@ -1,5 +1,5 @@
 -- When the histories of all parts and the records of all actors agree, and what may be wrong with them.
-use Rattle.std.specs.Prelude.{◌≡◌, ℕ, ◌<◌, List, slice_get, Option, Some, None}
+use Rattle.std.specs.Prelude.{◌≡◌, ℕ, ◌<◌, true, false, List, slice_get, Option, Some, None}
 use Rattle.sq_base.specs.Stamps.{Below}
 use Rattle.sq_base.specs.declared.ids.HomeId.{HomeId}
 use Rattle.sq_model.specs.declared.directory.Attributes.{Attributes}
@@ -7,15 +7,16 @@ use Rattle.sq_model.specs.declared.directory.QueueSettings.{QueueSettings}
 use Rattle.sq_model.specs.declared.directory.DirectoryCall.TheVariants.{Create}
 use Rattle.sq_model.specs.declared.directory.DirectoryReply.TheVariants.{Made}
 use Rattle.sq_model.specs.Replays.{HomeEvent}
-use Rattle.sq_model.specs.Systems.{DirectoryEvent}
-use Rattle.sq_model.specs.RecordValues.{HomeRecordValue, RecordValue, OfDirectory, OfHome, place_of_record, Journal, directory_record_of, home_record_of}
+use Rattle.sq_model.specs.Ledgers.{LedgerEvent, is_own}
+use Rattle.sq_model.specs.Systems.{DirectoryEvent, as_ledger, is_alone}
+use Rattle.sq_model.specs.RecordValues.{HomeRecordValue, RecordValue, OfDirectory, OfLedger, OfHome, record_of, place_of_record, Journal, directory_record_of, home_record_of}
 
 -- a home and all that was done to it
 pub record HomeHistory : Type 0 where
   pub home : HomeId
   pub events : List HomeEvent
 
--- the k-th event of the directory, or of the home at an index in the list of all homes
+-- the k-th event of the home at an index in the list of all homes
 pub record IsHomeEvent (homes : List HomeHistory) (j k : ℕ) (h : HomeHistory) (e : HomeEvent) : Type 0 where
   pub in_homes : slice_get homes j ≡ Some h
   pub in_events : slice_get h.events k ≡ Some e
@@ -38,11 +39,13 @@ abbrev pub IsNamed : List DirectoryEvent → HomeRecordValue → Option (List �
 IsNamed directory n None = Unit {0}
 IsNamed directory n (Some name) = (k : ℕ) × (e : DirectoryEvent) × (slice_get directory k ≡ Some e) × Below e.stamp n.stamp × IsCreate e name n.home.queue
 
--- the record is that of an event of this actor
-abbrev pub HasItsEvent : List DirectoryEvent → List HomeHistory → ℕ → RecordValue → Type 0
-HasItsEvent directory homes actor (OfDirectory n) =
+-- The record is that of an event of this actor. An event that a home shares with the ledger has a record of the home.
+abbrev pub HasItsEvent : List DirectoryEvent → List LedgerEvent → List HomeHistory → ℕ → RecordValue → Type 0
+HasItsEvent directory ledger homes actor (OfDirectory n) =
     (e : DirectoryEvent) × (slice_get directory n.index ≡ Some e) × (e.actor ≡ actor) × (n ≡ directory_record_of n.index e)
-HasItsEvent directory homes actor (OfHome n) =
+HasItsEvent directory ledger homes actor (OfLedger n) =
+    (e : LedgerEvent) × (slice_get ledger n.index ≡ Some e) × (is_own e.call ≡ true) × (e.actor ≡ actor) × (n ≡ record_of n.index e)
+HasItsEvent directory ledger homes actor (OfHome n) =
     (j : ℕ) × (h : HomeHistory) × (e : HomeEvent) × IsHomeEvent homes j n.index h e × (e.actor ≡ actor) × (n ≡ home_record_of h.home n.index n.name e) × IsNamed directory n n.name
 
 -- the records of this actor have one of this event
@@ -63,9 +66,27 @@ IsOfDirectory k e its_record = its_record ≡ OfDirectory (directory_record_of k
 abbrev pub IsOfHome : HomeId → ℕ → HomeEvent → RecordValue → Type 0
 IsOfHome home k e its_record = (name : Option (List ℕ)) × (its_record ≡ OfHome (home_record_of home k name e))
 
--- Each record is of an event, each event has a record, and the numbers of an actor's records are 0, 1, 2 and so on, each once.
-pub record IsMatched (directory : List DirectoryEvent) (homes : List HomeHistory) (journals : List Journal) : Type 0 where
-  pub has_its_event : (b i : ℕ) (journal : Journal) (n : RecordValue) → IsRecordAt journals b i journal n → HasItsEvent directory homes journal.actor n
+-- a record of the k-th event of the ledger
+abbrev pub IsOfLedger : ℕ → LedgerEvent → RecordValue → Type 0
+IsOfLedger k e its_record = its_record ≡ OfLedger (record_of k e)
+
+-- an event that this home shares with the ledger stands in the ledger's history too
+abbrev pub InLedger : List LedgerEvent → HomeId → HomeEvent → Type 0
+InLedger ledger home e = (i : ℕ) × (slice_get ledger i ≡ Some (as_ledger home e))
+
+-- and one that the ledger shares with a home, in that home's
+abbrev pub InHome : List HomeHistory → LedgerEvent → Type 0
+InHome homes e = (j : ℕ) × (k : ℕ) × (h : HomeHistory) × (f : HomeEvent) × IsHomeEvent homes j k h f × (is_alone f.call ≡ false) × (e ≡ as_ledger h.home f)
+
+-- What a home and the ledger share stands in the histories of both.
+pub record IsPaired (ledger : List LedgerEvent) (homes : List HomeHistory) : Type 0 where
+  pub in_ledger : (j k : ℕ) (h : HomeHistory) (e : HomeEvent) → IsHomeEvent homes j k h e → is_alone e.call ≡ false → InLedger ledger h.home e
+  pub in_home : (k : ℕ) (e : LedgerEvent) → slice_get ledger k ≡ Some e → is_own e.call ≡ false → InHome homes e
+
+-- Each record is of an event, each event has a record, one that stands in two histories once, and the numbers of an actor's records are 0, 1, 2 and so on, each once.
+pub record IsMatched (directory : List DirectoryEvent) (ledger : List LedgerEvent) (homes : List HomeHistory) (journals : List Journal) : Type 0 where
+  pub has_its_event : (b i : ℕ) (journal : Journal) (n : RecordValue) → IsRecordAt journals b i journal n → HasItsEvent directory ledger homes journal.actor n
+  pub ledger_recorded : (k : ℕ) (e : LedgerEvent) → slice_get ledger k ≡ Some e → is_own e.call ≡ true → IsRecorded journals e.actor (IsOfLedger k e)
   pub directory_recorded : (k : ℕ) (e : DirectoryEvent) → slice_get directory k ≡ Some e → IsRecorded journals e.actor (IsOfDirectory k e)
   pub homes_recorded : (j k : ℕ) (h : HomeHistory) (e : HomeEvent) → IsHomeEvent homes j k h e → IsRecorded journals e.actor (IsOfHome h.home k e)
   pub once : (b c i j : ℕ) (journal other : Journal) (n m : RecordValue) → IsRecordAt journals b i journal n → IsRecordAt journals c j other m → journal.actor ≡ other.actor → place_of_record n ≡ place_of_record m → (b ≡ c) × (i ≡ j)

@@ -10,6 +10,9 @@ use Rattle.sq_model.specs.declared.directory.DirectoryCall.{DirectoryCall}
 use Rattle.sq_model.specs.declared.directory.DirectoryReply.{DirectoryReply}
 use Rattle.sq_model.specs.declared.event.Actor.{Actor}
 use Rattle.sq_model.specs.declared.event.StepRecord.{StepRecord}
+use Rattle.sq_model.specs.declared.event.Event.{Event}
+use Rattle.sq_model.specs.declared.ledger.LedgerCall.{LedgerCall}
+use Rattle.sq_model.specs.declared.ledger.LedgerReply.{LedgerReply}
 use Rattle.sq_model.specs.Replays.{HomeEvent}
 use Rattle.sq_model.specs.Systems.{DirectoryEvent}
 
@@ -27,16 +30,23 @@ pub record HomeRecordValue : Type 0 where
 abbrev pub DirectoryRecordValue : Type 0
 DirectoryRecordValue = StepRecord DirectoryCall DirectoryReply
 
+-- of a step of the ledger alone
+abbrev pub LedgerRecordValue : Type 0
+LedgerRecordValue = StepRecord LedgerCall LedgerReply
+
 pub data RecordValue : Type 0 where
   OfDirectory : DirectoryRecordValue → RecordValue
+  OfLedger : LedgerRecordValue → RecordValue
   OfHome : HomeRecordValue → RecordValue
 
 abbrev pub place_of_record : RecordValue → ℕ
 place_of_record (OfDirectory n) = n.place
+place_of_record (OfLedger n) = n.place
 place_of_record (OfHome n) = n.place
 
 abbrev pub stamp_of : RecordValue → StampValue
 stamp_of (OfDirectory n) = n.stamp
+stamp_of (OfLedger n) = n.stamp
 stamp_of (OfHome n) = n.stamp
 
 -- an actor: the number of its next step, what it has seen, its records in their order, and for how many more there was memory when the last one was kept
@@ -55,9 +65,12 @@ abbrev pub RecordsRise : List RecordValue → Type 0
 RecordsRise [] = Unit {0}
 RecordsRise (n ∷ ns) = AllByRecursion (λ m. (place_of_record n < place_of_record m) × Below (stamp_of n) (stamp_of m)) ns × RecordsRise ns
 
--- the record of an event of the directory, the index-th of its history
+-- the record of an event of the directory or of the ledger, the index-th of its history
+abbrev pub record_of : {K R : Type 0} → ℕ → Event K R → StepRecord K R
+record_of index e = record { place = e.place; stamp = e.stamp; index = index; call = e.call; reply = e.reply }
+
 abbrev pub directory_record_of : ℕ → DirectoryEvent → DirectoryRecordValue
-directory_record_of index e = record { place = e.place; stamp = e.stamp; index = index; call = e.call; reply = e.reply }
+directory_record_of index e = record_of index e
 
 -- the record of an event of this home, the index-th of its history, by an actor that used this name
 abbrev pub home_record_of : HomeId → ℕ → Option (List ℕ) → HomeEvent → HomeRecordValue

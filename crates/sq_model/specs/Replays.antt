@@ -1,5 +1,5 @@
 -- Histories: what was done to a part of the system, in order, and the value that it leaves.
-use Rattle.std.specs.Prelude.{◌≡◌, ℕ, List, [], ◌∷◌}
+use Rattle.std.specs.Prelude.{◌≡◌, ◌≤◌, ℕ, List, [], ◌∷◌}
 use Rattle.sq_base.specs.StampValue.{StampValue}
 use Rattle.sq_base.specs.Stamps.{Below}
 use Rattle.sq_model.specs.declared.calls.HomeCall.{HomeCall}
@@ -18,3 +18,8 @@ Replays {V} {K} {R} Step value (e ∷ es) after = (mid : V) × Step value e.stam
 abbrev pub StampsRise : {K R : Type 0} → StampValue → List (Event K R) → StampValue → Type 0
 StampsRise {K} {R} low [] last = last ≡ low
 StampsRise {K} {R} low (e ∷ es) last = Below low e.stamp × StampsRise e.stamp es last
+
+-- no moment is before the one before it, or before low
+abbrev pub NoMomentFalls : {K R : Type 0} → ℕ → List (Event K R) → Type 0
+NoMomentFalls {K} {R} low [] = Unit {0}
+NoMomentFalls {K} {R} low (e ∷ es) = (low ≤ e.stamp.moment) × NoMomentFalls e.stamp.moment es

@@ -7,12 +7,13 @@ ghost use Rattle.sq_model.specs.declared.replies.HomeReply.{HomeReply};
 ghost use Rattle.std.specs.List.{All};
 ghost use Rattle.sq_model.specs.Rows.{IsCounted};
 ghost use Rattle.sq_model.specs.Homes.{Home, Unopened, HomeStep, home_refusal, IsRising, IsIdle, HasSlot};
-ghost use Rattle.sq_model.specs.Systems.{System, Tag, DirectoryEvent, RunFrom, IsRun, opening, IsOnePlace, HomeGoes, AreDirectory};
+ghost use Rattle.sq_model.specs.Systems.{System, Tag, DirectoryEvent, RunFrom, IsRun, opening, IsOnePlace, HomeGoes, AreDirectory, AreLedger};
 ghost use Rattle.sq_model.specs.Directories.{DirectoryStep};
+ghost use Rattle.sq_model.specs.Ledgers.{LedgerEvent, LedgerStep};
 ghost use Rattle.sq_model.specs.Replays.{HomeEvent, Replays};
-ghost use Rattle.sq_model.specs.Merges.{of_home, of_directory, history_at, IsMerged};
+ghost use Rattle.sq_model.specs.Merges.{LedgerIsAlone, of_home, of_directory, of_ledger, history_at, IsMerged};
 ghost use Rattle.sq_model.specs.Places.{run_ends, run_sends, homes_with};
-ghost use Rattle.sq_model.specs.Lineages.{home_ends, home_sends, home_outs, home_ins, rows_of, rows_with, ends_with, sends_with};
+ghost use Rattle.sq_model.specs.Lineages.{home_ends, home_sends, home_outs, home_ins, items_with, rows_of, rows_with, ends_with, sends_with};
 
 /// A step is given only where no check fails.
 pub fn steps_are_allowed()
@@ -35,11 +36,11 @@ pub fn steps_lose_nothing()
         ≡ rows_with x (rows_of home) + sends_with x (home_sends reply) + rows_with x (home_ins call) }
 {}
 
-/// In a run of the whole system each message is in one place: a message that was sent is in one home, once, or left the
-/// system in one way, and no id is sent twice. A message that was not sent is nowhere.
+/// In a run of the whole system each message is in one place: a message that was sent is in one home, once, or in transit,
+/// once, or left the system in one way, and no id is sent twice. A message that was not sent is nowhere.
 pub fn each_message_is_in_one_place()
-    ensures { (x : MessageId) (places : ℕ) (sites : List Site) (run : List Tag) (after : System) (r : RunFrom (opening places sites) run after) → IsOnePlace sites
-        → (homes_with x after.homes + ends_with x (run_ends (opening places sites) run after r) ≡ sends_with x (run_sends run)) × (sends_with x (run_sends run) ≤ 1) }
+    ensures { (x : MessageId) (places limit : ℕ) (sites : List Site) (run : List Tag) (after : System) (r : RunFrom (opening places limit sites) run after) → IsOnePlace sites
+        → (homes_with x after.homes + items_with x after.ledger.items + ends_with x (run_ends (opening places limit sites) run after r) ≡ sends_with x (run_sends run)) × (sends_with x (run_sends run) ≤ 1) }
 {}
 
 /// Histories make a run: a list in which the events of each part stand as in its history, where each history leads from the
@@ -48,17 +49,19 @@ pub fn histories_make_a_run()
     ensures { (before after : System) (run : List Tag)
         → ((i : ℕ) → HomeGoes (slice_get before.homes i) (of_home i run) (slice_get after.homes i))
         → AreDirectory (of_directory run) → Replays DirectoryStep before.directory (of_directory run) after.directory
+        → LedgerIsAlone run → AreLedger (of_ledger run) → Replays LedgerStep before.ledger (of_ledger run) after.ledger
         → RunFrom before run after }
 {}
 
 /// Histories that are merged are one run: where the history of each part leads from the opening to that part's value, the list
 /// of all events sorted by stamp is a run of the whole system, and its moments never fall.
 pub fn merged_histories_are_a_run()
-    ensures { (places : ℕ) (sites : List Site) (directory : List DirectoryEvent) (homes : List (List HomeEvent)) (run : List Tag) (after : System)
-        → IsMerged directory homes run
-        → ((i : ℕ) → HomeGoes (slice_get (opening places sites).homes i) (history_at homes i) (slice_get after.homes i))
-        → AreDirectory directory → Replays DirectoryStep (opening places sites).directory directory after.directory
-        → IsRun places sites run after }
+    ensures { (places limit : ℕ) (sites : List Site) (directory : List DirectoryEvent) (ledger : List LedgerEvent) (homes : List (List HomeEvent)) (run : List Tag) (after : System)
+        → IsMerged directory ledger homes run
+        → ((i : ℕ) → HomeGoes (slice_get (opening places limit sites).homes i) (history_at homes i) (slice_get after.homes i))
+        → AreDirectory directory → Replays DirectoryStep (opening places limit sites).directory directory after.directory
+        → AreLedger ledger → Replays LedgerStep (opening places limit sites).ledger ledger after.ledger
+        → IsRun places limit sites run after }
 {}
 
 /// In a home that is the replay of its history, the last receive of a row is none exactly where its receive number is 0.

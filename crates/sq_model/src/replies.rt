@@ -11,6 +11,13 @@ pub struct SentMessage {
     pub slot: u32,
 }
 
+/// What a row was given that came in: its serial at its new home, and its slot.
+#[derive(Clone, Copy, PartialEq, Eq, Debug)]
+pub struct EnteredRow {
+    pub serial: Serial,
+    pub slot: u32,
+}
+
 /// How many rows are in which state.
 #[derive(Clone, Copy, PartialEq, Eq, Debug)]
 pub struct Counts {
@@ -38,6 +45,6 @@ pub enum HomeReply {
     NoOrigin(Serial),
     /// The home is closed to a move task.
     SourceClosed,
-    /// The slot that the row of an item was given.
-    Entered(u32),
+    /// The row of an item came in.
+    Entered(EnteredRow),
 }

@@ -1,59 +1,13 @@
 //! Lists of rows.
-ghost use Rattle.std.specs.Prelude.{◌≡◌, ◌<◌, [], ◌∷◌, ◌++◌, OnOk, IfErr, IfOk, length};
+ghost use Rattle.std.specs.Prelude.{◌≡◌, ◌<◌, IfErr, IfOk, length};
 
-use sq_base::body::Body;
+use crate::listed::Listed;
 use sq_base::refusal::Refusal;
 use sq_base::row::Row;
 use std::alloc::Global;
-use std::marker::Model;
 
 /// Rows in an order.
-#[derive(Drop)]
-pub struct Rows {
-    items: Vec<Row>,
-}
-
-impl Model for Rows {
-    ghost use Rattle.std.specs.Prelude.{List};
-    ghost use Rattle.sq_base.specs.declared.row.Row.{Row};
-
-    ghost Value = { List Row };
-
-    ghost view = { λ rows. rows.items.items };
-}
-
-impl Rows {
-    pub fn new(alloc: Global) -> Rows
-        ensures { result ≡ [] }
-    {
-        Rows {
-            items: Vec::new(alloc),
-        }
-    }
-
-    /// Puts a row last; refused only where memory is out.
-    pub fn push(&mut self, row: Row) -> Result<(), Refusal>
-        ensures ok { OnOk result (self.new ≡ self.old ++ row ∷ []) }
-        ensures err { IfErr result (λ e. (e ≡ Refusal.NoMemory) × (self.new ≡ self.old)) }
-    {
-        // Most lists have one row, and a list that grows by itself has room for four at first.
-        self.items.try_reserve_exact(1)?;
-        self.items.push(row)?;
-        Ok(())
-    }
-
-    pub fn len(&self) -> usize
-        ensures { result ≡ length self.now }
-    {
-        self.items.len()
-    }
-
-    pub fn as_slice(&self) -> &[Row]
-        ensures { result.now ≡ self.now }
-    {
-        self.items.as_slice()
-    }
-}
+pub type Rows = Listed<Row>;
 
 /// The same row.
 pub fn copy_row(row: &Row) -> Result<Row, Refusal>

@@ -2,6 +2,7 @@ use Rattle.std.proofs.Common.{rules, ◌≡◌, ◌<◌, length, Err, subst, ref
 use Rattle.sq_model.specs.RecordValues.{RecordsRise}
 use Rattle.sq_model.specs.Matches.{IsRecordAt, HasItsEvent}
 use Rattle.sq_steps.specs.Records.{value_of_record, values_of_records}
+use Rattle.sq_audit.specs.SystemNow.{nothing_moved}
 use Rattle.sq_audit.specs.HomeIds.{histories_of}
 use Rattle.sq_audit.specs.Faults.{RecordFits, IsRecordFault}
 use Rattle.sq_directory.proofs.ElementLaws.{below_more}
@@ -27,7 +28,7 @@ loop-index-preserved c =
     let kept = c.index-records-index.result in
     let lt : c.loop-index.index < length c.records-records.result.now = search rules in
     let in_list : IsRecordAt c.evidence.inside.journals.now c.args.at c.loop-index.index journal (value_of_record kept) = read_record c.evidence.inside.journals.now c.args.at c.loop-index.index journal c.records-records.result.now kept (rw (← c.evidence.view_is) at c.requires.within) c.index-journals-at.is c.records-records.ensures.records lt c.index-records-index.is in
-    let did : HasItsEvent c.evidence.inside.directory.now.events (histories_of c.evidence.inside.homes.now) journal.actor (value_of_record kept) = rw (← c.actor-actor.ensures) (rw (← c.evidence.view_is) at c.in_ok-check_record.ensures.has_its_event) in
+    let did : HasItsEvent c.evidence.inside.directory.now.events nothing_moved (histories_of c.evidence.inside.homes.now) journal.actor (value_of_record kept) = rw (← c.actor-actor.ensures) (rw (← c.evidence.view_is) at c.in_ok-check_record.ensures.has_its_event) in
     rw (← c.evidence.view_is) (below_more (RecordFits c.evidence.inside.directory.now.events (histories_of c.evidence.inside.homes.now) c.evidence.inside.journals.now c.args.at) c.loop-index.index (rw (← c.evidence.view_is) at c.loop-index.invariant)
     (record_fits c.evidence.inside.directory.now.events (histories_of c.evidence.inside.homes.now) c.evidence.inside.journals.now c.args.at c.loop-index.index journal (value_of_record kept) in_list c.in_ok-check_record.ensures.place did))
 

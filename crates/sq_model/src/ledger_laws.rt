@@ -1,0 +1,55 @@
+//! Theorems of the ledger and of its tasks, each the contract of a function without code.
+ghost use Rattle.std.specs.Prelude.{◌≡◌, ◌≤◌, ◌⊎◌, ℕ, List, true, None, Some};
+ghost use Rattle.sq_model.specs.declared.calls.HomeCall.{HomeCall};
+ghost use Rattle.sq_model.specs.declared.ledger.LedgerCall.{LedgerCall};
+ghost use Rattle.sq_model.specs.declared.ledger.LedgerReply.{LedgerReply};
+ghost use Rattle.sq_model.specs.declared.place.Site.{Site};
+ghost use Rattle.sq_model.specs.declared.replies.HomeReply.{HomeReply};
+ghost use Rattle.sq_model.specs.declared.shared.SharedAct.{SharedAct};
+ghost use Rattle.sq_model.specs.declared.task.Task.{Task as TaskValue};
+ghost use Rattle.sq_model.specs.Homes.{Home};
+ghost use Rattle.sq_model.specs.Replays.{Replays, NoMomentFalls};
+ghost use Rattle.sq_model.specs.Tasks.{rate_of};
+ghost use Rattle.sq_model.specs.Ledgers.{Ledger, LedgerEvent, LedgerStep, IsLedger, NumbersRise, all_given, is_own, item_given, leaves_in, ledger_refusal, opening_ledger, task_given, task_of};
+ghost use Rattle.sq_model.specs.Shared.{HasSharedStep, IsCallOf, IsUnrecorded, SharedStep, shared_refusal};
+
+/// A step that is the ledger's own is given only where no check of it fails; `shared_steps_are_allowed` says so of the others.
+pub fn ledger_steps_are_allowed()
+    ensures { (l : Ledger) (m : ℕ) (call : LedgerCall) (reply : LedgerReply) (after : Ledger) → LedgerStep l m call reply after → ledger_refusal l m call ≡ None }
+{}
+
+/// Where no check fails, a step that is the ledger's own can be done.
+pub fn ledger_steps_are_possible()
+    ensures { (l : Ledger) (m : ℕ) (call : LedgerCall) → is_own call ≡ true → ledger_refusal l m call ≡ None
+        → (reply : LedgerReply) × (after : Ledger) × LedgerStep l m call reply after }
+{}
+
+/// A step of a home and the ledger is given only where no check of either fails.
+pub fn shared_steps_are_allowed()
+    ensures { (site : Site) (home : Home) (l : Ledger) (m : ℕ) (act : SharedAct) (call : HomeCall) (reply : HomeReply) (after : Home) (l_after : Ledger)
+        → IsCallOf l act call → SharedStep site home l m call reply after l_after → shared_refusal site home l m act ≡ None }
+{}
+
+/// Where no check fails there is a step, but for a dead letter's leave that finds no dead row and a task's leave that is throttled.
+pub fn shared_steps_are_possible()
+    ensures { (site : Site) (home : Home) (l : Ledger) (m : ℕ) (act : SharedAct) → shared_refusal site home l m act ≡ None
+        → IsUnrecorded home l m act ⊎ HasSharedStep site home l m act }
+{}
+
+/// In each ledger that is the replay of its history: what left for a task came in, came back, was given up or is in transit; a task
+/// that is completed or cancelled has none in transit; one task is active at most for a source, and 100 in all.
+pub fn ledgers_add_up()
+    ensures { (limit : ℕ) (events : List LedgerEvent) (l : Ledger) → Replays LedgerStep (opening_ledger limit) events l → IsLedger l }
+{}
+
+/// No number of an item or of a task is given twice.
+pub fn numbers_are_given_once()
+    ensures items { (limit : ℕ) (events : List LedgerEvent) (l : Ledger) → Replays LedgerStep (opening_ledger limit) events l → NumbersRise 1 (all_given item_given events) }
+    ensures tasks { (limit : ℕ) (events : List LedgerEvent) (l : Ledger) → Replays LedgerStep (opening_ledger limit) events l → NumbersRise 1 (all_given task_given events) }
+{}
+
+/// In each second no more messages leave for a task than its rate, where moments do not fall.
+pub fn rates_are_kept()
+    ensures { (number second limit : ℕ) (events : List LedgerEvent) (l : Ledger) (task : TaskValue) → Replays LedgerStep (opening_ledger limit) events l → NoMomentFalls 0 events
+        → task_of number l ≡ Some task → leaves_in number second events ≤ rate_of task }
+{}

@@ -1,0 +1,53 @@
+//! Lists of what a step answers: rows, tasks, names.
+ghost use Rattle.std.specs.Prelude.{◌≡◌, [], ◌∷◌, ◌++◌, OnOk, IfErr, length};
+
+use sq_base::refusal::Refusal;
+use std::alloc::Global;
+use std::marker::Model;
+
+/// Things in an order.
+#[derive(Drop)]
+pub struct Listed<T> {
+    items: Vec<T>,
+}
+
+impl<T> Model for Listed<T> {
+    ghost use Rattle.std.specs.Prelude.{List};
+
+    ghost Value = { List T };
+
+    ghost view = { λ listed. listed.items.items };
+}
+
+impl<T: Drop> Listed<T> {
+    pub fn new(alloc: Global) -> Listed<T>
+        ensures { result ≡ [] }
+    {
+        Listed {
+            items: Vec::new(alloc),
+        }
+    }
+
+    /// Puts one last; refused only where memory is out.
+    pub fn push(&mut self, item: T) -> Result<(), Refusal>
+        ensures ok { OnOk result (self.new ≡ self.old ++ item ∷ []) }
+        ensures err { IfErr result (λ e. (e ≡ Refusal.NoMemory) × (self.new ≡ self.old)) }
+    {
+        // Most lists have one, and a list that grows by itself has room for four at first.
+        self.items.try_reserve_exact(1)?;
+        self.items.push(item)?;
+        Ok(())
+    }
+
+    pub fn len(&self) -> usize
+        ensures { result ≡ length self.now }
+    {
+        self.items.len()
+    }
+
+    pub fn as_slice(&self) -> &[T]
+        ensures { result.now ≡ self.now }
+    {
+        self.items.as_slice()
+    }
+}

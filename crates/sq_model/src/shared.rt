@@ -1,0 +1,19 @@
+//! What a home and the ledger are asked together.
+use crate::item::{ItemNo, TaskNo};
+
+/// A step of a home that it shares with the ledger, as it is asked: an item by its number, which the ledger knows.
+#[derive(Clone, Copy, PartialEq, Eq, Debug)]
+pub enum SharedAct {
+    /// A dead message leaves for the dead-letter queue.
+    LeaveDead,
+    /// A message leaves for a move task.
+    LeaveTask(TaskNo),
+    /// A message comes in at its target.
+    Enter(ItemNo),
+    /// A message whose target is closed is sent back.
+    TurnBack(ItemNo),
+    /// A message that was sent back comes in at its source.
+    GiveBack(ItemNo),
+    /// A message that was sent back to a closed source is given up.
+    GiveUp(ItemNo),
+}
