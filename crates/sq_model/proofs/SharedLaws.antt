@@ -1,6 +1,6 @@
 -- A step of a home and the ledger is given only where no check fails, and where none does it can be done.
-use Rattle.std.proofs.Common.{◌≡◌, ℕ, Bool, true, false, not, List, refl, sym, ap, ◌∙◌, subst, ◌⊎◌, inl, inr, Option, Some, None}
-use Rattle.std.specs.Prelude.{◌&&◌, if◌then◌else◌}
+use Rattle.std.proofs.Common.{◌++◌, ◌∷◌, [], ◌≡◌, ℕ, Bool, true, false, not, List, refl, sym, ap, ◌∙◌, subst, ◌⊎◌, inl, inr, Option, Some, None}
+use Rattle.std.specs.Prelude.{◌||◌, ◌&&◌, if◌then◌else◌}
 use Rattle.std.specs.List.{list_any}
 use Rattle.sq_base.specs.declared.refusal.Refusal.{Refusal}
 use Rattle.sq_base.specs.declared.row.Row.{Row}
@@ -23,7 +23,7 @@ use Rattle.sq_model.specs.Homes.{Home, Unopened, Serving, Closed, HasSlot, HomeS
 use Rattle.sq_model.specs.Tasks.{goes_to, is_running, may_leave, target_of}
 use Rattle.sq_model.specs.Ledgers.{HasRoom, Ledger, LedgerStep, MayTake, is_of_source, item_of, room_refusal, task_of}
 use Rattle.sq_model.specs.Shared.{IsCallOf, HasSharedStep, IsUnrecorded, SharedStep, is_entering, is_returning, is_throttled, shared_refusal, task_refusal}
-use Rattle.sq_model.proofs.LedgerLists.{found_number}
+use Rattle.sq_model.proofs.LedgerLists.{found_number, some_same}
 use Rattle.sq_model.proofs.Progress.{above, has_target, passed, place_left, takes_one}
 use Rattle.sq_model.proofs.Refusals.{below, step_allowed}
 use Rattle.sq_model.proofs.SlotLaws.{not_false}
@@ -117,12 +117,12 @@ by_its_number number l item e = subst (λ (n : ℕ). item_of n l ≡ Some item) 
 
 -- a step with these halves
 goes_on : (site : Site) (home : Home) (l : Ledger) (m : ℕ) (act : SharedAct) (call : HomeCall) (reply : HomeReply) (after : Home) (l_after : Ledger) → IsCallOf l act call → HasSlot reply
-    → HomeStep site home m call reply after → LedgerStep l m (CallAtHome site.home call) (ReplyAtHome reply) l_after → IsUnrecorded home l m act ⊎ HasSharedStep site home l m act
+    → HomeStep site home m call reply after → LedgerStep l m (CallAtHome site.home call) (ReplyAtHome reply) l_after → IsUnrecorded site home l m act ⊎ HasSharedStep site home l m act
 goes_on site home l m act call reply after l_after is slot at_home in_ledger =
     inr (record { call = call; reply = reply; after = after; l_after = l_after; is_asked = is; slot = slot; step = record { at_home = at_home; in_ledger = in_ledger } })
 
 dead_goes : (site : Site) (s : Settings) (v n : ℕ) (rows : List Row) (l : Ledger) (m : ℕ) (b : Bool) → list_any (is_dead s m) (trimmed s m rows) ≡ b → (if b then room_refusal l else None) ≡ None
-    → IsUnrecorded (Serving s v n rows) l m LeaveDead ⊎ HasSharedStep site (Serving s v n rows) l m LeaveDead
+    → IsUnrecorded site (Serving s v n rows) l m LeaveDead ⊎ HasSharedStep site (Serving s v n rows) l m LeaveDead
 unfolding HomeStep LedgerStep
 dead_goes site s v n rows l m false e h = inl e
 dead_goes site s v n rows l m true e h =
@@ -180,10 +180,14 @@ found_task site l number (Some task) later e h =
     let both = and_both _ _ (not_false _ p.0) in
     ((task, refl, record { found = e; running = both.0; of_source = both.1 }), p.1)
 
+is_false : (b : Bool) → not b ≡ true → b ≡ false
+is_false true e = absurd cc
+is_false false e = refl
+
 task_goes : (site : Site) (s : Settings) (v n : ℕ) (rows : List Row) (l : Ledger) (m number : ℕ) (task : Task) → MayTake l site.home.queue number task → (throttled live : Bool) → is_throttled m (task_of number l) ≡ throttled
-    → list_any (is_live s m) (trimmed s m rows) ≡ live → (if not throttled && live then room_refusal l else None) ≡ None → IsUnrecorded (Serving s v n rows) l m (LeaveTask number) ⊎ HasSharedStep site (Serving s v n rows) l m (LeaveTask number)
+    → list_any (is_live s m) (trimmed s m rows) ≡ live → (if not throttled && live then room_refusal l else None) ≡ None → IsUnrecorded site (Serving s v n rows) l m (LeaveTask number) ⊎ HasSharedStep site (Serving s v n rows) l m (LeaveTask number)
 unfolding HomeStep LedgerStep
-task_goes site s v n rows l m number task may true live e f h = inl e
+task_goes site s v n rows l m number task may true live e f h = inl (task, may, is_false (may_leave m task) (ap (is_throttled m) (sym may.found) ∙ e))
 task_goes site s v n rows l m number task may false false e f h =
     let pace : may_leave m task ≡ true = not_false _ (ap (is_throttled m) (sym may.found) ∙ e) in
     goes_on site (Serving s v n rows) l m (LeaveTask number) (asks.LeaveTask number) NoLiveRow _ _ refl tt (f, refl) ((task, may, pace), refl)
@@ -201,7 +205,7 @@ returning_item : (site : Site) (l : Ledger) (number : ℕ) (found : Option Item)
 returning_item site l number None e h = absurd cc
 returning_item site l number (Some item) e h = (item, e, h)
 
-pub shared_possible : (site : Site) (home : Home) (l : Ledger) (m : ℕ) (act : SharedAct) → shared_refusal site home l m act ≡ None → IsUnrecorded home l m act ⊎ HasSharedStep site home l m act
+pub shared_possible : (site : Site) (home : Home) (l : Ledger) (m : ℕ) (act : SharedAct) → shared_refusal site home l m act ≡ None → IsUnrecorded site home l m act ⊎ HasSharedStep site home l m act
 unfolding HomeStep LedgerStep shared_refusal
 shared_possible site Unopened l m act h = absurd cc
 shared_possible site (Serving s v n rows) l m LeaveDead h = dead_goes site s v n rows l m (list_any (is_dead s m) (trimmed s m rows)) refl h
@@ -230,3 +234,43 @@ shared_possible site Closed l m (GiveBack number) h = absurd cc
 shared_possible site Closed l m (GiveUp number) h =
     let i = returning_item site l number (item_of number l) refl (not_false _ (passed _ _ _ h).0) in
     goes_on site Closed l m (GiveUp number) (asks.GiveUp i.0) Done _ _ (i.0, i.1, refl) tt (i.2, refl) (i.2, (by_its_number number l i.0 i.1, refl))
+
+-- ---- what is no step is none
+
+or_right : (a b : Bool) → b ≡ true → (a || b) ≡ true
+or_right true b e = refl
+or_right false b e = e
+
+not_both : (a b : Bool) → a ≡ b → a ≡ true → b ≡ false → ⊥
+not_both true b e t f = let same : true ≡ false = e ∙ f in absurd cc
+not_both false b e t f = absurd cc
+
+dead_there : (s : Settings) (m : ℕ) (row : Row) (before after : List Row) → is_dead s m row ≡ true → list_any (is_dead s m) (before ++ row ∷ after) ≡ true
+dead_there s m row [] after e = rw e refl
+dead_there s m row (x ∷ before) after e = or_right (is_dead s m x) _ (dead_there s m row before after e)
+
+no_dead_leave : (site : Site) (s : Settings) (v n : ℕ) (rows : List Row) (m : ℕ) (reply : HomeReply) (after : Home) → HomeStep site (Serving s v n rows) m asks.LeaveDead reply after → list_any (is_dead s m) (trimmed s m rows) ≡ false → ⊥
+unfolding HomeStep
+no_dead_leave site s v n rows m (Left item) after h none =
+    let t = h.3.1 in
+    not_both (list_any (is_dead s m) (trimmed s m rows)) (list_any (is_dead s m) (trimmed s m rows)) refl (ap (list_any (is_dead s m)) t.at ∙ dead_there s m item.row t.before t.after h.2) none
+no_dead_leave site s v n rows m reply after h none = elim h [ ]
+
+one_pace : (l : Ledger) (number m : ℕ) (task other : Task) → task_of number l ≡ Some task → task_of number l ≡ Some other → may_leave m task ≡ true → may_leave m other ≡ false → ⊥
+one_pace l number m task other e f may none = not_both (may_leave m task) (may_leave m other) (ap (may_leave m) (some_same task other (sym e ∙ f))) may none
+
+no_late_leave : (site : Site) (s : Settings) (v n : ℕ) (rows : List Row) (l : Ledger) (m number : ℕ) (reply : HomeReply) (after : Home) (later : Ledger) (task : Task) → HomeStep site (Serving s v n rows) m (asks.LeaveTask number) reply after
+    → LedgerStep l m (CallAtHome site.home (asks.LeaveTask number)) (ReplyAtHome reply) later → task_of number l ≡ Some task → may_leave m task ≡ false → ⊥
+unfolding HomeStep LedgerStep
+no_late_leave site s v n rows l m number (Left item) after later task h k e none = one_pace l number m k.1.0 task k.1.1.found e k.1.2 none
+no_late_leave site s v n rows l m number NoLiveRow after later task h k e none = one_pace l number m k.0.0 task k.0.1.found e k.0.2 none
+no_late_leave site s v n rows l m number (NoOrigin serial) after later task h k e none = one_pace l number m k.0.0 task k.0.1.found e k.0.2 none
+no_late_leave site s v n rows l m number reply after later task h k e none = elim h [ ]
+
+pub unrecorded_is_none : (site : Site) (home : Home) (l : Ledger) (m : ℕ) (act : SharedAct) (call : HomeCall) (reply : HomeReply) (after : Home) (later : Ledger) → IsCallOf l act call → SharedStep site home l m call reply after later
+    → IsUnrecorded site home l m act → ⊥
+unrecorded_is_none site (Serving s v n rows) l m LeaveDead call reply after later is step none =
+    no_dead_leave site s v n rows m reply after (half site (Serving s v n rows) m call _ reply after is step.at_home) none
+unrecorded_is_none site (Serving s v n rows) l m (LeaveTask number) call reply after later is step none =
+    no_late_leave site s v n rows l m number reply after later none.0 (half site (Serving s v n rows) m call _ reply after is step.at_home) (other_half site l m call _ reply later is step.in_ledger) none.1.found none.2
+unrecorded_is_none site home l m act call reply after later is step none = elim none [ ]

@@ -1,5 +1,5 @@
 -- The steps that a home and the ledger do together: what is asked, which call of both it is, and why it is refused.
-use Rattle.std.specs.Prelude.{◌≡◌, ℕ, Bool, true, false, not, ◌&&◌, Option, Some, None, if◌then◌else◌}
+use Rattle.std.specs.Prelude.{◌≡◌, ℕ, Bool, false, not, ◌&&◌, Option, Some, None, if◌then◌else◌}
 use Rattle.std.specs.List.{list_any}
 use Rattle.sq_base.specs.declared.ids.HomeId.{HomeId}
 use Rattle.sq_base.specs.declared.refusal.Refusal.{Refusal}
@@ -17,7 +17,7 @@ use Rattle.sq_model.specs.declared.task.Task.{Task}
 use Rattle.sq_model.specs.Rows.{trimmed, is_dead, is_live}
 use Rattle.sq_model.specs.Homes.{Home, Unopened, Serving, Closed, HasSlot, HomeStep, may_enter, may_return, place_refusal, refused_if}
 use Rattle.sq_model.specs.Tasks.{is_running, may_leave}
-use Rattle.sq_model.specs.Ledgers.{Ledger, LedgerStep, is_of_source, item_of, room_refusal, task_of}
+use Rattle.sq_model.specs.Ledgers.{Ledger, LedgerStep, MayTake, is_of_source, item_of, room_refusal, task_of}
 
 -- the call that is recorded: an item is handed over as it stands in the ledger
 abbrev pub IsCallOf : Ledger → SharedAct → HomeCall → Type 0
@@ -71,13 +71,13 @@ shared_refusal site Closed l m (TurnBack number) = refused_if (not (is_entering 
 shared_refusal site Closed l m (GiveBack number) = Some QueueDoesNotExist
 shared_refusal site Closed l m (GiveUp number) = refused_if (not (is_returning site.home (item_of number l))) UnsupportedOperation None
 
--- an answer that is no step and changes nothing: no dead row is there, or the task is at its rate
-abbrev pub IsUnrecorded : Home → Ledger → ℕ → SharedAct → Type 0
-IsUnrecorded (Serving s v n rows) l m LeaveDead = list_any (is_dead s m) (trimmed s m rows) ≡ false
-IsUnrecorded (Serving s v n rows) l m (LeaveTask number) = is_throttled m (task_of number l) ≡ true
-IsUnrecorded (Serving s v n rows) l m act = ⊥
-IsUnrecorded Unopened l m act = ⊥
-IsUnrecorded Closed l m act = ⊥
+-- An answer that is no step and changes nothing: no dead row is there, or a task that may take messages of this home is at its rate.
+abbrev pub IsUnrecorded : Site → Home → Ledger → ℕ → SharedAct → Type 0
+IsUnrecorded site (Serving s v n rows) l m LeaveDead = list_any (is_dead s m) (trimmed s m rows) ≡ false
+IsUnrecorded site (Serving s v n rows) l m (LeaveTask number) = (task : Task) × MayTake l site.home.queue number task × (may_leave m task ≡ false)
+IsUnrecorded site (Serving s v n rows) l m act = ⊥
+IsUnrecorded site Unopened l m act = ⊥
+IsUnrecorded site Closed l m act = ⊥
 
 -- a step that is asked can be done
 pub record HasSharedStep (site : Site) (home : Home) (l : Ledger) (m : ℕ) (act : SharedAct) : Type 0 where

@@ -33,7 +33,13 @@ pub fn shared_steps_are_allowed()
 /// Where no check fails there is a step, but for a dead letter's leave that finds no dead row and a task's leave that is throttled.
 pub fn shared_steps_are_possible()
     ensures { (site : Site) (home : Home) (l : Ledger) (m : ℕ) (act : SharedAct) → shared_refusal site home l m act ≡ None
-        → IsUnrecorded home l m act ⊎ HasSharedStep site home l m act }
+        → IsUnrecorded site home l m act ⊎ HasSharedStep site home l m act }
+{}
+
+/// What is such a leave is no step.
+pub fn unrecorded_leaves_are_no_steps()
+    ensures { (site : Site) (home : Home) (l : Ledger) (m : ℕ) (act : SharedAct) (call : HomeCall) (reply : HomeReply) (after : Home) (l_after : Ledger)
+        → IsCallOf l act call → SharedStep site home l m call reply after l_after → IsUnrecorded site home l m act → ⊥ }
 {}
 
 /// In each ledger that is the replay of its history: what left for a task came in, came back, was given up or is in transit; a task

@@ -31,7 +31,7 @@ pub fn a_dead_letter_goes_there_or_back()
 pub fn a_full_ledger_refuses_what_may_leave()
     ensures full { shared_refusal wide (with_rows strict 1 (hello_once ∷ [])) full_ledger 31000 LeaveDead ≡ Some OverLimit }
     ensures not_yet_dead { shared_refusal wide (with_rows strict 1 (hello_once ∷ [])) full_ledger 30999 LeaveDead ≡ None }
-    ensures unrecorded { IsUnrecorded (with_rows strict 1 (hello_once ∷ [])) full_ledger 30999 LeaveDead }
+    ensures unrecorded { IsUnrecorded wide (with_rows strict 1 (hello_once ∷ [])) full_ledger 30999 LeaveDead }
     ensures unopened { shared_refusal letters_site Unopened no_moves 0 (Enter 7) ≡ Some QueueDoesNotExist }
     ensures full_home { shared_refusal narrow (with_rows plain 1 (hello ∷ [])) no_moves 1000 (Enter 7) ≡ Some OverLimit }
     ensures unknown { shared_refusal letters_site (with_rows plain 0 []) no_moves 0 (Enter 7) ≡ Some UnsupportedOperation }
@@ -45,7 +45,7 @@ pub fn a_full_ledger_refuses_what_may_leave()
 pub fn a_task_goes_at_its_rate()
     ensures leaves { SharedStep letters_site (letters_with (letter ∷ [])) (with_task 1 new_task_1) 31000 (asks.LeaveTask 1) (Left task_item) (letters_with []) (with_task_item (task_at Running 1 0 31 1)) }
     ensures at_its_rate { may_leave 31999 (task_at Running 2 0 31 2) ≡ false }
-    ensures throttled { IsUnrecorded (letters_with (letter ∷ [])) (with_task 3 (task_at Running 2 0 31 2)) 31999 (LeaveTask 1) }
+    ensures throttled { IsUnrecorded letters_site (letters_with (letter ∷ [])) (with_task 3 (task_at Running 2 0 31 2)) 31999 (LeaveTask 1) }
     ensures next_second { may_leave 32000 (task_at Running 2 0 31 2) ≡ true }
     ensures enters { SharedStep wide (with_rows plain 1 []) (with_task_item (task_at Running 1 0 31 1)) 40000 (asks.Enter task_item) (Entered (record { serial = 1; slot = 0 }))
         (with_rows plain 2 (record hello { id = id_of 1; serial = 1; enqueued = 40000; visible_from = 40000 } ∷ [])) (with_task 2 (task_at Running 1 1 31 1)) }

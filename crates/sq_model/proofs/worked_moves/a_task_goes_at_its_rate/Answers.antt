@@ -1,7 +1,8 @@
 use Rattle.std.proofs.Common.{[], None, arith, refl}
+use Rattle.sq_model.specs.declared.task.TaskStatus.TheVariants.{Running}
 use Rattle.sq_model.specs.Homes.{HomeStep}
 use Rattle.sq_model.specs.Ledgers.{LedgerStep}
-use Rattle.sq_model.specs.WorkedMoves.{letter, new_task_1}
+use Rattle.sq_model.specs.WorkedMoves.{letter, new_task_1, task_at}
 use Rattle.sq_model.proofs.worked_moves.a_task_goes_at_its_rate.Goals as goal
 
 pub returns-clause-leaves : goal.returns-clause-leaves
@@ -25,3 +26,6 @@ returns-clause-no_origin c = record {
 pub returns-clause-source_closed : goal.returns-clause-source_closed
 unfolding HomeStep LedgerStep
 returns-clause-source_closed c = record { at_home = refl; in_ledger = ((new_task_1, record { found = refl; running = refl; of_source = refl }), refl) }
+
+pub returns-clause-throttled : goal.returns-clause-throttled
+returns-clause-throttled c = (task_at Running 2 0 31 2, record { found = refl; running = refl; of_source = refl }, refl)
