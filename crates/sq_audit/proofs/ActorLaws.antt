@@ -15,7 +15,7 @@ use Rattle.sq_base.proofs.StampLaws.{below_less, below_trans, below_not_itself}
 use Rattle.sq_model.specs.declared.event.Event.{Event}
 use Rattle.sq_model.specs.Replays.{HomeEvent, StampsRise}
 use Rattle.sq_model.specs.Systems.{DirectoryEvent, Tag, OfDirectory, OfLedger, OfHome, stamp_of}
-use Rattle.sq_model.specs.Merges.{NothingMoves, of_directory, of_home, history_at, rank_of, is_before, InOrder, IsMerged}
+use Rattle.sq_model.specs.Merges.{NothingMoves, is_move, of_directory, of_home, history_at, rank_of, is_before, InOrder, IsMerged}
 use Rattle.sq_history.specs.HistoryValue.{HistoryValue}
 use Rattle.sq_history.specs.Histories.{IsKept}
 use Rattle.sq_audit.specs.SystemNow.{events_of, nothing_moved}
@@ -51,14 +51,23 @@ rises_left : (b : Bool) (e : HomeEvent) (es : List HomeEvent) → Rises (cond b 
 rises_left true e es h = rises_tail e es h
 rises_left false e es h = h
 
+none_true : (b : Bool) → b ≡ false → b ≡ true → ⊥
+none_true true e f = absurd cc
+none_true false e f = absurd cc
+
+-- what does not move is above no move
+no_moves : (t : Tag) (ts : List Tag) → is_move t ≡ false → AllByRecursion (λ u. is_move t ≡ true → is_move u ≡ true → Below (stamp_of t) (stamp_of u)) ts
+no_moves t [] none = tt
+no_moves t (u ∷ us) none = (λ moves other. absurd (none_true (is_move t) none moves), no_moves t us none)
+
 parts_rise : (ts : List Tag) → NothingMoves ts → Rises (of_directory ts) → ((i : ℕ) → Rises (of_home i ts)) → PartsRise ts
 parts_rise [] still directory homes = tt
 parts_rise (OfDirectory e ∷ ts) still directory homes =
-    (directory_above e.stamp ts (all_above e.stamp e.stamp (of_directory ts) directory.last directory.rising.1 (λ x h. h)), parts_rise ts still.1 (rises_tail e (of_directory ts) directory) homes)
+    (directory_above e.stamp ts (all_above e.stamp e.stamp (of_directory ts) directory.last directory.rising.1 (λ x h. h)), no_moves (OfDirectory e) ts still.0, parts_rise ts still.1 (rises_tail e (of_directory ts) directory) homes)
 parts_rise (OfLedger e ∷ ts) still directory homes = absurd cc
 parts_rise (OfHome i e ∷ ts) still directory homes =
     let mine : Rises (e ∷ of_home i ts) = rw (same_number i) at (homes i) in
-    (home_above e.stamp i ts (all_above e.stamp e.stamp (of_home i ts) mine.last mine.rising.1 (λ x h. h)), parts_rise ts still.1 directory (λ j. rises_left (i == j) e (of_home j ts) (homes j)))
+    (home_above e.stamp i ts (all_above e.stamp e.stamp (of_home i ts) mine.last mine.rising.1 (λ x h. h)), no_moves (OfHome i e) ts still.0, parts_rise ts still.1 directory (λ j. rises_left (i == j) e (of_home j ts) (homes j)))
 
 less_first : (o r : Ordering) → is_lt o ≡ true → is_lt (ordering_then o r) ≡ true
 less_first Less r h = refl
@@ -96,7 +105,7 @@ all_rise : (ts : List Tag) → InOrder is_before ts → PartsRise ts → PlacesA
 all_rise [] order parts agree differ = tt
 all_rise (t ∷ ts) order parts agree differ = (
   head_rises t ts order.0 parts.0 (λ k u is. agree (suc k) 0 u t is refl) (λ k u is. differ (suc k) 0 u t is refl) (λ k u is same. agree 0 (suc k) t u refl is (sym same)),
-  all_rise ts order.1 parts.1 (λ i j. agree (suc i) (suc j)) (λ i j. differ (suc i) (suc j)),
+  all_rise ts order.1 parts.2 (λ i j. agree (suc i) (suc j)) (λ i j. differ (suc i) (suc j)),
 )
 
 -- in the list of all events of histories whose stamps rise, those of each part stand in their order

@@ -16,7 +16,7 @@ use Rattle.sq_model.specs.Places.{place_after, first_end, place_in, run_ends, ru
 use Rattle.sq_model.specs.Merges.{NothingMoves}
 use Rattle.sq_model.specs.Ledgers.{Ledger}
 use Rattle.sq_model.specs.Systems.{HomeAt, HomeSteps, System, Tag, OfDirectory, OfLedger, OfHome, RunFrom, opening, IsOnePlace}
-use Rattle.sq_model.proofs.SystemLaws.{one_place}
+use Rattle.sq_laws.proofs.SystemLaws.{one_place}
 use Rattle.sq_audit.specs.declared.state.RowState.{RowState}
 use Rattle.sq_audit.specs.declared.state.Policy.{Policy}
 use Rattle.sq_audit.specs.declared.tagged.Tagged.{Tagged}

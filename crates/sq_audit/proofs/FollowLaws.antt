@@ -16,8 +16,8 @@ use Rattle.sq_model.specs.Places.{place_after, first_end, place_in, run_ends, ru
 use Rattle.sq_model.specs.Merges.{NothingMoves}
 use Rattle.sq_model.specs.Ledgers.{Ledger}
 use Rattle.sq_model.specs.Systems.{HomeAt, HomeSteps, System, Tag, OfDirectory, OfLedger, OfHome, RunFrom, opening, same_home, IsOnePlace}
-use Rattle.sq_model.proofs.LineageLaws.{home_law}
-use Rattle.sq_model.proofs.SystemLaws.{none_in, one_place, sends_append}
+use Rattle.sq_laws.proofs.LineageLaws.{home_law}
+use Rattle.sq_laws.proofs.SystemLaws.{none_in, one_place, sends_append}
 use Rattle.sq_audit.specs.declared.tagged.Tagged.{Tagged}
 use Rattle.sq_audit.specs.declared.message_pass.MessageState.{MessageState}
 use Rattle.sq_audit.specs.declared.message_pass.MessageState.TheVariants.{Unsent, Here, Gone}

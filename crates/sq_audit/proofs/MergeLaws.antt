@@ -20,7 +20,7 @@ use Rattle.sq_model.specs.Homes.{Unopened}
 use Rattle.sq_model.specs.Replays.{HomeEvent, StampsRise}
 use Rattle.sq_model.specs.Systems.{Tag, OfDirectory, OfHome, stamp_of, is_alone, AreOfHome, HomeGoes, IsRun}
 use Rattle.sq_model.specs.Merges.{NothingMoves, is_move, of_directory, of_home, history_at, rank_of, tag_cmp, is_before, InOrder, IsMerged}
-use Rattle.sq_model.proofs.RunLaws.{merged_run}
+use Rattle.sq_laws.proofs.RunLaws.{merged_run}
 use Rattle.sq_history.specs.HistoryValue.{HistoryValue}
 use Rattle.sq_history.specs.Histories.{IsKept}
 use Rattle.sq_directory.specs.DirectoryHistory.{DirectoryHistory}

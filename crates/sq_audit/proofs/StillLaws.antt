@@ -13,7 +13,7 @@ use Rattle.sq_model.specs.Merges.{LedgerIsAlone, NothingMoves, is_move, of_ledge
 use Rattle.sq_model.specs.Replays.{HomeEvent}
 use Rattle.sq_model.specs.Systems.{DirectoryEvent, System, Tag, OfDirectory, OfLedger, OfHome, LedgerGoes, RunFrom, is_alone, ledger_part_of}
 use Rattle.sq_model.proofs.SlotLaws.{not_false}
-use Rattle.sq_model.proofs.SystemLaws.{none_given_up}
+use Rattle.sq_laws.proofs.SystemLaws.{none_given_up}
 use Rattle.sq_base.specs.declared.ids.HomeId.{HomeId}
 use Rattle.sq_history.specs.HistoryValue.{HistoryValue}
 use Rattle.sq_history.specs.Histories.{IsKept}

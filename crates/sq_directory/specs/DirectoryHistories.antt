@@ -1,14 +1,16 @@
 -- What a recorded step of the directory does, and what is true of the directory at all times.
-use Rattle.std.specs.Prelude.{◌≡◌, ◌⊎◌, ℕ, [], ◌∷◌, ◌++◌, length, Some, Ok, Err}
+use Rattle.std.specs.Prelude.{◌≡◌, ◌⊎◌, ℕ, Bool, true, false, [], ◌∷◌, ◌++◌, length, Some, Ok, Err}
 use Rattle.sq_base.specs.StampValue.{StampValue}
 use Rattle.sq_base.specs.Stamps.{start, after}
 use Rattle.sq_base.specs.declared.refusal.Refusal.{Refusal}
 use Rattle.sq_base.specs.declared.refusal.Refusal.TheVariants.{NoMemory}
 use Rattle.sq_model.specs.declared.place.Component.TheVariants as part
 use Rattle.sq_model.specs.declared.directory.DirectoryCall.{DirectoryCall}
+use Rattle.sq_model.specs.declared.directory.DirectoryCall.TheVariants as asks
 use Rattle.sq_model.specs.declared.directory.DirectoryReply.{DirectoryReply}
 use Rattle.sq_model.specs.declared.event.Actor.{Actor}
-use Rattle.sq_model.specs.Directories.{DirectoryStep, directory_refusal}
+use Rattle.sq_model.specs.Directories.{DirectoryStep, directory_refusal, opening_directory}
+use Rattle.sq_model.specs.Policies.{has_list}
 use Rattle.sq_model.specs.Replays.{Replays, StampsRise}
 use Rattle.sq_model.specs.Systems.{DirectoryEvent, AreDirectory}
 use Rattle.sq_model.specs.RecordValues.{DirectoryRecordValue, directory_record_of}
@@ -28,15 +30,26 @@ pub record DirectoryRecords (old new : DirectoryHistory) (by : Actor) (now : ℕ
   pub room : KeepsRoom old.room new.room
   pub record_is : its_record ≡ directory_record_of (length old.events) (directory_event its_record.stamp by call its_record.reply)
 
--- No memory was found for the event, or the first check in order that fails: the clock's, the counts', the directory's.
+-- a step of which bytes are copied: lists of queues, or texts
+abbrev pub copies_bytes : DirectoryCall → Bool
+copies_bytes (asks.Create name given) = has_list given.allow
+copies_bytes (asks.Set name given) = has_list given.allow
+copies_bytes (asks.Remove name) = false
+copies_bytes (asks.PurgeTicket name) = false
+copies_bytes (asks.Url name) = false
+copies_bytes (asks.List prefix) = true
+copies_bytes (asks.Sources name) = true
+copies_bytes (asks.Read name) = true
+
+-- No memory was found for the event or for a copy, or the first check in order that fails: the clock's, the counts', the directory's.
 abbrev pub IsDirectoryRefused : DirectoryHistory → Actor → ℕ → DirectoryCall → Refusal → Type 0
 IsDirectoryRefused old by now call e =
-    ((e ≡ NoMemory) × (old.room ≡ 0))
+    ((e ≡ NoMemory) × ((old.room ≡ 0) ⊎ (copies_bytes call ≡ true)))
     ⊎ (after old.last by.seen now ≡ Err e)
     ⊎ ((stamp : StampValue) × (after old.last by.seen now ≡ Ok stamp) × (directory_refusal old.directory stamp.moment call ≡ Some e))
 
 -- True at all times: the directory is the replay of its events, whose stamps rise, and each event is its own.
 pub record IsDirectoryKept (h : DirectoryHistory) : Type 0 where
-  pub replays : Replays DirectoryStep (record { queues = []; places = h.directory.places }) h.events h.directory
+  pub replays : Replays DirectoryStep (opening_directory h.directory.places) h.events h.directory
   pub rising : StampsRise start h.events h.last
   pub own : AreDirectory h.events

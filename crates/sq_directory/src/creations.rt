@@ -13,8 +13,10 @@ pub fn creations(alloc: Global, directory: &Directory) -> Vec<usize>
     let mut creations = Vec::new(alloc);
     let events = directory.events();
     for index in 0..events.len() {
-        let DirectoryReply::Made(made) = &events[index].reply;
-        if made.queue.get() > creations.len() as u64 && creations.push(index).is_err() {
+        if let DirectoryReply::Made(made) = &events[index].reply
+            && made.queue.get() > creations.len() as u64
+            && creations.push(index).is_err()
+        {
             return creations;
         }
     }

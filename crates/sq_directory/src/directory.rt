@@ -1,7 +1,7 @@
 //! The directory: the queues of a service, and all that was done to them.
 ghost use Rattle.std.specs.Prelude.{◌≡◌, [], IfOk, IfErr, IfSome, OnErr};
 ghost use Rattle.sq_base.specs.Stamps.{start};
-ghost use Rattle.sq_model.specs.Directories.{number_of};
+ghost use Rattle.sq_model.specs.Directories.{number_of, opening_directory};
 ghost use Rattle.sq_model.specs.declared.directory.DirectoryCall.TheVariants.{Create};
 ghost use Rattle.sq_model.specs.declared.directory.DirectoryReply.TheVariants.{Made};
 ghost use Rattle.sq_directory.specs.Makers.{IsMadeBy};
@@ -42,7 +42,7 @@ impl Directory {
 
     /// No queue, no event, and memory for so many queues. Refused where that is not found.
     pub fn new(alloc: Global, places: u32) -> Result<Directory, AllocError>
-        ensures { IfOk result (λ directory. directory ≡ record { directory = record { queues = []; places = places }; last = start; events = []; room = 0 }) }
+        ensures { IfOk result (λ directory. directory ≡ record { directory = opening_directory places; last = start; events = []; room = 0 }) }
     {
         Ok(Directory {
             queues: Queues::new(alloc, places)?,
@@ -76,9 +76,11 @@ impl Directory {
 
     /// Makes a queue of this name with these attributes, where there is none yet; else it must have them. Answers the
     /// queue, and the record of the step.
-    /// Refused as NoMemory (the history has room for none), ClockRange, Worn, QueueNameExists, TableFull.
+    /// Refused as NoMemory (the history has room for none, or queues are listed), ClockRange, Worn, QueueNameExists,
+    /// InvalidAttributeValue, TableFull.
     pub fn create(
         &mut self,
+        alloc: Global,
         by: &Actor,
         now: u64,
         name: &QueueName,
@@ -90,16 +92,14 @@ impl Directory {
         ensures err { OnErr result (self.new ≡ self.old) }
     {
         let stamp = self.log.begin(by, now)?;
-        let made = self.queues.create(name, attributes)?;
-        let answered = made;
-        let kept = (
-            DirectoryCall::Create(*name, *attributes),
-            DirectoryReply::Made(made),
-        );
-        let for_record = kept;
+        let in_event = DirectoryCall::Create(*name, attributes.copy(alloc)?);
+        let in_record = DirectoryCall::Create(*name, attributes.copy(alloc)?);
+        let made = self.queues.create(name, attributes.copy(alloc)?)?;
+        let kept = (in_event, DirectoryReply::Made(made));
+        let for_record = (in_record, DirectoryReply::Made(made));
         let step = self
             .log
             .add(stamp, by, Component::Directory, kept, for_record);
-        Ok((answered, DirectoryRecord::new(step)))
+        Ok((made, DirectoryRecord::new(step)))
     }
 }

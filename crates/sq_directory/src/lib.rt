@@ -7,3 +7,4 @@ pub mod events;
 pub mod names;
 pub mod queues;
 pub mod record;
+pub mod same;

@@ -79,7 +79,10 @@ fn is_create(
 ) -> bool
     ensures { result ≡ true ↔ IsCreate event.now name.now kept.now.home.queue }
 {
-    let DirectoryCall::Create(made, _) = &event.call;
-    let DirectoryReply::Made(queue) = &event.reply;
-    made.as_bytes() == name.as_bytes() && queue.queue == kept.home().queue
+    match (&event.call, &event.reply) {
+        (DirectoryCall::Create(made, _), DirectoryReply::Made(queue)) => {
+            made.as_bytes() == name.as_bytes() && queue.queue == kept.home().queue
+        }
+        _ => false,
+    }
 }

@@ -1,8 +1,8 @@
 -- What a recorded call does, and what is true of every recorded home.
-use Rattle.std.specs.Prelude.{◌≡◌, ◌⊎◌, ℕ, true, List, [], ◌∷◌, ◌++◌, length, Option, Some, Ok, Err}
+use Rattle.std.specs.Prelude.{◌≡◌, ◌⊎◌, ℕ, true, false, List, [], ◌∷◌, ◌++◌, length, Option, Some, Ok, Err}
 use Rattle.std.specs.List.{All}
 use Rattle.sq_base.specs.StampValue.{StampValue}
-use Rattle.sq_base.specs.Stamps.{start, after}
+use Rattle.sq_base.specs.Stamps.{Below, start, after}
 use Rattle.sq_base.specs.declared.refusal.Refusal.{Refusal}
 use Rattle.sq_base.specs.declared.refusal.Refusal.TheVariants.{NoMemory}
 use Rattle.sq_base.specs.declared.ids.HomeId.{HomeId}
@@ -35,6 +35,18 @@ pub record RecordsStep (old new : HistoryValue) (by : Actor) (now : ℕ) (name :
   pub events : new.events ≡ old.events ++ new_event its_record.stamp by old.site.home call its_record.reply ∷ []
   pub room : KeepsRoom old.room new.room
   pub record_is : its_record ≡ new_record its_record.stamp by old.site.home (length old.events) call its_record.reply name
+
+-- Exactly one event was added: a step that the home shares with the ledger, at a stamp that was drawn before, above the home's last and above what the actor had seen. The record is its own.
+pub record RecordsShared (old new : HistoryValue) (by : Actor) (stamp : StampValue) (name : Option (List ℕ)) (call : HomeCall) (its_record : HomeRecordValue) : Type 0 where
+  pub shared : is_alone call ≡ false
+  pub above_last : Below old.last stamp
+  pub above_seen : Below by.seen stamp
+  pub step : HomeStep old.site old.home stamp.moment call its_record.reply new.home
+  pub site : new.site ≡ old.site
+  pub last : new.last ≡ stamp
+  pub events : new.events ≡ old.events ++ new_event stamp by old.site.home call its_record.reply ∷ []
+  pub room : KeepsRoom old.room new.room
+  pub record_is : its_record ≡ new_record stamp by old.site.home (length old.events) call its_record.reply name
 
 -- No memory was found for the event, or the clock's or the counts' check fails; then no memory was found for copies, or the home's first check that fails.
 abbrev pub IsRefused : HistoryValue → Actor → ℕ → HomeCall → Refusal → Type 0

@@ -5,10 +5,10 @@ use Rattle.sq_base.specs.Stamps.{stamp_end, next_at, after, stamped}
 use Rattle.sq_base.specs.StampValue.{StampValue}
 use Rattle.sq_base.specs.declared.ids.HomeId.{HomeId}
 use Rattle.sq_base.specs.declared.refusal.Refusal.{Refusal}
-use Rattle.sq_base.specs.declared.refusal.Refusal.TheVariants.{ClockRange, Worn, InvalidParameterValue, QueueDoesNotExist, QueueNameExists, OverLimit, ReceiptHandleIsInvalid, MessageNotInflight, TableFull}
+use Rattle.sq_base.specs.declared.refusal.Refusal.TheVariants.{ClockRange, Worn, InvalidParameterValue, QueueDoesNotExist, OverLimit, ReceiptHandleIsInvalid, MessageNotInflight}
 use Rattle.std.specs.List.{list_any}
 use Rattle.sq_base.specs.declared.row.Row.{Row}
-use Rattle.sq_model.specs.Directories.{Directory, agrees, create_refusal, directory_refusal, queue_at, index_of}
+use Rattle.sq_model.specs.Directories.{Directory, agrees, create_refusal, directory_refusal, is_resting, may_have, queue_of}
 use Rattle.sq_model.specs.declared.directory.Attributes.{Attributes}
 use Rattle.sq_model.specs.declared.directory.DirectoryCall.TheVariants.{Create}
 use Rattle.sq_model.specs.declared.directory.Queue.{Queue}
@@ -21,7 +21,7 @@ use Rattle.sq_model.specs.declared.replies.HomeReply.TheVariants as reply
 use Rattle.sq_history.specs.declared.act.HomeAct.{HomeAct}
 use Rattle.sq_history.specs.declared.act.HomeAct.TheVariants as act
 use Rattle.sq_history.specs.Acts.{call_of}
-use Rattle.sq_merge.specs.Asks.{Resolve, Directed, AtHome, IsReplyTo, IsOfAnyStep, IsOfAct, MayRefuse}
+use Rattle.sq_merge.specs.Asks.{Resolve, Directed, AtHome, IsReplyTo, IsOfAnyStep, IsOfAct, IsOfDirectory, MayRefuse}
 use Rattle.sq_steps.specs.Journals.{journal_of, worn_at, IsNotReady}
 use Rattle.sq_model.specs.RecordValues.{Journal}
 use Rattle.sq_merge.specs.WorldValue.{WorldValue}
@@ -142,13 +142,13 @@ home_may w actor now name id a e h = elim h [
   ]
 ]
 
-create_cases : (d : Directory) (attributes : Attributes) (queue : Option Queue) (e : Refusal) → create_refusal d attributes queue ≡ Some e → (e ≡ QueueNameExists) ⊎ (e ≡ TableFull)
-create_cases d attributes None e h = elim (nat_le d.places (length d.queues)) as (λ v. (if v then Some TableFull else None) ≡ Some e → (e ≡ QueueNameExists) ⊎ (e ≡ TableFull)) [ true ↦ (λ k. inr cc) | false ↦ (λ k. absurd cc) ] h
-create_cases d attributes (Some queue) e h = elim (agrees attributes queue.settings) as (λ v. (if v then None else Some QueueNameExists) ≡ Some e → (e ≡ QueueNameExists) ⊎ (e ≡ TableFull)) [ true ↦ (λ k. absurd cc) | false ↦ (λ k. inl cc) ] h
+create_cases : (d : Directory) (m : ℕ) (name : List ℕ) (given : Attributes) (found : Option Queue) (e : Refusal) → create_refusal d m name given found ≡ Some e → IsOfDirectory (Create name given) e
+create_cases d m name given None e h = inr (three_cases (is_resting m name d.deleted) (not (may_have d.queues name given.redrive)) (nat_le d.places d.made) _ _ _ e h)
+create_cases d m name given (Some queue) e h = inl (one_case (not (agrees given queue)) _ e h)
 
-directory_cases : (d : Directory) (m : ℕ) (name : List ℕ) (attributes : Attributes) (e : Refusal) → directory_refusal d m (Create name attributes) ≡ Some e → (e ≡ QueueNameExists) ⊎ (e ≡ TableFull)
+directory_cases : (d : Directory) (m : ℕ) (name : List ℕ) (given : Attributes) (e : Refusal) → directory_refusal d m (Create name given) ≡ Some e → IsOfDirectory (Create name given) e
 unfolding directory_refusal
-directory_cases d m name attributes e h = create_cases d attributes (queue_at d.queues (index_of name d.queues)) e h
+directory_cases d m name given e h = create_cases d m name given (queue_of name d.queues) e h
 
 -- why a queue is not made
 pub create_may : (w : WorldValue) (actor now : ℕ) (name : List ℕ) (attributes : Attributes) (e : Refusal) → CreateRefused w actor now name attributes e → MayRefuse (Directed (Create name attributes)) e

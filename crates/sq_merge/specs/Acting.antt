@@ -5,9 +5,10 @@ use Rattle.sq_model.specs.Directories.{number_of}
 use Rattle.sq_model.specs.declared.directory.DirectoryCall.TheVariants.{Create}
 use Rattle.sq_model.specs.declared.directory.DirectoryReply.TheVariants.{Made}
 use Rattle.sq_history.specs.Acts.{call_of}
+use Rattle.sq_steps.specs.Journals.{IsCreateRefused, journal_of}
 use Rattle.sq_merge.specs.Asks.{Ask, Resolve, Directed, AtHome, Gave, Found, Answered, Replied, HomeCounts}
 use Rattle.sq_merge.specs.WorldValue.{WorldValue}
-use Rattle.sq_merge.specs.Worlds.{HomeStepped, HomeRefused, Created, CreateRefused, NameRefused, having_read}
+use Rattle.sq_merge.specs.Worlds.{HomeStepped, HomeRefused, Created, NameRefused, having_read}
 
 abbrev pub counts_of : WorldValue → HomeCounts
 counts_of w = record { homes = w.per_queue; sample = w.sample }
@@ -22,7 +23,7 @@ ActorDoes actor now w ask gave t = ⊥
 -- why one is refused
 abbrev pub ActorRefused : ℕ → ℕ → WorldValue → Ask → Refusal → Type 0
 ActorRefused actor now w (Resolve name) e = NameRefused w actor name e
-ActorRefused actor now w (Directed (Create name attributes)) e = CreateRefused w actor now name attributes e
+ActorRefused actor now w (Directed call) e = IsCreateRefused w.directory (journal_of actor w.journals) now call e
 ActorRefused actor now w (AtHome name id act) e = HomeRefused w actor now id (call_of act) e
 
 -- One step of a call by an actor at a clock reading; what is refused changes nothing.

@@ -5,9 +5,9 @@ use Rattle.sq_base.specs.StampValue.{StampValue}
 use Rattle.sq_base.specs.Stamps.{Below}
 use Rattle.sq_base.specs.declared.ids.HomeId.{HomeId}
 use Rattle.sq_base.specs.declared.refusal.Refusal.{Refusal}
-use Rattle.sq_base.specs.declared.refusal.Refusal.TheVariants.{NoMemory, ClockRange, Worn, InvalidParameterValue, QueueDoesNotExist, QueueNameExists, OverLimit, ReceiptHandleIsInvalid, MessageNotInflight, TableFull}
+use Rattle.sq_base.specs.declared.refusal.Refusal.TheVariants.{NoMemory, ClockRange, Worn, InvalidAttributeValue, InvalidParameterValue, PurgeQueueInProgress, QueueDeletedRecently, QueueDoesNotExist, QueueNameExists, OverLimit, ReceiptHandleIsInvalid, MessageNotInflight, TableFull}
 use Rattle.sq_model.specs.declared.directory.DirectoryCall.{DirectoryCall}
-use Rattle.sq_model.specs.declared.directory.DirectoryCall.TheVariants.{Create}
+use Rattle.sq_model.specs.declared.directory.DirectoryCall.TheVariants as asks
 use Rattle.sq_model.specs.declared.directory.DirectoryReply.{DirectoryReply}
 use Rattle.sq_model.specs.declared.directory.DirectoryReply.TheVariants.{Made}
 use Rattle.sq_model.specs.declared.directory.QueueSettings.{QueueSettings}
@@ -85,10 +85,21 @@ IsOfAct (act.Change receipt timeout) e = (e ≡ ReceiptHandleIsInvalid) ⊎ (e �
 IsOfAct act.Purge e = ⊥
 IsOfAct act.Count e = ⊥
 
+-- and what may refuse this call of the directory
+abbrev pub IsOfDirectory : DirectoryCall → Refusal → Type 0
+IsOfDirectory (asks.Create name given) e = (e ≡ QueueNameExists) ⊎ (e ≡ QueueDeletedRecently) ⊎ (e ≡ InvalidAttributeValue) ⊎ (e ≡ TableFull)
+IsOfDirectory (asks.Set name given) e = (e ≡ QueueDoesNotExist) ⊎ (e ≡ InvalidAttributeValue)
+IsOfDirectory (asks.Remove name) e = e ≡ QueueDoesNotExist
+IsOfDirectory (asks.PurgeTicket name) e = (e ≡ QueueDoesNotExist) ⊎ (e ≡ PurgeQueueInProgress)
+IsOfDirectory (asks.Url name) e = e ≡ QueueDoesNotExist
+IsOfDirectory (asks.List prefix) e = ⊥
+IsOfDirectory (asks.Sources name) e = e ≡ QueueDoesNotExist
+IsOfDirectory (asks.Read name) e = e ≡ QueueDoesNotExist
+
 -- what may refuse a step
 abbrev pub MayRefuse : Ask → Refusal → Type 0
 MayRefuse (Resolve name) e = (e ≡ QueueDoesNotExist) ⊎ (e ≡ NoMemory)
-MayRefuse (Directed (Create name attributes)) e = IsOfAnyStep e ⊎ (e ≡ QueueNameExists) ⊎ (e ≡ TableFull)
+MayRefuse (Directed call) e = IsOfAnyStep e ⊎ IsOfDirectory call e
 MayRefuse (AtHome name home act) e = IsOfAnyStep e ⊎ (e ≡ QueueDoesNotExist) ⊎ IsOfAct act e
 
 -- a record of a step of the directory

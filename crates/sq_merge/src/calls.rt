@@ -14,7 +14,7 @@ use std::alloc::Global;
 use std::marker::Model;
 
 /// CreateQueue; an attribute that is not given has its default.
-#[derive(Clone, Copy, PartialEq, Eq, Debug)]
+#[derive(Drop)]
 pub struct CreateQueue {
     pub name: QueueName,
     pub attributes: Attributes,

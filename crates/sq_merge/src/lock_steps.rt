@@ -47,7 +47,7 @@ pub trait LockSteps {
         ensures same_counts { counts self.new ≡ counts self.old };
 
     /// Makes a queue of this name, or finds the one that has these attributes.
-    /// Refused as NoMemory, ClockRange, Worn, QueueNameExists, TableFull.
+    /// Refused as NoMemory, ClockRange, Worn, QueueNameExists, InvalidAttributeValue, TableFull.
     fn create(
         &mut self,
         name: &QueueName,

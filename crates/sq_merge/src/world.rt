@@ -119,7 +119,7 @@ impl World {
     /// name first. Refused as its first check in order that fails; steps that were done before that stand:
     /// QueueDoesNotExist; NoMemory of an actor that is new; InvalidParameterValue and InvalidMessageContents of a body;
     /// ReceiptHandleIsInvalid of what is no handle of the queue and of one of its homes; NoMemory; ClockRange; Worn; and
-    /// then as the home's call. CreateQueue is refused as QueueNameExists and TableFull too, and ReceiveMessage as OverLimit
+    /// then as the home's call. CreateQueue is refused as QueueNameExists, InvalidAttributeValue and TableFull too, and ReceiveMessage as OverLimit
     /// where no home that was asked gave a message and one of them has too many in flight.
     pub fn call(
         &mut self,
@@ -217,7 +217,7 @@ impl World {
         let count = self.journals.len();
         let at = open(&mut self.journals, alloc, actor)?;
         let journal = &mut self.journals[at];
-        match create_step(&mut self.directory, journal, now, name, attributes) {
+        match create_step(alloc, &mut self.directory, journal, now, name, attributes) {
             Ok(made) => Ok(made),
             Err(refusal) => {
                 self.journals.truncate(count);

@@ -1,15 +1,3 @@
-pub mod Refusals
-pub mod LineageLaws
 pub mod RowLaws
 pub mod SlotLaws
-pub mod Progress
 pub mod ReplayLaws
-pub mod LookLaws
-pub mod LedgerLists
-pub mod LedgerSteps
-pub mod LedgerLaws
-pub mod RateLaws
-pub mod SharedLaws
-pub mod SystemLaws
-pub mod RunLaws
-pub mod ReceiveLaws

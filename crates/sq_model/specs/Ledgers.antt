@@ -1,6 +1,7 @@
 -- The ledger: the messages between two queues, and the tasks that move messages. The steps that it shares with a home are here as the ledger sees them.
-use Rattle.std.specs.Prelude.{◌≡◌, ℕ, ◌+◌, ◌<◌, ◌≤◌, Bool, true, false, not, ◌&&◌, ◌||◌, ◌==◌, List, [], ◌∷◌, ◌++◌, length, count_by, filter, map, find, take, reverse, nat_lt, nat_le, if◌then◌else◌, Option, Some, None}
-use Rattle.std.specs.List.{AllByRecursion, list_any}
+use Rattle.std.specs.Prelude.{◌≡◌, ◌⊎◌, ℕ, ◌+◌, ◌<◌, ◌≤◌, Bool, true, false, not, ◌&&◌, ◌||◌, ◌==◌, List, [], ◌∷◌, ◌++◌, length, count_by, filter, map, find, take, reverse, nat_lt, nat_le, if◌then◌else◌, Option, Some, None, option_map, option_to_list, slice_get}
+use Rattle.std.specs.List.{AllByRecursion, Contains, list_any}
+use Rattle.std.specs.Option.{option_or}
 use Rattle.sq_base.specs.declared.refusal.Refusal.{Refusal}
 use Rattle.sq_base.specs.declared.refusal.Refusal.TheVariants.{Worn, OverLimit, ResourceNotFoundException, UnsupportedOperation}
 use Rattle.sq_model.specs.declared.calls.HomeCall.TheVariants.{LeaveDead, LeaveTask, Enter, TurnBack, GiveBack, GiveUp}
@@ -16,6 +17,7 @@ use Rattle.sq_model.specs.declared.task.FailureReason.TheVariants as because
 use Rattle.sq_model.specs.declared.task.Task.{Task}
 use Rattle.sq_model.specs.declared.event.Event.{Event}
 use Rattle.sq_model.specs.Homes.{IsFrom, may_enter, may_return, refused_if}
+use Rattle.sq_model.specs.Passages.{passed_in}
 use Rattle.sq_model.specs.Tasks.{is_active, is_running, is_ended, may_leave, new_task, rate_of, target_of, second_of, with_left, with_moved, with_back, with_given_up, with_status, failed_as, cancelled_as, finished_as}
 
 -- the items in rising number, the number of the next one, the tasks in order of their start, the number of the next one, and how many items there may be
@@ -34,7 +36,7 @@ opening_ledger limit = record { items = []; next_item = 1; tasks = []; next_task
 abbrev pub last_number : ℕ
 last_number = 4611686018427387903
 
--- so many tasks may be active (SQS API Reference, StartMessageMoveTask: one a source; 100 in all)
+-- so many tasks may be active in all (own), and one of a source (SQS API Reference, StartMessageMoveTask)
 abbrev pub most_active : ℕ
 most_active = 100
 
@@ -44,6 +46,10 @@ has_number number item = item.number == number
 -- the item of a number
 abbrev pub item_of : ℕ → Ledger → Option Item
 item_of number l = find (has_number number) l.items
+
+-- the item that comes after a number, in a circle: the first one above it, and where none is, the first of all
+abbrev pub peek : ℕ → Ledger → Option Item
+peek number l = option_or (find (λ item. nat_lt number item.number) l.items) (slice_get l.items 0)
 
 abbrev pub items_without : ℕ → List Item → List Item
 items_without number items = filter (λ item. not (has_number number item)) items
@@ -106,6 +112,15 @@ pub record MayTake (l : Ledger) (source number : ℕ) (task : Task) : Type 0 whe
 -- the tasks of a source, the most recent first (SQS API Reference, ListMessageMoveTasks)
 abbrev pub tasks_of : ℕ → Ledger → List Task
 tasks_of source l = reverse (filter (is_of_source source) l.tasks)
+
+-- the most recent task of a source
+abbrev pub last_task : ℕ → Ledger → Option Task
+last_task source l = slice_get (tasks_of source l) 0
+
+-- a task is there, and is active
+abbrev pub is_still_active : Option Task → Bool
+is_still_active None = false
+is_still_active (Some task) = is_active task.status
 
 -- From a ledger, at m, it may give this reply to the call and go on to after.
 unfoldable pub LedgerStep : Ledger → ℕ → LedgerCall → LedgerReply → Ledger → Type 0
@@ -181,17 +196,23 @@ abbrev pub ItemsRise : ℕ → List Item → ℕ → Type 0
 ItemsRise low [] next = low ≤ next
 ItemsRise low (item ∷ items) next = (low ≤ item.number) × ItemsRise (item.number + 1) items next
 
-abbrev pub TasksRise : ℕ → List Task → ℕ → Type 0
-TasksRise low [] next = low ≤ next
-TasksRise low (task ∷ tasks) next = (low ≤ task.number) × TasksRise (task.number + 1) tasks next
+-- tasks are numbered from low on, without a gap
+abbrev pub TasksCount : ℕ → List Task → Type 0
+TasksCount low [] = Unit {0}
+TasksCount low (task ∷ tasks) = (task.number ≡ low) × TasksCount (low + 1) tasks
 
-abbrev pub StartedFor : ℕ → Reason → Type 0
-StartedFor next DeadLetter = Unit {0}
-StartedFor next (ForTask number) = number < next
+-- where an item leaves for a task, that task is there
+abbrev pub HasTask : Ledger → Item → Type 0
+HasTask l item = (number : ℕ) → item.reason ≡ ForTask number → (task : Task) × (task_of number l ≡ Some task)
 
--- the task of an item was started
-abbrev pub HasStarted : ℕ → Item → Type 0
-HasStarted next item = StartedFor next item.reason
+-- no more left for a task than numbers of items were given, since each took one
+abbrev pub LeftBelow : ℕ → Task → Type 0
+LeftBelow next task = task.left < next
+
+-- where a task is active, none after it is of its source
+abbrev pub OnlyLastActive : List Task → Type 0
+OnlyLastActive [] = Unit {0}
+OnlyLastActive (task ∷ later) = (is_active task.status ≡ true → AllByRecursion (λ other. is_of_source task.source.number other ≡ false) later) × OnlyLastActive later
 
 -- What left came in, came back, was given up, or is in transit; nothing is in transit of a task that ended as it was asked to; and no more left in a second than its rate.
 pub record IsTask (items : List Item) (task : Task) : Type 0 where
@@ -199,30 +220,74 @@ pub record IsTask (items : List Item) (task : Task) : Type 0 where
   pub ended : is_ended task.status ≡ true → in_transit task.number items ≡ 0
   pub rate : task.in_second ≤ rate_of task
 
+-- Items stand in rising number and tasks are numbered without a gap, and no number passes the last one. The task of each item is there, each task adds up, and not too many are active.
 pub record IsLedger (l : Ledger) : Type 0 where
   pub items_rise : ItemsRise 1 l.items l.next_item
-  pub tasks_rise : TasksRise 1 l.tasks l.next_task
+  pub items_end : l.next_item ≤ last_number
   pub within : length l.items ≤ l.limit
-  pub started : AllByRecursion (HasStarted l.next_task) l.items
+  pub each_item : AllByRecursion (HasTask l) l.items
+  pub tasks_count : TasksCount 1 l.tasks
+  pub next_task : l.next_task ≡ length l.tasks + 1
+  pub tasks_end : l.next_task ≤ last_number
   pub each : AllByRecursion (IsTask l.items) l.tasks
+  pub left_below : AllByRecursion (LeftBelow l.next_item) l.tasks
   -- one active task a source
   pub one_active : (source : ℕ) → count_by (is_active_at source) l.tasks ≤ 1
+  pub last_active : OnlyLastActive l.tasks
   pub few_active : count_by (λ task. is_active task.status) l.tasks ≤ most_active
+
+-- an item is the least above a number
+pub record IsAbove (number : ℕ) (items : List Item) (item : Item) : Type 0 where
+  pub above : number < item.number
+  pub least : AllByRecursion (λ other. number < other.number → item.number ≤ other.number) items
+
+-- no item is above a number, and this one is the least of all
+pub record IsRound (number : ℕ) (items : List Item) (item : Item) : Type 0 where
+  pub none_above : AllByRecursion (λ other. other.number ≤ number) items
+  pub least : AllByRecursion (λ other. item.number ≤ other.number) items
+
+-- an item is there, and comes after a number in a circle
+abbrev pub IsNextItem : ℕ → List Item → Item → Type 0
+IsNextItem number items item = Contains items item × (IsAbove number items item ⊎ IsRound number items item)
+
+abbrev pub IsAfter : ℕ → List Item → Option Item → Type 0
+IsAfter number items None = items ≡ []
+IsAfter number items (Some item) = IsNextItem number items item
+
+-- a task is the one of a source with the greatest number
+pub record IsLatest (source : ℕ) (tasks : List Task) (task : Task) : Type 0 where
+  pub there : Contains tasks task
+  pub of_source : is_of_source source task ≡ true
+  pub latest : AllByRecursion (λ other. is_of_source source other ≡ true → other.number ≤ task.number) tasks
+
+abbrev pub IsLastTask : ℕ → List Task → Option Task → Type 0
+IsLastTask source tasks None = AllByRecursion (λ task. is_of_source source task ≡ false) tasks
+IsLastTask source tasks (Some task) = IsLatest source tasks task
 
 -- ---- what a history of the ledger gives
 
 abbrev pub LedgerEvent : Type 0
 LedgerEvent = Event LedgerCall LedgerReply
 
+-- the item that the ledger took in, where it took one
+abbrev pub item_taken : LedgerReply → Option Item
+item_taken (answers.AtHome reply) = (passed_in reply).left
+item_taken (answers.Started number) = None
+item_taken (answers.Cancelled moved) = None
+item_taken (answers.Listed listed) = None
+item_taken answers.Finished = None
+
 -- the number of an item that came in
 abbrev pub item_given : LedgerReply → List ℕ
-item_given (answers.AtHome (Left item)) = item.number ∷ []
-item_given reply = []
+item_given reply = option_to_list (option_map (λ item. item.number) (item_taken reply))
 
 -- the number of a task that was started
 abbrev pub task_given : LedgerReply → List ℕ
+task_given (answers.AtHome reply) = []
 task_given (answers.Started number) = number ∷ []
-task_given reply = []
+task_given (answers.Cancelled moved) = []
+task_given (answers.Listed listed) = []
+task_given answers.Finished = []
 
 abbrev pub all_given : (LedgerReply → List ℕ) → List LedgerEvent → List ℕ
 all_given given [] = []
@@ -233,10 +298,14 @@ abbrev pub NumbersRise : ℕ → List ℕ → Type 0
 NumbersRise low [] = Unit {0}
 NumbersRise low (n ∷ ns) = (low ≤ n) × NumbersRise (n + 1) ns
 
+-- an item is there, and is for this task
+abbrev pub is_item_for : ℕ → Option Item → Bool
+is_item_for number None = false
+is_item_for number (Some item) = is_for number item.reason
+
 -- a message left for this task
 abbrev pub leaves_for : ℕ → LedgerReply → Bool
-leaves_for number (answers.AtHome (Left item)) = is_for number item.reason
-leaves_for number reply = false
+leaves_for number reply = is_item_for number (item_taken reply)
 
 -- how many left for it in a second
 abbrev pub leaves_in : ℕ → ℕ → List LedgerEvent → ℕ

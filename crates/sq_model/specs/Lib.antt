@@ -1,13 +1,14 @@
 pub mod Rows
 pub mod Homes
+pub mod Passages
 pub mod Lineages
 pub mod Replays
-pub mod Worked
+pub mod Rises
+pub mod Policies
 pub mod Directories
 pub mod Tasks
 pub mod Ledgers
 pub mod Shared
-pub mod WorkedMoves
 pub mod Systems
 pub mod Places
 pub mod Merges

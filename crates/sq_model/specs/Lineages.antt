@@ -1,15 +1,15 @@
 -- What becomes of a message: where its rows are, and how they leave the system. A lineage is the id of the first send.
-use Rattle.std.specs.Prelude.{ℕ, ◌&&◌, ◌==◌, Bool, List, [], ◌∷◌, ◌++◌, map, filter, count_by}
+use Rattle.std.specs.Prelude.{ℕ, ◌&&◌, ◌==◌, Bool, List, [], ◌∷◌, ◌++◌, map, filter, count_by, option_map, option_to_list}
 use Rattle.sq_base.specs.declared.message_id.MessageId.{MessageId}
 use Rattle.sq_base.specs.declared.row.Row.{Row}
 use Rattle.sq_base.specs.declared.settings.Settings.{Settings}
 use Rattle.sq_model.specs.declared.calls.HomeCall.{HomeCall}
-use Rattle.sq_model.specs.declared.calls.HomeCall.TheVariants.{Close, Delete, Purge, Enter, GiveBack, GiveUp}
+use Rattle.sq_model.specs.declared.calls.HomeCall.TheVariants.{Configure, Close, Send, Look, Delete, Change, Purge, Count, LeaveDead, LeaveTask, Enter, TurnBack, GiveBack, GiveUp}
 use Rattle.sq_model.specs.declared.item.Item.{Item}
 use Rattle.sq_model.specs.declared.replies.HomeReply.{HomeReply}
-use Rattle.sq_model.specs.declared.replies.HomeReply.TheVariants.{Sent, Left}
 use Rattle.sq_model.specs.Rows.{is_expired, trimmed, is_named}
 use Rattle.sq_model.specs.Homes.{Home, Unopened, Serving, Closed}
+use Rattle.sq_model.specs.Passages.{Alone, ComesIn, GoesBack, IsGivenUp, Leaves, Passage, passage_of, passed_in}
 
 -- how a message left the system
 pub data Cause : Type 0 where
@@ -30,30 +30,49 @@ abbrev pub home_ends : Home → ℕ → HomeCall → List Ending
 home_ends (Serving s v n rows) m (Delete receipt) = ended Expired (expired s m rows) ++ ended Deleted (filter (is_named receipt) (trimmed s m rows))
 home_ends (Serving s v n rows) m Purge = ended Expired (expired s m rows) ++ ended Purged (trimmed s m rows)
 home_ends (Serving s v n rows) m Close = ended Expired (expired s m rows) ++ ended ClosedAway (trimmed s m rows)
-home_ends (Serving s v n rows) m call = ended Expired (expired s m rows)
+home_ends (Serving s v n rows) m (Configure t w) = ended Expired (expired s m rows)
+home_ends (Serving s v n rows) m (Send body delay) = ended Expired (expired s m rows)
+home_ends (Serving s v n rows) m (Look max timeout) = ended Expired (expired s m rows)
+home_ends (Serving s v n rows) m (Change receipt timeout) = ended Expired (expired s m rows)
+home_ends (Serving s v n rows) m Count = ended Expired (expired s m rows)
+home_ends (Serving s v n rows) m LeaveDead = ended Expired (expired s m rows)
+home_ends (Serving s v n rows) m (LeaveTask task) = ended Expired (expired s m rows)
+home_ends (Serving s v n rows) m (Enter item) = ended Expired (expired s m rows)
+home_ends (Serving s v n rows) m (TurnBack item) = ended Expired (expired s m rows)
+home_ends (Serving s v n rows) m (GiveBack item) = ended Expired (expired s m rows)
+home_ends (Serving s v n rows) m (GiveUp item) = ended Expired (expired s m rows)
 home_ends Unopened m call = []
 home_ends Closed m call = []
 
 -- who is sent in a step
 abbrev pub home_sends : HomeReply → List MessageId
-home_sends (Sent sent) = sent.id ∷ []
-home_sends reply = []
+home_sends reply = option_to_list (passed_in reply).sent
 
 -- what goes from the home into transit
 abbrev pub home_outs : HomeReply → List Row
-home_outs (Left item) = item.row ∷ []
-home_outs reply = []
+home_outs reply = option_to_list (option_map (λ item. item.row) (passed_in reply).left)
+
+abbrev pub rows_in : Passage → List Row
+rows_in Alone = []
+rows_in Leaves = []
+rows_in (ComesIn item) = item.row ∷ []
+rows_in (GoesBack item) = []
+rows_in (IsGivenUp item) = []
 
 -- what comes into the home from transit
 abbrev pub home_ins : HomeCall → List Row
-home_ins (Enter item) = item.row ∷ []
-home_ins (GiveBack item) = item.row ∷ []
-home_ins call = []
+home_ins call = rows_in (passage_of call)
+
+abbrev pub ends_in : Passage → List Ending
+ends_in (IsGivenUp item) = record { line = item.row.lineage; cause = GivenUp } ∷ []
+ends_in Alone = []
+ends_in Leaves = []
+ends_in (ComesIn item) = []
+ends_in (GoesBack item) = []
 
 -- who is given up in a step, on the way back to a closed queue
 abbrev pub given_up : HomeCall → List Ending
-given_up (GiveUp item) = record { line = item.row.lineage; cause = GivenUp } ∷ []
-given_up call = []
+given_up call = ends_in (passage_of call)
 
 abbrev pub rows_of : Home → List Row
 rows_of (Serving s v n rows) = rows

@@ -1,14 +1,19 @@
 -- When the histories of all parts and the records of all actors agree, and what may be wrong with them.
-use Rattle.std.specs.Prelude.{◌≡◌, ℕ, ◌<◌, true, false, List, slice_get, Option, Some, None}
+use Rattle.std.specs.Prelude.{◌≡◌, ◌⊎◌, ℕ, ◌<◌, Bool, true, false, not, ◌&&◌, List, slice_get, Option, Some, None}
+use Rattle.sq_base.specs.StampValue.{StampValue}
 use Rattle.sq_base.specs.Stamps.{Below}
 use Rattle.sq_base.specs.declared.ids.HomeId.{HomeId}
+use Rattle.sq_model.specs.declared.calls.HomeCall.{HomeCall}
 use Rattle.sq_model.specs.declared.directory.Attributes.{Attributes}
 use Rattle.sq_model.specs.declared.directory.QueueSettings.{QueueSettings}
 use Rattle.sq_model.specs.declared.directory.DirectoryCall.TheVariants.{Create}
 use Rattle.sq_model.specs.declared.directory.DirectoryReply.TheVariants.{Made}
+use Rattle.sq_model.specs.declared.ledger.LedgerCall.{LedgerCall}
+use Rattle.sq_model.specs.declared.ledger.LedgerCall.TheVariants.{AtHome, StartTask, CancelTask, ListTasks, FinishTask}
 use Rattle.sq_model.specs.Replays.{HomeEvent}
 use Rattle.sq_model.specs.Ledgers.{LedgerEvent, is_own}
-use Rattle.sq_model.specs.Systems.{DirectoryEvent, as_ledger, is_alone}
+use Rattle.sq_model.specs.Passages.{is_alone, is_leave}
+use Rattle.sq_model.specs.Systems.{DirectoryEvent, as_ledger}
 use Rattle.sq_model.specs.RecordValues.{HomeRecordValue, RecordValue, OfDirectory, OfLedger, OfHome, record_of, place_of_record, Journal, directory_record_of, home_record_of}
 
 -- a home and all that was done to it
@@ -82,6 +87,41 @@ InHome homes e = (j : ℕ) × (k : ℕ) × (h : HomeHistory) × (f : HomeEvent) 
 pub record IsPaired (ledger : List LedgerEvent) (homes : List HomeHistory) : Type 0 where
   pub in_ledger : (j k : ℕ) (h : HomeHistory) (e : HomeEvent) → IsHomeEvent homes j k h e → is_alone e.call ≡ false → InLedger ledger h.home e
   pub in_home : (k : ℕ) (e : LedgerEvent) → slice_get ledger k ≡ Some e → is_own e.call ≡ false → InHome homes e
+
+-- what a home and the ledger share is a leave, or else it is done with an item
+abbrev pub is_of_item : HomeCall → Bool
+is_of_item call = not (is_alone call) && not (is_leave call)
+
+abbrev pub is_shared_as : (HomeCall → Bool) → LedgerCall → Bool
+is_shared_as kind (AtHome home call) = kind call
+is_shared_as kind (StartTask source destination rate) = false
+is_shared_as kind (CancelTask number) = false
+is_shared_as kind (ListTasks source most) = false
+is_shared_as kind (FinishTask number) = false
+
+-- a step of a kind, of this stamp, stands in the history of a home and not in the ledger's
+pub record IsOnlyAtHome (kind : HomeCall → Bool) (ledger : List LedgerEvent) (homes : List HomeHistory) (stamp : StampValue) : Type 0 where
+  pub at : ℕ
+  pub index : ℕ
+  pub home : HomeHistory
+  pub event : HomeEvent
+  pub in_home : IsHomeEvent homes at index home event
+  pub of_kind : kind event.call ≡ true
+  pub stamped : event.stamp ≡ stamp
+  pub alone : InLedger ledger home.home event → ⊥
+
+-- and one that stands in the ledger's history and in no home's
+pub record IsOnlyInLedger (kind : HomeCall → Bool) (ledger : List LedgerEvent) (homes : List HomeHistory) (stamp : StampValue) : Type 0 where
+  pub index : ℕ
+  pub event : LedgerEvent
+  pub in_ledger : slice_get ledger index ≡ Some event
+  pub of_kind : is_shared_as kind event.call ≡ true
+  pub stamped : event.stamp ≡ stamp
+  pub alone : InHome homes event → ⊥
+
+-- what the faults of unmatched steps say: a leave of this stamp has no partner, or what is done with an item has none
+abbrev pub IsUnmatched : (HomeCall → Bool) → List LedgerEvent → List HomeHistory → StampValue → Type 0
+IsUnmatched kind ledger homes stamp = IsOnlyAtHome kind ledger homes stamp ⊎ IsOnlyInLedger kind ledger homes stamp
 
 -- Each record is of an event, each event has a record, one that stands in two histories once, and the numbers of an actor's records are 0, 1, 2 and so on, each once.
 pub record IsMatched (directory : List DirectoryEvent) (ledger : List LedgerEvent) (homes : List HomeHistory) (journals : List Journal) : Type 0 where

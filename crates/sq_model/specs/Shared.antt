@@ -1,6 +1,8 @@
 -- The steps that a home and the ledger do together: what is asked, which call of both it is, and why it is refused.
-use Rattle.std.specs.Prelude.{◌≡◌, ℕ, Bool, false, not, ◌&&◌, Option, Some, None, if◌then◌else◌}
+use Rattle.std.specs.Prelude.{◌≡◌, ℕ, Bool, false, not, ◌&&◌, Option, Some, None, Result, Ok, Err, if◌then◌else◌}
 use Rattle.std.specs.List.{list_any}
+use Rattle.sq_base.specs.StampValue.{StampValue}
+use Rattle.sq_base.specs.Stamps.{after as stamp_after}
 use Rattle.sq_base.specs.declared.ids.HomeId.{HomeId}
 use Rattle.sq_base.specs.declared.refusal.Refusal.{Refusal}
 use Rattle.sq_base.specs.declared.refusal.Refusal.TheVariants.{QueueDoesNotExist, ResourceNotFoundException, UnsupportedOperation}
@@ -78,6 +80,15 @@ IsUnrecorded site (Serving s v n rows) l m (LeaveTask number) = (task : Task) ×
 IsUnrecorded site (Serving s v n rows) l m act = ⊥
 IsUnrecorded site Unopened l m act = ⊥
 IsUnrecorded site Closed l m act = ⊥
+
+-- the stamp after one that was just given, if it was
+abbrev pub after_given : Result StampValue Refusal → StampValue → ℕ → Result StampValue Refusal
+after_given (Ok given) seen m = stamp_after given seen m
+after_given (Err refusal) seen m = Err refusal
+
+-- The stamp of a step of a home and the ledger: above the last one of each, then above the last one that the actor has seen, and not before m.
+abbrev pub shared_stamp : StampValue → StampValue → StampValue → ℕ → Result StampValue Refusal
+shared_stamp home ledger seen m = after_given (stamp_after home ledger m) seen m
 
 -- a step that is asked can be done
 pub record HasSharedStep (site : Site) (home : Home) (l : Ledger) (m : ℕ) (act : SharedAct) : Type 0 where

@@ -8,14 +8,13 @@ use Rattle.sq_model.specs.declared.place.Component.TheVariants as part
 use Rattle.sq_model.specs.declared.ledger.LedgerCall.{LedgerCall}
 use Rattle.sq_model.specs.declared.ledger.LedgerCall.TheVariants.{AtHome as CallAtHome, StartTask, CancelTask, ListTasks, FinishTask}
 use Rattle.sq_model.specs.declared.ledger.LedgerReply.TheVariants.{AtHome as ReplyAtHome}
-use Rattle.sq_model.specs.declared.calls.HomeCall.{HomeCall}
-use Rattle.sq_model.specs.declared.calls.HomeCall.TheVariants.{Configure, Close, Send, Look, Delete, Change, Purge, Count, LeaveDead, LeaveTask, Enter, TurnBack, GiveBack, GiveUp}
 use Rattle.sq_model.specs.declared.event.Event.{Event}
 use Rattle.sq_model.specs.declared.directory.DirectoryCall.{DirectoryCall}
 use Rattle.sq_model.specs.declared.directory.DirectoryReply.{DirectoryReply}
+pub use Rattle.sq_model.specs.Passages.{is_alone}
 use Rattle.sq_model.specs.Replays.{HomeEvent, Replays}
 use Rattle.sq_model.specs.Homes.{Home, Unopened, HomeStep}
-use Rattle.sq_model.specs.Directories.{Directory, DirectoryStep}
+use Rattle.sq_model.specs.Directories.{Directory, DirectoryStep, opening_directory}
 use Rattle.sq_model.specs.Ledgers.{Ledger, LedgerEvent, LedgerStep, is_own, opening_ledger}
 
 -- a home and where it stands
@@ -41,23 +40,6 @@ abbrev pub stamp_of : Tag → StampValue
 stamp_of (OfDirectory e) = e.stamp
 stamp_of (OfLedger e) = e.stamp
 stamp_of (OfHome i e) = e.stamp
-
--- a call that is a home's alone; the others are shared with the ledger
-abbrev pub is_alone : HomeCall → Bool
-is_alone (Configure t w) = true
-is_alone Close = true
-is_alone (Send body delay) = true
-is_alone (Look max timeout) = true
-is_alone (Delete receipt) = true
-is_alone (Change receipt timeout) = true
-is_alone Purge = true
-is_alone Count = true
-is_alone LeaveDead = false
-is_alone (LeaveTask task) = false
-is_alone (Enter item) = false
-is_alone (TurnBack item) = false
-is_alone (GiveBack item) = false
-is_alone (GiveUp item) = false
 
 -- an event that a home shares with the ledger, as it stands in the ledger's history
 abbrev pub as_ledger : HomeId → HomeEvent → LedgerEvent
@@ -121,7 +103,7 @@ MomentsRise low (t ∷ ts) = (low ≤ (stamp_of t).moment) × MomentsRise (stamp
 
 -- no queue, nothing in transit, and homes that were never opened
 abbrev pub opening : ℕ → ℕ → List Site → System
-opening places limit sites = record { directory = record { queues = []; places = places }; ledger = opening_ledger limit; homes = map (λ site. record { site = site; home = Unopened }) sites }
+opening places limit sites = record { directory = opening_directory places; ledger = opening_ledger limit; homes = map (λ site. record { site = site; home = Unopened }) sites }
 
 abbrev pub same_home : HomeId → HomeId → Bool
 same_home x y = (y.queue == x.queue) && (y.home == x.home)

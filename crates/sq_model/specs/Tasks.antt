@@ -7,18 +7,20 @@ use Rattle.sq_model.specs.declared.task.Task.{Task}
 use Rattle.sq_model.specs.declared.task.TaskStatus.{TaskStatus}
 use Rattle.sq_model.specs.declared.task.TaskStatus.TheVariants.{Running, Completed, Cancelling, Cancelled, Failed}
 
--- what a status says: whether the task takes messages; whether it is not over, since it takes them or waits for those that it took; and whether it ended as it was asked to
+-- What a status says: whether the task takes messages; whether it is not over, since it takes them or waits for those that it took; whether it ended as it was asked to; what it is once the task is cancelled; and what once none of its messages is in transit and it is finished.
 pub record Stage : Type 0 where
   pub running : Bool
   pub active : Bool
   pub ended : Bool
+  pub cancelled : TaskStatus
+  pub finished : TaskStatus
 
 abbrev pub stage_of : TaskStatus → Stage
-stage_of Running = record { running = true; active = true; ended = false }
-stage_of Completed = record { running = false; active = false; ended = true }
-stage_of Cancelling = record { running = false; active = true; ended = false }
-stage_of Cancelled = record { running = false; active = false; ended = true }
-stage_of (Failed reason) = record { running = false; active = false; ended = false }
+stage_of Running = record { running = true; active = true; ended = false; cancelled = Cancelling; finished = Completed }
+stage_of Completed = record { running = false; active = false; ended = true; cancelled = Completed; finished = Completed }
+stage_of Cancelling = record { running = false; active = true; ended = false; cancelled = Cancelling; finished = Cancelled }
+stage_of Cancelled = record { running = false; active = false; ended = true; cancelled = Cancelled; finished = Cancelled }
+stage_of (Failed reason) = record { running = false; active = false; ended = false; cancelled = Failed reason; finished = Failed reason }
 
 abbrev pub is_running : TaskStatus → Bool
 is_running status = (stage_of status).running
@@ -73,11 +75,11 @@ with_given_up task = record task { given_up = task.given_up + 1 }
 
 -- one that takes messages takes no more
 abbrev pub cancelled_as : TaskStatus → TaskStatus
-cancelled_as status = if is_running status then Cancelling else status
+cancelled_as status = (stage_of status).cancelled
 
 -- how a task ends once none of its messages is in transit
 abbrev pub finished_as : TaskStatus → TaskStatus
-finished_as status = if is_running status then Completed else if is_active status then Cancelled else status
+finished_as status = (stage_of status).finished
 
 -- one that is over stays as it ended
 abbrev pub failed_as : FailureReason → TaskStatus → TaskStatus

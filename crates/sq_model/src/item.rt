@@ -7,12 +7,12 @@ use sq_base::row::Row;
 use std::alloc::Global;
 use std::marker::Model;
 
-/// The number of an item in transit, from 1 upwards and never twice. Own.
+/// The number of an item in transit, from 1 to 2^62 - 2 and never twice. Own.
 #[derive(Clone, Copy, PartialEq, Eq, PartialOrd, Ord, Debug)]
 pub struct ItemNo(u64);
 
 impl Model for ItemNo {
-    ghost use Rattle.std.specs.Prelude.{ℕ, ◌≤◌};
+    ghost use Rattle.std.specs.Prelude.{ℕ, ◌<◌, ◌≤◌};
 
     ghost Value = { ℕ };
 
@@ -20,7 +20,7 @@ impl Model for ItemNo {
 
     ghost inverse = { λ n. record { 0 = n } };
 
-    ghost invariant = { λ n. 1 ≤ n.0 };
+    ghost invariant = { λ n. (1 ≤ n.0) × (n.0 < 4611686018427387903) };
 }
 
 impl ItemNo {
@@ -32,12 +32,12 @@ impl ItemNo {
     }
 }
 
-/// The number of a message move task, from 1 upwards and never twice. Own.
+/// The number of a message move task, from 1 to 2^62 - 2 and never twice. Own.
 #[derive(Clone, Copy, PartialEq, Eq, PartialOrd, Ord, Debug)]
 pub struct TaskNo(u64);
 
 impl Model for TaskNo {
-    ghost use Rattle.std.specs.Prelude.{ℕ, ◌≤◌};
+    ghost use Rattle.std.specs.Prelude.{ℕ, ◌<◌, ◌≤◌};
 
     ghost Value = { ℕ };
 
@@ -45,7 +45,7 @@ impl Model for TaskNo {
 
     ghost inverse = { λ n. record { 0 = n } };
 
-    ghost invariant = { λ n. 1 ≤ n.0 };
+    ghost invariant = { λ n. (1 ≤ n.0) × (n.0 < 4611686018427387903) };
 }
 
 /// Why a message is moved (SQS Developer Guide, dead-letter queues and redrive).

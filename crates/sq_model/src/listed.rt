@@ -1,5 +1,5 @@
 //! Lists of what a step answers: rows, tasks, names.
-ghost use Rattle.std.specs.Prelude.{◌≡◌, [], ◌∷◌, ◌++◌, OnOk, IfErr, length};
+ghost use Rattle.std.specs.Prelude.{◌≡◌, ◌<◌, [], ◌∷◌, ◌++◌, OnOk, IfOk, IfErr, length};
 
 use sq_base::refusal::Refusal;
 use std::alloc::Global;
@@ -49,5 +49,19 @@ impl<T: Drop> Listed<T> {
         ensures { result.now ≡ self.now }
     {
         self.items.as_slice()
+    }
+}
+
+impl<T: Copy> Listed<T> {
+    /// The same things. Refused as NoMemory, where there are any.
+    pub fn copy(&self, alloc: Global) -> Result<Listed<T>, Refusal>
+        ensures copy { IfOk result (λ copy. copy ≡ self.now) }
+        ensures err { IfErr result (λ e. (e ≡ Refusal.NoMemory) × (0 < length self.now)) }
+    {
+        let mut copies = Listed::new(alloc);
+        for item in self.as_slice() {
+            copies.push(*item)?;
+        }
+        Ok(copies)
     }
 }

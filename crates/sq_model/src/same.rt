@@ -2,7 +2,7 @@
 ghost use Rattle.std.specs.Prelude.{◌≡◌, ◌↔◌, true};
 
 use crate::calls::HomeCall;
-use crate::item::{BoxedItem, Item};
+use crate::item::BoxedItem;
 use crate::replies::HomeReply;
 use crate::rows::Rows;
 use sq_base::row::Row;
@@ -39,21 +39,16 @@ fn are_same_rows(a: &Rows, b: &Rows) -> bool
     true
 }
 
-fn is_same_item(a: &Item, b: &Item) -> bool
+fn is_same_item(a: &BoxedItem, b: &BoxedItem) -> bool
     ensures { result ≡ true ↔ a.now ≡ b.now }
 {
+    let (a, b) = (a.get(), b.get());
     a.number == b.number
         && is_same_row(&a.row, &b.row)
         && a.source == b.source
         && a.target == b.target
         && a.reason == b.reason
         && a.homeward == b.homeward
-}
-
-fn is_same_boxed(a: &BoxedItem, b: &BoxedItem) -> bool
-    ensures { result ≡ true ↔ a.now ≡ b.now }
-{
-    is_same_item(a.get(), b.get())
 }
 
 /// Whether two calls of a home are the same.
@@ -71,10 +66,10 @@ pub fn is_same_call(a: &HomeCall, b: &HomeCall) -> bool
         (HomeCall::Count, HomeCall::Count) => true,
         (HomeCall::LeaveDead, HomeCall::LeaveDead) => true,
         (HomeCall::LeaveTask(a), HomeCall::LeaveTask(b)) => a == b,
-        (HomeCall::Enter(a), HomeCall::Enter(b)) => is_same_boxed(a, b),
-        (HomeCall::TurnBack(a), HomeCall::TurnBack(b)) => is_same_boxed(a, b),
-        (HomeCall::GiveBack(a), HomeCall::GiveBack(b)) => is_same_boxed(a, b),
-        (HomeCall::GiveUp(a), HomeCall::GiveUp(b)) => is_same_boxed(a, b),
+        (HomeCall::Enter(a), HomeCall::Enter(b)) => is_same_item(a, b),
+        (HomeCall::TurnBack(a), HomeCall::TurnBack(b)) => is_same_item(a, b),
+        (HomeCall::GiveBack(a), HomeCall::GiveBack(b)) => is_same_item(a, b),
+        (HomeCall::GiveUp(a), HomeCall::GiveUp(b)) => is_same_item(a, b),
         _ => false,
     }
 }
@@ -89,7 +84,7 @@ pub fn is_same_reply(a: &HomeReply, b: &HomeReply) -> bool
         (HomeReply::Looked(a), HomeReply::Looked(b)) => are_same_rows(a, b),
         (HomeReply::Over, HomeReply::Over) => true,
         (HomeReply::Counted(a), HomeReply::Counted(b)) => a == b,
-        (HomeReply::Left(a), HomeReply::Left(b)) => is_same_boxed(a, b),
+        (HomeReply::Left(a), HomeReply::Left(b)) => is_same_item(a, b),
         (HomeReply::NoLiveRow, HomeReply::NoLiveRow) => true,
         (HomeReply::NoOrigin(a), HomeReply::NoOrigin(b)) => a == b,
         (HomeReply::SourceClosed, HomeReply::SourceClosed) => true,

@@ -162,9 +162,10 @@ pub fn home_step(
 }
 
 /// A step of the directory that is lent, by an actor that is lent; all that grows does so before it. A clock reading is
-/// in ms. Refused as NoMemory (the actor's records or the directory's history have room for none), ClockRange, Worn,
-/// QueueNameExists, TableFull.
+/// in ms. Refused as NoMemory (the actor's records or the directory's history have room for none, or queues are listed),
+/// ClockRange, Worn, QueueNameExists, InvalidAttributeValue, TableFull.
 pub fn create_step(
+    alloc: Global,
     directory: &mut Directory,
     journal: &mut Journal,
     now: u64,
@@ -177,7 +178,7 @@ pub fn create_step(
     ensures journal_err { OnErr result (journal.new ≡ journal.old) }
 {
     ready(&journal.by, &mut journal.records, now)?;
-    let (made, record) = directory.create(&journal.by, now, name, attributes)?;
+    let (made, record) = directory.create(alloc, &journal.by, now, name, attributes)?;
     keep(
         &mut journal.by,
         &mut journal.records,

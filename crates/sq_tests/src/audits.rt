@@ -1,7 +1,7 @@
 //! Runs of steps chosen at random, what the audit says of them, and of each record that is taken out.
 ghost use Rattle.std.specs.Prelude.{◌<◌, ◌≤◌};
 
-use crate::setup::{NONE_GIVEN, hello, home, named, options, receipt};
+use crate::setup::{hello, home, named, options, receipt};
 use sq_audit::check::AuditFault;
 use sq_audit::merge::merge;
 use sq_audit::parts::Parts;
@@ -14,6 +14,7 @@ use sq_base::settings::Settings;
 use sq_directory::directory::Directory;
 use sq_merge::world::World;
 use sq_model::calls::Receipt;
+use sq_model::directory::Attributes;
 use sq_model::replies::HomeReply;
 use sq_steps::act::{Act, HomeAct, Outcome, Step};
 use sq_steps::journal::{Journal, create_step};
@@ -69,7 +70,7 @@ impl Choices {
     fn act(&mut self, alloc: Global, held: &Held) -> Result<Act, Refusal> {
         let place = self.below(50);
         if place == 0 {
-            return Ok(Act::Create(named(self.name())?, NONE_GIVEN));
+            return Ok(Act::Create(named(self.name())?, Attributes::none()));
         }
         if place == 1 {
             return Ok(Act::Resolve(named(self.name())?));
@@ -238,7 +239,7 @@ fn made(rt: &impl Abort, alloc: Global, names: &[&str]) -> Parts {
         let step = Step {
             actor: 3,
             clock: 1000,
-            act: Act::Create(named(name).expect(rt, "a name"), NONE_GIVEN),
+            act: Act::Create(named(name).expect(rt, "a name"), Attributes::none()),
         };
         let _ = world.step(alloc, &step).expect(rt, "memory");
     }
@@ -262,9 +263,15 @@ fn with_an_actor_twice(rt: &impl Abort, alloc: Global) -> Option<AuditFault> {
     let mut parts = made(rt, alloc, &["a", "b"]);
     let mut other = Journal::new(alloc, 3);
     let name = named("a").expect(rt, "a name");
-    let _ = create_step(&mut parts.directory, &mut other, 1000, &name, &NONE_GIVEN).expect(
-        rt, "memory",
-    );
+    let _ = create_step(
+        alloc,
+        &mut parts.directory,
+        &mut other,
+        1000,
+        &name,
+        &Attributes::none(),
+    )
+    .expect(rt, "memory");
     fault(alloc, &parts)
 }
 

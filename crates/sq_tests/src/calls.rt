@@ -1,5 +1,5 @@
 //! Calls of clients: what no script shows, since it follows from the seed or from a home that is closed.
-use crate::setup::{Answers, Ask, NONE_GIVEN, first_wrong, named, options};
+use crate::setup::{Answers, Ask, first_wrong, named, options};
 use sq_audit::merge::merge;
 use sq_base::ranges::MaxMessages;
 use sq_base::refusal::Refusal;
@@ -8,6 +8,7 @@ use sq_merge::calls::{
 };
 use sq_merge::options::Options;
 use sq_merge::world::World;
+use sq_model::directory::Attributes;
 use std::alloc::Global;
 use std::process::Abort;
 
@@ -24,7 +25,7 @@ fn call_of(alloc: Global, request: Request) -> Result<Call, Refusal> {
     Ok(match request {
         Request::Create => Call::CreateQueue(CreateQueue {
             name: queue,
-            attributes: NONE_GIVEN,
+            attributes: Attributes::none(),
         }),
         Request::Send => Call::SendMessage(SendMessage {
             queue,

@@ -33,12 +33,7 @@ fn a_message_is_sent_received_and_deleted(rt: HostRuntime) {
     // Actor 0 makes the queue when its clock says 0 ms.
     let create = CreateQueue {
         name: orders,
-        attributes: Attributes {
-            delay: None,
-            retention: None,
-            wait_time: None,
-            timeout: None,
-        },
+        attributes: Attributes::none(),
     };
     let made = world.call(alloc, 0, 0, &Call::CreateQueue(create));
     assert!(rt; matches!(&made, Ok(Answer::Queue(name)) if *name == orders));

@@ -12,6 +12,8 @@ mod homes;
 #[cfg(test)]
 mod places;
 #[cfg(test)]
+mod queues;
+#[cfg(test)]
 mod samples;
 #[cfg(test)]
 mod setup;

@@ -19,14 +19,6 @@ use sq_model::replies::HomeReply;
 use sq_steps::act::{Act, HomeAct, Outcome, Step};
 use std::alloc::Global;
 
-/// What a queue is asked for without attributes.
-pub const NONE_GIVEN: Attributes = Attributes {
-    delay: None,
-    retention: None,
-    wait_time: None,
-    timeout: None,
-};
-
 /// The first moment past the clock's end.
 pub const CLOCK_END: u64 = 4_611_686_018_427_387_904;
 
@@ -140,7 +132,7 @@ pub fn home_act(alloc: Global, ask: Ask) -> Result<HomeAct, Refusal> {
 /// The step that asks this.
 pub fn step(alloc: Global, actor: u32, clock: u64, at: HomeId, ask: Ask) -> Result<Step, Refusal> {
     let act = match ask {
-        Ask::Create => Act::Create(named("q")?, NONE_GIVEN),
+        Ask::Create => Act::Create(named("q")?, Attributes::none()),
         _ => Act::Home(at, home_act(alloc, ask)?),
     };
     Ok(Step { actor, clock, act })

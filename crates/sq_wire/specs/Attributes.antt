@@ -81,7 +81,7 @@ attributes_of amounts = do
   retention ← in_range_if 60 1209600 InvalidAttributeValue amounts.retention
   wait_time ← in_range_if 0 20 InvalidAttributeValue amounts.wait_time
   timeout ← in_range_if 0 43200 InvalidAttributeValue amounts.timeout
-  Ok (record { delay = delay; retention = retention; wait_time = wait_time; timeout = timeout })
+  Ok (record { delay = delay; retention = retention; wait_time = wait_time; timeout = timeout; redrive = None; allow = None })
 
 abbrev pub any_item : (Data → Bool) → Items → Bool
 any_item test no_items = false

@@ -87,6 +87,8 @@ pub fn attributes_of(amounts: &Amounts) -> Result<Attributes, Refusal>
         retention: in_range_if(amounts.retention, Refusal::InvalidAttributeValue)?,
         wait_time: in_range_if(amounts.wait_time, Refusal::InvalidAttributeValue)?,
         timeout: in_range_if(amounts.timeout, Refusal::InvalidAttributeValue)?,
+        redrive: None,
+        allow: None,
     })
 }
 

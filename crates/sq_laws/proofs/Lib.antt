@@ -1,0 +1,16 @@
+pub mod Refusals
+pub mod LineageLaws
+pub mod Progress
+pub mod LookLaws
+pub mod RiseLaws
+pub mod LedgerLists
+pub mod LedgerSteps
+pub mod LedgerLaws
+pub mod RateLaws
+pub mod SharedLaws
+pub mod DirectoryLaws
+pub mod SystemLaws
+pub mod RunLaws
+pub mod ReceiveLaws
+pub mod PairLaws
+pub mod WorkedRunLaws

@@ -1,0 +1,5 @@
+use Rattle.sq_laws.proofs.DirectoryLaws.{directory_holds}
+use Rattle.sq_laws.proofs.directory_laws.queues_differ.Goals as goal
+
+pub returns : goal.returns
+returns c = directory_holds

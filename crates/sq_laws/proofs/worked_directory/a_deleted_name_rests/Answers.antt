@@ -1,0 +1,8 @@
+use Rattle.std.proofs.Common.{refl}
+use Rattle.sq_model.specs.Directories.{DirectoryStep}
+use Rattle.sq_laws.specs.WorkedDirectory.{letters_queue}
+use Rattle.sq_laws.proofs.worked_directory.a_deleted_name_rests.Goals as goal
+
+pub returns-clause-gone : goal.returns-clause-gone
+unfolding DirectoryStep
+returns-clause-gone c = (letters_queue, refl, refl, refl)

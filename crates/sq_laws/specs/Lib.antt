@@ -1,0 +1,4 @@
+pub mod Worked
+pub mod WorkedMoves
+pub mod WorkedDirectory
+pub mod WorkedRun

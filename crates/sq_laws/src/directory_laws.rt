@@ -1,0 +1,31 @@
+//! Theorems of the directory, each the contract of a function without code.
+ghost use Rattle.std.specs.Prelude.{◌≡◌, ℕ, List, None};
+ghost use Rattle.sq_model.specs.declared.directory.DirectoryCall.{DirectoryCall};
+ghost use Rattle.sq_model.specs.declared.directory.DirectoryCall.TheVariants.{Remove};
+ghost use Rattle.sq_model.specs.declared.directory.DirectoryReply.{DirectoryReply};
+ghost use Rattle.sq_model.specs.declared.directory.DirectoryReply.TheVariants.{Removed};
+ghost use Rattle.sq_model.specs.Directories.{Directory, DirectoryStep, IsDirectory, IsGone, directory_refusal, opening_directory};
+ghost use Rattle.sq_model.specs.Replays.{Replays};
+ghost use Rattle.sq_model.specs.Systems.{DirectoryEvent};
+
+/// A step is given only where no check fails.
+pub fn directory_steps_are_allowed()
+    ensures { (d : Directory) (m : ℕ) (call : DirectoryCall) (reply : DirectoryReply) (after : Directory) → DirectoryStep d m call reply after → directory_refusal d m call ≡ None }
+{}
+
+/// Where no check fails there is a step.
+pub fn directory_steps_are_possible()
+    ensures { (d : Directory) (m : ℕ) (call : DirectoryCall) → directory_refusal d m call ≡ None → (reply : DirectoryReply) × (after : Directory) × DirectoryStep d m call reply after }
+{}
+
+/// In each directory that is the replay of its history no two queues have one number, and no two one name; no more queues were
+/// made than may be.
+pub fn queues_differ()
+    ensures { (places : ℕ) (events : List DirectoryEvent) (d : Directory) → Replays DirectoryStep (opening_directory places) events d → IsDirectory d }
+{}
+
+/// The number of a queue that is deleted is no queue's after it, and is never given again.
+pub fn numbers_of_queues_are_given_once()
+    ensures gone { (d : Directory) (m : ℕ) (name : List ℕ) (number : ℕ) (after : Directory) → IsDirectory d → DirectoryStep d m (Remove name) (Removed number) after → IsGone number after }
+    ensures stays { (number : ℕ) (d after : Directory) (events : List DirectoryEvent) → Replays DirectoryStep d events after → IsGone number d → IsGone number after }
+{}

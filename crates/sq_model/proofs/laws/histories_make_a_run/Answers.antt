@@ -1,5 +1,0 @@
-use Rattle.sq_model.proofs.RunLaws.{run_from}
-use Rattle.sq_model.proofs.laws.histories_make_a_run.Goals as goal
-
-pub returns : goal.returns
-returns c = run_from

@@ -1,5 +1,0 @@
-use Rattle.sq_model.proofs.LineageLaws.{home_law}
-use Rattle.sq_model.proofs.laws.steps_lose_nothing.Goals as goal
-
-pub returns : goal.returns
-returns c = home_law

@@ -1,5 +1,0 @@
-use Rattle.sq_model.proofs.LedgerLaws.{ledger_allowed}
-use Rattle.sq_model.proofs.ledger_laws.ledger_steps_are_allowed.Goals as goal
-
-pub returns : goal.returns
-returns c = ledger_allowed

@@ -1,5 +1,0 @@
-use Rattle.sq_model.proofs.LedgerLaws.{ledger_possible}
-use Rattle.sq_model.proofs.ledger_laws.ledger_steps_are_possible.Goals as goal
-
-pub returns : goal.returns
-returns c = ledger_possible

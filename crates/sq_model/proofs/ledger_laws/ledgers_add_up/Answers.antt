@@ -1,5 +1,0 @@
-use Rattle.sq_model.proofs.LedgerLaws.{ledger_holds}
-use Rattle.sq_model.proofs.ledger_laws.ledgers_add_up.Goals as goal
-
-pub returns : goal.returns
-returns c = ledger_holds

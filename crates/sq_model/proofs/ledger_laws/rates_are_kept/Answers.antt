@@ -1,5 +1,0 @@
-use Rattle.sq_model.proofs.RateLaws.{rate_is_kept}
-use Rattle.sq_model.proofs.ledger_laws.rates_are_kept.Goals as goal
-
-pub returns : goal.returns
-returns c = rate_is_kept

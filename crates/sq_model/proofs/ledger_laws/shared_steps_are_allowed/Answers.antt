@@ -1,5 +1,0 @@
-use Rattle.sq_model.proofs.SharedLaws.{shared_allowed}
-use Rattle.sq_model.proofs.ledger_laws.shared_steps_are_allowed.Goals as goal
-
-pub returns : goal.returns
-returns c = shared_allowed

@@ -1,5 +1,0 @@
-use Rattle.sq_model.proofs.SharedLaws.{shared_possible}
-use Rattle.sq_model.proofs.ledger_laws.shared_steps_are_possible.Goals as goal
-
-pub returns : goal.returns
-returns c = shared_possible

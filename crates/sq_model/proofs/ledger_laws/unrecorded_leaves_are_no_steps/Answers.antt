@@ -1,5 +1,0 @@
-use Rattle.sq_model.proofs.SharedLaws.{unrecorded_is_none}
-use Rattle.sq_model.proofs.ledger_laws.unrecorded_leaves_are_no_steps.Goals as goal
-
-pub returns : goal.returns
-returns c = unrecorded_is_none
