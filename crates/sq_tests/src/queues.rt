@@ -2,6 +2,7 @@
 use crate::setup::{named, options};
 use sq_base::ranges::MaxReceives;
 use sq_base::refusal::Refusal;
+use sq_base::settings::Settings;
 use sq_merge::world::World;
 use sq_model::directory::Attributes;
 use sq_model::listed::Listed;
@@ -45,14 +46,18 @@ fn made(
         clock: 0,
         act,
     };
-    let Outcome::Made(queue) = world.step(alloc, &step)? else {
-        return Ok((0, 0));
-    };
-    let target = match queue.settings.redrive {
+    match world.step(alloc, &step)? {
+        Outcome::Made(queue) => Ok((queue.queue.get(), target_of(&queue.settings))),
+        _ => Ok((0, 0)),
+    }
+}
+
+// The number of the queue that dead letters go to; 0 for none.
+fn target_of(settings: &Settings) -> u64 {
+    match &settings.redrive {
         Some(redrive) => redrive.target.get(),
         None => 0,
-    };
-    Ok((queue.queue.get(), target))
+    }
 }
 
 #[test]
