@@ -7,7 +7,7 @@ ghost use Rattle.sq_model.specs.declared.directory.DirectoryCall.TheVariants as 
 ghost use Rattle.sq_model.specs.declared.directory.DirectoryReply.TheVariants as answers;
 ghost use Rattle.sq_model.specs.declared.directory.NamePrefix.TheVariants.{Any, Text, NoName};
 ghost use Rattle.sq_model.specs.declared.policy.AllowPolicy.TheVariants.{AllowAll, DenyAll};
-ghost use Rattle.sq_model.specs.Directories.{DirectoryStep, can_redrive, directory_refusal, opening_directory, resolved, settings_at, attributes_at};
+ghost use Rattle.sq_model.specs.Directories.{DirectoryStep, can_redrive, directory_refusal, opening_directory, resolved, settings_at, attributes_at, with_attributes};
 ghost use Rattle.sq_model.specs.Policies.{nothing_given};
 ghost use Rattle.sq_laws.specs.WorkedDirectory.{both, dead_to, delay_given, denying, directory_with, letters_again, letters_for, letters_gone, letters_queue, made_queue, numbered, numbers_given, one_queue, only_x, plain_source, purged_at, redrawn, redrive_given, source_queue, unset_source};
 
@@ -86,9 +86,9 @@ pub fn sources_go_by_the_number()
 pub fn attributes_are_set()
     ensures numbers { DirectoryStep one_queue 0 (asks.Set (codes "d") numbers_given) (answers.Changed (settings_at numbered)) (record one_queue { queues = numbered ∷ [] }) }
     ensures made_with { DirectoryStep (opening_directory 4) 0 (asks.Create (codes "d") numbers_given) (answers.Made (settings_at (record numbered { version = 1 }))) (record one_queue { queues = record numbered { version = 1 } ∷ [] }) }
-    ensures nothing { DirectoryStep one_queue 0 (asks.Set (codes "d") nothing_given) (answers.Changed (settings_at (record letters_queue { version = 2 }))) (record one_queue { queues = record letters_queue { version = 2 } ∷ [] }) }
-    ensures number_stays { DirectoryStep letters_again 0 (asks.Set (codes "q") (delay_given 1)) (answers.Changed (settings_at (redrawn 1 1))) (record letters_again { queues = redrawn 1 1 ∷ made_queue 3 (codes "d") ∷ [] }) }
-    ensures number_is_new { DirectoryStep letters_again 0 (asks.Set (codes "q") (redrive_given (Some (dead_to (codes "d"))))) (answers.Changed (settings_at (redrawn 0 3))) (record letters_again { queues = redrawn 0 3 ∷ made_queue 3 (codes "d") ∷ [] }) }
+    ensures nothing { with_attributes one_queue.queues nothing_given letters_queue ≡ record letters_queue { version = 2 } }
+    ensures number_stays { with_attributes letters_again.queues (delay_given 1) source_queue ≡ redrawn 1 1 }
+    ensures number_is_new { with_attributes letters_again.queues (redrive_given (Some (dead_to (codes "d")))) source_queue ≡ redrawn 0 3 }
     ensures last_version { directory_refusal (record one_queue { queues = record letters_queue { version = 18446744073709551614 } ∷ [] }) 0 (asks.Set (codes "d") nothing_given) ≡ None }
     ensures worn { directory_refusal (record one_queue { queues = record letters_queue { version = 18446744073709551615 } ∷ [] }) 0 (asks.Set (codes "d") (redrive_given (Some (dead_to (codes "x"))))) ≡ Some Worn }
 {}
