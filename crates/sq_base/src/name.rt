@@ -3,12 +3,13 @@ ghost use Rattle.std.specs.Prelude.{◌≡◌, ℕ, List, ◌≤◌, ◌-◌, �
 ghost use Rattle.std.specs.Cmp.Lexicographic.{slice_cmp};
 ghost use Rattle.std.specs.List.{list_all};
 ghost use Rattle.std.specs.Ordering.{nat_cmp};
+ghost use Rattle.std.specs.Str.{bytes_eq};
 ghost use Rattle.sq_base.specs.Names.{is_name, is_name_byte};
 
 use std::marker::Model;
 
 /// 1 to 80 of ASCII letters, digits, `-` and `_`; case counts (SQS API Reference, CreateQueue).
-#[derive(Clone, Copy, PartialEq, Eq, PartialOrd, Ord, Debug)]
+#[derive(Clone, Copy, PartialEq, Eq, PartialOrd, Ord, Hash, Debug)]
 pub struct QueueName {
     bytes: [u8; 80],
     len: u8,
@@ -71,6 +72,11 @@ impl QueueName {
 /// contract is the law.
 pub fn names_in_byte_order()
     ensures { (a b : List ℕ) → is_name a ≡ true → is_name b ≡ true → ⟦<QueueName as Ord>⟧.cmp a b ≡ slice_cmp nat_cmp a b }
+{}
+
+/// Names that `==` calls equal, and maps find by, are those of the same bytes. It does nothing: its contract is the law.
+pub fn names_are_equal_by_bytes()
+    ensures { (a b : List ℕ) → ⟦<QueueName as PartialEq>⟧.eq a b ≡ bytes_eq a b }
 {}
 
 // The text, and zeros after it.

@@ -14,7 +14,7 @@ use Rattle.sq_model.specs.declared.directory.DirectoryCall.{DirectoryCall}
 use Rattle.sq_model.specs.declared.directory.DirectoryCall.TheVariants as asks
 use Rattle.sq_model.specs.declared.directory.DirectoryReply.{DirectoryReply}
 use Rattle.sq_model.specs.declared.directory.DirectoryReply.TheVariants as answers
-use Rattle.sq_model.specs.Directories.{Directory, Creates, DirectoryStep, changed_queue, is_named, number_of, new_queue, opening_directory, queue_of, with_attributes}
+use Rattle.sq_model.specs.Directories.{Directory, Creates, DirectoryStep, changed_queue, has_name, number_named, new_queue, opening_directory, queue_of, with_attributes}
 use Rattle.sq_model.specs.Replays.{Replays, StampsRise}
 use Rattle.sq_model.specs.Systems.{DirectoryEvent}
 use Rattle.sq_model.specs.Matches.{IsCreate}
@@ -85,16 +85,16 @@ record IsChange (change : Queue → Queue) : Type 0 where
   pub name : (q : Queue) → (change q).name ≡ q.name
   pub number : (q : Queue) → (change q).number ≡ q.number
 
-one_name : (name : List ℕ) (change : Queue → Queue) (q : Queue) → IsChange change → (if is_named name q then change q else q).name ≡ q.name
-one_name name change q c = elim (is_named name q) as (λ b. (if b then change q else q).name ≡ q.name) [ true ↦ c.name q | false ↦ refl ]
+one_name : (name : List ℕ) (change : Queue → Queue) (q : Queue) → IsChange change → (if has_name name q then change q else q).name ≡ q.name
+one_name name change q c = elim (has_name name q) as (λ b. (if b then change q else q).name ≡ q.name) [ true ↦ c.name q | false ↦ refl ]
 
-one_number : (name : List ℕ) (change : Queue → Queue) (q : Queue) → IsChange change → (if is_named name q then change q else q).number ≡ q.number
-one_number name change q c = elim (is_named name q) as (λ b. (if b then change q else q).number ≡ q.number) [ true ↦ c.number q | false ↦ refl ]
+one_number : (name : List ℕ) (change : Queue → Queue) (q : Queue) → IsChange change → (if has_name name q then change q else q).number ≡ q.number
+one_number name change q c = elim (has_name name q) as (λ b. (if b then change q else q).number ≡ q.number) [ true ↦ c.number q | false ↦ refl ]
 
 changed_in : (queues : List Queue) (name : List ℕ) (change : Queue → Queue) (at : ℕ) (x : Queue) → IsChange change → slice_get (changed_queue name change queues) at ≡ Some x → IsIn queues x
 unfolding IsIn
 changed_in queues name change at x c h =
-    let f : Queue → Queue = λ q. if is_named name q then change q else q in
+    let f : Queue → Queue = λ q. if has_name name q then change q else q in
     let r = get_mapped f queues at x h in
     (at, r.0, r.1, sym (ap (λ (q : Queue). q.name) r.2 ∙ one_name name change r.0 c), sym (ap (λ (q : Queue). q.number) r.2 ∙ one_number name change r.0 c))
 
@@ -105,7 +105,7 @@ step_made d m (asks.Create name given) (answers.Made made) after at x h in_list 
 step_made d m (asks.Set name given) (answers.Changed changed) after at x h in_list =
     inl (changed_in d.queues name (with_attributes d.queues given) at x (record { name = λ q. refl; number = λ q. refl }) (subst (λ (a : Directory). slice_get a.queues at ≡ Some x) h.5 in_list))
 step_made d m (asks.Remove name) (answers.Removed number) after at x h in_list =
-    let r = get_filtered (λ queue. not (is_named name queue)) d.queues at x (subst (λ (a : Directory). slice_get a.queues at ≡ Some x) h.3 in_list) in inl (r.0, x, r.1, refl, refl)
+    let r = get_filtered (λ queue. not (has_name name queue)) d.queues at x (subst (λ (a : Directory). slice_get a.queues at ≡ Some x) h.3 in_list) in inl (r.0, x, r.1, refl, refl)
 step_made d m (asks.PurgeTicket name) (answers.Ticket number) after at x h in_list =
     inl (changed_in d.queues name (λ q. record q { last_purge = Some m }) at x (record { name = λ q. refl; number = λ q. refl }) (subst (λ (a : Directory). slice_get a.queues at ≡ Some x) h.4 in_list))
 step_made d m (asks.Url name) (answers.Found number) after at x h in_list = inl (in_same d.queues after.queues at x (ap (λ (a : Directory). a.queues) h.1) in_list)
@@ -140,17 +140,17 @@ stamps_seen {K} {R} low (x ∷ es) last zero e r in_list = subst (λ (y : Event 
 stamps_seen low (x ∷ es) last (suc k) e r in_list = stamps_seen x.stamp es last k e r.1 in_list
 
 -- the queue of a name has its number, and that name
-number_found : (name : List ℕ) (queues : List Queue) (number : ℕ) → number_of name queues ≡ Some number → (x : Queue) × (queue_of name queues ≡ Some x) × (x.number ≡ number)
+number_found : (name : List ℕ) (queues : List Queue) (number : ℕ) → number_named name queues ≡ Some number → (x : Queue) × (queue_of name queues ≡ Some x) × (x.number ≡ number)
 number_found name queues number h =
     elim (queue_of name queues) as (λ p. queue_of name queues ≡ p → option_map (λ queue. queue.number) p ≡ Some number → (x : Queue) × (queue_of name queues ≡ Some x) × (x.number ≡ number))
     [ Some x ↦ (λ e k. (x, e, some_same k)) | None ↦ (λ e k. absurd cc) ] refl h
 
 -- a queue that is found was made by its name
-pub found_made : (d : DirectoryHistory) (name : List ℕ) (number : ℕ) → IsDirectoryKept d → number_of name d.directory.queues ≡ Some number → IsMadeBy d.events d.last name number
+pub found_made : (d : DirectoryHistory) (name : List ℕ) (number : ℕ) → IsDirectoryKept d → number_named name d.directory.queues ≡ Some number → IsMadeBy d.events d.last name number
 unfolding IsIn
 found_made d name number kept h =
     let found = number_found name d.directory.queues number h in
-    let stands = find_in (is_named name) d.directory.queues found.0 found.1 in
+    let stands = find_in (has_name name) d.directory.queues found.0 found.1 in
     let named : found.0.name ≡ name = (bytes_eq-Decides found.0.name name).0 stands.2 in
     elim (queues_made (opening_directory d.directory.places) d.events d.directory stands.0 found.0 kept.replays stands.1) [
       | inl none ↦ absurd cc
@@ -163,6 +163,6 @@ found_made d name number kept h =
       )
     ]
 
-pub if_found : (d : DirectoryHistory) (name : List ℕ) (found : Option ℕ) → IsDirectoryKept d → found ≡ number_of name d.directory.queues → IfSome found (IsMadeBy d.events d.last name)
+pub if_found : (d : DirectoryHistory) (name : List ℕ) (found : Option ℕ) → IsDirectoryKept d → found ≡ number_named name d.directory.queues → IfSome found (IsMadeBy d.events d.last name)
 if_found d name (Some number) kept e = found_made d name number kept (sym e)
 if_found d name None kept e = tt

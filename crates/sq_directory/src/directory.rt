@@ -1,7 +1,7 @@
 //! The directory: the queues of a service, and all that was done to them.
 ghost use Rattle.std.specs.Prelude.{◌≡◌, [], IfOk, IfErr, IfSome, OnErr};
 ghost use Rattle.sq_base.specs.Stamps.{start};
-ghost use Rattle.sq_model.specs.Directories.{number_of, opening_directory};
+ghost use Rattle.sq_model.specs.Directories.{number_named, opening_directory};
 ghost use Rattle.sq_model.specs.declared.directory.DirectoryCall.TheVariants.{Create};
 ghost use Rattle.sq_model.specs.declared.directory.DirectoryReply.TheVariants.{Made};
 ghost use Rattle.sq_directory.specs.Makers.{IsMadeBy};
@@ -67,7 +67,7 @@ impl Directory {
 
     /// The number of the queue of this name.
     pub fn find(&self, name: &QueueName) -> Option<QueueNo>
-        ensures number { result ≡ number_of name.now self.now.directory.queues }
+        ensures number { result ≡ number_named name.now self.now.directory.queues }
         // It was made by its name.
         ensures made { IfSome result (IsMadeBy self.now.events self.now.last name.now) }
     {

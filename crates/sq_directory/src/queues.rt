@@ -3,7 +3,7 @@ ghost use Rattle.std.specs.Prelude.{◌≡◌, ◌⊎◌, ◌<◌, ◌≤◌, �
 ghost use Rattle.std.specs.List.{list_any};
 ghost use Rattle.std.specs.Str.{bytes_eq};
 ghost use Rattle.sq_model.specs.Policies.{agrees_allow, agrees_redrive, permits};
-ghost use Rattle.sq_model.specs.Directories.{queue_of, number_of, is_or_none, agrees, is_permitted, may_have, may_target, redrive_to, changed_redrive, new_queue, opening_directory, plain_queue, settings_at, with_attributes, DirectoryStep, directory_refusal};
+ghost use Rattle.sq_model.specs.Directories.{queue_of, number_named, is_or_none, agrees, is_permitted, may_have, may_target, redrive_to, changed_redrive, new_queue, opening_directory, plain_queue, settings_at, with_attributes, DirectoryStep, directory_refusal};
 ghost use Rattle.sq_model.specs.declared.directory.DirectoryCall.TheVariants.{Create};
 ghost use Rattle.sq_model.specs.declared.directory.DirectoryReply.TheVariants.{Made};
 
@@ -48,9 +48,9 @@ impl Queues {
 
     /// The number of the queue of this name.
     pub fn find(&self, name: &QueueName) -> Option<QueueNo>
-        ensures { result ≡ number_of name.now self.now.queues }
+        ensures { result ≡ number_named name.now self.now.queues }
     {
-        number_of(&self.made, name)
+        number_named(&self.made, name)
     }
 
     /// Makes a queue of this name with these attributes, where there is none yet; else it must have them.
@@ -104,8 +104,8 @@ fn queue_of<'a>(queues: &'a [Queue], name: &QueueName) -> Option<&'a Queue>
         .find(|queue| queue.name.as_bytes() == name.as_bytes())
 }
 
-fn number_of(queues: &[Queue], name: &QueueName) -> Option<QueueNo>
-    ensures { result ≡ number_of name.now queues.now }
+fn number_named(queues: &[Queue], name: &QueueName) -> Option<QueueNo>
+    ensures { result ≡ number_named name.now queues.now }
 {
     let queue = queue_of(queues, name)?;
     Some(queue.number)
@@ -161,7 +161,7 @@ fn redrive_to(queues: &[Queue], policy: &Option<RedrivePolicy>) -> Option<Redriv
     ensures { result ≡ redrive_to queues.now policy.now }
 {
     let policy = policy.as_ref()?;
-    let target = number_of(queues, &policy.target)?;
+    let target = number_named(queues, &policy.target)?;
     Some(Redrive {
         target,
         max_receives: policy.max_receives,

@@ -9,6 +9,10 @@ pub mod LedgerLaws
 pub mod RateLaws
 pub mod SharedLaws
 pub mod DirectoryLaws
+pub mod DirectoryAnswers
+pub mod DirectoryLists
+pub mod DirectoryPolicies
+pub mod DirectoryHolds
 pub mod SystemLaws
 pub mod RunLaws
 pub mod ReceiveLaws

@@ -22,7 +22,7 @@ use Rattle.sq_model.specs.declared.task.NamedQueue.{NamedQueue}
 use Rattle.sq_model.specs.declared.task.Task.{Task}
 use Rattle.sq_model.specs.Rows.{Takes, trimmed, is_dead, is_live}
 use Rattle.sq_model.specs.Homes.{Home, Unopened, Serving, Closed, HasSlot, HomeStep, IsFrom, home_refusal, may_enter, may_return}
-use Rattle.sq_model.specs.Tasks.{goes_to, is_running, may_leave, target_of}
+use Rattle.sq_model.specs.Tasks.{destination_or, is_running, may_leave, target_of}
 use Rattle.sq_model.specs.Ledgers.{HasRoom, Ledger, LedgerStep, MayTake, is_of_source, item_of, room_refusal, task_of}
 use Rattle.sq_model.specs.Shared.{IsCallOf, HasSharedStep, IsUnrecorded, SharedStep, after_given, is_entering, is_returning, is_throttled, shared_refusal, shared_stamp, task_refusal}
 use Rattle.sq_base.proofs.StampLaws.{after_above, after_moment, below_trans}
@@ -167,8 +167,8 @@ row_goes site s v n rows l m number task may pace room row rest t live None None
   slot = tt;
   step = record { at_home = ((row, rest, t, live, refl, o), refl); in_ledger = ((task, may, pace, d), room, refl) };
 }
-row_goes site s v n rows l m number task may pace room row rest t live None (Some queue) d o = leaves_to site s v n rows l m number task may pace room row rest t live queue (sym (ap (λ (x : Option NamedQueue). goes_to x row.origin) d ∙ o))
-row_goes site s v n rows l m number task may pace room row rest t live (Some queue) origin d o = leaves_to site s v n rows l m number task may pace room row rest t live queue.number (sym (ap (λ (x : Option NamedQueue). goes_to x row.origin) d))
+row_goes site s v n rows l m number task may pace room row rest t live None (Some queue) d o = leaves_to site s v n rows l m number task may pace room row rest t live queue (sym (ap (λ (x : Option NamedQueue). destination_or x row.origin) d ∙ o))
+row_goes site s v n rows l m number task may pace room row rest t live (Some queue) origin d o = leaves_to site s v n rows l m number task may pace room row rest t live queue.number (sym (ap (λ (x : Option NamedQueue). destination_or x row.origin) d))
 
 and_both : (a b : Bool) → (a && b) ≡ true → (a ≡ true) × (b ≡ true)
 and_both true b h = (refl, h)

@@ -1,5 +1,5 @@
 -- The ten steps of a dead letter's way, each a step of the system.
-use Rattle.std.proofs.Common.{◌≡◌, ◌<◌, ◌≤◌, ℕ, [], ◌∷◌, Some, refl, arith}
+use Rattle.std.proofs.Common.{[], ◌∷◌, Some, refl, arith}
 use Rattle.std.specs.List.{Contains}
 use Rattle.std.proofs.lemmas.List.Elements.{All-cons, All-nil}
 use Rattle.sq_base.specs.declared.row.Row.{Row}
@@ -10,7 +10,7 @@ use Rattle.sq_model.specs.Ledgers.{LedgerStep}
 use Rattle.sq_model.specs.Systems.{MomentsRise, RunFrom, opening}
 use Rattle.sq_laws.specs.Worked.{hello, hello_once, plain, strict, wide, with_rows}
 use Rattle.sq_laws.specs.WorkedMoves.{letter, letters_site}
-use Rattle.sq_laws.specs.WorkedRun.{after_all, after_enter, after_leave, after_letters_made, after_letters_opened, after_none, after_receive, after_send, after_source_made, after_source_opened, both_sites, received_letter, worked_run}
+use Rattle.sq_laws.specs.WorkedRun.{after_all, after_enter, after_leave, after_letters_made, after_letters_opened, after_receive, after_send, after_source_made, after_source_opened, both_sites, received_letter, worked_run}
 
 pub moments_rise : MomentsRise 0 worked_run
 moments_rise = (omega arith, (omega arith, (omega arith, (omega arith, (omega arith, (omega arith, (omega arith, (omega arith, (omega arith, (omega arith, tt))))))))))
@@ -32,13 +32,13 @@ pub steps : RunFrom (opening 64 10000 both_sites) worked_run after_all
 unfolding DirectoryStep HomeStep LedgerStep new_letter
 steps = (
   after_letters_made,
-  record { component = refl; step = (record { rested = refl; policy = refl; place = omega arith }, refl, refl); ledger = refl; homes = refl },
+  record { component = refl; step = (record { name_free = refl; policy = refl; place = omega arith }, refl, refl); ledger = refl; homes = refl },
   (
     after_letters_opened,
     record { old = record { site = letters_site; home = Unopened }; new = with_rows plain 0 []; in_list = refl; component = refl; step = refl; ledger = refl; homes = refl; directory = refl },
     (
       after_source_made,
-      record { component = refl; step = (record { rested = refl; policy = refl; place = omega arith }, refl, refl); ledger = refl; homes = refl },
+      record { component = refl; step = (record { name_free = refl; policy = refl; place = omega arith }, refl, refl); ledger = refl; homes = refl },
       (
         after_source_opened,
         record { old = record { site = wide; home = Unopened }; new = with_rows strict 0 []; in_list = refl; component = refl; step = refl; ledger = refl; homes = refl; directory = refl },

@@ -19,6 +19,9 @@ dead_to target = record { target = target; max_receives = 1 }
 abbrev pub redrive_given : Option RedrivePolicy → Attributes
 redrive_given policy = record nothing_given { redrive = Some policy }
 
+abbrev pub allow_given : AllowPolicy → Attributes
+allow_given policy = record nothing_given { allow = Some (Some policy) }
+
 abbrev pub only_x : AllowPolicy
 only_x = ByQueue (codes "x" ∷ [])
 
@@ -58,6 +61,10 @@ letters_for allow = directory_with (record letters_queue { allow = allow } ∷ p
 -- the first queue was deleted at 61,000
 abbrev pub letters_gone : Directory
 letters_gone = directory_with (source_queue ∷ []) (record { name = codes "d"; moment = 61000 } ∷ [])
+
+-- it was the second time that a queue of its name was deleted
+abbrev pub deleted_twice : ℕ → Directory
+deleted_twice m = record letters_gone { deleted = record { name = codes "d"; moment = 0 } ∷ record { name = codes "d"; moment = m } ∷ []; made = 3 }
 
 -- and one of its name was made again
 abbrev pub letters_again : Directory

@@ -12,7 +12,7 @@ use Rattle.sq_model.specs.declared.replies.HomeReply.TheVariants.{Done, Sent, Lo
 use Rattle.sq_model.specs.Directories.{Directory, opening_directory, settings_at}
 use Rattle.sq_model.specs.Homes.{Home, Unopened}
 use Rattle.sq_model.specs.Ledgers.{Ledger, opening_ledger}
-use Rattle.sq_model.specs.Systems.{DirectoryEvent, System, Tag, OfDirectory, OfHome}
+use Rattle.sq_model.specs.Systems.{System, Tag, OfDirectory, OfHome}
 use Rattle.sq_laws.specs.Worked.{hello, hello_once, hello_text, id_of, plain, strict, wide, with_rows, worked_home}
 use Rattle.sq_model.specs.Policies.{nothing_given}
 use Rattle.sq_laws.specs.WorkedDirectory.{dead_to, letters_queue, redrive_given, source_queue}

@@ -18,8 +18,14 @@ pub fn directory_steps_are_possible()
     ensures { (d : Directory) (m : ℕ) (call : DirectoryCall) → directory_refusal d m call ≡ None → (reply : DirectoryReply) × (after : Directory) × DirectoryStep d m call reply after }
 {}
 
-/// In each directory that is the replay of its history no two queues have one number, and no two one name; no more queues were
-/// made than may be.
+/// At a moment a directory has one answer to a call, and one directory to go on to.
+pub fn a_directory_has_one_answer()
+    ensures { (d : Directory) (m : ℕ) (call : DirectoryCall) (reply : DirectoryReply) (after : Directory) → DirectoryStep d m call reply after
+        → (other : DirectoryReply) (again : Directory) → DirectoryStep d m call other again → (reply ≡ other) × (after ≡ again) }
+{}
+
+/// In each directory that is the replay of its history no two queues have one number, and no two one name. A queue's policy names
+/// another queue that was made once. All that were made are there or deleted, and no more were made than may be.
 pub fn queues_differ()
     ensures { (places : ℕ) (events : List DirectoryEvent) (d : Directory) → Replays DirectoryStep (opening_directory places) events d → IsDirectory d }
 {}

@@ -6,10 +6,10 @@ ghost use Rattle.sq_base.specs.declared.refusal.Refusal.TheVariants.{InvalidAttr
 ghost use Rattle.sq_model.specs.declared.directory.DirectoryCall.TheVariants as asks;
 ghost use Rattle.sq_model.specs.declared.directory.DirectoryReply.TheVariants as answers;
 ghost use Rattle.sq_model.specs.declared.directory.NamePrefix.TheVariants.{Any, Text, NoName};
-ghost use Rattle.sq_model.specs.declared.policy.AllowPolicy.TheVariants.{AllowAll, DenyAll};
-ghost use Rattle.sq_model.specs.Directories.{DirectoryStep, can_redrive, directory_refusal, opening_directory, resolved, settings_at, attributes_at, with_attributes};
+ghost use Rattle.sq_model.specs.declared.policy.AllowPolicy.TheVariants.{AllowAll, ByQueue, DenyAll};
+ghost use Rattle.sq_model.specs.Directories.{DirectoryStep, all_named, can_redrive, directory_refusal, opening_directory, resolved, settings_at, attributes_at, with_attributes};
 ghost use Rattle.sq_model.specs.Policies.{nothing_given};
-ghost use Rattle.sq_laws.specs.WorkedDirectory.{both, dead_to, delay_given, denying, directory_with, letters_again, letters_for, letters_gone, letters_queue, made_queue, numbered, numbers_given, one_queue, only_x, plain_source, purged_at, redrawn, redrive_given, source_queue, unset_source};
+ghost use Rattle.sq_laws.specs.WorkedDirectory.{allow_given, both, dead_to, delay_given, deleted_twice, denying, directory_with, letters_again, letters_for, letters_gone, letters_queue, made_queue, numbered, numbers_given, one_queue, only_x, plain_source, purged_at, redrawn, redrive_given, source_queue, unset_source};
 
 /// The first queue has number 1 and version 1. It is found again where what is given is its own, a policy as it is printed, and
 /// is refused else; the fifth queue is too many.
@@ -20,6 +20,9 @@ pub fn a_queue_is_made_once()
     ensures also_when_gone { directory_refusal letters_gone 61000 (asks.Create (codes "q") (redrive_given (Some (dead_to (codes "d"))))) ≡ None }
     ensures other_delay { directory_refusal both 0 (asks.Create (codes "q") (delay_given 1)) ≡ Some QueueNameExists }
     ensures other_policy { directory_refusal both 0 (asks.Create (codes "q") (redrive_given None)) ≡ Some QueueNameExists }
+    ensures same_order { directory_refusal (letters_for (Some (ByQueue (codes "x" ∷ codes "q" ∷ [])))) 0 (asks.Create (codes "d") (allow_given (ByQueue (codes "x" ∷ codes "q" ∷ [])))) ≡ None }
+    ensures other_order { directory_refusal (letters_for (Some (ByQueue (codes "x" ∷ codes "q" ∷ [])))) 0 (asks.Create (codes "d") (allow_given (ByQueue (codes "q" ∷ codes "x" ∷ [])))) ≡ Some QueueNameExists }
+    ensures said_and_unsaid { directory_refusal (letters_for None) 0 (asks.Create (codes "d") (allow_given AllowAll)) ≡ Some QueueNameExists }
     ensures differs_before_policy { directory_refusal both 0 (asks.Create (codes "q") (record (redrive_given (Some (dead_to (codes "x")))) { delay = Some 1 })) ≡ Some QueueNameExists }
     ensures last_place { directory_refusal (record both { places = 3 }) 0 (asks.Create (codes "x") nothing_given) ≡ None }
     ensures full { directory_refusal (record both { places = 2 }) 0 (asks.Create (codes "x") nothing_given) ≡ Some TableFull }
@@ -35,12 +38,14 @@ pub fn a_purge_comes_once_in_a_minute()
 
 /// The name of a queue that was deleted at 61,000 is free from 121,000 on, for a queue with another number. Of two causes the name
 /// comes first, then the policy, then the place.
-pub fn a_deleted_name_rests()
+pub fn a_deleted_name_is_not_free_at_once()
     ensures gone { DirectoryStep both 61000 (asks.Remove (codes "d")) (answers.Removed 1) letters_gone }
     ensures unknown { resolved (codes "d") letters_gone ≡ Err QueueDoesNotExist }
     ensures early { directory_refusal letters_gone 120999 (asks.Create (codes "d") nothing_given) ≡ Some QueueDeletedRecently }
     ensures in_time { DirectoryStep letters_gone 121000 (asks.Create (codes "d") nothing_given) (answers.Made (settings_at (made_queue 3 (codes "d"))))
         (record letters_gone { queues = source_queue ∷ made_queue 3 (codes "d") ∷ []; made = 3 }) }
+    ensures early_the_second_time { directory_refusal (deleted_twice 61000) 120999 (asks.Create (codes "d") nothing_given) ≡ Some QueueDeletedRecently }
+    ensures in_time_the_second_time { directory_refusal (deleted_twice 61000) 121000 (asks.Create (codes "d") nothing_given) ≡ None }
     ensures name_before_policy { directory_refusal (record letters_gone { places = 2 }) 120999 (asks.Create (codes "d") (redrive_given (Some (dead_to (codes "x"))))) ≡ Some QueueDeletedRecently }
     ensures policy_before_place { directory_refusal (record letters_gone { places = 2 }) 121000 (asks.Create (codes "d") (redrive_given (Some (dead_to (codes "x"))))) ≡ Some InvalidAttributeValue }
     ensures place { directory_refusal (record letters_gone { places = 2 }) 121000 (asks.Create (codes "d") nothing_given) ≡ Some TableFull }
@@ -74,6 +79,8 @@ pub fn sources_go_by_the_number()
     ensures no_name { DirectoryStep both 0 (asks.List NoName) (answers.Listed []) both }
     ensures read { DirectoryStep both 0 (asks.Read (codes "q")) (answers.Read (attributes_at source_queue)) both }
     ensures found { DirectoryStep both 0 (asks.Url (codes "q")) (answers.Found 2) both }
+    ensures resolved { resolved (codes "q") both ≡ Ok 2 }
+    ensures named { all_named both ≡ record { number = 1; name = codes "d" } ∷ record { number = 2; name = codes "q" } ∷ [] }
     ensures moved { can_redrive (codes "d") (Some (codes "q")) both ≡ Ok (record { source = record { number = 1; name = codes "d" }; destination = Some (record { number = 2; name = codes "q" }) }) }
     ensures home { can_redrive (codes "d") None both ≡ Ok (record { source = record { number = 1; name = codes "d" }; destination = None }) }
     ensures no_source { can_redrive (codes "q") None both ≡ Err UnsupportedOperation }

@@ -8,7 +8,7 @@ use Rattle.sq_base.specs.declared.refusal.Refusal.{Refusal}
 use Rattle.sq_base.specs.declared.refusal.Refusal.TheVariants.{ClockRange, Worn, InvalidParameterValue, QueueDoesNotExist, OverLimit, ReceiptHandleIsInvalid, MessageNotInflight}
 use Rattle.std.specs.List.{list_any}
 use Rattle.sq_base.specs.declared.row.Row.{Row}
-use Rattle.sq_model.specs.Directories.{Directory, agrees, create_refusal, directory_refusal, is_resting, may_have, queue_of}
+use Rattle.sq_model.specs.Directories.{Directory, agrees, create_refusal, deleted_recently, directory_refusal, may_have, queue_of}
 use Rattle.sq_model.specs.declared.directory.Attributes.{Attributes}
 use Rattle.sq_model.specs.declared.directory.DirectoryCall.TheVariants.{Create}
 use Rattle.sq_model.specs.declared.directory.Queue.{Queue}
@@ -143,7 +143,7 @@ home_may w actor now name id a e h = elim h [
 ]
 
 create_cases : (d : Directory) (m : ℕ) (name : List ℕ) (given : Attributes) (found : Option Queue) (e : Refusal) → create_refusal d m name given found ≡ Some e → IsOfDirectory (Create name given) e
-create_cases d m name given None e h = inr (three_cases (is_resting m name d.deleted) (not (may_have d.queues name given.redrive)) (nat_le d.places d.made) _ _ _ e h)
+create_cases d m name given None e h = inr (three_cases (deleted_recently m name d.deleted) (not (may_have d.queues name given.redrive)) (nat_le d.places d.made) _ _ _ e h)
 create_cases d m name given (Some queue) e h = inl (one_case (not (agrees given queue)) _ e h)
 
 directory_cases : (d : Directory) (m : ℕ) (name : List ℕ) (given : Attributes) (e : Refusal) → directory_refusal d m (Create name given) ≡ Some e → IsOfDirectory (Create name given) e

@@ -18,7 +18,7 @@ use Rattle.sq_history.specs.declared.act.HomeAct.TheVariants as act
 use Rattle.sq_merge.specs.declared.calls.Answer.{Answer}
 use Rattle.sq_merge.specs.declared.calls.Answer.TheVariants as answer
 use Rattle.sq_merge.specs.declared.calls.CreateQueue.{CreateQueue}
-use Rattle.sq_merge.specs.declared.calls.NamedQueue.{NamedQueue}
+use Rattle.sq_model.specs.declared.task.NamedQueue.{NamedQueue}
 use Rattle.sq_merge.specs.declared.calls.ReceiveMessage.{ReceiveMessage}
 use Rattle.sq_merge.specs.declared.client.OnMessage.{OnMessage}
 use Rattle.sq_merge.specs.declared.client.OnMessage.TheVariants.{Delete, Change}
@@ -48,14 +48,14 @@ answered_lost stepped At old new name answered e is may h = answered_one stepped
 
 -- a call on the message of a handle, at a queue that was found
 pub answered_handle : {S : Type 0} (stepped : S → Ask → Result Gave Refusal → S → Type 0) (counts : S → HomeCounts) (old mid new : S) (name : List ℕ) (handle : Option Handle) (a : Receipt → HomeAct) (of : NamedQueue) (h : Handle) (by : Result HomeReply Refusal) (answered : Result Answer Refusal)
-    → stepped old (Resolve name) (Ok (Found of.queue)) mid → counts mid ≡ counts old → of.name ≡ name → handle_at (counts mid).homes of.queue handle ≡ Some h
-    → stepped mid (AtHome of.name (home_numbered of.queue h.home) (a (receipt_of h))) (replied_of by) new → OneStep of.name of.queue h.home (a (receipt_of h)) MakesDone (at_home of.name of.queue h.home (a (receipt_of h)) by ∷ []) answered
+    → stepped old (Resolve name) (Ok (Found of.number)) mid → counts mid ≡ counts old → of.name ≡ name → handle_at (counts mid).homes of.number handle ≡ Some h
+    → stepped mid (AtHome of.name (home_numbered of.number h.home) (a (receipt_of h))) (replied_of by) new → OneStep of.name of.number h.home (a (receipt_of h)) MakesDone (at_home of.name of.number h.home (a (receipt_of h)) by ∷ []) answered
     → Performs stepped (ByName name (HandleAt (counts old).homes name handle a)) old answered new
 answered_handle stepped counts old mid new name handle a of h by answered did same by_name found asked fits =
-    let F = OneStep of.name of.queue h.home (a (receipt_of h)) MakesDone in
-    answered_found stepped counts (λ n. HandleAt n.homes name handle a) F old mid new name of.queue answered did same
-    (answered_one stepped F mid mid new answered (at_home of.name of.queue h.home (a (receipt_of h)) by) refl asked fits)
-    (λ ds one. inr (h, found, subst (λ (n : List ℕ). OneStep n of.queue h.home (a (receipt_of h)) MakesDone ds answered) by_name one))
+    let F = OneStep of.name of.number h.home (a (receipt_of h)) MakesDone in
+    answered_found stepped counts (λ n. HandleAt n.homes name handle a) F old mid new name of.number answered did same
+    (answered_one stepped F mid mid new answered (at_home of.name of.number h.home (a (receipt_of h)) by) refl asked fits)
+    (λ ds one. inr (h, found, subst (λ (n : List ℕ). OneStep n of.number h.home (a (receipt_of h)) MakesDone ds answered) by_name one))
 
 -- and of what is no handle there
 pub answered_no_handle : {S : Type 0} (stepped : S → Ask → Result Gave Refusal → S → Type 0) (counts : S → HomeCounts) (old new : S) (name : List ℕ) (handle : Option Handle) (a : Receipt → HomeAct) (queue : ℕ) (answered : Result Answer Refusal)

@@ -1,7 +1,7 @@
 -- What the steps of a call do to a world.
 use Rattle.std.specs.Prelude.{◌≡◌, ℕ, Some, Result, Ok, Err}
 use Rattle.sq_base.specs.declared.refusal.Refusal.{Refusal}
-use Rattle.sq_model.specs.Directories.{number_of}
+use Rattle.sq_model.specs.Directories.{number_named}
 use Rattle.sq_model.specs.declared.directory.DirectoryCall.TheVariants.{Create}
 use Rattle.sq_model.specs.declared.directory.DirectoryReply.TheVariants.{Made}
 use Rattle.sq_history.specs.Acts.{call_of}
@@ -15,7 +15,7 @@ counts_of w = record { homes = w.per_queue; sample = w.sample }
 
 -- one step of a call by an actor at a clock reading, with this answer
 abbrev pub ActorDoes : ℕ → ℕ → WorldValue → Ask → Gave → WorldValue → Type 0
-ActorDoes actor now w (Resolve name) (Found queue) t = (number_of name w.directory.directory.queues ≡ Some queue) × (t ≡ having_read w actor)
+ActorDoes actor now w (Resolve name) (Found queue) t = (number_named name w.directory.directory.queues ≡ Some queue) × (t ≡ having_read w actor)
 ActorDoes actor now w (Directed (Create name attributes)) (Answered (Made made)) t = Created w t actor now name attributes made
 ActorDoes actor now w (AtHome name id act) (Replied reply) t = HomeStepped w t actor now (Some name) id (call_of act) reply
 ActorDoes actor now w ask gave t = ⊥

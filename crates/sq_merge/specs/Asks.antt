@@ -20,7 +20,7 @@ use Rattle.sq_history.specs.Acts.{call_of}
 use Rattle.sq_directory.specs.Makers.{IsSeen}
 use Rattle.sq_history.specs.Rooms.{KeepsRoom}
 use Rattle.sq_steps.specs.Journals.{having_seen, with_record}
-use Rattle.sq_merge.specs.declared.calls.NamedQueue.{NamedQueue}
+use Rattle.sq_model.specs.declared.task.NamedQueue.{NamedQueue}
 use Rattle.sq_merge.specs.ReceivedValue.{AreReceived}
 
 -- What a step asks: the number of the queue of a name, which is a read; a step of the directory; a step of a home, by the queue's name that was used.
@@ -36,7 +36,7 @@ pub data Gave : Type 0 where
   Replied : (reply : HomeReply) → Gave
 
 abbrev pub found_of : Result NamedQueue Refusal → Result Gave Refusal
-found_of (Ok of) = Ok (Found of.queue)
+found_of (Ok of) = Ok (Found of.number)
 found_of (Err e) = Err e
 
 abbrev pub made_of : Result QueueSettings Refusal → Result Gave Refusal

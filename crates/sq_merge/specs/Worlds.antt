@@ -10,7 +10,7 @@ use Rattle.sq_model.specs.declared.directory.DirectoryCall.TheVariants as direct
 use Rattle.sq_model.specs.declared.directory.DirectoryReply.TheVariants.{Made}
 use Rattle.sq_model.specs.declared.calls.HomeCall.{HomeCall}
 use Rattle.sq_model.specs.declared.replies.HomeReply.{HomeReply}
-use Rattle.sq_model.specs.Directories.{number_of}
+use Rattle.sq_model.specs.Directories.{number_named}
 use Rattle.sq_model.specs.Replays.{HomeEvent}
 use Rattle.sq_model.specs.Systems.{DirectoryEvent}
 use Rattle.sq_model.specs.RecordValues.{RecordValue, place_of_record, Journal}
@@ -68,15 +68,15 @@ having_read w actor = record w { journals = put_journal (having_seen (journal_of
 -- One step by an actor, and its outcome.
 abbrev pub StepDone : WorldValue → WorldValue → ℕ → ℕ → Act → Outcome → Type 0
 StepDone old new actor now (act.Create name attributes) (answered.Made made) = Created old new actor now name attributes made
-StepDone old new actor now (act.Resolve name) (answered.Resolved queue) = (number_of name old.directory.directory.queues ≡ Some queue) × (new ≡ having_read old actor)
+StepDone old new actor now (act.Resolve name) (answered.Resolved queue) = (number_named name old.directory.directory.queues ≡ Some queue) × (new ≡ having_read old actor)
 StepDone old new actor now (act.Home id what) (answered.Home reply) = HomeStepped old new actor now None id (call_of what) reply
 StepDone old new actor now what outcome = ⊥
 
 -- why a name is not read: there is no such queue; or there is one, the actor is new, and no memory was found for it
 abbrev pub NameRefused : WorldValue → ℕ → List ℕ → Refusal → Type 0
 NameRefused w actor name e =
-    ((number_of name w.directory.directory.queues ≡ None) × (e ≡ QueueDoesNotExist))
-    ⊎ (((queue : ℕ) × (number_of name w.directory.directory.queues ≡ Some queue)) × (position (is_of actor) w.journals ≡ None) × (e ≡ NoMemory))
+    ((number_named name w.directory.directory.queues ≡ None) × (e ≡ QueueDoesNotExist))
+    ⊎ (((queue : ℕ) × (number_named name w.directory.directory.queues ≡ Some queue)) × (position (is_of actor) w.journals ≡ None) × (e ≡ NoMemory))
 
 -- a home that is there is sent a body; its copy takes memory
 abbrev pub IsSentTo : WorldValue → HomeId → HomeAct → Type 0

@@ -9,7 +9,7 @@ ghost use Rattle.sq_merge.specs.Fits.{CallFits};
 ghost use Rattle.sq_merge.specs.Performs.{Performs, LeavesRecords};
 ghost use Rattle.sq_merge.specs.Worlds.{IsKnown};
 
-use crate::calls::{Answer, Call, NamedQueue};
+use crate::calls::{Answer, Call};
 use crate::client;
 use crate::lock_steps::LockSteps;
 use crate::world::World;
@@ -19,6 +19,7 @@ use sq_base::refusal::Refusal;
 use sq_history::act::HomeAct;
 use sq_model::directory::{Attributes, QueueSettings};
 use sq_model::replies::HomeReply;
+use sq_model::task::NamedQueue;
 use sq_sample::sampler::HomeCount;
 use std::alloc::Global;
 
@@ -50,8 +51,11 @@ impl<'a> LockSteps for Acting<'a> {
     }
 
     fn resolve(&mut self, name: &QueueName) -> Result<NamedQueue, Refusal> {
-        let queue = self.world.resolve(self.alloc, self.actor, name)?;
-        Ok(NamedQueue { name: *name, queue })
+        let number = self.world.resolve(self.alloc, self.actor, name)?;
+        Ok(NamedQueue {
+            number,
+            name: *name,
+        })
     }
 
     fn create(
@@ -70,7 +74,7 @@ impl<'a> LockSteps for Acting<'a> {
         act: HomeAct,
     ) -> Result<HomeReply, Refusal> {
         let id = HomeId {
-            queue: of.queue,
+            queue: of.number,
             home,
         };
         self.world.at_home(self.alloc, self.actor, self.clock, Some(of.name), &id, act)

@@ -4,7 +4,6 @@ ghost use Rattle.std.specs.Prelude.{◌≡◌, IfOk, IfErr};
 use crate::digest::Digest;
 use crate::received_messages::ReceivedMessages;
 use sq_base::handle::Handle;
-use sq_base::ids::QueueNo;
 use sq_base::message_id::MessageId;
 use sq_base::name::QueueName;
 use sq_base::ranges::{Delay, MaxMessages, Timeout};
@@ -102,13 +101,6 @@ pub enum Call {
     ReceiveMessage(ReceiveMessage),
     DeleteMessage(DeleteMessage),
     ChangeMessageVisibility(ChangeMessageVisibility),
-}
-
-/// A queue, by the name that it was looked up by, and by its number.
-#[derive(Clone, Copy, PartialEq, Eq, Debug)]
-pub struct NamedQueue {
-    pub name: QueueName,
-    pub queue: QueueNo,
 }
 
 /// What a client gets where its request is not refused.

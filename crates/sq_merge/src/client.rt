@@ -9,7 +9,7 @@ ghost use Rattle.sq_merge.specs.Fits.{ByName, AtAll, CreateFits, PutAt, ReceiveA
 ghost use Rattle.sq_merge.specs.ReceivedValue.{AreReceived};
 ghost use Rattle.sq_merge.specs.Performs.{Performs, LeavesRecords};
 
-use crate::calls::{Answer, Call, CreateQueue, NamedQueue, ReceiveMessage};
+use crate::calls::{Answer, Call, CreateQueue, ReceiveMessage};
 use crate::digest::Digest;
 use crate::lock_steps::LockSteps;
 use crate::received_messages::ReceivedMessages;
@@ -24,6 +24,7 @@ use sq_model::calls::Receipt;
 use sq_model::directory::QueueSettings;
 use sq_model::replies::HomeReply;
 use sq_model::rows::Rows;
+use sq_model::task::NamedQueue;
 use sq_sample::sampler::HomeCount;
 
 /// Does a client's call, step by step; steps that were done before a refusal stand.
@@ -77,7 +78,7 @@ fn configure_all<S: LockSteps>(
 {
     let of = NamedQueue {
         name,
-        queue: made.queue,
+        number: made.queue,
     };
     for number in 0..steps.homes().get() as u8 {
         let act = HomeAct::Configure(made.settings, made.version);
@@ -105,8 +106,8 @@ fn put<S: LockSteps>(
     body: Body,
     delay: Option<Delay>,
 ) -> Result<Answer, Refusal>
-    requires { S.knows steps.old of.now.name of.now.queue }
-    ensures { Performs S.stepped (PutAt (S.counts steps.old).homes of.now.name of.now.queue body delay) steps.old result steps.new }
+    requires { S.knows steps.old of.now.name of.now.number }
+    ensures { Performs S.stepped (PutAt (S.counts steps.old).homes of.now.name of.now.number body delay) steps.old result steps.new }
 {
     let digest = Digest::of(&body);
     let home = steps.pick();
@@ -122,9 +123,9 @@ fn receive<S: LockSteps>(
     of: &NamedQueue,
     call: &ReceiveMessage,
 ) -> Result<Answer, Refusal>
-    requires known { S.knows steps.old of.now.name of.now.queue }
+    requires known { S.knows steps.old of.now.name of.now.number }
     requires named { of.now.name ≡ call.now.queue }
-    ensures { Performs S.stepped (ReceiveAt (S.counts steps.old) call.now of.now.queue) steps.old result steps.new }
+    ensures { Performs S.stepped (ReceiveAt (S.counts steps.old) call.now of.now.number) steps.old result steps.new }
 {
     let homes = steps.draw()?;
     let mut over = false;
@@ -134,7 +135,7 @@ fn receive<S: LockSteps>(
         match steps.at_home(of, home, act)? {
             HomeReply::Looked(rows) => {
                 if rows.len() > 0 {
-                    return Ok(received_answer(of.queue, home, call, rows));
+                    return Ok(received_answer(of.number, home, call, rows));
                 }
             }
             HomeReply::Over => over = true,
@@ -145,7 +146,7 @@ fn receive<S: LockSteps>(
         return Err(Refusal::OverLimit);
     }
     let none = Rows::new(steps.alloc());
-    Ok(received_answer(of.queue, HomeNo::first(), call, none))
+    Ok(received_answer(of.number, HomeNo::first(), call, none))
 }
 
 // What is done to the message of a handle.
@@ -176,7 +177,7 @@ fn on_message<S: LockSteps>(
     ensures { Performs S.stepped (ByName name.now (HandleAt (S.counts steps.old).homes name.now handle.now (act_of what))) steps.old result steps.new }
 {
     let of = steps.resolve(name)?;
-    let handle = handle_at(steps.homes(), of.queue, handle)?;
+    let handle = handle_at(steps.homes(), of.number, handle)?;
     let act = what.act(receipt_of(&handle));
     steps.at_home(&of, handle.home, act)?;
     Ok(Answer::Done)

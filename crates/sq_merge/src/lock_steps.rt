@@ -7,13 +7,13 @@ ghost use Rattle.sq_model.specs.RecordValues.{Journal};
 ghost use Rattle.sq_merge.specs.Asks.{Ask, Resolve, Directed, AtHome, Gave, found_of, made_of, replied_of, HomeCounts, IsReplyTo, MayRefuse, LeavesOf};
 ghost use Rattle.sq_merge.specs.Calls.{home_numbered};
 
-use crate::calls::NamedQueue;
 use sq_base::ids::HomeNo;
 use sq_base::name::QueueName;
 use sq_base::refusal::Refusal;
 use sq_history::act::HomeAct;
 use sq_model::directory::{Attributes, QueueSettings};
 use sq_model::replies::HomeReply;
+use sq_model::task::NamedQueue;
 use sq_sample::sampler::HomeCount;
 use std::alloc::Global;
 
@@ -43,7 +43,7 @@ pub trait LockSteps {
         ensures did { stepped self.old (Resolve name.now) (found_of result) self.new }
         ensures named { IfOk result (λ of. of.name ≡ name.now) }
         ensures refusal { IfErr result (MayRefuse (Resolve name.now)) }
-        ensures known { IfOk result (λ of. knows self.new of.name of.queue) }
+        ensures known { IfOk result (λ of. knows self.new of.name of.number) }
         ensures same_counts { counts self.new ≡ counts self.old };
 
     /// Makes a queue of this name, or finds the one that has these attributes.
@@ -61,11 +61,11 @@ pub trait LockSteps {
     /// A step of a home of a queue.
     /// Refused as NoMemory, ClockRange, Worn, QueueDoesNotExist, and then as the home's call.
     fn at_home(&mut self, of: &NamedQueue, home: HomeNo, act: HomeAct) -> Result<HomeReply, Refusal>
-        requires known { knows self.old of.now.name of.now.queue }
-        ensures did { stepped self.old (AtHome of.now.name (home_numbered of.now.queue home) act) (replied_of result) self.new }
+        requires known { knows self.old of.now.name of.now.number }
+        ensures did { stepped self.old (AtHome of.now.name (home_numbered of.now.number home) act) (replied_of result) self.new }
         ensures reply { IfOk result (IsReplyTo act) }
-        ensures refusal { IfErr result (MayRefuse (AtHome of.now.name (home_numbered of.now.queue home) act)) }
-        ensures known { knows self.new of.now.name of.now.queue }
+        ensures refusal { IfErr result (MayRefuse (AtHome of.now.name (home_numbered of.now.number home) act)) }
+        ensures known { knows self.new of.now.name of.now.number }
         ensures same_counts { counts self.new ≡ counts self.old };
 
     /// One home of a queue.

@@ -1,7 +1,7 @@
 //! All queues of a service with all that was done to them, for one thread.
 ghost use Rattle.std.specs.Prelude.{◌≡◌, ◌⊎◌, ◌↔◌, ◌<◌, ◌≤◌, true, None, Some, length, position, IfOk, IfErr, IfSome, OnErr};
 ghost use Rattle.rand.specs.Sample.{IsSampleOf};
-ghost use Rattle.sq_model.specs.Directories.{number_of};
+ghost use Rattle.sq_model.specs.Directories.{number_named};
 ghost use Rattle.sq_history.specs.Acts.{call_of};
 ghost use Rattle.sq_steps.specs.Journals.{is_of, journal_of};
 ghost use Rattle.sq_merge.specs.Worlds.{HomeStepped, HomeRefused, Created, CreateRefused, NameRefused, having_read, StepDone, StepRefused, Schedule, IsKnown, IsKeptWorld};
@@ -233,7 +233,7 @@ impl World {
         actor: u32,
         name: &QueueName,
     ) -> Result<QueueNo, Refusal>
-        ensures found { IfOk result (λ queue. (number_of name.now self.old.directory.directory.queues ≡ Some queue) × (self.new ≡ having_read self.old actor)) }
+        ensures found { IfOk result (λ queue. (number_named name.now self.old.directory.directory.queues ≡ Some queue) × (self.new ≡ having_read self.old actor)) }
         ensures known { IfOk result (IsKnown self.new.directory.events (journal_of actor self.new.journals) (Some name.now)) }
         ensures refusal { IfErr result (NameRefused self.old actor name.now) }
         ensures err { OnErr result (self.new ≡ self.old) }

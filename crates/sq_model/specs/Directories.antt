@@ -1,5 +1,5 @@
 -- The directory: which queues there are, what they go by, and which names were deleted.
-use Rattle.std.specs.Prelude.{◌≡◌, ◌≢◌, ℕ, suc, ◌+◌, ◌<◌, ◌≤◌, Bool, true, false, not, ◌&&◌, ◌==◌, nat_eq, nat_le, List, [], ◌∷◌, ◌++◌, count_by, filter, find, map, if◌then◌else◌, Option, Some, None, unwrap_or, option_map, Result, Ok, Err}
+use Rattle.std.specs.Prelude.{◌≡◌, ◌≢◌, ℕ, suc, ◌+◌, ◌<◌, ◌≤◌, Bool, true, false, not, ◌&&◌, ◌==◌, nat_eq, nat_lt, nat_le, List, [], ◌∷◌, ◌++◌, length, count_by, filter, find, map, if◌then◌else◌, Option, Some, None, unwrap_or, option_map, Result, Ok, Err}
 use Rattle.std.specs.List.{AllByRecursion, list_any, starts_with}
 use Rattle.std.specs.Str.{bytes_eq}
 use Rattle.sq_base.specs.declared.refusal.Refusal.{Refusal}
@@ -33,9 +33,9 @@ pub record Directory : Type 0 where
 abbrev pub opening_directory : ℕ → Directory
 opening_directory places = record { queues = []; deleted = []; made = 0; places = places }
 
--- a queue waits for so long after a purge for the next one, and a name after a deletion, in ms (SQS API Reference, PurgeQueue and DeleteQueue)
-abbrev pub rest : ℕ
-rest = 60000
+-- so long after a purge comes the next one, and after a deletion a queue of the same name, in ms (SQS API Reference, PurgeQueue and DeleteQueue)
+abbrev pub least_wait : ℕ
+least_wait = 60000
 
 -- no version is above this
 abbrev pub last_version : ℕ
@@ -43,22 +43,22 @@ last_version = 18446744073709551615
 
 -- ---- queues by name
 
-abbrev pub is_named : List ℕ → Queue → Bool
-is_named name queue = bytes_eq queue.name name
+abbrev pub has_name : List ℕ → Queue → Bool
+has_name name queue = bytes_eq queue.name name
 
 -- the queue of a name
 abbrev pub queue_of : List ℕ → List Queue → Option Queue
-queue_of name queues = find (is_named name) queues
+queue_of name queues = find (has_name name) queues
 
-abbrev pub number_of : List ℕ → List Queue → Option ℕ
-number_of name queues = option_map (λ queue. queue.number) (queue_of name queues)
+abbrev pub number_named : List ℕ → List Queue → Option ℕ
+number_named name queues = option_map (λ queue. queue.number) (queue_of name queues)
 
 -- the queues, the one of this name changed
 abbrev pub changed_queue : List ℕ → (Queue → Queue) → List Queue → List Queue
-changed_queue name change queues = map (λ queue. if is_named name queue then change queue else queue) queues
+changed_queue name change queues = map (λ queue. if has_name name queue then change queue else queue) queues
 
 abbrev pub queues_without : List ℕ → List Queue → List Queue
-queues_without name queues = filter (λ queue. not (is_named name queue)) queues
+queues_without name queues = filter (λ queue. not (has_name name queue)) queues
 
 -- ---- policies
 
@@ -80,7 +80,7 @@ may_have queues name (Some (Some policy)) = may_target queues name policy
 -- what homes go by of a policy: its target by the number that its name has now
 abbrev pub redrive_to : List Queue → Option RedrivePolicy → Option Redrive
 redrive_to queues None = None
-redrive_to queues (Some policy) = option_map (λ number. record { target = number; max_receives = policy.max_receives }) (number_of policy.target queues)
+redrive_to queues (Some policy) = option_map (λ number. record { target = number; max_receives = policy.max_receives }) (number_named policy.target queues)
 
 -- ---- attributes
 
@@ -151,31 +151,30 @@ begins NoName name = false
 abbrev pub names_with : NamePrefix → List Queue → List (List ℕ)
 names_with prefix queues = filter (begins prefix) (map (λ queue. queue.name) queues)
 
-abbrev pub goes_to : ℕ → Option Redrive → Bool
-goes_to number None = false
-goes_to number (Some redrive) = redrive.target == number
+abbrev pub has_target : ℕ → Option Redrive → Bool
+has_target number None = false
+has_target number (Some redrive) = redrive.target == number
 
 -- the queue sends its dead letters to the one of this number
 abbrev pub is_source_of : ℕ → Queue → Bool
-is_source_of number queue = goes_to number queue.settings.redrive
+is_source_of number queue = has_target number queue.settings.redrive
 
 abbrev pub sources_of : ℕ → List Queue → List (List ℕ)
 sources_of number queues = map (λ queue. queue.name) (filter (is_source_of number) queues)
 
 -- ---- steps
 
--- at m, so long after an earlier moment that it may be done again
-abbrev pub has_rested : ℕ → ℕ → Bool
-has_rested m before = nat_le (before + rest) m
+-- at m, less than that after an earlier moment
+abbrev pub is_recent : ℕ → ℕ → Bool
+is_recent m before = nat_lt m (before + least_wait)
 
--- never done before, or so long ago
-abbrev pub may_again : ℕ → Option ℕ → Bool
-may_again m None = true
-may_again m (Some before) = has_rested m before
+abbrev pub purged_recently : ℕ → Option ℕ → Bool
+purged_recently m None = false
+purged_recently m (Some before) = is_recent m before
 
--- a queue of this name was deleted a short time ago
-abbrev pub is_resting : ℕ → List ℕ → List DeletedName → Bool
-is_resting m name deleted = list_any (λ gone. bytes_eq gone.name name && not (has_rested m gone.moment)) deleted
+-- a queue of this name was deleted recently
+abbrev pub deleted_recently : ℕ → List ℕ → List DeletedName → Bool
+deleted_recently m name deleted = list_any (λ gone. bytes_eq gone.name name && is_recent m gone.moment) deleted
 
 -- the queue of this name is there
 abbrev pub IsThere : Directory → List ℕ → Queue → Type 0
@@ -183,7 +182,7 @@ IsThere d name queue = queue_of name d.queues ≡ Some queue
 
 -- a queue may be made, at m
 pub record MayMake (d : Directory) (m : ℕ) (name : List ℕ) (given : Attributes) : Type 0 where
-  pub rested : is_resting m name d.deleted ≡ false
+  pub name_free : deleted_recently m name d.deleted ≡ false
   pub policy : may_have d.queues name given.redrive ≡ true
   pub place : d.made < d.places
 
@@ -207,7 +206,7 @@ DirectoryStep d m (asks.Remove name) (answers.Removed number) after = (queue : Q
     × (number ≡ queue.number)
     × (after ≡ record d { queues = queues_without name d.queues; deleted = d.deleted ++ record { name = name; moment = m } ∷ [] })
 DirectoryStep d m (asks.PurgeTicket name) (answers.Ticket number) after = (queue : Queue) × IsThere d name queue
-    × (may_again m queue.last_purge ≡ true)
+    × (purged_recently m queue.last_purge ≡ false)
     × (number ≡ queue.number)
     × (after ≡ record d { queues = changed_queue name (λ q. record q { last_purge = Some m }) d.queues })
 DirectoryStep d m (asks.Url name) (answers.Found number) after = ((queue : Queue) × IsThere d name queue × (number ≡ queue.number)) × (after ≡ d)
@@ -226,7 +225,7 @@ refused_at (Some queue) later = later queue
 
 abbrev pub create_refusal : Directory → ℕ → List ℕ → Attributes → Option Queue → Option Refusal
 create_refusal d m name given None =
-    refused_if (is_resting m name d.deleted) QueueDeletedRecently
+    refused_if (deleted_recently m name d.deleted) QueueDeletedRecently
     (refused_if (not (may_have d.queues name given.redrive)) InvalidAttributeValue
     (refused_if (nat_le d.places d.made) TableFull None))
 create_refusal d m name given (Some queue) = refused_if (not (agrees given queue)) QueueNameExists None
@@ -238,7 +237,7 @@ directory_refusal d m (asks.Set name given) = refused_at (queue_of name d.queues
     refused_if (nat_le last_version queue.version) Worn
     (refused_if (not (may_have d.queues name given.redrive)) InvalidAttributeValue None))
 directory_refusal d m (asks.Remove name) = refused_at (queue_of name d.queues) (λ queue. None)
-directory_refusal d m (asks.PurgeTicket name) = refused_at (queue_of name d.queues) (λ queue. refused_if (not (may_again m queue.last_purge)) PurgeQueueInProgress None)
+directory_refusal d m (asks.PurgeTicket name) = refused_at (queue_of name d.queues) (λ queue. refused_if (purged_recently m queue.last_purge) PurgeQueueInProgress None)
 directory_refusal d m (asks.Url name) = refused_at (queue_of name d.queues) (λ queue. None)
 directory_refusal d m (asks.List prefix) = None
 directory_refusal d m (asks.Sources name) = refused_at (queue_of name d.queues) (λ queue. None)
@@ -252,7 +251,7 @@ found_number None = Err QueueDoesNotExist
 found_number (Some number) = Ok number
 
 abbrev pub resolved : List ℕ → Directory → Result ℕ Refusal
-resolved name d = found_number (number_of name d.queues)
+resolved name d = found_number (number_named name d.queues)
 
 abbrev pub as_named : Queue → NamedQueue
 as_named queue = record { number = queue.number; name = queue.name }
@@ -285,13 +284,32 @@ can_redrive source destination d = move_between d (queue_of source d.queues) des
 
 -- ---- what holds of every directory
 
--- the numbers of all queues differ, and so do their names; no more were made than may be
+-- the target of the policy of a queue: one of all that were made, and another one
+pub record IsTarget (made number target : ℕ) : Type 0 where
+  pub first : 1 ≤ target
+  pub was_made : target ≤ made
+  pub other : target ≢ number
+
+-- a policy as it is printed, and what the homes of the queue of this number go by: both are there or none
+abbrev pub IsPolicy : ℕ → ℕ → Option RedrivePolicy → Option Redrive → Type 0
+IsPolicy made number None None = Unit {0}
+IsPolicy made number (Some given) (Some redrive) = IsTarget made number redrive.target × (redrive.max_receives ≡ given.max_receives)
+IsPolicy made number None (Some redrive) = ⊥
+IsPolicy made number (Some given) None = ⊥
+
+abbrev pub HasPolicy : ℕ → Queue → Type 0
+HasPolicy made queue = IsPolicy made queue.number queue.redrive queue.settings.redrive
+
+-- The numbers of all queues differ, and so do their names; each has a whole policy or none. All that were made are there or deleted, and no more were made than may be.
 pub record IsDirectory (d : Directory) : Type 0 where
   pub numbers_rise : Rise (λ queue. queue.number) 1 d.queues (suc d.made)
-  pub names_once : (name : List ℕ) → count_by (is_named name) d.queues ≤ 1
+  pub names_once : (name : List ℕ) → count_by (has_name name) d.queues ≤ 1
+  pub policies : AllByRecursion (HasPolicy d.made) d.queues
+  pub counted : length d.queues + length d.deleted ≡ d.made
   pub within : d.made ≤ d.places
 
 -- a queue of this number was made once, and is no more
 pub record IsGone (number : ℕ) (d : Directory) : Type 0 where
+  pub first : 1 ≤ number
   pub was_made : number ≤ d.made
   pub is_not_there : AllByRecursion (λ queue. queue.number ≢ number) d.queues

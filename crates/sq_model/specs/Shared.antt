@@ -83,12 +83,12 @@ IsUnrecorded site Closed l m act = ⊥
 
 -- the stamp after one that was just given, if it was
 abbrev pub after_given : Result StampValue Refusal → StampValue → ℕ → Result StampValue Refusal
-after_given (Ok given) seen m = stamp_after given seen m
-after_given (Err refusal) seen m = Err refusal
+after_given (Ok given) seen now = stamp_after given seen now
+after_given (Err refusal) seen now = Err refusal
 
--- The stamp of a step of a home and the ledger: above the last one of each, then above the last one that the actor has seen, and not before m.
+-- The stamp of a step of a home and the ledger: above the last one of each, then above the last one that the actor has seen, and not before the clock reading.
 abbrev pub shared_stamp : StampValue → StampValue → StampValue → ℕ → Result StampValue Refusal
-shared_stamp home ledger seen m = after_given (stamp_after home ledger m) seen m
+shared_stamp home ledger seen now = after_given (stamp_after home ledger now) seen now
 
 -- a step that is asked can be done
 pub record HasSharedStep (site : Site) (home : Home) (l : Ledger) (m : ℕ) (act : SharedAct) : Type 0 where

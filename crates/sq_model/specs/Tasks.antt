@@ -52,13 +52,13 @@ abbrev pub may_leave : ℕ → Task → Bool
 may_leave m task = nat_lt (left_in (second_of m) task) (rate_of task)
 
 -- to the destination, or without one to the queue that it came from
-abbrev pub goes_to : Option NamedQueue → Option ℕ → Option ℕ
-goes_to (Some queue) origin = Some queue.number
-goes_to None origin = origin
+abbrev pub destination_or : Option NamedQueue → Option ℕ → Option ℕ
+destination_or (Some queue) origin = Some queue.number
+destination_or None origin = origin
 
 -- where a row goes
 abbrev pub target_of : Task → Row → Option ℕ
-target_of task row = goes_to task.destination row.origin
+target_of task row = destination_or task.destination row.origin
 
 -- one more left
 abbrev pub with_left : ℕ → Task → Task

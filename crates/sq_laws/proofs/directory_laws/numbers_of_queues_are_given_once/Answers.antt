@@ -1,4 +1,4 @@
-use Rattle.sq_laws.proofs.DirectoryLaws.{gone_stays, removed_gone}
+use Rattle.sq_laws.proofs.DirectoryHolds.{gone_stays, removed_gone}
 use Rattle.sq_laws.proofs.directory_laws.numbers_of_queues_are_given_once.Goals as goal
 
 pub returns-clause-gone : goal.returns-clause-gone

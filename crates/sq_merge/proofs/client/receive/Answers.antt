@@ -20,7 +20,7 @@ returns-then-len-gt0 g c =
     let in_list = slice_get_read c.in_ok-homes.homes.items (length c.in_ok-homes.homes.items) c.loop-index.index c.index-home.result.now refl within c.index-home.ensures in
     let some : 0 < length c.in-Looked.rows = rw (← c.len.ensures) c.if-len-gt0.true in
     receive_ended _ _ _ _ _ c.args.call.now _ _ c.loop-index.index c.index-home.result.now (Ok (Looked c.in-Looked.rows)) c.loop-index.over _ c.draw.ensures.some c.in_ok-homes.ensures.sample c.loop-index.invariant.asked in_list (rw (← c.in-Looked.is) (rw c.requires.named at c.in_ok-rows.ensures.did))
-    (rw c.received_answer.ensures (ends_giving c.args.call.now c.args.of.now.queue c.index-home.result.now c.in-Looked.rows some))
+    (rw c.received_answer.ensures (ends_giving c.args.call.now c.args.of.now.number c.index-home.result.now c.in-Looked.rows some))
 
 pub loop-index-preserved : goal.loop-index-preserved
 loop-index-preserved g c =

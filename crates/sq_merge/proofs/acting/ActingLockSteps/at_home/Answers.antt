@@ -6,7 +6,7 @@ pub returns-clause-reply : goal.returns-clause-reply
 returns-clause-reply c = answered_reply _ _ _ _ _ _ c.args.act c.at_home.result c.at_home.ensures.stepped
 
 pub returns-clause-refusal : goal.returns-clause-refusal
-returns-clause-refusal c = answered_home c.args.self.now.world.now c.args.self.now.actor c.args.self.now.clock c.args.of.now.name (home_numbered c.args.of.now.queue c.args.home) c.args.act c.at_home.result c.at_home.ensures.refusal
+returns-clause-refusal c = answered_home c.args.self.now.world.now c.args.self.now.actor c.args.self.now.clock c.args.of.now.name (home_numbered c.args.of.now.number c.args.home) c.args.act c.at_home.result c.at_home.ensures.refusal
 
 pub returns-clause-known : goal.returns-clause-known
-returns-clause-known c = still_known c.args.self.now.world.now _ c.args.self.now.actor c.args.self.now.clock c.args.of.now.name c.args.of.now.queue (home_numbered c.args.of.now.queue c.args.home) c.args.act c.at_home.result c.at_home.ensures.stepped c.at_home.ensures.err c.requires.known
+returns-clause-known c = still_known c.args.self.now.world.now _ c.args.self.now.actor c.args.self.now.clock c.args.of.now.name c.args.of.now.number (home_numbered c.args.of.now.number c.args.home) c.args.act c.at_home.result c.at_home.ensures.stepped c.at_home.ensures.err c.requires.known

@@ -1,7 +1,7 @@
 use Rattle.std.proofs.Common.{rules, ◌≡◌, Some, subst, sym}
 use Rattle.std.specs.List.{slice_index_or}
 use Rattle.sq_directory.specs.Makers.{IsMadeBy}
-use Rattle.sq_model.specs.Directories.{number_of}
+use Rattle.sq_model.specs.Directories.{number_named}
 use Rattle.sq_steps.specs.Journals.{journal_of, index_in, opened}
 use Rattle.sq_merge.specs.WorldValue.{WorldValue}
 use Rattle.sq_merge.specs.Worlds.{IsKeptWorld, IsKnown}
@@ -24,7 +24,7 @@ pub returns-clause-found : goal.returns-clause-found
 returns-clause-found c =
     let old : WorldValue = record { directory = c.self.inside.directory; per_queue = c.self.inside.per_queue; sample = c.self.inside.sample; homes = c.self.inside.homes.items; journals = c.self.inside.journals.items } in
     let own : c.index_mut.result.now ≡ slice_index_or (opened c.args.actor old.journals) (index_in c.args.actor old.journals) c.index_mut.result.now = rw (c.in_ok-at.ensures.opened, c.in_ok-at.ensures.index) at c.index_mut.ensures.value in
-    let queue : number_of c.args.name.now old.directory.directory.queues ≡ Some c.in-Some.queue = search rules in
+    let queue : number_named c.args.name.now old.directory.directory.queues ≡ Some c.in-Some.queue = search rules in
     rw (← c.self.view_is, c.see.ensures, c.last-last.ensures, c.in_ok-at.ensures.opened, c.in_ok-at.ensures.index) (queue, read_opened old c.args.actor c.index_mut.result.now own)
 
 pub returns-clause-known : goal.returns-clause-known
