@@ -2,3 +2,5 @@ pub mod DirectoryLaws
 pub mod ElementLaws
 pub mod MakerLaws
 pub mod PolicyLaws
+pub mod StoredLaws
+pub mod ListingLaws

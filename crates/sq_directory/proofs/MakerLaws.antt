@@ -1,9 +1,9 @@
 -- A queue that is found was made by its name.
-use Rattle.std.proofs.Common.{sym, subst, inl, inr, ◌≡◌, ◌⊎◌, ℕ, zero, suc, Bool, true, false, not, cond, List, [], ◌∷◌, ◌++◌, refl, ap, ◌∙◌, Option, Some, None, slice_get}
+use Rattle.std.proofs.Common.{sym, subst, inl, inr, ◌≡◌, ◌⊎◌, ℕ, zero, suc, Bool, true, false, not, cond, List, [], ◌∷◌, ◌++◌, length, refl, ap, ◌∙◌, Option, Some, None, slice_get}
 use Rattle.sq_base.specs.StampValue.{StampValue}
 use Rattle.sq_base.specs.Stamps.{Below, start}
-use Rattle.sq_base.proofs.StampLaws.{below_trans}
-use Rattle.sq_directory.specs.Makers.{IsSeen, IsMadeBy}
+use Rattle.sq_base.proofs.StampLaws.{after_above_first, below_trans}
+use Rattle.sq_directory.specs.Makers.{IsSeen, IsMadeBy, IsAnsweredByName, name_asked, queue_answered}
 use Rattle.std.specs.Prelude.{filter, find, if◌then◌else◌, option_map, IfSome}
 use Rattle.std.proofs.lemmas.Slice.Eq.{bytes_eq-Decides}
 use Rattle.sq_model.specs.declared.event.Event.{Event}
@@ -19,8 +19,11 @@ use Rattle.sq_model.specs.Replays.{Replays, StampsRise}
 use Rattle.sq_model.specs.Systems.{DirectoryEvent}
 use Rattle.sq_model.specs.Matches.{IsCreate}
 use Rattle.sq_directory.specs.DirectoryHistory.{DirectoryHistory}
-use Rattle.sq_directory.specs.DirectoryHistories.{IsDirectoryKept}
-use Rattle.sq_directory.proofs.ElementLaws.{get_cases, get_mapped, some_same}
+use Rattle.sq_model.specs.declared.directory.QueueAttributes.{QueueAttributes}
+use Rattle.sq_model.specs.declared.event.Actor.{Actor}
+use Rattle.sq_model.specs.RecordValues.{DirectoryRecordValue}
+use Rattle.sq_directory.specs.DirectoryHistories.{DirectoryRecords, IsDirectoryKept, directory_event}
+use Rattle.sq_directory.proofs.ElementLaws.{get_cases, get_mapped, get_new, get_old, some_same}
 
 pub seen_below : (a b c : StampValue) → IsSeen a b → Below b c → Below a c
 seen_below a b c (inl h) below = subst (λ (x : StampValue). Below x c) (sym h) below
@@ -166,3 +169,41 @@ found_made d name number kept h =
 pub if_found : (d : DirectoryHistory) (name : List ℕ) (found : Option ℕ) → IsDirectoryKept d → found ≡ number_named name d.directory.queues → IfSome found (IsMadeBy d.events d.last name)
 if_found d name (Some number) kept e = found_made d name number kept (sym e)
 if_found d name None kept e = tt
+
+-- ---- the queue that a step answers
+
+-- the queue of the name that was asked is there, or the call made it
+FoundOrMade : Directory → DirectoryCall → DirectoryReply → List ℕ → ℕ → Type 0
+FoundOrMade d call reply name queue = (number_named name d.queues ≡ Some queue) ⊎ ((given : Attributes) × (made : QueueSettings) × (call ≡ asks.Create name given) × (reply ≡ answers.Made made) × (made.queue ≡ queue))
+
+there_named : (queues : List Queue) (asked name : List ℕ) (number queue : ℕ) (q : Queue) → queue_of asked queues ≡ Some q → number ≡ q.number → Some asked ≡ Some name → Some number ≡ Some queue → number_named name queues ≡ Some queue
+there_named queues asked name number queue q there is by of =
+    subst (λ (k : List ℕ). number_named k queues ≡ Some queue) (some_same by) (ap (option_map (λ x. x.number)) there ∙ ap Some (sym is) ∙ of)
+
+step_found : (d : Directory) (m : ℕ) (call : DirectoryCall) (reply : DirectoryReply) (after : Directory) (name : List ℕ) (queue : ℕ)
+    → DirectoryStep d m call reply after → name_asked call ≡ Some name → queue_answered reply ≡ Some queue → FoundOrMade d call reply name queue
+unfolding DirectoryStep FoundOrMade
+step_found d m (asks.Create asked given) (answers.Made made) after name queue h by of = inr (given, made, ap (λ (k : List ℕ). asks.Create k given) (some_same by), refl, some_same of)
+step_found d m (asks.Set asked given) (answers.Changed changed) after name queue h by of = inl (there_named d.queues asked name changed.queue queue h.0 h.1 (ap (λ (s : QueueSettings). s.queue) h.4) by of)
+step_found d m (asks.Remove asked) (answers.Removed number) after name queue h by of = inl (there_named d.queues asked name number queue h.0 h.1 h.2 by of)
+step_found d m (asks.PurgeTicket asked) (answers.Ticket number) after name queue h by of = inl (there_named d.queues asked name number queue h.0 h.1 h.3 by of)
+step_found d m (asks.Url asked) (answers.Found number) after name queue h by of = inl (there_named d.queues asked name number queue h.0.0 h.0.1 h.0.2 by of)
+step_found d m (asks.List prefix) (answers.Listed names) after name queue h by of = absurd cc
+step_found d m (asks.Sources asked) (answers.Sources names) after name queue h by of = absurd cc
+step_found d m (asks.Read asked) (answers.Read attributes) after name queue h by of = inl (there_named d.queues asked name attributes.queue queue h.0.0 h.0.1 (ap (λ (a : QueueAttributes). a.queue) h.0.2) by of)
+step_found d m call reply after name queue h by of = elim h [ ]
+
+-- what was made stands in the longer history, and not after a later stamp
+made_more : (events : List DirectoryEvent) (event : DirectoryEvent) (a b : StampValue) (name : List ℕ) (queue : ℕ) → IsMadeBy events a name queue → IsSeen a b → IsMadeBy (events ++ event ∷ []) b name queue
+made_more events event a b name queue made seen = (made.0, made.1, get_old events event made.1 made.0 made.2, seen_trans made.1.stamp a b made.3 seen, made.4)
+
+-- the queue that a step answers was made by the name that was asked
+pub answered_by_name : (old new : DirectoryHistory) (by : Actor) (now : ℕ) (call : DirectoryCall) (its_record : DirectoryRecordValue)
+    → IsDirectoryKept old → DirectoryRecords old new by now call its_record → IsAnsweredByName new.events new.last call its_record.reply
+unfolding FoundOrMade
+answered_by_name old new by now call its_record kept more name queue asked of =
+    let event = directory_event its_record.stamp by call its_record.reply in
+    elim (step_found old.directory its_record.stamp.moment call its_record.reply new.directory name queue more.step asked of) [
+      | inl found ↦ rw (more.events, more.last) (made_more old.events event old.last its_record.stamp name queue (found_made old name queue kept found) (inr (after_above_first old.last by.seen now its_record.stamp more.stamped)))
+      | inr made ↦ rw (more.events, more.last) (length old.events, event, get_new old.events event, inl refl, record { attributes = made.0; made = made.1; call = made.2; reply = made.3; of_queue = made.4 })
+    ]

@@ -8,8 +8,9 @@ use Rattle.sq_model.specs.declared.place.Component.TheVariants as part
 use Rattle.sq_model.specs.declared.directory.DirectoryCall.{DirectoryCall}
 use Rattle.sq_model.specs.declared.directory.DirectoryCall.TheVariants as asks
 use Rattle.sq_model.specs.declared.directory.DirectoryReply.{DirectoryReply}
+use Rattle.sq_model.specs.declared.directory.DirectoryReply.TheVariants as answers
 use Rattle.sq_model.specs.declared.event.Actor.{Actor}
-use Rattle.sq_model.specs.Directories.{DirectoryStep, directory_refusal, opening_directory}
+use Rattle.sq_model.specs.Directories.{Directory, DirectoryStep, directory_refusal, opening_directory}
 use Rattle.sq_model.specs.Policies.{has_list}
 use Rattle.sq_model.specs.Replays.{Replays, StampsRise}
 use Rattle.sq_model.specs.Systems.{DirectoryEvent, AreDirectory}
@@ -40,6 +41,21 @@ copies_bytes (asks.Url name) = false
 copies_bytes (asks.List prefix) = true
 copies_bytes (asks.Sources name) = true
 copies_bytes (asks.Read name) = true
+
+-- a reply that lists queues, or shows what may list them
+abbrev pub is_listing : DirectoryReply → Bool
+is_listing (answers.Made made) = false
+is_listing (answers.Changed changed) = false
+is_listing (answers.Removed number) = false
+is_listing (answers.Ticket number) = false
+is_listing (answers.Found number) = false
+is_listing (answers.Listed names) = true
+is_listing (answers.Sources names) = true
+is_listing (answers.Read attributes) = true
+
+-- why the queues do not answer a call at m: no memory was found for a copy, or the first check that fails
+abbrev pub IsUnanswered : Directory → ℕ → DirectoryCall → Refusal → Type 0
+IsUnanswered d m call e = ((e ≡ NoMemory) × (copies_bytes call ≡ true)) ⊎ (directory_refusal d m call ≡ Some e)
 
 -- No memory was found for the event or for a copy, or the first check in order that fails: the clock's, the counts', the directory's.
 abbrev pub IsDirectoryRefused : DirectoryHistory → Actor → ℕ → DirectoryCall → Refusal → Type 0

@@ -2,3 +2,5 @@ pub mod DirectoryHistory
 pub mod DirectoryHistories
 pub mod Makers
 pub mod Events
+pub mod Stored
+pub mod Listings

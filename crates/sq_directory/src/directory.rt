@@ -1,11 +1,11 @@
 //! The directory: the queues of a service, and all that was done to them.
 ghost use Rattle.std.specs.Prelude.{◌≡◌, [], IfOk, IfErr, IfSome, OnErr};
 ghost use Rattle.sq_base.specs.Stamps.{start};
-ghost use Rattle.sq_model.specs.Directories.{number_named, opening_directory};
-ghost use Rattle.sq_model.specs.declared.directory.DirectoryCall.TheVariants.{Create};
-ghost use Rattle.sq_model.specs.declared.directory.DirectoryReply.TheVariants.{Made};
-ghost use Rattle.sq_directory.specs.Makers.{IsMadeBy};
+ghost use Rattle.sq_model.specs.Directories.{number_named, all_named, opening_directory};
+ghost use Rattle.sq_directory.specs.Makers.{IsMadeBy, IsAnsweredByName};
 
+use crate::answer::{Thrice, answer};
+use crate::copies::copy_call;
 use crate::queues::Queues;
 use crate::record::DirectoryRecord;
 use sq_base::ids::QueueNo;
@@ -13,9 +13,11 @@ use sq_base::name::QueueName;
 use sq_base::refusal::Refusal;
 use sq_base::stamp::Stamp;
 use sq_history::log::Log;
-use sq_model::directory::{Attributes, DirectoryCall, DirectoryReply, QueueSettings};
+use sq_model::directory::{DirectoryCall, DirectoryReply};
 use sq_model::event::{Actor, Event};
+use sq_model::listed::Listed;
 use sq_model::place::Component;
+use sq_model::task::NamedQueue;
 use std::alloc::{AllocError, Global};
 use std::marker::Model;
 
@@ -74,32 +76,44 @@ impl Directory {
         self.queues.find(name)
     }
 
-    /// Makes a queue of this name with these attributes, where there is none yet; else it must have them. Answers the
-    /// queue, and the record of the step.
-    /// Refused as NoMemory (the history has room for none, or queues are listed), ClockRange, Worn, QueueNameExists,
-    /// InvalidAttributeValue, TableFull.
-    pub fn create(
+    /// The names and numbers of all queues, in order of creation. Refused only where memory is out.
+    pub fn names(&self, alloc: Global) -> Result<Listed<NamedQueue>, Refusal>
+        ensures names { IfOk result (λ names. names ≡ all_named self.now.directory) }
+        ensures refused { IfErr result (λ e. e ≡ Refusal.NoMemory) }
+    {
+        self.queues.names(alloc)
+    }
+
+    /// Does what one call asks, at its stamp. What it answers is what its record says.
+    /// Refused as NoMemory (the history has room for none, or a list of queues is copied, or attributes are), ClockRange,
+    /// Worn, and then as the call: QueueDoesNotExist; of Create QueueNameExists, QueueDeletedRecently,
+    /// InvalidAttributeValue, TableFull; of Set Worn, InvalidAttributeValue; of PurgeTicket PurgeQueueInProgress.
+    pub fn step(
         &mut self,
         alloc: Global,
         by: &Actor,
         now: u64,
-        name: &QueueName,
-        attributes: &Attributes,
-    ) -> Result<(QueueSettings, DirectoryRecord), Refusal>
-        ensures recorded { IfOk result (λ r. DirectoryRecords self.old self.new by.now now (Create name.now attributes.now) r.1) }
-        ensures made { IfOk result (λ r. r.1.reply ≡ Made r.0) }
-        ensures refusal { IfErr result (IsDirectoryRefused self.old by.now now (Create name.now attributes.now)) }
+        call: &DirectoryCall,
+    ) -> Result<(DirectoryReply, DirectoryRecord), Refusal>
+        ensures recorded { IfOk result (λ r. DirectoryRecords self.old self.new by.now now call.now r.1) }
+        ensures answered { IfOk result (λ r. r.1.reply ≡ r.0) }
+        // The queue that is answered was made by the name that was asked.
+        ensures made { IfOk result (λ r. IsAnsweredByName self.new.events self.new.last call.now r.0) }
+        ensures refusal { IfErr result (IsDirectoryRefused self.old by.now now call.now) }
         ensures err { OnErr result (self.new ≡ self.old) }
     {
         let stamp = self.log.begin(by, now)?;
-        let in_event = DirectoryCall::Create(*name, attributes.copy(alloc)?);
-        let in_record = DirectoryCall::Create(*name, attributes.copy(alloc)?);
-        let made = self.queues.create(name, attributes.copy(alloc)?)?;
-        let kept = (in_event, DirectoryReply::Made(made));
-        let for_record = (in_record, DirectoryReply::Made(made));
+        let in_event = copy_call(alloc, call)?;
+        let in_record = copy_call(alloc, call)?;
+        let Thrice {
+            kept,
+            for_record,
+            answered,
+        } = answer(&mut self.queues, alloc, stamp.moment, call)?;
+        let part = Component::Directory;
         let step = self
             .log
-            .add(stamp, by, Component::Directory, kept, for_record);
-        Ok((made, DirectoryRecord::new(step)))
+            .add(stamp, by, part, (in_event, kept), (in_record, for_record));
+        Ok((answered, DirectoryRecord::new(step)))
     }
 }

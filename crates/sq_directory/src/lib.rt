@@ -1,10 +1,15 @@
 //! The queues of a service, and all that was done to them.
 #![tactic(auto)]
 
+pub mod answer;
+pub mod attributes;
+pub mod copies;
 pub mod creations;
 pub mod directory;
 pub mod events;
+pub mod listing;
 pub mod names;
 pub mod queues;
 pub mod record;
 pub mod same;
+pub mod stored;

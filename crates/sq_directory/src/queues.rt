@@ -1,39 +1,52 @@
-//! The queues of a service.
-ghost use Rattle.std.specs.Prelude.{◌≡◌, ◌⊎◌, ◌<◌, ◌≤◌, ◌++◌, ◌∷◌, ℕ, suc, [], length, true, false, IfOk, IfErr, OnErr, Some, None, option_map};
-ghost use Rattle.std.specs.List.{list_any};
-ghost use Rattle.std.specs.Str.{bytes_eq};
-ghost use Rattle.sq_model.specs.Policies.{agrees_allow, agrees_redrive, permits};
-ghost use Rattle.sq_model.specs.Directories.{queue_of, number_named, is_or_none, agrees, is_permitted, may_have, may_target, redrive_to, changed_redrive, new_queue, opening_directory, plain_queue, settings_at, with_attributes, DirectoryStep, directory_refusal};
-ghost use Rattle.sq_model.specs.declared.directory.DirectoryCall.TheVariants.{Create};
-ghost use Rattle.sq_model.specs.declared.directory.DirectoryReply.TheVariants.{Made};
+//! The queues of a service, and what each step does to them.
+ghost use Rattle.std.specs.Prelude.{◌≡◌, ◌⊎◌, ◌<◌, ◌++◌, ◌∷◌, ℕ, suc, [], true, None, Some, IfOk, IfErr, OnOk, OnErr};
+ghost use Rattle.sq_model.specs.Directories.{queue_of, number_named, all_named, new_queue, deleted_recently, is_recent, purged_recently, opening_directory, settings_at, attributes_at, last_version, IsThere, MayMake, DirectoryStep, create_refusal, directory_refusal};
+ghost use Rattle.sq_directory.specs.Stored.{with_given};
+ghost use Rattle.sq_model.specs.declared.directory.DirectoryCall.TheVariants as asks;
+ghost use Rattle.sq_model.specs.declared.directory.Queue.{Queue as QueueValue};
+ghost use Rattle.sq_model.specs.Policies.{has_list};
+ghost use Rattle.sq_directory.specs.DirectoryHistories.{IsUnanswered};
 
-use crate::same::{is_same_allow, is_same_redrive};
+use crate::attributes::{agrees, given_redrive, may_have, new_queue, number_named};
+use crate::copies::copy_allow;
+use crate::listing::{Listing, all_named, listed_names};
+use crate::stored::{NamedQueues, given_settings};
 use sq_base::ids::QueueNo;
 use sq_base::name::QueueName;
-use sq_base::ranges::{Delay, Retention, Timeout, WaitTime, Within};
 use sq_base::refusal::Refusal;
-use sq_base::settings::{Redrive, Settings};
-use sq_model::directory::{Attributes, Queue, QueueSettings};
-use sq_model::policy::{AllowPolicy, RedrivePolicy};
+use sq_base::settings::Redrive;
+use sq_model::directory::{
+    Attributes, DeletedName, DirectoryCall, DirectoryReply, NamePrefix, Queue, QueueAttributes,
+    QueueSettings,
+};
+use sq_model::listed::Listed;
+use sq_model::task::NamedQueue;
 use std::alloc::{AllocError, Global};
 use std::marker::Model;
 
-/// The queues in order of creation. The n-th has number n; none is deleted yet.
+/// The queues in order of creation, and the names that were deleted. Moments are in ms.
 #[derive(Drop)]
 pub struct Queues {
-    made: Vec<Queue>,
+    queues: NamedQueues,
+    deleted: Vec<DeletedName>,
+    made: u32,
     places: u32,
 }
 
 impl Model for Queues {
-    ghost use Rattle.std.specs.Prelude.{◌≤◌, ◌<◌, [], length, vec_capacity};
+    ghost use Rattle.std.specs.Prelude.{◌≡◌, ◌≤◌, ◌+◌, length, vec_capacity};
     ghost use Rattle.sq_model.specs.Directories.{Directory};
 
     ghost Value = { Directory };
 
-    ghost view = { λ q. record { queues = q.made.items; deleted = []; made = length q.made.items; places = q.places } };
+    ghost view = { λ q. record { queues = q.queues.queues; deleted = q.deleted.items; made = q.made; places = q.places } };
 
-    ghost invariant = { λ q. record { within : length q.made.items ≤ q.places; few : length q.made.items < 4294967296; room : q.places ≤ vec_capacity q.made } };
+    ghost invariant = { λ q. record {
+      counted : length q.queues.queues + length q.deleted.items ≡ q.made;
+      within : q.made ≤ q.places;
+      room : q.places ≤ q.made + q.queues.room;
+      room_deleted : q.places ≤ vec_capacity q.deleted;
+    } };
 }
 
 impl Queues {
@@ -41,74 +54,252 @@ impl Queues {
     pub fn new(alloc: Global, places: u32) -> Result<Queues, AllocError>
         ensures { IfOk result (λ queues. queues ≡ opening_directory places) }
     {
-        let mut made = Vec::new(alloc);
-        made.try_reserve(places as usize)?;
-        Ok(Queues { made, places })
+        let queues = NamedQueues::new(alloc, places)?;
+        let mut deleted = Vec::new(alloc);
+        deleted.try_reserve(places as usize)?;
+        Ok(Queues {
+            queues,
+            deleted,
+            made: 0,
+            places,
+        })
     }
 
     /// The number of the queue of this name.
     pub fn find(&self, name: &QueueName) -> Option<QueueNo>
         ensures { result ≡ number_named name.now self.now.queues }
     {
-        number_named(&self.made, name)
+        number_named(&self.queues, name)
     }
 
-    /// Makes a queue of this name with these attributes, where there is none yet; else it must have them.
-    /// Refused as QueueNameExists, InvalidAttributeValue, TableFull.
-    #[tactic(auto, unfolding(sq_model::specs::Directories::DirectoryStep, sq_model::specs::Directories::directory_refusal))]
-    pub fn create(
+    /// The names and numbers of all queues, in order of creation. Refused only where memory is out.
+    pub fn names(&self, alloc: Global) -> Result<Listed<NamedQueue>, Refusal>
+        ensures names { IfOk result (λ names. names ≡ all_named self.now) }
+        ensures refused { IfErr result (λ e. e ≡ Refusal.NoMemory) }
+    {
+        all_named(alloc, &self.queues)
+    }
+
+    /// What a call is answered at a moment in ms, and what it does. Refused as NoMemory (of a list of queues, or of
+    /// attributes, that are copied), and then as the call.
+    pub fn answer(
         &mut self,
-        name: &QueueName,
-        attributes: Attributes,
-    ) -> Result<QueueSettings, Refusal>
-        ensures step { (m : ℕ) → IfOk result (λ made. DirectoryStep self.old m (Create name.now attributes) (Made made) self.new) }
-        ensures refusal { (m : ℕ) → IfErr result (λ e. directory_refusal self.old m (Create name.now attributes) ≡ Some e) }
+        alloc: Global,
+        moment: u64,
+        call: &DirectoryCall,
+    ) -> Result<DirectoryReply, Refusal>
+        ensures step { IfOk result (λ reply. DirectoryStep self.old moment call.now reply self.new) }
+        ensures refusal { IfErr result (IsUnanswered self.old moment call.now) }
         ensures err { OnErr result (self.new ≡ self.old) }
     {
-        match queue_of(&self.made, name) {
-            Some(queue) if !agrees(&attributes, queue) => Err(Refusal::QueueNameExists),
-            Some(queue) => Ok(settings_at(queue)),
-            None => self.add(name, attributes),
+        match call {
+            DirectoryCall::Create(name, given) => self.create(alloc, moment, name, given),
+            DirectoryCall::Set(name, given) => self.set(alloc, name, given),
+            DirectoryCall::Remove(name) => self.remove(moment, name),
+            DirectoryCall::PurgeTicket(name) => self.purge_ticket(moment, name),
+            DirectoryCall::Url(name) => self.url(name),
+            DirectoryCall::List(prefix) => self.list(alloc, prefix),
+            DirectoryCall::Sources(name) => self.sources(alloc, name),
+            DirectoryCall::Read(name) => self.read(alloc, name),
+        }
+    }
+
+    // Makes a queue of this name with these attributes, where there is none; else it must have them.
+    #[tactic(auto, unfolding(sq_model::specs::Directories::DirectoryStep, sq_model::specs::Directories::directory_refusal))]
+    fn create(
+        &mut self,
+        alloc: Global,
+        moment: u64,
+        name: &QueueName,
+        given: &Attributes,
+    ) -> Result<DirectoryReply, Refusal>
+        ensures step { IfOk result (λ reply. DirectoryStep self.old moment (asks.Create name.now given.now) reply self.new) }
+        ensures refusal { IfErr result (IsUnanswered self.old moment (asks.Create name.now given.now)) }
+        ensures err { OnErr result (self.new ≡ self.old) }
+    {
+        match self.queues.get(name) {
+            Some(queue) if !agrees(given, queue) => Err(Refusal::QueueNameExists),
+            Some(queue) => Ok(DirectoryReply::Made(settings_at(queue))),
+            None => {
+                let made = self.add(alloc, moment, name, given)?;
+                Ok(DirectoryReply::Made(made))
+            }
         }
     }
 
     // Puts a new queue last, within the memory that `new` got.
-    fn add(&mut self, name: &QueueName, attributes: Attributes) -> Result<QueueSettings, Refusal>
-        ensures place { IfOk result (λ made. self.old.made < self.old.places) }
-        ensures policy { IfOk result (λ made. may_have self.old.queues name.now attributes.redrive ≡ true) }
-        ensures made { IfOk result (λ made. (made ≡ settings_at (new_queue self.old name.now attributes)) × (self.new ≡ record self.old { queues = self.old.queues ++ new_queue self.old name.now attributes ∷ []; made = suc self.old.made })) }
-        ensures refusal { IfErr result (λ e. ((may_have self.old.queues name.now attributes.redrive ≡ false) × (e ≡ Refusal.InvalidAttributeValue))
-            ⊎ ((may_have self.old.queues name.now attributes.redrive ≡ true) × (self.old.places ≤ self.old.made) × (e ≡ Refusal.TableFull))) }
+    #[tactic(auto, unfolding(sq_model::specs::Directories::directory_refusal))]
+    fn add(
+        &mut self,
+        alloc: Global,
+        moment: u64,
+        name: &QueueName,
+        given: &Attributes,
+    ) -> Result<QueueSettings, Refusal>
+        requires { queue_of name.now self.old.queues ≡ None }
+        ensures may_make { IfOk result (λ made. MayMake self.old moment name.now given.now) }
+        ensures made { IfOk result (λ made. made ≡ settings_at (new_queue self.old name.now given.now)) }
+        ensures added { OnOk result (self.new ≡ record self.old { queues = self.old.queues ++ new_queue self.old name.now given.now ∷ []; made = suc self.old.made }) }
+        ensures refusal { IfErr result (λ e. ((e ≡ Refusal.NoMemory) × (has_list given.now.allow ≡ true)) ⊎ (create_refusal self.old moment name.now given.now None ≡ Some e)) }
         ensures err { OnErr result (self.new ≡ self.old) }
     {
-        if !may_have(&self.made, name, &attributes.redrive) {
+        if self.was_deleted_recently(moment, name) {
+            return Err(Refusal::QueueDeletedRecently);
+        }
+        if !may_have(&self.queues, name, &given.redrive) {
             return Err(Refusal::InvalidAttributeValue);
         }
-        if self.made.len() >= self.places as usize {
+        if self.made >= self.places {
             return Err(Refusal::TableFull);
         }
-        let number = QueueNo::following(self.made.len() as u32);
-        let queue = new_queue(&self.made, number, name, attributes);
+        let given = given.copy(alloc)?;
+        let queue = new_queue(&self.queues, QueueNo::following(self.made), name, given);
         let made = settings_at(&queue);
-        let _ = self.made.push(queue);
+        self.queues.push(queue);
+        self.made += 1;
         Ok(made)
+    }
+
+    // Whether a queue of this name was deleted less than 60,000 ms before.
+    fn was_deleted_recently(&self, moment: u64, name: &QueueName) -> bool
+        ensures { result ≡ deleted_recently moment name.now self.now.deleted }
+    {
+        self.deleted.iter().any(|gone| gone.name.as_bytes() == name.as_bytes()
+            && is_recent(moment, gone.moment))
+    }
+
+    // Changes the attributes that are given.
+    #[tactic(auto, unfolding(sq_model::specs::Directories::DirectoryStep, sq_model::specs::Directories::directory_refusal))]
+    fn set(
+        &mut self,
+        alloc: Global,
+        name: &QueueName,
+        given: &Attributes,
+    ) -> Result<DirectoryReply, Refusal>
+        ensures step { (m : ℕ) → IfOk result (λ reply. DirectoryStep self.old m (asks.Set name.now given.now) reply self.new) }
+        ensures refusal { (m : ℕ) → IfErr result (IsUnanswered self.old m (asks.Set name.now given.now)) }
+        ensures err { OnErr result (self.new ≡ self.old) }
+    {
+        let Some(queue) = self.queues.get(name) else {
+            return Err(Refusal::QueueDoesNotExist);
+        };
+        if queue.version >= u64::MAX {
+            return Err(Refusal::Worn);
+        }
+        if !may_have(&self.queues, name, &given.redrive) {
+            return Err(Refusal::InvalidAttributeValue);
+        }
+        let given = given.copy(alloc)?;
+        let redrive = given_redrive(&self.queues, &given.redrive);
+        let changed = settings_with(queue, &given, &redrive);
+        self.queues.give(name, given, redrive);
+        Ok(DirectoryReply::Changed(changed))
+    }
+
+    // Takes a queue out; its name rests from this moment on.
+    #[tactic(auto, unfolding(sq_model::specs::Directories::DirectoryStep, sq_model::specs::Directories::directory_refusal))]
+    fn remove(&mut self, moment: u64, name: &QueueName) -> Result<DirectoryReply, Refusal>
+        ensures step { IfOk result (λ reply. DirectoryStep self.old moment (asks.Remove name.now) reply self.new) }
+        ensures refusal { IfErr result (IsUnanswered self.old moment (asks.Remove name.now)) }
+        ensures err { OnErr result (self.new ≡ self.old) }
+    {
+        let Some(queue) = self.queues.get(name) else {
+            return Err(Refusal::QueueDoesNotExist);
+        };
+        let number = queue.number;
+        self.queues.remove(name);
+        let gone = DeletedName {
+            name: *name,
+            moment,
+        };
+        let _ = self.deleted.push(gone);
+        Ok(DirectoryReply::Removed(number))
+    }
+
+    // Lets a queue be purged, where the last purge was 60,000 ms before or earlier.
+    #[tactic(auto, unfolding(sq_model::specs::Directories::DirectoryStep, sq_model::specs::Directories::directory_refusal))]
+    fn purge_ticket(&mut self, moment: u64, name: &QueueName) -> Result<DirectoryReply, Refusal>
+        ensures step { IfOk result (λ reply. DirectoryStep self.old moment (asks.PurgeTicket name.now) reply self.new) }
+        ensures refusal { IfErr result (IsUnanswered self.old moment (asks.PurgeTicket name.now)) }
+        ensures err { OnErr result (self.new ≡ self.old) }
+    {
+        let Some(queue) = self.queues.get(name) else {
+            return Err(Refusal::QueueDoesNotExist);
+        };
+        if was_purged_recently(moment, queue.last_purge) {
+            return Err(Refusal::PurgeQueueInProgress);
+        }
+        let number = queue.number;
+        self.queues.set_purge(name, moment);
+        Ok(DirectoryReply::Ticket(number))
+    }
+
+    // The number of a queue that is there.
+    fn number_of(&self, name: &QueueName) -> Result<QueueNo, Refusal>
+        ensures found { IfOk result (λ number. (queue : QueueValue) × IsThere self.now name.now queue × (number ≡ queue.number)) }
+        ensures refused { IfErr result (λ e. (e ≡ Refusal.QueueDoesNotExist) × (queue_of name.now self.now.queues ≡ None)) }
+    {
+        match self.queues.get(name) {
+            Some(queue) => Ok(queue.number),
+            None => Err(Refusal::QueueDoesNotExist),
+        }
+    }
+
+    // Tells that a queue is there.
+    #[tactic(auto, unfolding(sq_model::specs::Directories::DirectoryStep, sq_model::specs::Directories::directory_refusal))]
+    fn url(&self, name: &QueueName) -> Result<DirectoryReply, Refusal>
+        ensures step { (m : ℕ) → IfOk result (λ reply. DirectoryStep self.now m (asks.Url name.now) reply self.now) }
+        ensures refusal { (m : ℕ) → IfErr result (IsUnanswered self.now m (asks.Url name.now)) }
+    {
+        let number = self.number_of(name)?;
+        Ok(DirectoryReply::Found(number))
+    }
+
+    // Lists the names that begin so.
+    #[tactic(auto, unfolding(sq_model::specs::Directories::DirectoryStep, sq_model::specs::Directories::directory_refusal))]
+    fn list(&self, alloc: Global, prefix: &NamePrefix) -> Result<DirectoryReply, Refusal>
+        ensures step { (m : ℕ) → IfOk result (λ reply. DirectoryStep self.now m (asks.List prefix.now) reply self.now) }
+        ensures refusal { (m : ℕ) → IfErr result (IsUnanswered self.now m (asks.List prefix.now)) }
+    {
+        let names = listed_names(alloc, &self.queues, &Listing::Begins(*prefix))?;
+        Ok(DirectoryReply::Listed(names))
+    }
+
+    // Lists the queues that have this one for their dead letters.
+    #[tactic(auto, unfolding(sq_model::specs::Directories::DirectoryStep, sq_model::specs::Directories::directory_refusal))]
+    fn sources(&self, alloc: Global, name: &QueueName) -> Result<DirectoryReply, Refusal>
+        ensures step { (m : ℕ) → IfOk result (λ reply. DirectoryStep self.now m (asks.Sources name.now) reply self.now) }
+        ensures refusal { (m : ℕ) → IfErr result (IsUnanswered self.now m (asks.Sources name.now)) }
+    {
+        let number = self.number_of(name)?;
+        let names = listed_names(alloc, &self.queues, &Listing::SourcesOf(number))?;
+        Ok(DirectoryReply::Sources(names))
+    }
+
+    // The attributes of a queue.
+    #[tactic(auto, unfolding(sq_model::specs::Directories::DirectoryStep, sq_model::specs::Directories::directory_refusal))]
+    fn read(&self, alloc: Global, name: &QueueName) -> Result<DirectoryReply, Refusal>
+        ensures step { (m : ℕ) → IfOk result (λ reply. DirectoryStep self.now m (asks.Read name.now) reply self.now) }
+        ensures refusal { (m : ℕ) → IfErr result (IsUnanswered self.now m (asks.Read name.now)) }
+    {
+        match self.queues.get(name) {
+            Some(queue) => Ok(DirectoryReply::Read(attributes_at(alloc, queue)?)),
+            None => Err(Refusal::QueueDoesNotExist),
+        }
     }
 }
 
-// The queue of a name.
-fn queue_of<'a>(queues: &'a [Queue], name: &QueueName) -> Option<&'a Queue>
-    ensures { option_map (λ queue. queue.now) result ≡ queue_of name.now queues.now }
+// The attributes of a queue, as they are shown. Refused only where memory is out.
+fn attributes_at(alloc: Global, queue: &Queue) -> Result<QueueAttributes, Refusal>
+    ensures attributes { IfOk result (λ attributes. attributes ≡ attributes_at queue.now) }
+    ensures refused { IfErr result (λ e. e ≡ Refusal.NoMemory) }
 {
-    queues
-        .iter()
-        .find(|queue| queue.name.as_bytes() == name.as_bytes())
-}
-
-fn number_named(queues: &[Queue], name: &QueueName) -> Option<QueueNo>
-    ensures { result ≡ number_named name.now queues.now }
-{
-    let queue = queue_of(queues, name)?;
-    Some(queue.number)
+    Ok(QueueAttributes {
+        queue: queue.number,
+        settings: queue.settings,
+        redrive: queue.redrive,
+        allow: copy_allow(alloc, &queue.allow)?,
+    })
 }
 
 fn settings_at(queue: &Queue) -> QueueSettings
@@ -121,133 +312,34 @@ fn settings_at(queue: &Queue) -> QueueSettings
     }
 }
 
-// A queue of this number with these attributes, and defaults for the others.
-fn new_queue(queues: &[Queue], number: QueueNo, name: &QueueName, attributes: Attributes) -> Queue
-    ensures { result ≡ with_attributes queues.now attributes (plain_queue number name.now) }
+// The settings of a queue once it has what is given.
+fn settings_with(
+    queue: &Queue,
+    given: &Attributes,
+    redrive: &Option<Option<Redrive>>,
+) -> QueueSettings
+    requires { queue.now.version < last_version }
+    ensures { result ≡ settings_at (with_given given.now redrive.now queue.now) }
 {
-    let settings = Settings {
-        delay: attributes.delay.unwrap_or(Delay::of(0)),
-        retention: attributes.retention.unwrap_or(Retention::of(345_600)),
-        wait_time: attributes.wait_time.unwrap_or(WaitTime::of(0)),
-        timeout: attributes.timeout.unwrap_or(Timeout::of(30)),
-        redrive: changed_redrive(queues, &attributes.redrive, None),
-    };
-    Queue {
-        number,
-        name: *name,
-        settings,
-        redrive: attributes.redrive.unwrap_or(None),
-        allow: attributes.allow.unwrap_or(None),
-        version: 1,
-        last_purge: None,
+    QueueSettings {
+        queue: queue.number,
+        settings: given_settings(&queue.settings, given, redrive),
+        version: queue.version + 1,
     }
 }
 
-// What homes go by after a policy was given, or none.
-fn changed_redrive(
-    queues: &[Queue],
-    given: &Option<Option<RedrivePolicy>>,
-    old: Option<Redrive>,
-) -> Option<Redrive>
-    ensures { result ≡ changed_redrive queues.now given.now old }
+// Whether a moment is less than 60,000 ms after an earlier one.
+fn is_recent(moment: u64, before: u64) -> bool
+    ensures { result ≡ is_recent moment before }
 {
-    match given {
-        Some(policy) => redrive_to(queues, policy),
-        None => old,
-    }
+    moment.saturating_sub(before) < 60_000
 }
 
-fn redrive_to(queues: &[Queue], policy: &Option<RedrivePolicy>) -> Option<Redrive>
-    ensures { result ≡ redrive_to queues.now policy.now }
+fn was_purged_recently(moment: u64, last_purge: Option<u64>) -> bool
+    ensures { result ≡ purged_recently moment last_purge }
 {
-    let policy = policy.as_ref()?;
-    let target = number_named(queues, &policy.target)?;
-    Some(Redrive {
-        target,
-        max_receives: policy.max_receives,
-    })
-}
-
-// Whether a queue of this name may have the redrive policy that is given, if any is.
-fn may_have(queues: &[Queue], name: &QueueName, given: &Option<Option<RedrivePolicy>>) -> bool
-    ensures { result ≡ may_have queues.now name.now given.now }
-{
-    match given {
-        Some(Some(policy)) => may_target(queues, name, policy),
-        _ => true,
-    }
-}
-
-// Whether the target is there, is another queue, and permits it.
-fn may_target(queues: &[Queue], name: &QueueName, policy: &RedrivePolicy) -> bool
-    ensures { result ≡ may_target queues.now name.now policy.now }
-{
-    if policy.target.as_bytes() == name.as_bytes() {
-        return false;
-    }
-    match queue_of(queues, &policy.target) {
-        Some(target) => permits(&target.allow, name),
+    match last_purge {
+        Some(before) => is_recent(moment, before),
         None => false,
-    }
-}
-
-// Whether a queue with this policy may be chosen by one of this name.
-fn permits(allow: &Option<AllowPolicy>, name: &QueueName) -> bool
-    ensures { result ≡ permits allow.now name.now }
-{
-    match allow {
-        None | Some(AllowPolicy::AllowAll) => true,
-        Some(AllowPolicy::DenyAll) => false,
-        Some(AllowPolicy::ByQueue(names)) => has_name(names.as_slice(), name),
-    }
-}
-
-fn has_name(names: &[QueueName], name: &QueueName) -> bool
-    ensures { result ≡ list_any (λ source. bytes_eq source name.now) names.now }
-{
-    names
-        .iter()
-        .any(|source| source.as_bytes() == name.as_bytes())
-}
-
-fn is_or_none<const LEAST: u32, const GREATEST: u32>(
-    asked: Option<Within<LEAST, GREATEST>>,
-    number: Within<LEAST, GREATEST>,
-) -> bool
-    ensures { result ≡ is_or_none asked.entry number.entry }
-{
-    match asked {
-        Some(asked) => asked == number,
-        None => true,
-    }
-}
-
-// Whether each attribute that is given is the queue's.
-fn agrees(attributes: &Attributes, queue: &Queue) -> bool
-    ensures { result ≡ agrees attributes.now queue.now }
-{
-    is_or_none(attributes.delay, queue.settings.delay)
-        && is_or_none(attributes.retention, queue.settings.retention)
-        && is_or_none(attributes.wait_time, queue.settings.wait_time)
-        && is_or_none(attributes.timeout, queue.settings.timeout)
-        && agrees_redrive(&attributes.redrive, &queue.redrive)
-        && agrees_allow(&attributes.allow, &queue.allow)
-}
-
-fn agrees_redrive(given: &Option<Option<RedrivePolicy>>, policy: &Option<RedrivePolicy>) -> bool
-    ensures { result ≡ agrees_redrive given.now policy.now }
-{
-    match given {
-        Some(given) => is_same_redrive(given, policy),
-        None => true,
-    }
-}
-
-fn agrees_allow(given: &Option<Option<AllowPolicy>>, policy: &Option<AllowPolicy>) -> bool
-    ensures { result ≡ agrees_allow given.now policy.now }
-{
-    match given {
-        Some(given) => is_same_allow(given, policy),
-        None => true,
     }
 }

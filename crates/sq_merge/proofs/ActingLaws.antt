@@ -5,14 +5,16 @@ use Rattle.sq_base.specs.Stamps.{stamp_end, next_at, after, stamped}
 use Rattle.sq_base.specs.StampValue.{StampValue}
 use Rattle.sq_base.specs.declared.ids.HomeId.{HomeId}
 use Rattle.sq_base.specs.declared.refusal.Refusal.{Refusal}
-use Rattle.sq_base.specs.declared.refusal.Refusal.TheVariants.{ClockRange, Worn, InvalidParameterValue, QueueDoesNotExist, OverLimit, ReceiptHandleIsInvalid, MessageNotInflight}
+use Rattle.sq_base.specs.declared.refusal.Refusal.TheVariants.{ClockRange, Worn, InvalidAttributeValue, InvalidParameterValue, PurgeQueueInProgress, QueueDoesNotExist, OverLimit, ReceiptHandleIsInvalid, MessageNotInflight}
 use Rattle.std.specs.List.{list_any}
 use Rattle.sq_base.specs.declared.row.Row.{Row}
-use Rattle.sq_model.specs.Directories.{Directory, agrees, create_refusal, deleted_recently, directory_refusal, may_have, queue_of}
+use Rattle.sq_model.specs.Directories.{Directory, DirectoryStep, agrees, create_refusal, deleted_recently, directory_refusal, last_version, may_have, purged_recently, queue_of, refused_at}
 use Rattle.sq_model.specs.declared.directory.Attributes.{Attributes}
-use Rattle.sq_model.specs.declared.directory.DirectoryCall.TheVariants.{Create}
+use Rattle.sq_model.specs.declared.directory.DirectoryCall.{DirectoryCall}
+use Rattle.sq_model.specs.declared.directory.DirectoryCall.TheVariants as asks
+use Rattle.sq_model.specs.declared.directory.DirectoryReply.{DirectoryReply}
+use Rattle.sq_model.specs.declared.directory.DirectoryReply.TheVariants as answers
 use Rattle.sq_model.specs.declared.directory.Queue.{Queue}
-use Rattle.sq_model.specs.declared.directory.QueueSettings.{QueueSettings}
 use Rattle.sq_model.specs.Rows.{ms, trimmed, is_held, is_late}
 use Rattle.sq_model.specs.Homes.{Home, Unopened, Serving, Closed, last_serial, slots, HomeStep, home_refusal, refused_if}
 use Rattle.sq_model.specs.declared.place.Site.{Site}
@@ -21,13 +23,14 @@ use Rattle.sq_model.specs.declared.replies.HomeReply.TheVariants as reply
 use Rattle.sq_history.specs.declared.act.HomeAct.{HomeAct}
 use Rattle.sq_history.specs.declared.act.HomeAct.TheVariants as act
 use Rattle.sq_history.specs.Acts.{call_of}
-use Rattle.sq_merge.specs.Asks.{Resolve, Directed, AtHome, IsReplyTo, IsOfAnyStep, IsOfAct, IsOfDirectory, MayRefuse}
+use Rattle.sq_merge.specs.Asks.{Resolve, Directed, AtHome, IsAnswerTo, IsReplyTo, IsOfAnyStep, IsOfAct, IsOfDirectory, MayRefuse}
 use Rattle.sq_steps.specs.Journals.{journal_of, worn_at, IsNotReady}
 use Rattle.sq_model.specs.RecordValues.{Journal}
 use Rattle.sq_merge.specs.WorldValue.{WorldValue}
-use Rattle.sq_merge.specs.Worlds.{HomeStepped, HomeRefused, Created, CreateRefused, NameRefused, IsKnown}
+use Rattle.sq_merge.specs.Worlds.{HomeStepped, HomeRefused, DirectoryStepped, DirectoryRefused, NameRefused, IsKnown}
+use Rattle.sq_directory.specs.Makers.{IsAnsweredByName, name_asked, queue_answered}
 use Rattle.sq_merge.proofs.ReceivedLaws.{step_received}
-use Rattle.sq_merge.proofs.KnownLaws.{known_created, known_stepped}
+use Rattle.sq_merge.proofs.KnownLaws.{known_directed, known_stepped}
 
 -- what a home replies to an act
 reply_is : (site : Site) (home : Home) (m : ℕ) (a : HomeAct) (by : HomeReply) (after : Home) → HomeStep site home m (call_of a) by after → IsReplyTo a by
@@ -142,26 +145,65 @@ home_may w actor now name id a e h = elim h [
   ]
 ]
 
-create_cases : (d : Directory) (m : ℕ) (name : List ℕ) (given : Attributes) (found : Option Queue) (e : Refusal) → create_refusal d m name given found ≡ Some e → IsOfDirectory (Create name given) e
+create_cases : (d : Directory) (m : ℕ) (name : List ℕ) (given : Attributes) (found : Option Queue) (e : Refusal) → create_refusal d m name given found ≡ Some e → IsOfDirectory (asks.Create name given) e
 create_cases d m name given None e h = inr (three_cases (deleted_recently m name d.deleted) (not (may_have d.queues name given.redrive)) (nat_le d.places d.made) _ _ _ e h)
 create_cases d m name given (Some queue) e h = inl (one_case (not (agrees given queue)) _ e h)
 
-directory_cases : (d : Directory) (m : ℕ) (name : List ℕ) (given : Attributes) (e : Refusal) → directory_refusal d m (Create name given) ≡ Some e → IsOfDirectory (Create name given) e
-unfolding directory_refusal
-directory_cases d m name given e h = create_cases d m name given (queue_of name d.queues) e h
+-- a queue that is not there is told before what its own checks say
+refused_there : (found : Option Queue) (later : Queue → Option Refusal) (e : Refusal) → refused_at found later ≡ Some e → (e ≡ QueueDoesNotExist) ⊎ ((queue : Queue) × (later queue ≡ Some e))
+refused_there None later e h = inl cc
+refused_there (Some queue) later e h = inr (queue, h)
 
--- why a queue is not made
-pub create_may : (w : WorldValue) (actor now : ℕ) (name : List ℕ) (attributes : Attributes) (e : Refusal) → CreateRefused w actor now name attributes e → MayRefuse (Directed (Create name attributes)) e
-create_may w actor now name attributes e h = elim h [
+-- and a call that has none is refused so alone
+not_there : (found : Option Queue) (e : Refusal) → refused_at found (λ queue. None) ≡ Some e → e ≡ QueueDoesNotExist
+not_there found e h = elim (refused_there found (λ queue. None) e h) [ inl none ↦ none | inr other ↦ absurd (no_refusal e other.1) ]
+
+set_cases : (d : Directory) (name : List ℕ) (given : Attributes) (found : Option Queue) (e : Refusal)
+    → refused_at found (λ queue. refused_if (nat_le last_version queue.version) Worn (refused_if (not (may_have d.queues name given.redrive)) InvalidAttributeValue None)) ≡ Some e → IsOfAnyStep e ⊎ IsOfDirectory (asks.Set name given) e
+set_cases d name given found e h = elim (refused_there found _ e h) [
+  | inl none ↦ inr (inl none)
+  | inr own ↦ elim (two_cases (nat_le last_version own.0.version) (not (may_have d.queues name given.redrive)) Worn InvalidAttributeValue e own.1) [ inl worn ↦ inl (inr (inr worn)) | inr value ↦ inr (inr value) ]
+]
+
+purge_cases : (m : ℕ) (name : List ℕ) (found : Option Queue) (e : Refusal) → refused_at found (λ queue. refused_if (purged_recently m queue.last_purge) PurgeQueueInProgress None) ≡ Some e → IsOfDirectory (asks.PurgeTicket name) e
+purge_cases m name found e h = elim (refused_there found _ e h) [ inl none ↦ inl none | inr own ↦ inr (one_case (purged_recently m own.0.last_purge) PurgeQueueInProgress e own.1) ]
+
+directory_cases : (d : Directory) (m : ℕ) (call : DirectoryCall) (e : Refusal) → directory_refusal d m call ≡ Some e → IsOfAnyStep e ⊎ IsOfDirectory call e
+unfolding directory_refusal
+directory_cases d m (asks.Create name given) e h = inr (create_cases d m name given (queue_of name d.queues) e h)
+directory_cases d m (asks.Set name given) e h = set_cases d name given (queue_of name d.queues) e h
+directory_cases d m (asks.Remove name) e h = inr (not_there (queue_of name d.queues) e h)
+directory_cases d m (asks.PurgeTicket name) e h = inr (purge_cases m name (queue_of name d.queues) e h)
+directory_cases d m (asks.Url name) e h = inr (not_there (queue_of name d.queues) e h)
+directory_cases d m (asks.List prefix) e h = absurd (no_refusal e h)
+directory_cases d m (asks.Sources name) e h = inr (not_there (queue_of name d.queues) e h)
+directory_cases d m (asks.Read name) e h = inr (not_there (queue_of name d.queues) e h)
+
+-- why a step of the directory is refused
+pub directory_may : (w : WorldValue) (actor now : ℕ) (call : DirectoryCall) (e : Refusal) → DirectoryRefused w actor now call e → MayRefuse (Directed call) e
+directory_may w actor now call e h = elim h [
   | inl unready ↦ inl (not_ready (journal_of actor w.journals) now e unready)
   | inr step ↦ elim step.1 [
     | inl memory ↦ inl (inl memory.0)
     | inr rest ↦ elim rest [
       | inl clock ↦ inl (after_refused _ _ now e clock)
-      | inr own ↦ inr (directory_cases _ _ name attributes e own.2)
+      | inr own ↦ directory_cases _ _ call e own.2
     ]
   ]
 ]
+
+-- what the directory answers to a call
+directory_reply : (d : Directory) (m : ℕ) (call : DirectoryCall) (by : DirectoryReply) (after : Directory) → DirectoryStep d m call by after → IsAnswerTo call by
+unfolding DirectoryStep
+directory_reply d m (asks.Create name given) (answers.Made made) after h = tt
+directory_reply d m (asks.Set name given) (answers.Changed changed) after h = tt
+directory_reply d m (asks.Remove name) (answers.Removed number) after h = tt
+directory_reply d m (asks.PurgeTicket name) (answers.Ticket number) after h = tt
+directory_reply d m (asks.Url name) (answers.Found number) after h = tt
+directory_reply d m (asks.List prefix) (answers.Listed names) after h = tt
+directory_reply d m (asks.Sources name) (answers.Sources names) after h = tt
+directory_reply d m (asks.Read name) (answers.Read attributes) after h = tt
+directory_reply d m call by after h = elim h [ ]
 
 -- why a queue is not found
 pub name_may : (w : WorldValue) (actor : ℕ) (name : List ℕ) (e : Refusal) → NameRefused w actor name e → MayRefuse (Resolve name) e
@@ -183,11 +225,16 @@ pub answered_home : (w : WorldValue) (actor now : ℕ) (name : List ℕ) (id : H
 answered_home w actor now name id a (Ok by) h = tt
 answered_home w actor now name id a (Err e) h = home_may w actor now name id a e h
 
-pub answered_create : (w : WorldValue) (actor now : ℕ) (name : List ℕ) (attributes : Attributes) (answered : Result QueueSettings Refusal) → IfErr answered (CreateRefused w actor now name attributes) → IfErr answered (MayRefuse (Directed (Create name attributes)))
-answered_create w actor now name attributes (Ok made) h = tt
-answered_create w actor now name attributes (Err e) h = create_may w actor now name attributes e h
+pub answered_directory : (w : WorldValue) (actor now : ℕ) (call : DirectoryCall) (answered : Result DirectoryReply Refusal) → IfErr answered (DirectoryRefused w actor now call) → IfErr answered (MayRefuse (Directed call))
+answered_directory w actor now call (Ok by) h = tt
+answered_directory w actor now call (Err e) h = directory_may w actor now call e h
 
-pub answered_known : (old new : WorldValue) (actor now : ℕ) (name : List ℕ) (attributes : Attributes) (answered : Result QueueSettings Refusal) → IfOk answered (Created old new actor now name attributes)
-    → IfOk answered (λ made. IsKnown new.directory.events (journal_of actor new.journals) (Some name) made.queue)
-answered_known old new actor now name attributes (Ok made) s = known_created old new actor now name attributes made s
-answered_known old new actor now name attributes (Err e) s = tt
+pub answered_call : (old new : WorldValue) (actor now : ℕ) (call : DirectoryCall) (answered : Result DirectoryReply Refusal) → IfOk answered (DirectoryStepped old new actor now call) → IfOk answered (IsAnswerTo call)
+answered_call old new actor now call (Ok by) s = subst (λ (r : DirectoryReply). IsAnswerTo call r) s.moves.answered (directory_reply _ _ call s.moves.its_record.reply _ s.moves.does.step)
+answered_call old new actor now call (Err e) s = tt
+
+pub answered_known : (old new : WorldValue) (actor now : ℕ) (call : DirectoryCall) (answered : Result DirectoryReply Refusal) → IfOk answered (DirectoryStepped old new actor now call)
+    → IfOk answered (IsAnsweredByName new.directory.events new.directory.last call)
+    → IfOk answered (λ by. (name : List ℕ) (queue : ℕ) → name_asked call ≡ Some name → queue_answered by ≡ Some queue → IsKnown new.directory.events (journal_of actor new.journals) (Some name) queue)
+answered_known old new actor now call (Ok by) s made = λ name queue asked of. known_directed old new actor now call by name queue s (made name queue asked of)
+answered_known old new actor now call (Err e) s made = tt

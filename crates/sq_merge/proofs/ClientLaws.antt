@@ -1,31 +1,40 @@
 -- What the steps of a client's call come to.
-use Rattle.std.proofs.Common.{◌≡◌, ◌∙◌, ◌⊎◌, ℕ, suc, ◌+◌, ◌<◌, ◌≤◌, Bool, List, [], ◌∷◌, ◌++◌, length, refl, ap, subst, inl, inr, arith, Option, None, Some, Result, Ok, Err, IfOk, slice_get}
+use Rattle.std.proofs.Common.{◌≡◌, ◌∙◌, ◌⊎◌, ℕ, suc, ◌+◌, ◌<◌, ◌≤◌, Bool, true, List, [], ◌∷◌, ◌++◌, length, refl, ap, subst, inl, inr, arith, Option, None, Some, Result, Ok, Err, IfOk, slice_get}
 use Rattle.rand.specs.Sample.{IsSampleOf}
 use Rattle.sq_base.specs.declared.handle.Handle.{Handle}
 use Rattle.sq_base.specs.declared.refusal.Refusal.{Refusal}
-use Rattle.sq_base.specs.declared.refusal.Refusal.TheVariants.{QueueDoesNotExist, ReceiptHandleIsInvalid}
+use Rattle.sq_base.specs.declared.refusal.Refusal.TheVariants.{NoMemory, QueueDoesNotExist, ReceiptHandleIsInvalid}
 use Rattle.sq_base.specs.declared.row.Row.{Row}
-use Rattle.sq_base.specs.declared.settings.Settings.{Settings}
 use Rattle.sq_model.specs.declared.calls.Receipt.{Receipt}
-use Rattle.sq_model.specs.declared.directory.DirectoryCall.TheVariants.{Create}
-use Rattle.sq_model.specs.declared.directory.DirectoryReply.TheVariants.{Made}
+use Rattle.sq_model.specs.Policies.{has_list}
+use Rattle.sq_model.specs.declared.directory.Attributes.{Attributes}
+use Rattle.sq_model.specs.declared.directory.DirectoryCall.{DirectoryCall}
+use Rattle.sq_model.specs.declared.directory.DirectoryCall.TheVariants as asks
+use Rattle.sq_model.specs.declared.directory.DirectoryReply.{DirectoryReply}
+use Rattle.sq_model.specs.declared.directory.DirectoryReply.TheVariants as told
+use Rattle.sq_model.specs.declared.directory.NamePrefix.{NamePrefix}
+use Rattle.sq_model.specs.declared.directory.QueueAttributes.{QueueAttributes}
 use Rattle.sq_model.specs.declared.directory.QueueSettings.{QueueSettings}
 use Rattle.sq_model.specs.declared.replies.HomeReply.{HomeReply}
 use Rattle.sq_model.specs.declared.replies.HomeReply.TheVariants as reply
+use Rattle.sq_model.specs.declared.replies.Counts.{Counts}
 use Rattle.sq_model.specs.declared.replies.SentMessage.{SentMessage}
 use Rattle.sq_history.specs.declared.act.HomeAct.{HomeAct}
 use Rattle.sq_history.specs.declared.act.HomeAct.TheVariants as act
-use Rattle.sq_merge.specs.declared.calls.Answer.{Answer}
-use Rattle.sq_merge.specs.declared.calls.Answer.TheVariants as answer
-use Rattle.sq_merge.specs.declared.calls.CreateQueue.{CreateQueue}
+use Rattle.sq_calls.specs.declared.calls.Answer.{Answer}
+use Rattle.sq_calls.specs.declared.calls.Answer.TheVariants as answer
+use Rattle.sq_calls.specs.declared.calls.GetQueueAttributes.{GetQueueAttributes}
+use Rattle.sq_calls.specs.declared.calls.QueueCounts.{QueueCounts}
 use Rattle.sq_model.specs.declared.task.NamedQueue.{NamedQueue}
-use Rattle.sq_merge.specs.declared.calls.ReceiveMessage.{ReceiveMessage}
+use Rattle.sq_calls.specs.declared.calls.ReceiveMessage.{ReceiveMessage}
+use Rattle.sq_merge.specs.declared.client.AtEach.{AtEach}
+use Rattle.sq_merge.specs.declared.client.AtEach.TheVariants as at
 use Rattle.sq_merge.specs.declared.client.OnMessage.{OnMessage}
 use Rattle.sq_merge.specs.declared.client.OnMessage.TheVariants.{Delete, Change}
-use Rattle.sq_merge.specs.Messages.{act_of}
-use Rattle.sq_merge.specs.Asks.{Ask, Resolve, Directed, AtHome, Gave, Found, Answered, Done, replied_of, HomeCounts, IsReplyTo, IsOfAnyStep, MayRefuse}
-use Rattle.sq_merge.specs.Calls.{home_numbered, received_from, receipt_of, handle_at}
-use Rattle.sq_merge.specs.Fits.{named, created, at_home, ByName, IsPassed, AskedAll, AtAll, CreateFits, HasNoMessage, InVain, EndsReceive, none_answered, ReceiveAt, HandleAt, OneStep, MakesDone}
+use Rattle.sq_merge.specs.Messages.{act_of, act_at_each}
+use Rattle.sq_merge.specs.Asks.{Ask, Resolve, Directed, AtHome, Gave, Found, Answered, Done, replied_of, HomeCounts, IsAnswerTo, IsReplyTo, IsOfAnyStep, MayRefuse}
+use Rattle.sq_merge.specs.Calls.{home_numbered, changes_queue, counted_homes, counts_with, received_from, receipt_of, handle_at}
+use Rattle.sq_merge.specs.Fits.{named, directed, at_home, ByDirectory, ByName, Copied, CountedAll, CountsAt, shown_of, IsPassed, AskedAll, AtAll, HasNoMessage, InVain, EndsReceive, none_answered, ReceiveAt, HandleAt, OneStep, MakesDone}
 use Rattle.sq_merge.specs.Performs.{Path, Performs}
 use Rattle.sq_merge.proofs.PathLaws.{path_more, answered_one, answered_more}
 
@@ -64,17 +73,34 @@ pub answered_no_handle : {S : Type 0} (stepped : S → Ask → Result Gave Refus
 answered_no_handle stepped counts old new name handle a queue answered did same lost is =
     answered_ended stepped (HandleAt (counts old).homes name handle a) old new name queue answered did (inl (subst (λ (n : HomeCounts). handle_at n.homes queue handle ≡ None) same lost, refl, is))
 
--- a queue that was made, or found, and its homes
-pub answered_created : {S : Type 0} (stepped : S → Ask → Result Gave Refusal → S → Type 0) (counts : S → HomeCounts) (c : CreateQueue) (old mid new : S) (made : QueueSettings) (answered : Result Answer Refusal)
-    → stepped old (Directed (Create c.name c.attributes)) (Ok (Answered (Made made))) mid → counts mid ≡ counts old
-    → Performs stepped (AtAll (counts mid).homes c.name made.queue (act.Configure made.settings made.version) (answer.Queue c.name)) mid answered new → Performs stepped (CreateFits (counts old).homes c) old answered new
-answered_created stepped counts c old mid new made answered h same rest =
-    answered_more stepped (CreateFits (counts old).homes c) (AtAll (counts mid).homes c.name made.queue (act.Configure made.settings made.version) (answer.Queue c.name)) old mid new answered (created c.name c.attributes (Ok made)) h rest
-    (λ ds fits. inr (made, ds, refl, subst (λ (n : HomeCounts). AtAll n.homes c.name made.queue (act.Configure made.settings made.version) (answer.Queue c.name) ds answered) same fits))
+-- a call whose first step the directory answered
+pub answered_directed : {S : Type 0} (stepped : S → Ask → Result Gave Refusal → S → Type 0) (counts : S → HomeCounts) (call : DirectoryCall) (After : HomeCounts → DirectoryReply → List Done → Result Answer Refusal → Type 0) (F : List Done → Result Answer Refusal → Type 0) (old mid new : S) (by : DirectoryReply) (answered : Result Answer Refusal)
+    → stepped old (Directed call) (Ok (Answered by)) mid → counts mid ≡ counts old → IsAnswerTo call by → Performs stepped F mid answered new → ((ds : List Done) → F ds answered → After (counts mid) by ds answered)
+    → Performs stepped (ByDirectory call (After (counts old))) old answered new
+answered_directed stepped counts call After F old mid new by answered h same answers rest as_after =
+    answered_more stepped (ByDirectory call (After (counts old))) F old mid new answered (directed call (Ok by)) h rest
+    (λ ds fits. inr (by, ds, answers, refl, subst (λ (n : HomeCounts). After n by ds answered) same (as_after ds fits)))
 
-pub answered_not_created : {S : Type 0} (stepped : S → Ask → Result Gave Refusal → S → Type 0) (homes : ℕ) (c : CreateQueue) (old new : S) (answered : Result Answer Refusal) (e : Refusal)
-    → answered ≡ Err e → MayRefuse (Directed (Create c.name c.attributes)) e → stepped old (Directed (Create c.name c.attributes)) (Err e) new → Performs stepped (CreateFits homes c) old answered new
-answered_not_created stepped homes c old new answered e is may h = answered_one stepped (CreateFits homes c) old old new answered (created c.name c.attributes (Err e)) refl h (inl (e, may, refl, is))
+-- and that ends there
+pub answered_told : {S : Type 0} (stepped : S → Ask → Result Gave Refusal → S → Type 0) (call : DirectoryCall) (After : DirectoryReply → List Done → Result Answer Refusal → Type 0) (old new : S) (by : DirectoryReply) (answered : Result Answer Refusal)
+    → stepped old (Directed call) (Ok (Answered by)) new → IsAnswerTo call by → After by [] answered → Performs stepped (ByDirectory call After) old answered new
+answered_told stepped call After old new by answered h answers fits =
+    answered_one stepped (ByDirectory call After) old old new answered (directed call (Ok by)) refl h (inr (by, [], answers, refl, fits))
+
+-- and one whose first step it refused
+pub answered_refused : {S : Type 0} (stepped : S → Ask → Result Gave Refusal → S → Type 0) (call : DirectoryCall) (After : DirectoryReply → List Done → Result Answer Refusal → Type 0) (old new : S) (answered : Result Answer Refusal) (e : Refusal)
+    → answered ≡ Err e → MayRefuse (Directed call) e → stepped old (Directed call) (Err e) new → Performs stepped (ByDirectory call After) old answered new
+answered_refused stepped call After old new answered e is may h = answered_one stepped (ByDirectory call After) old old new answered (directed call (Err e)) refl h (inl (e, may, refl, is))
+
+-- attributes of which no copy was made
+pub answered_uncopied : {S : Type 0} (stepped : S → Ask → Result Gave Refusal → S → Type 0) (given : Attributes) (F : List Done → Result Answer Refusal → Type 0) (old : S) (answered : Result Answer Refusal) (e : Refusal)
+    → answered ≡ Err e → e ≡ NoMemory → has_list given.allow ≡ true → Performs stepped (Copied given F) old answered old
+answered_uncopied stepped given F old answered e is memory listed = record { trace = []; path = refl; fits = inl (listed, refl, is ∙ ap Err memory) }
+
+-- and those that were copied
+pub answered_copied : {S : Type 0} (stepped : S → Ask → Result Gave Refusal → S → Type 0) (given : Attributes) (F : List Done → Result Answer Refusal → Type 0) (old new : S) (answered : Result Answer Refusal)
+    → Performs stepped F old answered new → Performs stepped (Copied given F) old answered new
+answered_copied stepped given F old new answered h = record { trace = h.trace; path = h.path; fits = inr h.fits }
 
 -- one home more was asked, or passed over
 pub more_passed : {S : Type 0} (stepped : S → Ask → Result Gave Refusal → S → Type 0) (old mid new : S) (name : List ℕ) (queue : ℕ) (a : HomeAct) (n : ℕ) (answered : Result HomeReply Refusal)
@@ -107,19 +133,29 @@ all_passed stepped old new homes name queue a answer n asked all = record {
 }
 
 -- what is no closed home's refusal is one that each step may have
-pub not_closed : (e : Refusal) → IsOfAnyStep e ⊎ (e ≡ QueueDoesNotExist) ⊎ ⊥ → (e ≡ QueueDoesNotExist → ⊥) → IsOfAnyStep e
+not_closed : (e : Refusal) → IsOfAnyStep e ⊎ (e ≡ QueueDoesNotExist) ⊎ ⊥ → (e ≡ QueueDoesNotExist → ⊥) → IsOfAnyStep e
 not_closed e may other = elim may [ inl any ↦ any | inr rest ↦ elim rest [ inl closed ↦ absurd (other closed) | inr none ↦ absurd none ] ]
 
--- a home that takes settings has nothing to tell
-pub configured_done : (settings : Settings) (version : ℕ) (by : HomeReply) → IsReplyTo (act.Configure settings version) by → by ≡ reply.Done
-configured_done settings version reply.Done h = refl
-configured_done settings version by h = elim h [ ]
+-- a home that is changed as its queue was has nothing to tell
+each_done : (each : AtEach) (by : HomeReply) → IsReplyTo (act_at_each each) by → by ≡ reply.Done
+each_done (at.Configure settings version) reply.Done h = refl
+each_done at.Close reply.Done h = refl
+each_done at.Purge reply.Done h = refl
+each_done (at.Configure settings version) by h = elim h [ ]
+each_done at.Close by h = elim h [ ]
+each_done at.Purge by h = elim h [ ]
 
-pub passed_done : (settings : Settings) (version : ℕ) (answered : Result HomeReply Refusal) → IfOk answered (IsReplyTo (act.Configure settings version)) → ((by : HomeReply) × (answered ≡ Ok by)) ⊎ (answered ≡ Err QueueDoesNotExist) → IsPassed answered
-passed_done settings version answered replied passed = elim passed [
-  | inl did ↦ (let done : did.0 ≡ reply.Done = configured_done settings version did.0 (rw did.1 at replied) in inl (did.1 ∙ ap (λ (by : HomeReply). Ok by) done))
+pub passed_done : (each : AtEach) (answered : Result HomeReply Refusal) → IfOk answered (IsReplyTo (act_at_each each)) → ((by : HomeReply) × (answered ≡ Ok by)) ⊎ (answered ≡ Err QueueDoesNotExist) → IsPassed answered
+passed_done each answered replied passed = elim passed [
+  | inl did ↦ (let done : did.0 ≡ reply.Done = each_done each did.0 (rw did.1 at replied) in inl (did.1 ∙ ap (λ (by : HomeReply). Ok by) done))
   | inr closed ↦ inr closed
 ]
+
+-- what ends the call at one of them is what each step may have
+pub each_ends : (name : List ℕ) (queue home : ℕ) (each : AtEach) (e : Refusal) → MayRefuse (AtHome name (home_numbered queue home) (act_at_each each)) e → (e ≡ QueueDoesNotExist → ⊥) → IsOfAnyStep e
+each_ends name queue home (at.Configure settings version) e may other = not_closed e may other
+each_ends name queue home at.Close e may other = not_closed e may other
+each_ends name queue home at.Purge e may other = not_closed e may other
 
 -- nor one that deletes or changes a message
 pub message_done : (what : OnMessage) (receipt : Receipt) (by : HomeReply) → IsReplyTo (act_of what receipt) by → by ≡ reply.Done
@@ -179,3 +215,68 @@ receive_asked stepped old new counts c queue drawn n over answered some sample a
   path = asked.1;
   fits = inr (drawn, over, some, sample, inr (subst (λ (k : ℕ). InVain c queue drawn k over asked.0) all asked.2, is));
 }
+
+-- a count is answered with counts
+pub counted_is : (by : HomeReply) → IsReplyTo act.Count by → ((counts : Counts) → by ≡ reply.Counted counts → ⊥) → ⊥
+counted_is (reply.Counted counts) h other = other counts refl
+counted_is by h other = elim h [ ]
+
+-- one home more has counted
+pub more_counted : {S : Type 0} (stepped : S → Ask → Result Gave Refusal → S → Type 0) (old mid new : S) (name : List ℕ) (queue n : ℕ) (before sum : QueueCounts) (counts : Counts)
+    → (trace : List Done) × Path stepped old trace mid × CountedAll name queue n before trace → stepped mid (AtHome name (home_numbered queue n) act.Count) (replied_of (Ok (reply.Counted counts))) new → sum ≡ counts_with before counts
+    → (trace : List Done) × Path stepped old trace new × CountedAll name queue (n + 1) sum trace
+more_counted stepped old mid new name queue n before sum counts asked h is =
+    let next : n + 1 ≡ suc n = omega arith in
+    let d : Done = at_home name queue n act.Count (Ok (reply.Counted counts)) in
+    rw next (asked.0 ++ d ∷ [], path_more stepped old mid new asked.0 d asked.1 h, (asked.0, before, counts, asked.2, is, refl))
+
+-- a home ends the count
+pub count_ended : {S : Type 0} (stepped : S → Ask → Result Gave Refusal → S → Type 0) (old mid new : S) (homes : ℕ) (c : GetQueueAttributes) (attributes : QueueAttributes) (n : ℕ) (before : QueueCounts) (e : Refusal) (answered : Result Answer Refusal)
+    → (trace : List Done) × Path stepped old trace mid × CountedAll c.queue attributes.queue n before trace → n < counted_homes homes c.asked → stepped mid (AtHome c.queue (home_numbered attributes.queue n) act.Count) (Err e) new
+    → MayRefuse (AtHome c.queue (home_numbered attributes.queue n) act.Count) e → answered ≡ Err e → Performs stepped (CountsAt homes c attributes) old answered new
+count_ended stepped old mid new homes c attributes n before e answered asked below h may is =
+    let d : Done = at_home c.queue attributes.queue n act.Count (Err e) in
+    record {
+      trace = asked.0 ++ d ∷ [];
+      path = path_more stepped old mid new asked.0 d asked.1 h;
+      fits = inr (n, asked.0, before, e, below, asked.2, may, refl, is);
+    }
+
+-- no home ends it
+pub all_counted : {S : Type 0} (stepped : S → Ask → Result Gave Refusal → S → Type 0) (old new : S) (homes : ℕ) (c : GetQueueAttributes) (attributes : QueueAttributes) (n : ℕ) (sum : QueueCounts)
+    → (trace : List Done) × Path stepped old trace new × CountedAll c.queue attributes.queue n sum trace → n ≡ counted_homes homes c.asked → Performs stepped (CountsAt homes c attributes) old (Ok (shown_of c attributes sum)) new
+all_counted stepped old new homes c attributes n sum asked all = record {
+  trace = asked.0;
+  path = asked.1;
+  fits = inl (sum, subst (λ (k : ℕ). CountedAll c.queue attributes.queue k sum asked.0) all asked.2, refl);
+}
+
+-- ---- what the directory answers to the calls of queues
+
+pub found_is : (name : List ℕ) (by : DirectoryReply) → IsAnswerTo (asks.Url name) by → ((number : ℕ) → by ≡ told.Found number → ⊥) → ⊥
+found_is name (told.Found number) h other = other number refl
+found_is name by h other = elim h [ ]
+
+pub listed_is : (prefix : NamePrefix) (by : DirectoryReply) → IsAnswerTo (asks.List prefix) by → ((names : List (List ℕ)) → by ≡ told.Listed names → ⊥) → ⊥
+listed_is prefix (told.Listed names) h other = other names refl
+listed_is prefix by h other = elim h [ ]
+
+pub sources_is : (name : List ℕ) (by : DirectoryReply) → IsAnswerTo (asks.Sources name) by → ((names : List (List ℕ)) → by ≡ told.Sources names → ⊥) → ⊥
+sources_is name (told.Sources names) h other = other names refl
+sources_is name by h other = elim h [ ]
+
+pub read_is : (name : List ℕ) (by : DirectoryReply) → IsAnswerTo (asks.Read name) by → ((attributes : QueueAttributes) → by ≡ told.Read attributes → ⊥) → ⊥
+read_is name (told.Read attributes) h other = other attributes refl
+read_is name by h other = elim h [ ]
+
+pub changed_is : (call : DirectoryCall) (by : DirectoryReply) → changes_queue call ≡ true → IsAnswerTo call by → ((made : QueueSettings) → by ≡ told.Made made → ⊥) → ((changed : QueueSettings) → by ≡ told.Changed changed → ⊥)
+    → ((number : ℕ) → by ≡ told.Removed number → ⊥) → ((number : ℕ) → by ≡ told.Ticket number → ⊥) → ⊥
+changed_is (asks.Create name given) (told.Made made) changes h a b c d = a made refl
+changed_is (asks.Set name given) (told.Changed changed) changes h a b c d = b changed refl
+changed_is (asks.Remove name) (told.Removed number) changes h a b c d = c number refl
+changed_is (asks.PurgeTicket name) (told.Ticket number) changes h a b c d = d number refl
+changed_is (asks.Url name) (told.Found number) changes h a b c d = absurd cc
+changed_is (asks.List prefix) (told.Listed names) changes h a b c d = absurd cc
+changed_is (asks.Sources name) (told.Sources names) changes h a b c d = absurd cc
+changed_is (asks.Read name) (told.Read attributes) changes h a b c d = absurd cc
+changed_is call by changes h a b c d = elim h [ ]

@@ -3,16 +3,15 @@ use Rattle.std.proofs.Common.{◌≡◌, ℕ, List, length, refl, ap, sym, ◌�
 use Rattle.sq_base.proofs.StampLaws.{after_above_second}
 use Rattle.sq_model.specs.declared.calls.HomeCall.{HomeCall}
 use Rattle.sq_model.specs.declared.replies.HomeReply.{HomeReply}
-use Rattle.sq_model.specs.declared.directory.Attributes.{Attributes}
-use Rattle.sq_model.specs.declared.directory.QueueSettings.{QueueSettings}
-use Rattle.sq_model.specs.declared.directory.DirectoryCall.TheVariants.{Create}
+use Rattle.sq_model.specs.declared.directory.DirectoryCall.{DirectoryCall}
+use Rattle.sq_model.specs.declared.directory.DirectoryReply.{DirectoryReply}
 use Rattle.sq_model.specs.RecordValues.{Journal, actor_of}
 use Rattle.sq_base.specs.declared.ids.HomeId.{HomeId}
 use Rattle.sq_directory.specs.DirectoryHistories.{directory_event}
 use Rattle.sq_directory.specs.Makers.{IsSeen, IsMadeBy}
 use Rattle.sq_steps.specs.Journals.{journal_of, having_seen}
 use Rattle.sq_merge.specs.WorldValue.{WorldValue}
-use Rattle.sq_merge.specs.Worlds.{HomeStepped, Created, having_read, IsKnown}
+use Rattle.sq_merge.specs.Worlds.{HomeStepped, DirectoryStepped, having_read, IsKnown}
 use Rattle.sq_steps.proofs.JournalListLaws.{journal_own, journal_put}
 use Rattle.sq_steps.proofs.JournalLaws.{later_second}
 use Rattle.sq_directory.proofs.ElementLaws.{get_new}
@@ -25,16 +24,14 @@ known_read w actor name queue made =
     let mine = having_seen (journal_of actor w.journals) w.directory.last in
     rw (journal_put actor mine w.journals (journal_own actor w.journals)) (made_later w.directory.events w.directory.last mine.seen name queue made (later_second (journal_of actor w.journals).seen w.directory.last))
 
--- an actor knows the queue that it made
-pub known_created : (old new : WorldValue) (actor now : ℕ) (name : List ℕ) (attributes : Attributes) (made : QueueSettings) → Created old new actor now name attributes made
-    → IsKnown new.directory.events (journal_of actor new.journals) (Some name) made.queue
-known_created old new actor now name attributes made s =
-    let its_record = s.moves.its_record in
-    let event = directory_event its_record.stamp (actor_of (journal_of actor old.journals)) (Create name attributes) its_record.reply in
+-- an actor knows the queue that a step of the directory answered by its name
+pub known_directed : (old new : WorldValue) (actor now : ℕ) (call : DirectoryCall) (reply : DirectoryReply) (name : List ℕ) (queue : ℕ) → DirectoryStepped old new actor now call reply
+    → IsMadeBy new.directory.events new.directory.last name queue → IsKnown new.directory.events (journal_of actor new.journals) (Some name) queue
+known_directed old new actor now call reply name queue s made =
     let own : s.recorded_in.actor ≡ actor = ap (λ (b : Journal). b.actor) s.moves.recorded_as ∙ journal_own actor old.journals in
-    let seen : s.recorded_in.seen ≡ its_record.stamp = ap (λ (b : Journal). b.seen) s.moves.recorded_as in
-    rw (s.changed, journal_put actor s.recorded_in old.journals own, s.moves.does.events)
-    (length old.directory.events, event, get_new old.directory.events event, inl (sym seen), record { attributes = attributes; made = made; call = refl; reply = s.moves.answered; of_queue = refl })
+    let seen : s.recorded_in.seen ≡ s.after.last = ap (λ (b : Journal). b.seen) s.moves.recorded_as ∙ sym s.moves.does.last in
+    let after : IsMadeBy s.after.events s.after.last name queue = rw s.changed at made in
+    rw (s.changed, journal_put actor s.recorded_in old.journals own, seen) after
 
 -- an actor that does a step of a home knows what it knew
 pub known_stepped : (old new : WorldValue) (actor now : ℕ) (said : Option (List ℕ)) (id : HomeId) (call : HomeCall) (reply : HomeReply) (name : List ℕ) (queue : ℕ)

@@ -11,19 +11,17 @@ use Rattle.sq_base.specs.declared.refusal.Refusal.TheVariants.{NoMemory}
 use Rattle.sq_model.specs.declared.place.Limits.{Limits}
 use Rattle.sq_model.specs.declared.calls.HomeCall.{HomeCall}
 use Rattle.sq_model.specs.declared.replies.HomeReply.{HomeReply}
-use Rattle.sq_model.specs.declared.directory.Attributes.{Attributes}
-use Rattle.sq_model.specs.declared.directory.QueueSettings.{QueueSettings}
-use Rattle.sq_model.specs.declared.directory.DirectoryCall.TheVariants.{Create}
-use Rattle.sq_model.specs.declared.directory.DirectoryReply.TheVariants.{Made}
+use Rattle.sq_model.specs.declared.directory.DirectoryCall.{DirectoryCall}
+use Rattle.sq_model.specs.declared.directory.DirectoryReply.{DirectoryReply}
 use Rattle.sq_model.specs.Replays.{HomeEvent}
 use Rattle.sq_model.specs.RecordValues.{Journal}
 use Rattle.sq_model.specs.Matches.{HomeHistory, IsHomeEvent}
 use Rattle.sq_history.specs.HistoryValue.{HistoryValue}
 use Rattle.sq_directory.specs.DirectoryHistory.{DirectoryHistory}
-use Rattle.sq_steps.specs.Journals.{is_of, new_journal, journal_of, index_in, opened, having_seen, last_place, HomeMoves, DirectoryMoves, IsHomeRefused, IsCreateRefused}
+use Rattle.sq_steps.specs.Journals.{is_of, new_journal, journal_of, index_in, opened, having_seen, last_place, HomeMoves, DirectoryMoves, IsHomeRefused, IsDirectoryStepRefused}
 use Rattle.sq_merge.specs.WorldValue.{WorldValue}
 use Rattle.sq_audit.specs.HomeIds.{history_of, histories_of, IsNumbered, home_index}
-use Rattle.sq_merge.specs.Worlds.{IsHomeOf, IsKeptWorld, HomeStepped, HomeRefused, Created, CreateRefused, having_read}
+use Rattle.sq_merge.specs.Worlds.{IsHomeOf, IsKeptWorld, HomeStepped, HomeRefused, DirectoryStepped, DirectoryRefused, having_read}
 use Rattle.sq_merge.specs.declared.options.Options.{Options}
 use Rattle.sq_merge.specs.Openings.{never_opened, never_opened_homes, limits_of, IsServed, new_world}
 use Rattle.sq_directory.proofs.ElementLaws.{some_same, get_cases, get_mapped, get_within}
@@ -86,21 +84,21 @@ refused_unmade old actor now id call place numbered least found pos =
     let home = home_there old id place numbered least found in
     inr (home.0, home.1, home.2, subst (λ (b : Journal). IsHomeRefused home.1 b now call NoMemory) (sym (lost_there actor old.journals pos)) (inl (inr (new_is_not_worn actor, refl, refl))))
 
-pub create_unmade : (old : WorldValue) (actor now : ℕ) (name : List ℕ) (attributes : Attributes) → position (is_of actor) old.journals ≡ None → CreateRefused old actor now name attributes NoMemory
-create_unmade old actor now name attributes pos =
-    subst (λ (b : Journal). IsCreateRefused old.directory b now (Create name attributes) NoMemory) (sym (lost_there actor old.journals pos)) (inl (inr (new_is_not_worn actor, refl, refl)))
+pub directed_unmade : (old : WorldValue) (actor now : ℕ) (call : DirectoryCall) → position (is_of actor) old.journals ≡ None → DirectoryRefused old actor now call NoMemory
+directed_unmade old actor now call pos =
+    subst (λ (b : Journal). IsDirectoryStepRefused old.directory b now call NoMemory) (sym (lost_there actor old.journals pos)) (inl (inr (new_is_not_worn actor, refl, refl)))
 
-pub created_opened : (old : WorldValue) (actor now : ℕ) (name : List ℕ) (attributes : Attributes) (made : QueueSettings) (after : DirectoryHistory) (mine recorded_in : Journal)
+pub directed_opened : (old : WorldValue) (actor now : ℕ) (call : DirectoryCall) (reply : DirectoryReply) (after : DirectoryHistory) (mine recorded_in : Journal)
     → mine ≡ slice_index_or (opened actor old.journals) (index_in actor old.journals) mine
-    → DirectoryMoves old.directory after mine recorded_in now (Create name attributes) (Made made)
-    → Created old (record old { directory = after; journals = slice_set (opened actor old.journals) (index_in actor old.journals) recorded_in }) actor now name attributes made
-created_opened old actor now name attributes made after mine recorded_in own moves =
+    → DirectoryMoves old.directory after mine recorded_in now call reply
+    → DirectoryStepped old (record old { directory = after; journals = slice_set (opened actor old.journals) (index_in actor old.journals) recorded_in }) actor now call reply
+directed_opened old actor now call reply after mine recorded_in own moves =
     let is = opened_is actor old.journals mine own in
     let recorded_own : recorded_in.actor ≡ actor = ap (λ (b : Journal). b.actor) moves.recorded_as ∙ ap (λ (b : Journal). b.actor) is ∙ journal_own actor old.journals in
     record {
       after = after;
       recorded_in = recorded_in;
-      moves = subst (λ (b : Journal). DirectoryMoves old.directory after b recorded_in now (Create name attributes) (Made made)) is moves;
+      moves = subst (λ (b : Journal). DirectoryMoves old.directory after b recorded_in now call reply) is moves;
       changed = ap (λ (bs : List Journal). record old { directory = after; journals = bs }) (opened_put actor recorded_in old.journals recorded_own);
     }
 

@@ -8,10 +8,8 @@ use Rattle.sq_base.specs.declared.ids.HomeId.{HomeId}
 use Rattle.sq_model.specs.declared.event.Actor.{Actor}
 use Rattle.sq_model.specs.declared.calls.HomeCall.{HomeCall}
 use Rattle.sq_model.specs.declared.replies.HomeReply.{HomeReply}
-use Rattle.sq_model.specs.declared.directory.Attributes.{Attributes}
-use Rattle.sq_model.specs.declared.directory.QueueSettings.{QueueSettings}
 use Rattle.sq_model.specs.declared.directory.DirectoryCall.{DirectoryCall}
-use Rattle.sq_model.specs.declared.directory.DirectoryCall.TheVariants.{Create}
+use Rattle.sq_model.specs.declared.directory.DirectoryReply.{DirectoryReply}
 use Rattle.sq_model.specs.Replays.{HomeEvent}
 use Rattle.sq_model.specs.Systems.{DirectoryEvent}
 use Rattle.sq_model.specs.RecordValues.{HomeRecordValue, DirectoryRecordValue, RecordValue, OfDirectory, OfLedger, OfHome, place_of_record, Journal, actor_of, directory_record_of, home_record_of}
@@ -23,7 +21,7 @@ use Rattle.sq_steps.specs.Journals.{new_journal, journal_of, put_journal, with_r
 use Rattle.sq_merge.specs.WorldValue.{WorldValue}
 use Rattle.sq_audit.specs.SystemNow.{nothing_moved}
 use Rattle.sq_audit.specs.HomeIds.{history_of, histories_of, home_id}
-use Rattle.sq_merge.specs.Worlds.{IsKnown, IsKeptWorld, HomeStepped, Created, having_read}
+use Rattle.sq_merge.specs.Worlds.{IsKnown, IsKeptWorld, HomeStepped, DirectoryStepped, having_read}
 use Rattle.sq_directory.proofs.MakerLaws.{seen_below}
 use Rattle.sq_directory.proofs.ElementLaws.{get_old, get_new, get_cases, get_map, get_mapped, get_same, set_cases, set_kept}
 use Rattle.sq_steps.proofs.JournalListLaws.{journal_there, journal_own, put_cases, put_there, put_kept, put_distinct}
@@ -228,63 +226,60 @@ module _ (old : WorldValue) (actor now : ℕ) (name : Option (List ℕ)) (id : H
     distinct = put_distinct (with_record (journal_of actor old.journals) (OfHome its_record) s.recorded_in.room) old.journals kept.distinct;
   })
 
-module _ (old : WorldValue) (actor now : ℕ) (name : List ℕ) (attributes : Attributes) (made : QueueSettings) (new : WorldValue) (kept : IsKeptWorld old) (s : Created old new actor now name attributes made) where
-  abbrev made_by : Actor
-  made_by = actor_of (journal_of actor old.journals)
+module _ (old : WorldValue) (actor now : ℕ) (call : DirectoryCall) (reply : DirectoryReply) (new : WorldValue) (kept : IsKeptWorld old) (s : DirectoryStepped old new actor now call reply) where
+  abbrev directed_by : Actor
+  directed_by = actor_of (journal_of actor old.journals)
 
-  abbrev call_made : DirectoryCall
-  call_made = Create name attributes
+  abbrev directed_event : DirectoryEvent
+  directed_event = directory_event s.moves.its_record.stamp directed_by call s.moves.its_record.reply
 
-  abbrev made_event : DirectoryEvent
-  made_event = directory_event s.moves.its_record.stamp made_by call_made s.moves.its_record.reply
+  abbrev directed_record : DirectoryRecordValue
+  directed_record = s.moves.its_record
 
-  abbrev made_record : DirectoryRecordValue
-  made_record = s.moves.its_record
+  abbrev directed_journals : List Journal
+  directed_journals = put_journal (with_record (journal_of actor old.journals) (OfDirectory directed_record) s.recorded_in.room) old.journals
 
-  abbrev made_journals : List Journal
-  made_journals = put_journal (with_record (journal_of actor old.journals) (OfDirectory made_record) s.recorded_in.room) old.journals
+  directed_index : directed_record.index ≡ length old.directory.events
+  directed_index = ap (λ (n : DirectoryRecordValue). n.index) s.moves.does.record_is
 
-  made_index : made_record.index ≡ length old.directory.events
-  made_index = ap (λ (n : DirectoryRecordValue). n.index) s.moves.does.record_is
+  directed_grows : (k : ℕ) (e : DirectoryEvent) → slice_get old.directory.events k ≡ Some e → slice_get s.after.events k ≡ Some e
+  directed_grows k e h = rw s.moves.does.events (get_old old.directory.events directed_event e k h)
 
-  made_grows : (k : ℕ) (e : DirectoryEvent) → slice_get old.directory.events k ≡ Some e → slice_get s.after.events k ≡ Some e
-  made_grows k e h = rw s.moves.does.events (get_old old.directory.events made_event e k h)
+  directed_stays : (a : ℕ) (P : RecordValue → Type 0) → IsRecorded old.journals a P → IsRecorded directed_journals a P
+  directed_stays a P h = recorded_kept old.journals actor (with_record (journal_of actor old.journals) (OfDirectory directed_record) s.recorded_in.room) a P (journal_own actor old.journals) (λ i m g. get_old (journal_of actor old.journals).records (OfDirectory directed_record) m i g) h
 
-  made_stays : (a : ℕ) (P : RecordValue → Type 0) → IsRecorded old.journals a P → IsRecorded made_journals a P
-  made_stays a P h = recorded_kept old.journals actor (with_record (journal_of actor old.journals) (OfDirectory made_record) s.recorded_in.room) a P (journal_own actor old.journals) (λ i m g. get_old (journal_of actor old.journals).records (OfDirectory made_record) m i g) h
+  directed_is : directed_record ≡ directory_record_of directed_record.index directed_event
+  directed_is = subst (λ (i : ℕ). directed_record ≡ directory_record_of i directed_event) (sym directed_index) s.moves.does.record_is
 
-  made_is : made_record ≡ directory_record_of made_record.index made_event
-  made_is = subst (λ (i : ℕ). made_record ≡ directory_record_of i made_event) (sym made_index) s.moves.does.record_is
+  directed_there : slice_get s.after.events directed_record.index ≡ Some directed_event
+  directed_there = subst (λ (es : List DirectoryEvent). slice_get es directed_record.index ≡ Some directed_event) (sym s.moves.does.events)
+      (subst (λ (k : ℕ). slice_get (old.directory.events ++ directed_event ∷ []) k ≡ Some directed_event) (sym directed_index) (get_new old.directory.events directed_event))
 
-  made_there : slice_get s.after.events made_record.index ≡ Some made_event
-  made_there = subst (λ (es : List DirectoryEvent). slice_get es made_record.index ≡ Some made_event) (sym s.moves.does.events)
-      (subst (λ (k : ℕ). slice_get (old.directory.events ++ made_event ∷ []) k ≡ Some made_event) (sym made_index) (get_new old.directory.events made_event))
-
-  made_have_events : (b i : ℕ) (journal : Journal) (n : RecordValue) → IsRecordAt made_journals b i journal n → HasItsEvent s.after.events nothing_moved (histories_of old.homes) journal.actor n
-  made_have_events b i journal n h = elim (old_or_new old.journals actor (OfDirectory made_record) s.recorded_in.room b i journal n h) [
+  directed_have_events : (b i : ℕ) (journal : Journal) (n : RecordValue) → IsRecordAt directed_journals b i journal n → HasItsEvent s.after.events nothing_moved (histories_of old.homes) journal.actor n
+  directed_have_events b i journal n h = elim (old_or_new old.journals actor (OfDirectory directed_record) s.recorded_in.room b i journal n h) [
     | inl was ↦ subst (λ (a : ℕ). HasItsEvent s.after.events nothing_moved (histories_of old.homes) a n) was.own
-        (its_event_stays old.directory.events s.after.events (histories_of old.homes) (histories_of old.homes) was.journal.actor n made_grows (λ j h g. record { new = h; in_list = g; same = refl; more = λ k e f. f }) (kept.has_its_event was.at i was.journal n was.in_list))
-    | inr new ↦ subst (λ (a : ℕ). HasItsEvent s.after.events nothing_moved (histories_of old.homes) a n) (sym new.0) (subst (λ (m : RecordValue). HasItsEvent s.after.events nothing_moved (histories_of old.homes) actor m) (sym new.2) (made_event, made_there, journal_own actor old.journals, made_is))
+        (its_event_stays old.directory.events s.after.events (histories_of old.homes) (histories_of old.homes) was.journal.actor n directed_grows (λ j h g. record { new = h; in_list = g; same = refl; more = λ k e f. f }) (kept.has_its_event was.at i was.journal n was.in_list))
+    | inr new ↦ subst (λ (a : ℕ). HasItsEvent s.after.events nothing_moved (histories_of old.homes) a n) (sym new.0) (subst (λ (m : RecordValue). HasItsEvent s.after.events nothing_moved (histories_of old.homes) actor m) (sym new.2) (directed_event, directed_there, journal_own actor old.journals, directed_is))
   ]
 
-  made_recorded : (k : ℕ) (e : DirectoryEvent) → slice_get s.after.events k ≡ Some e → IsRecorded made_journals e.actor (IsOfDirectory k e)
-  made_recorded k e h = elim (get_cases old.directory.events made_event e k (rw s.moves.does.events at h)) [
-    | inl g ↦ made_stays e.actor (IsOfDirectory k e) (kept.directory_recorded k e g)
+  directed_recorded : (k : ℕ) (e : DirectoryEvent) → slice_get s.after.events k ≡ Some e → IsRecorded directed_journals e.actor (IsOfDirectory k e)
+  directed_recorded k e h = elim (get_cases old.directory.events directed_event e k (rw s.moves.does.events at h)) [
+    | inl g ↦ directed_stays e.actor (IsOfDirectory k e) (kept.directory_recorded k e g)
     | inr g ↦ (
-        let index : made_record.index ≡ k = made_index ∙ sym g.0 in
-        let is : IsOfDirectory k made_event (OfDirectory made_record) = ap OfDirectory (subst (λ (x : ℕ). made_record ≡ directory_record_of x made_event) index made_is) in
-        subst (λ (x : DirectoryEvent). IsRecorded made_journals x.actor (IsOfDirectory k x)) (sym g.1) (subst (λ (a : ℕ). IsRecorded made_journals a (IsOfDirectory k made_event)) (sym (journal_own actor old.journals)) (new_recorded old.journals actor (OfDirectory made_record) s.recorded_in.room (IsOfDirectory k made_event) is)))
+        let index : directed_record.index ≡ k = directed_index ∙ sym g.0 in
+        let is : IsOfDirectory k directed_event (OfDirectory directed_record) = ap OfDirectory (subst (λ (x : ℕ). directed_record ≡ directory_record_of x directed_event) index directed_is) in
+        subst (λ (x : DirectoryEvent). IsRecorded directed_journals x.actor (IsOfDirectory k x)) (sym g.1) (subst (λ (a : ℕ). IsRecorded directed_journals a (IsOfDirectory k directed_event)) (sym (journal_own actor old.journals)) (new_recorded old.journals actor (OfDirectory directed_record) s.recorded_in.room (IsOfDirectory k directed_event) is)))
   ]
 
-  pub kept_created : IsKeptWorld new
-  kept_created = rw (s.changed, s.moves.recorded_as) (record {
+  pub kept_directed : IsKeptWorld new
+  kept_directed = rw (s.changed, s.moves.recorded_as) (record {
     numbered = kept.numbered;
-    has_its_event = made_have_events;
-    directory_recorded = made_recorded;
-    homes_recorded = λ j k h e at. made_stays e.actor (IsOfHome h.home k e) (kept.homes_recorded j k h e at);
-    exact = exact_more old actor (OfDirectory made_record) s.recorded_in.room kept (ap (λ (n : DirectoryRecordValue). n.place) s.moves.does.record_is);
-    counted = counted_more old actor (OfDirectory made_record) s.recorded_in.room kept;
-    distinct = put_distinct (with_record (journal_of actor old.journals) (OfDirectory made_record) s.recorded_in.room) old.journals kept.distinct;
+    has_its_event = directed_have_events;
+    directory_recorded = directed_recorded;
+    homes_recorded = λ j k h e at. directed_stays e.actor (IsOfHome h.home k e) (kept.homes_recorded j k h e at);
+    exact = exact_more old actor (OfDirectory directed_record) s.recorded_in.room kept (ap (λ (n : DirectoryRecordValue). n.place) s.moves.does.record_is);
+    counted = counted_more old actor (OfDirectory directed_record) s.recorded_in.room kept;
+    distinct = put_distinct (with_record (journal_of actor old.journals) (OfDirectory directed_record) s.recorded_in.room) old.journals kept.distinct;
   })
 
 -- an actor that has read the directory has the same records

@@ -2,13 +2,10 @@
 use Rattle.std.specs.Prelude.{◌≡◌, ℕ, Some, Result, Ok, Err}
 use Rattle.sq_base.specs.declared.refusal.Refusal.{Refusal}
 use Rattle.sq_model.specs.Directories.{number_named}
-use Rattle.sq_model.specs.declared.directory.DirectoryCall.TheVariants.{Create}
-use Rattle.sq_model.specs.declared.directory.DirectoryReply.TheVariants.{Made}
 use Rattle.sq_history.specs.Acts.{call_of}
-use Rattle.sq_steps.specs.Journals.{IsCreateRefused, journal_of}
 use Rattle.sq_merge.specs.Asks.{Ask, Resolve, Directed, AtHome, Gave, Found, Answered, Replied, HomeCounts}
 use Rattle.sq_merge.specs.WorldValue.{WorldValue}
-use Rattle.sq_merge.specs.Worlds.{HomeStepped, HomeRefused, Created, NameRefused, having_read}
+use Rattle.sq_merge.specs.Worlds.{HomeStepped, HomeRefused, DirectoryStepped, DirectoryRefused, NameRefused, having_read}
 
 abbrev pub counts_of : WorldValue → HomeCounts
 counts_of w = record { homes = w.per_queue; sample = w.sample }
@@ -16,14 +13,14 @@ counts_of w = record { homes = w.per_queue; sample = w.sample }
 -- one step of a call by an actor at a clock reading, with this answer
 abbrev pub ActorDoes : ℕ → ℕ → WorldValue → Ask → Gave → WorldValue → Type 0
 ActorDoes actor now w (Resolve name) (Found queue) t = (number_named name w.directory.directory.queues ≡ Some queue) × (t ≡ having_read w actor)
-ActorDoes actor now w (Directed (Create name attributes)) (Answered (Made made)) t = Created w t actor now name attributes made
+ActorDoes actor now w (Directed call) (Answered reply) t = DirectoryStepped w t actor now call reply
 ActorDoes actor now w (AtHome name id act) (Replied reply) t = HomeStepped w t actor now (Some name) id (call_of act) reply
 ActorDoes actor now w ask gave t = ⊥
 
 -- why one is refused
 abbrev pub ActorRefused : ℕ → ℕ → WorldValue → Ask → Refusal → Type 0
 ActorRefused actor now w (Resolve name) e = NameRefused w actor name e
-ActorRefused actor now w (Directed call) e = IsCreateRefused w.directory (journal_of actor w.journals) now call e
+ActorRefused actor now w (Directed call) e = DirectoryRefused w actor now call e
 ActorRefused actor now w (AtHome name id act) e = HomeRefused w actor now id (call_of act) e
 
 -- One step of a call by an actor at a clock reading; what is refused changes nothing.

@@ -4,8 +4,6 @@ use Rattle.std.proofs.Common.{◌∙◌, refl, ap, sym, subst}
 use Rattle.sq_base.specs.declared.refusal.Refusal.{Refusal}
 use Rattle.sq_base.specs.Stamps.{Below}
 use Rattle.sq_base.proofs.StampLaws.{after_above_second}
-use Rattle.sq_model.specs.declared.directory.DirectoryCall.TheVariants.{Create}
-use Rattle.sq_model.specs.declared.directory.DirectoryReply.TheVariants.{Made}
 use Rattle.sq_model.specs.RecordValues.{HomeRecordValue, DirectoryRecordValue, Journal, OfDirectory, OfHome, RecordValue, place_of_record, stamp_of}
 use Rattle.sq_history.specs.Rooms.{KeepsRoom}
 use Rattle.sq_steps.specs.Journals.{journal_of, put_journal, having_seen, with_record}
@@ -29,7 +27,7 @@ next_is actor s t n b place above more room journals =
 does_leaves : (actor now : ℕ) (s t : WorldValue) (ask : Ask) (gave : Gave) → ActorDoes actor now s ask gave t → LeavesOf ask (Ok gave) (journal_of actor s.journals) (journal_of actor t.journals)
 does_leaves actor now s t (Resolve name) (Found queue) h =
     (s.directory.last, mine_is actor s t (having_seen (journal_of actor s.journals) s.directory.last) (journal_own actor s.journals) (ap (λ (v : WorldValue). v.journals) h.1))
-does_leaves actor now s t (Directed (Create name attributes)) (Answered (Made made)) h = (
+does_leaves actor now s t (Directed call) (Answered reply) h = (
   OfDirectory h.moves.its_record,
   record {
     its_record = h.moves.its_record;

@@ -9,8 +9,7 @@ use Rattle.sq_base.specs.declared.refusal.Refusal.TheVariants.{NoMemory, ClockRa
 use Rattle.sq_model.specs.declared.directory.DirectoryCall.{DirectoryCall}
 use Rattle.sq_model.specs.declared.directory.DirectoryCall.TheVariants as asks
 use Rattle.sq_model.specs.declared.directory.DirectoryReply.{DirectoryReply}
-use Rattle.sq_model.specs.declared.directory.DirectoryReply.TheVariants.{Made}
-use Rattle.sq_model.specs.declared.directory.QueueSettings.{QueueSettings}
+use Rattle.sq_model.specs.declared.directory.DirectoryReply.TheVariants as answers
 use Rattle.sq_model.specs.declared.replies.HomeReply.{HomeReply}
 use Rattle.sq_model.specs.declared.replies.HomeReply.TheVariants as reply
 use Rattle.sq_model.specs.RecordValues.{HomeRecordValue, DirectoryRecordValue, RecordValue, OfDirectory, OfHome, place_of_record, stamp_of, Journal}
@@ -21,7 +20,7 @@ use Rattle.sq_directory.specs.Makers.{IsSeen}
 use Rattle.sq_history.specs.Rooms.{KeepsRoom}
 use Rattle.sq_steps.specs.Journals.{having_seen, with_record}
 use Rattle.sq_model.specs.declared.task.NamedQueue.{NamedQueue}
-use Rattle.sq_merge.specs.ReceivedValue.{AreReceived}
+use Rattle.sq_calls.specs.ReceivedValue.{AreReceived}
 
 -- What a step asks: the number of the queue of a name, which is a read; a step of the directory; a step of a home, by the queue's name that was used.
 pub data Ask : Type 0 where
@@ -39,9 +38,9 @@ abbrev pub found_of : Result NamedQueue Refusal → Result Gave Refusal
 found_of (Ok of) = Ok (Found of.number)
 found_of (Err e) = Err e
 
-abbrev pub made_of : Result QueueSettings Refusal → Result Gave Refusal
-made_of (Ok made) = Ok (Answered (Made made))
-made_of (Err e) = Err e
+abbrev pub answered_of : Result DirectoryReply Refusal → Result Gave Refusal
+answered_of (Ok reply) = Ok (Answered reply)
+answered_of (Err e) = Err e
 
 abbrev pub replied_of : Result HomeReply Refusal → Result Gave Refusal
 replied_of (Ok reply) = Ok (Replied reply)
@@ -56,6 +55,18 @@ pub record Done : Type 0 where
 pub record HomeCounts : Type 0 where
   pub homes : ℕ
   pub sample : ℕ
+
+-- what the directory answers to a call
+abbrev pub IsAnswerTo : DirectoryCall → DirectoryReply → Type 0
+IsAnswerTo (asks.Create name given) (answers.Made made) = Unit {0}
+IsAnswerTo (asks.Set name given) (answers.Changed changed) = Unit {0}
+IsAnswerTo (asks.Remove name) (answers.Removed number) = Unit {0}
+IsAnswerTo (asks.PurgeTicket name) (answers.Ticket number) = Unit {0}
+IsAnswerTo (asks.Url name) (answers.Found number) = Unit {0}
+IsAnswerTo (asks.List prefix) (answers.Listed names) = Unit {0}
+IsAnswerTo (asks.Sources name) (answers.Sources names) = Unit {0}
+IsAnswerTo (asks.Read name) (answers.Read attributes) = Unit {0}
+IsAnswerTo call other = ⊥
 
 -- what a home replies to an act
 abbrev pub IsReplyTo : HomeAct → HomeReply → Type 0

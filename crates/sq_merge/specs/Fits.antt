@@ -10,29 +10,38 @@ use Rattle.sq_base.specs.declared.refusal.Refusal.TheVariants.{NoMemory, QueueDo
 use Rattle.sq_base.specs.declared.row.Row.{Row}
 use Rattle.sq_model.specs.declared.calls.Receipt.{Receipt}
 use Rattle.sq_model.specs.declared.directory.Attributes.{Attributes}
-use Rattle.sq_model.specs.declared.directory.DirectoryCall.TheVariants.{Create}
-use Rattle.sq_model.specs.declared.directory.QueueSettings.{QueueSettings}
+use Rattle.sq_model.specs.declared.directory.DirectoryCall.{DirectoryCall}
+use Rattle.sq_model.specs.declared.directory.DirectoryCall.TheVariants.{Create, PurgeTicket, Read, Remove, Set, Sources, Url}
+use Rattle.sq_model.specs.declared.directory.DirectoryCall.TheVariants.{List as ListNames}
+use Rattle.sq_model.specs.declared.directory.DirectoryReply.{DirectoryReply}
+use Rattle.sq_model.specs.declared.directory.DirectoryReply.TheVariants as told
+use Rattle.sq_model.specs.declared.directory.QueueAttributes.{QueueAttributes}
+use Rattle.sq_model.specs.declared.replies.Counts.{Counts}
+use Rattle.sq_model.specs.Policies.{has_list}
 use Rattle.sq_model.specs.declared.replies.HomeReply.{HomeReply}
 use Rattle.sq_model.specs.declared.replies.HomeReply.TheVariants as reply
 use Rattle.sq_model.specs.declared.replies.SentMessage.{SentMessage}
 use Rattle.sq_history.specs.declared.act.HomeAct.{HomeAct}
-use Rattle.sq_history.specs.declared.act.HomeAct.TheVariants.{Configure, Send, Look, Delete, Change}
-use Rattle.sq_merge.specs.declared.calls.Answer.{Answer}
-use Rattle.sq_merge.specs.declared.calls.Answer.TheVariants as answer
-use Rattle.sq_merge.specs.declared.calls.Call.{Call}
-use Rattle.sq_merge.specs.declared.calls.Call.TheVariants as call
-use Rattle.sq_merge.specs.declared.calls.CreateQueue.{CreateQueue}
-use Rattle.sq_merge.specs.declared.calls.ReceiveMessage.{ReceiveMessage}
-use Rattle.sq_merge.specs.declared.calls.SendMessage.{SendMessage}
-use Rattle.sq_merge.specs.Asks.{Resolve, Directed, AtHome, Gave, Found, Done, made_of, replied_of, HomeCounts, IsOfAnyStep, MayRefuse}
-use Rattle.sq_merge.specs.Calls.{home_numbered, received_from, receipt_of, handle_at}
+use Rattle.sq_history.specs.declared.act.HomeAct.TheVariants.{Configure, Close, Send, Look, Delete, Change, Purge, Count}
+use Rattle.sq_calls.specs.declared.calls.Answer.{Answer}
+use Rattle.sq_calls.specs.declared.calls.Answer.TheVariants as answer
+use Rattle.sq_calls.specs.declared.calls.Call.{Call}
+use Rattle.sq_calls.specs.declared.calls.Call.TheVariants as call
+use Rattle.sq_calls.specs.declared.calls.CreateQueue.{CreateQueue}
+use Rattle.sq_calls.specs.declared.calls.GetQueueAttributes.{GetQueueAttributes}
+use Rattle.sq_calls.specs.declared.calls.QueueCounts.{QueueCounts}
+use Rattle.sq_calls.specs.declared.calls.ReceiveMessage.{ReceiveMessage}
+use Rattle.sq_calls.specs.declared.calls.SetQueueAttributes.{SetQueueAttributes}
+use Rattle.sq_calls.specs.declared.calls.SendMessage.{SendMessage}
+use Rattle.sq_merge.specs.Asks.{Resolve, Directed, AtHome, Gave, Found, Done, answered_of, replied_of, HomeCounts, IsAnswerTo, IsOfAnyStep, MayRefuse}
+use Rattle.sq_merge.specs.Calls.{home_numbered, counted_homes, counts_with, no_counts, received_from, receipt_of, handle_at}
 
--- a queue is looked up by its name; a queue is made, or found; a home of a queue is asked, by the queue's name
+-- a queue is looked up by its name; the directory is asked; a home of a queue is asked, by the queue's name
 abbrev pub named : List ℕ → Result Gave Refusal → Done
 named name answered = record { ask = Resolve name; answered = answered }
 
-abbrev pub created : List ℕ → Attributes → Result QueueSettings Refusal → Done
-created name attributes answered = record { ask = Directed (Create name attributes); answered = made_of answered }
+abbrev pub directed : DirectoryCall → Result DirectoryReply Refusal → Done
+directed call answered = record { ask = Directed call; answered = answered_of answered }
 
 abbrev pub at_home : List ℕ → ℕ → ℕ → HomeAct → Result HomeReply Refusal → Done
 at_home name queue home act answered = record { ask = AtHome name (home_numbered queue home) act; answered = replied_of answered }
@@ -66,12 +75,66 @@ AtAll homes name queue act answer trace answered =
     ⊎ ((n : ℕ) × (front : List Done) × (e : Refusal) × (n < homes) × AskedAll name queue act n front × IsOfAnyStep e
     × (trace ≡ front ++ at_home name queue n act (Err e) ∷ []) × (answered ≡ Err e))
 
+-- A call that begins with a step of the directory; what is left is done after that.
+abbrev pub ByDirectory : DirectoryCall → (DirectoryReply → List Done → Result Answer Refusal → Type 0) → List Done → Result Answer Refusal → Type 0
+ByDirectory call After trace answered =
+    ((e : Refusal) × MayRefuse (Directed call) e × (trace ≡ directed call (Err e) ∷ []) × (answered ≡ Err e))
+    ⊎ ((by : DirectoryReply) × (rest : List Done) × IsAnswerTo call by × (trace ≡ directed call (Ok by) ∷ rest) × After by rest answered)
+
+-- What all homes of a queue are asked once the directory has changed it: they take its settings, close, or let go of their messages.
+abbrev pub ThenAll : ℕ → List ℕ → Answer → DirectoryReply → List Done → Result Answer Refusal → Type 0
+ThenAll homes name answer (told.Made made) trace answered = AtAll homes name made.queue (Configure made.settings made.version) answer trace answered
+ThenAll homes name answer (told.Changed changed) trace answered = AtAll homes name changed.queue (Configure changed.settings changed.version) answer trace answered
+ThenAll homes name answer (told.Removed number) trace answered = AtAll homes name number Close answer trace answered
+ThenAll homes name answer (told.Ticket number) trace answered = AtAll homes name number Purge answer trace answered
+ThenAll homes name answer other trace answered = ⊥
+
+-- attributes are copied for the first step; where they list queues memory may be out before it
+abbrev pub Copied : Attributes → (List Done → Result Answer Refusal → Type 0) → List Done → Result Answer Refusal → Type 0
+Copied given Fits trace answered = ((has_list given.allow ≡ true) × (trace ≡ []) × (answered ≡ Err NoMemory)) ⊎ Fits trace answered
+
 -- CreateQueue: the queue is made, where it is not there, and then its homes take its settings
 abbrev pub CreateFits : ℕ → CreateQueue → List Done → Result Answer Refusal → Type 0
-CreateFits homes c trace answered =
-    ((e : Refusal) × MayRefuse (Directed (Create c.name c.attributes)) e × (trace ≡ created c.name c.attributes (Err e) ∷ []) × (answered ≡ Err e))
-    ⊎ ((made : QueueSettings) × (rest : List Done) × (trace ≡ created c.name c.attributes (Ok made) ∷ rest)
-    × AtAll homes c.name made.queue (Configure made.settings made.version) (answer.Queue c.name) rest answered)
+CreateFits homes c = Copied c.attributes (ByDirectory (Create c.name c.attributes) (ThenAll homes c.name (answer.Queue c.name)))
+
+-- SetQueueAttributes: the queue takes them, and then its homes do
+abbrev pub SetFits : ℕ → SetQueueAttributes → List Done → Result Answer Refusal → Type 0
+SetFits homes c = Copied c.attributes (ByDirectory (Set c.queue c.attributes) (ThenAll homes c.queue answer.Done))
+
+-- GetQueueUrl, ListQueues, ListDeadLetterSourceQueues: the directory's reply is the answer
+abbrev pub TellsUrl : List ℕ → DirectoryReply → List Done → Result Answer Refusal → Type 0
+TellsUrl name (told.Found number) rest answered = (rest ≡ []) × (answered ≡ Ok (answer.Queue name))
+TellsUrl name other rest answered = ⊥
+
+abbrev pub TellsQueues : DirectoryReply → List Done → Result Answer Refusal → Type 0
+TellsQueues (told.Listed names) rest answered = (rest ≡ []) × (answered ≡ Ok (answer.Queues names))
+TellsQueues other rest answered = ⊥
+
+abbrev pub TellsSources : DirectoryReply → List Done → Result Answer Refusal → Type 0
+TellsSources (told.Sources names) rest answered = (rest ≡ []) × (answered ≡ Ok (answer.Sources names))
+TellsSources other rest answered = ⊥
+
+-- Homes 0 to n - 1 of a queue counted their messages, and this is the sum.
+abbrev pub CountedAll : List ℕ → ℕ → ℕ → QueueCounts → List Done → Type 0
+CountedAll name queue zero sum trace = (sum ≡ no_counts) × (trace ≡ [])
+CountedAll name queue (suc n) sum trace =
+    (front : List Done) × (before : QueueCounts) × (counts : Counts) × CountedAll name queue n before front × (sum ≡ counts_with before counts)
+    × (trace ≡ front ++ at_home name queue n Count (Ok (reply.Counted counts)) ∷ [])
+
+-- the queue with its attributes, and those of them that are asked for
+abbrev pub shown_of : GetQueueAttributes → QueueAttributes → QueueCounts → Answer
+shown_of c attributes counts = answer.Attributes (record { queue = c.queue; asked = c.asked; attributes = attributes; counts = counts })
+
+-- All homes of a queue count their messages where a count is asked for, and none else; a refusal that a count may have ends the call.
+abbrev pub CountsAt : ℕ → GetQueueAttributes → QueueAttributes → List Done → Result Answer Refusal → Type 0
+CountsAt homes c attributes trace answered =
+    ((sum : QueueCounts) × CountedAll c.queue attributes.queue (counted_homes homes c.asked) sum trace × (answered ≡ Ok (shown_of c attributes sum)))
+    ⊎ ((n : ℕ) × (front : List Done) × (before : QueueCounts) × (e : Refusal) × (n < counted_homes homes c.asked) × CountedAll c.queue attributes.queue n before front
+    × MayRefuse (AtHome c.queue (home_numbered attributes.queue n) Count) e × (trace ≡ front ++ at_home c.queue attributes.queue n Count (Err e) ∷ []) × (answered ≡ Err e))
+
+abbrev pub Shows : ℕ → GetQueueAttributes → DirectoryReply → List Done → Result Answer Refusal → Type 0
+Shows homes c (told.Read attributes) trace answered = CountsAt homes c attributes trace answered
+Shows homes c other trace answered = ⊥
 
 -- the answer to a send is the message's id and its body's digest
 abbrev pub MakesSent : List ℕ → HomeReply → Answer → Type 0
@@ -131,6 +194,13 @@ HandleAt homes name handle act queue trace answered =
 -- These steps are the call's, and the answer is made of them.
 abbrev pub CallFits : HomeCounts → Call → List Done → Result Answer Refusal → Type 0
 CallFits counts (call.CreateQueue c) trace answered = CreateFits counts.homes c trace answered
+CallFits counts (call.GetQueueUrl name) trace answered = ByDirectory (Url name) (TellsUrl name) trace answered
+CallFits counts (call.ListQueues prefix) trace answered = ByDirectory (ListNames prefix) TellsQueues trace answered
+CallFits counts (call.SetQueueAttributes c) trace answered = SetFits counts.homes c trace answered
+CallFits counts (call.GetQueueAttributes c) trace answered = ByDirectory (Read c.queue) (Shows counts.homes c) trace answered
+CallFits counts (call.PurgeQueue name) trace answered = ByDirectory (PurgeTicket name) (ThenAll counts.homes name answer.Done) trace answered
+CallFits counts (call.DeleteQueue name) trace answered = ByDirectory (Remove name) (ThenAll counts.homes name answer.Done) trace answered
+CallFits counts (call.ListDeadLetterSourceQueues name) trace answered = ByDirectory (Sources name) TellsSources trace answered
 CallFits counts (call.SendMessage c) trace answered = ByName c.queue (SendAt counts.homes c) trace answered
 CallFits counts (call.ReceiveMessage c) trace answered = ByName c.queue (ReceiveAt counts c) trace answered
 CallFits counts (call.DeleteMessage c) trace answered = ByName c.queue (HandleAt counts.homes c.queue c.handle (λ receipt. Delete receipt)) trace answered

@@ -2,7 +2,6 @@ pub mod WorldValue
 pub mod Worlds
 pub mod Openings
 pub mod PartsValue
-pub mod ReceivedValue
 pub mod Asks
 pub mod Messages
 pub mod Performs

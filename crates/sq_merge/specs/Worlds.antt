@@ -4,13 +4,11 @@ use Rattle.sq_base.specs.Stamps.{stamp_end}
 use Rattle.sq_base.specs.declared.ids.HomeId.{HomeId}
 use Rattle.sq_base.specs.declared.refusal.Refusal.{Refusal}
 use Rattle.sq_base.specs.declared.refusal.Refusal.TheVariants.{NoMemory, ClockRange, QueueDoesNotExist}
-use Rattle.sq_model.specs.declared.directory.Attributes.{Attributes}
-use Rattle.sq_model.specs.declared.directory.QueueSettings.{QueueSettings}
-use Rattle.sq_model.specs.declared.directory.DirectoryCall.TheVariants as directory_call
-use Rattle.sq_model.specs.declared.directory.DirectoryReply.TheVariants.{Made}
+use Rattle.sq_model.specs.declared.directory.DirectoryCall.{DirectoryCall}
+use Rattle.sq_model.specs.declared.directory.DirectoryReply.{DirectoryReply}
 use Rattle.sq_model.specs.declared.calls.HomeCall.{HomeCall}
 use Rattle.sq_model.specs.declared.replies.HomeReply.{HomeReply}
-use Rattle.sq_model.specs.Directories.{number_named}
+use Rattle.sq_model.specs.Directories.{all_named, number_named}
 use Rattle.sq_model.specs.Replays.{HomeEvent}
 use Rattle.sq_model.specs.Systems.{DirectoryEvent}
 use Rattle.sq_model.specs.RecordValues.{RecordValue, place_of_record, Journal}
@@ -23,7 +21,7 @@ use Rattle.sq_steps.specs.declared.act.Outcome.TheVariants as answered
 use Rattle.sq_steps.specs.declared.act.Step.{Step}
 use Rattle.sq_history.specs.declared.act.HomeAct.{HomeAct}
 use Rattle.sq_history.specs.Acts.{call_of, HasBytes}
-use Rattle.sq_steps.specs.Journals.{is_of, journal_of, put_journal, having_seen, HomeMoves, DirectoryMoves, IsHomeRefused, IsCreateRefused, AreDistinct}
+use Rattle.sq_steps.specs.Journals.{is_of, journal_of, put_journal, having_seen, HomeMoves, DirectoryMoves, IsHomeRefused, IsDirectoryStepRefused, AreDistinct}
 use Rattle.sq_directory.specs.DirectoryHistory.{DirectoryHistory}
 use Rattle.sq_merge.specs.WorldValue.{WorldValue}
 use Rattle.sq_audit.specs.SystemNow.{nothing_moved}
@@ -51,15 +49,16 @@ HomeRefused w actor now id call e =
     (((at : ℕ) (h : HistoryValue) → IsHomeOf w id at h → ⊥) × (e ≡ (if nat_le stamp_end now then ClockRange else QueueDoesNotExist)))
     ⊎ ((at : ℕ) × (h : HistoryValue) × IsHomeOf w id at h × IsHomeRefused h (journal_of actor w.journals) now call e)
 
--- One step of the directory by an actor: it makes a queue or finds it.
-pub record Created (old new : WorldValue) (actor now : ℕ) (name : List ℕ) (attributes : Attributes) (made : QueueSettings) : Type 0 where
+-- One step of the directory by an actor, with this reply: the directory and what the actor has go on by one, and all else stays.
+pub record DirectoryStepped (old new : WorldValue) (actor now : ℕ) (call : DirectoryCall) (reply : DirectoryReply) : Type 0 where
   pub after : DirectoryHistory
   pub recorded_in : Journal
-  pub moves : DirectoryMoves old.directory after (journal_of actor old.journals) recorded_in now (directory_call.Create name attributes) (Made made)
+  pub moves : DirectoryMoves old.directory after (journal_of actor old.journals) recorded_in now call reply
   pub changed : new ≡ record old { directory = after; journals = put_journal recorded_in old.journals }
 
-abbrev pub CreateRefused : WorldValue → ℕ → ℕ → List ℕ → Attributes → Refusal → Type 0
-CreateRefused w actor now name attributes e = IsCreateRefused w.directory (journal_of actor w.journals) now (directory_call.Create name attributes) e
+-- why a step of the directory is refused
+abbrev pub DirectoryRefused : WorldValue → ℕ → ℕ → DirectoryCall → Refusal → Type 0
+DirectoryRefused w actor now call e = IsDirectoryStepRefused w.directory (journal_of actor w.journals) now call e
 
 -- an actor has read the directory
 abbrev pub having_read : WorldValue → ℕ → WorldValue
@@ -67,8 +66,9 @@ having_read w actor = record w { journals = put_journal (having_seen (journal_of
 
 -- One step by an actor, and its outcome.
 abbrev pub StepDone : WorldValue → WorldValue → ℕ → ℕ → Act → Outcome → Type 0
-StepDone old new actor now (act.Create name attributes) (answered.Made made) = Created old new actor now name attributes made
+StepDone old new actor now (act.Directory call) (answered.Directory reply) = DirectoryStepped old new actor now call reply
 StepDone old new actor now (act.Resolve name) (answered.Resolved queue) = (number_named name old.directory.directory.queues ≡ Some queue) × (new ≡ having_read old actor)
+StepDone old new actor now act.Names (answered.Named names) = (names ≡ all_named old.directory.directory) × (new ≡ having_read old actor)
 StepDone old new actor now (act.Home id what) (answered.Home reply) = HomeStepped old new actor now None id (call_of what) reply
 StepDone old new actor now what outcome = ⊥
 
@@ -84,8 +84,9 @@ IsSentTo w id act = HasBytes act × ((at : ℕ) × (h : HistoryValue) × IsHomeO
 
 -- why a step is refused
 abbrev pub StepRefused : WorldValue → ℕ → ℕ → Act → Refusal → Type 0
-StepRefused w actor now (act.Create name attributes) e = CreateRefused w actor now name attributes e
+StepRefused w actor now (act.Directory call) e = DirectoryRefused w actor now call e
 StepRefused w actor now (act.Resolve name) e = NameRefused w actor name e
+StepRefused w actor now act.Names e = e ≡ NoMemory
 StepRefused w actor now (act.Home id what) e = ((e ≡ NoMemory) × IsSentTo w id what) ⊎ HomeRefused w actor now id (call_of what) e
 
 -- Of these steps so many were done, one after another, and the others changed nothing.

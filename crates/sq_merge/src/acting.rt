@@ -9,15 +9,15 @@ ghost use Rattle.sq_merge.specs.Fits.{CallFits};
 ghost use Rattle.sq_merge.specs.Performs.{Performs, LeavesRecords};
 ghost use Rattle.sq_merge.specs.Worlds.{IsKnown};
 
-use crate::calls::{Answer, Call};
 use crate::client;
 use crate::lock_steps::LockSteps;
 use crate::world::World;
 use sq_base::ids::{HomeId, HomeNo, QueueNo};
 use sq_base::name::QueueName;
 use sq_base::refusal::Refusal;
+use sq_calls::calls::{Answer, Call};
 use sq_history::act::HomeAct;
-use sq_model::directory::{Attributes, QueueSettings};
+use sq_model::directory::{DirectoryCall, DirectoryReply};
 use sq_model::replies::HomeReply;
 use sq_model::task::NamedQueue;
 use sq_sample::sampler::HomeCount;
@@ -58,13 +58,9 @@ impl<'a> LockSteps for Acting<'a> {
         })
     }
 
-    fn create(
-        &mut self,
-        name: &QueueName,
-        attributes: &Attributes,
-    ) -> Result<QueueSettings, Refusal> {
+    fn directed(&mut self, call: &DirectoryCall) -> Result<DirectoryReply, Refusal> {
         self.world
-            .create(self.alloc, self.actor, self.clock, name, attributes)
+            .directed(self.alloc, self.actor, self.clock, call)
     }
 
     fn at_home(

@@ -1,28 +1,32 @@
 //! What each call of a client does, over any steps.
-ghost use Rattle.std.specs.Prelude.{◌≡◌, ◌≢◌, ◌⊎◌, ◌<◌, None, Some, Ok, Err, IfOk, IfErr, OnOk};
+ghost use Rattle.std.specs.Prelude.{◌≡◌, ◌≢◌, ◌⊎◌, ◌+◌, ◌<◌, ◌≤◌, ℕ, true, None, Some, Ok, Err, IfOk, IfErr, OnOk};
 ghost use Rattle.sq_model.specs.declared.replies.HomeReply.{HomeReply};
-ghost use Rattle.sq_history.specs.declared.act.HomeAct.TheVariants.{Configure};
-ghost use Rattle.sq_merge.specs.declared.calls.Answer.TheVariants.{Queue};
-ghost use Rattle.sq_merge.specs.Messages.{act_of};
-ghost use Rattle.sq_merge.specs.Calls.{home_numbered, received_from, receipt_of, handle_at};
-ghost use Rattle.sq_merge.specs.Fits.{ByName, AtAll, CreateFits, PutAt, ReceiveAt, HandleAt, CallFits};
-ghost use Rattle.sq_merge.specs.ReceivedValue.{AreReceived};
+ghost use Rattle.sq_model.specs.declared.directory.DirectoryCall.TheVariants.{List as ListNames, Read, Sources, Url};
+ghost use Rattle.sq_directory.specs.Makers.{name_asked};
+ghost use Rattle.sq_merge.specs.Messages.{act_of, act_at_each};
+ghost use Rattle.sq_merge.specs.Calls.{home_numbered, counted_homes, counts_with, changes_queue, received_from, receipt_of, handle_at, AreFew};
+ghost use Rattle.sq_merge.specs.Fits.{ByName, AtAll, ByDirectory, ThenAll, CreateFits, SetFits, TellsUrl, TellsQueues, TellsSources, CountsAt, Shows, PutAt, ReceiveAt, HandleAt, CallFits};
+ghost use Rattle.sq_calls.specs.ReceivedValue.{AreReceived};
 ghost use Rattle.sq_merge.specs.Performs.{Performs, LeavesRecords};
 
-use crate::calls::{Answer, Call, CreateQueue, ReceiveMessage};
-use crate::digest::Digest;
 use crate::lock_steps::LockSteps;
-use crate::received_messages::ReceivedMessages;
 use sq_base::body::{BODY_LIMIT, Body};
 use sq_base::handle::Handle;
 use sq_base::ids::{HomeId, HomeNo, QueueNo};
 use sq_base::name::QueueName;
 use sq_base::ranges::{Delay, Timeout};
 use sq_base::refusal::Refusal;
+use sq_base::settings::Settings;
+use sq_calls::calls::{
+    Answer, AskedOfQueue, Call, CreateQueue, GetQueueAttributes, QueueCounts, ReceiveMessage,
+    SetQueueAttributes, ShownAttributes,
+};
+use sq_calls::digest::Digest;
+use sq_calls::received_messages::ReceivedMessages;
 use sq_history::act::HomeAct;
 use sq_model::calls::Receipt;
-use sq_model::directory::QueueSettings;
-use sq_model::replies::HomeReply;
+use sq_model::directory::{DirectoryCall, DirectoryReply, NamePrefix, QueueAttributes};
+use sq_model::replies::{Counts, HomeReply};
 use sq_model::rows::Rows;
 use sq_model::task::NamedQueue;
 use sq_sample::sampler::HomeCount;
@@ -41,6 +45,19 @@ fn answer<S: LockSteps>(steps: &mut S, call: &Call) -> Result<Answer, Refusal>
 {
     match call {
         Call::CreateQueue(call) => create_queue(steps, call),
+        Call::GetQueueUrl(name) => get_url(steps, name),
+        Call::ListQueues(prefix) => list_queues(steps, prefix),
+        Call::SetQueueAttributes(call) => set_attributes(steps, call),
+        Call::GetQueueAttributes(call) => get_attributes(steps, call),
+        Call::PurgeQueue(name) => {
+            let ticket = DirectoryCall::PurgeTicket(*name);
+            change_queue(steps, &ticket, name, Answer::Done)
+        }
+        Call::DeleteQueue(name) => {
+            let remove = DirectoryCall::Remove(*name);
+            change_queue(steps, &remove, name, Answer::Done)
+        }
+        Call::ListDeadLetterSourceQueues(name) => list_sources(steps, name),
         Call::SendMessage(call) => {
             let of = steps.resolve(&call.queue)?;
             let body = Body::new(steps.alloc(), call.body.as_str(), BODY_LIMIT)?;
@@ -63,28 +80,84 @@ fn answer<S: LockSteps>(steps: &mut S, call: &Call) -> Result<Answer, Refusal>
 fn create_queue<S: LockSteps>(steps: &mut S, call: &CreateQueue) -> Result<Answer, Refusal>
     ensures { Performs S.stepped (CreateFits (S.counts steps.old).homes call.now) steps.old result steps.new }
 {
-    let made = steps.create(&call.name, &call.attributes)?;
-    configure_all(steps, call.name, &made)
+    let attributes = call.attributes.copy(steps.alloc())?;
+    let create = DirectoryCall::Create(call.name, attributes);
+    change_queue(steps, &create, &call.name, Answer::Queue(call.name))
 }
 
-// Gives all homes of a queue its settings.
-fn configure_all<S: LockSteps>(
+fn set_attributes<S: LockSteps>(steps: &mut S, call: &SetQueueAttributes) -> Result<Answer, Refusal>
+    ensures { Performs S.stepped (SetFits (S.counts steps.old).homes call.now) steps.old result steps.new }
+{
+    let attributes = call.attributes.copy(steps.alloc())?;
+    let set = DirectoryCall::Set(call.queue, attributes);
+    change_queue(steps, &set, &call.queue, Answer::Done)
+}
+
+// A step of the directory that changes a queue of this name, and then what all homes of the queue do.
+fn change_queue<S: LockSteps>(
     steps: &mut S,
-    name: QueueName,
-    made: &QueueSettings,
+    call: &DirectoryCall,
+    name: &QueueName,
+    answer: Answer,
 ) -> Result<Answer, Refusal>
-    requires { S.knows steps.old name made.now.queue }
-    ensures { Performs S.stepped (AtAll (S.counts steps.old).homes name made.now.queue (Configure made.now.settings made.now.version) (Queue name)) steps.old result steps.new }
+    requires named { name_asked call.now ≡ Some name.now }
+    requires changes { changes_queue call.now ≡ true }
+    ensures { Performs S.stepped (ByDirectory call.now (ThenAll (S.counts steps.old).homes name.now answer)) steps.old result steps.new }
+{
+    match steps.directed(call)? {
+        DirectoryReply::Made(made) => {
+            let each = AtEach::Configure(made.settings, made.version);
+            ask_all(steps, name, made.queue, each, answer)
+        }
+        DirectoryReply::Changed(changed) => {
+            let each = AtEach::Configure(changed.settings, changed.version);
+            ask_all(steps, name, changed.queue, each, answer)
+        }
+        DirectoryReply::Removed(number) => ask_all(steps, name, number, AtEach::Close, answer),
+        DirectoryReply::Ticket(number) => ask_all(steps, name, number, AtEach::Purge, answer),
+        _ => unreachable!(),
+    }
+}
+
+// What each home of a queue does once the directory has changed the queue.
+#[derive(Clone, Copy)]
+enum AtEach {
+    Configure(Settings, u64),
+    Close,
+    Purge,
+}
+
+impl AtEach {
+    fn act(&self) -> HomeAct
+        ensures { result ≡ act_at_each self.now }
+    {
+        match self {
+            AtEach::Configure(settings, version) => HomeAct::Configure(*settings, *version),
+            AtEach::Close => HomeAct::Close,
+            AtEach::Purge => HomeAct::Purge,
+        }
+    }
+}
+
+// All homes of a queue do this, one after another.
+fn ask_all<S: LockSteps>(
+    steps: &mut S,
+    name: &QueueName,
+    number: QueueNo,
+    each: AtEach,
+    answer: Answer,
+) -> Result<Answer, Refusal>
+    requires { S.knows steps.old name.now number }
+    ensures { Performs S.stepped (AtAll (S.counts steps.old).homes name.now number (act_at_each each) answer) steps.old result steps.new }
 {
     let of = NamedQueue {
-        name,
-        number: made.queue,
+        name: *name,
+        number,
     };
-    for number in 0..steps.homes().get() as u8 {
-        let act = HomeAct::Configure(made.settings, made.version);
-        pass_closed(steps.at_home(&of, HomeNo::of(number), act))?;
+    for home in 0..steps.homes().get() as u8 {
+        pass_closed(steps.at_home(&of, HomeNo::of(home), each.act()))?;
     }
-    Ok(Answer::Queue(name))
+    Ok(answer)
 }
 
 // A closed home is passed over.
@@ -96,6 +169,99 @@ fn pass_closed(answered: Result<HomeReply, Refusal>) -> Result<(), Refusal>
         Ok(_) => Ok(()),
         Err(Refusal::QueueDoesNotExist) => Ok(()),
         Err(refusal) => Err(refusal),
+    }
+}
+
+fn get_url<S: LockSteps>(steps: &mut S, name: &QueueName) -> Result<Answer, Refusal>
+    ensures { Performs S.stepped (ByDirectory (Url name.now) (TellsUrl name.now)) steps.old result steps.new }
+{
+    match steps.directed(&DirectoryCall::Url(*name))? {
+        DirectoryReply::Found(_) => Ok(Answer::Queue(*name)),
+        _ => unreachable!(),
+    }
+}
+
+fn list_queues<S: LockSteps>(steps: &mut S, prefix: &NamePrefix) -> Result<Answer, Refusal>
+    ensures { Performs S.stepped (ByDirectory (ListNames prefix.now) TellsQueues) steps.old result steps.new }
+{
+    match steps.directed(&DirectoryCall::List(*prefix))? {
+        DirectoryReply::Listed(names) => Ok(Answer::Queues(names)),
+        _ => unreachable!(),
+    }
+}
+
+fn list_sources<S: LockSteps>(steps: &mut S, name: &QueueName) -> Result<Answer, Refusal>
+    ensures { Performs S.stepped (ByDirectory (Sources name.now) TellsSources) steps.old result steps.new }
+{
+    match steps.directed(&DirectoryCall::Sources(*name))? {
+        DirectoryReply::Sources(names) => Ok(Answer::Sources(names)),
+        _ => unreachable!(),
+    }
+}
+
+fn get_attributes<S: LockSteps>(steps: &mut S, call: &GetQueueAttributes) -> Result<Answer, Refusal>
+    ensures { Performs S.stepped (ByDirectory (Read call.now.queue) (Shows (S.counts steps.old).homes call.now)) steps.old result steps.new }
+{
+    match steps.directed(&DirectoryCall::Read(call.queue))? {
+        DirectoryReply::Read(attributes) => show(steps, call, attributes),
+        _ => unreachable!(),
+    }
+}
+
+// The attributes of a queue that are asked for; all homes count their messages where a count is.
+fn show<S: LockSteps>(
+    steps: &mut S,
+    call: &GetQueueAttributes,
+    attributes: QueueAttributes,
+) -> Result<Answer, Refusal>
+    requires { S.knows steps.old call.now.queue attributes.queue }
+    ensures { Performs S.stepped (CountsAt (S.counts steps.old).homes call.now attributes) steps.old result steps.new }
+{
+    let of = NamedQueue {
+        name: call.queue,
+        number: attributes.queue,
+    };
+    let mut sum = QueueCounts {
+        visible: 0,
+        flying: 0,
+        delayed: 0,
+    };
+    for home in 0..counted_homes(steps.homes(), &call.asked) {
+        match steps.at_home(&of, HomeNo::of(home), HomeAct::Count)? {
+            HomeReply::Counted(counts) => sum = counts_with(&sum, &counts),
+            _ => unreachable!(),
+        }
+    }
+    Ok(Answer::Attributes(ShownAttributes {
+        queue: call.queue,
+        asked: call.asked,
+        attributes,
+        counts: sum,
+    }))
+}
+
+// How many homes count their messages.
+fn counted_homes(homes: HomeCount, asked: &AskedOfQueue) -> u8
+    ensures homes { result ≡ counted_homes homes asked.now }
+    ensures few { result ≤ 16 }
+{
+    if asked.visible || asked.delayed || asked.flying {
+        homes.get() as u8
+    } else {
+        0
+    }
+}
+
+// The counts with those of one home more.
+fn counts_with(sum: &QueueCounts, counts: &Counts) -> QueueCounts
+    requires { AreFew 16 sum.now }
+    ensures sum { result ≡ counts_with sum.now counts.now }
+    ensures few { (n : ℕ) → AreFew n sum.now → AreFew (n + 1) result }
+{
+    QueueCounts {
+        visible: sum.visible + counts.visible as u64,
+        flying: sum.flying + counts.flying as u64,
+        delayed: sum.delayed + counts.delayed as u64,
     }
 }
 

@@ -2,13 +2,10 @@
 #![tactic(auto)]
 
 pub mod acting;
-pub mod calls;
 pub mod client;
-pub mod digest;
 mod homes;
 pub mod lock_steps;
 pub mod options;
-pub mod received_messages;
 pub mod world;
 
 pub use sq_audit::check::AuditFault;

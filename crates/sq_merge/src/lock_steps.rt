@@ -1,17 +1,17 @@
 //! The steps that calls of clients are made of: each is done under one lock, or changes nothing.
-ghost use Rattle.std.specs.Prelude.{◌≡◌, ◌<◌, ◌≤◌, ℕ, List, Result, IfOk, IfErr};
+ghost use Rattle.std.specs.Prelude.{◌≡◌, ◌<◌, ◌≤◌, ℕ, List, Some, Result, IfOk, IfErr};
 ghost use Rattle.rand.specs.Sample.{IsSampleOf};
 ghost use Rattle.sq_base.specs.declared.refusal.Refusal.{Refusal};
-ghost use Rattle.sq_model.specs.declared.directory.DirectoryCall.TheVariants.{Create};
+ghost use Rattle.sq_directory.specs.Makers.{name_asked, queue_answered};
 ghost use Rattle.sq_model.specs.RecordValues.{Journal};
-ghost use Rattle.sq_merge.specs.Asks.{Ask, Resolve, Directed, AtHome, Gave, found_of, made_of, replied_of, HomeCounts, IsReplyTo, MayRefuse, LeavesOf};
+ghost use Rattle.sq_merge.specs.Asks.{Ask, Resolve, Directed, AtHome, Gave, found_of, answered_of, replied_of, HomeCounts, IsAnswerTo, IsReplyTo, MayRefuse, LeavesOf};
 ghost use Rattle.sq_merge.specs.Calls.{home_numbered};
 
 use sq_base::ids::HomeNo;
 use sq_base::name::QueueName;
 use sq_base::refusal::Refusal;
 use sq_history::act::HomeAct;
-use sq_model::directory::{Attributes, QueueSettings};
+use sq_model::directory::{DirectoryCall, DirectoryReply};
 use sq_model::replies::HomeReply;
 use sq_model::task::NamedQueue;
 use sq_sample::sampler::HomeCount;
@@ -46,16 +46,12 @@ pub trait LockSteps {
         ensures known { IfOk result (λ of. knows self.new of.name of.number) }
         ensures same_counts { counts self.new ≡ counts self.old };
 
-    /// Makes a queue of this name, or finds the one that has these attributes.
-    /// Refused as NoMemory, ClockRange, Worn, QueueNameExists, InvalidAttributeValue, TableFull.
-    fn create(
-        &mut self,
-        name: &QueueName,
-        attributes: &Attributes,
-    ) -> Result<QueueSettings, Refusal>
-        ensures did { stepped self.old (Directed (Create name.now attributes.now)) (made_of result) self.new }
-        ensures refusal { IfErr result (MayRefuse (Directed (Create name.now attributes.now))) }
-        ensures known { IfOk result (λ made. knows self.new name.now made.queue) }
+    /// A step of the directory. Refused as NoMemory, ClockRange, Worn, and then as the directory's call.
+    fn directed(&mut self, call: &DirectoryCall) -> Result<DirectoryReply, Refusal>
+        ensures did { stepped self.old (Directed call.now) (answered_of result) self.new }
+        ensures reply { IfOk result (IsAnswerTo call.now) }
+        ensures refusal { IfErr result (MayRefuse (Directed call.now)) }
+        ensures known { IfOk result (λ by. (name : List ℕ) (queue : ℕ) → name_asked call.now ≡ Some name → queue_answered by ≡ Some queue → knows self.new name queue) }
         ensures same_counts { counts self.new ≡ counts self.old };
 
     /// A step of a home of a queue.

@@ -1,10 +1,11 @@
 //! All queues of a service with all that was done to them, for one thread.
 ghost use Rattle.std.specs.Prelude.{◌≡◌, ◌⊎◌, ◌↔◌, ◌<◌, ◌≤◌, true, None, Some, length, position, IfOk, IfErr, IfSome, OnErr};
 ghost use Rattle.rand.specs.Sample.{IsSampleOf};
-ghost use Rattle.sq_model.specs.Directories.{number_named};
+ghost use Rattle.sq_model.specs.Directories.{all_named, number_named};
+ghost use Rattle.sq_directory.specs.Makers.{IsAnsweredByName};
 ghost use Rattle.sq_history.specs.Acts.{call_of};
 ghost use Rattle.sq_steps.specs.Journals.{is_of, journal_of};
-ghost use Rattle.sq_merge.specs.Worlds.{HomeStepped, HomeRefused, Created, CreateRefused, NameRefused, having_read, StepDone, StepRefused, Schedule, IsKnown, IsKeptWorld};
+ghost use Rattle.sq_merge.specs.Worlds.{HomeStepped, HomeRefused, DirectoryStepped, DirectoryRefused, NameRefused, having_read, StepDone, StepRefused, Schedule, IsKnown, IsKeptWorld};
 ghost use Rattle.sq_audit.specs.SystemNow.{nothing_moved};
 ghost use Rattle.sq_audit.specs.HomeIds.{histories_of};
 ghost use Rattle.sq_merge.specs.Acting.{counts_of, ActorStepped};
@@ -15,7 +16,6 @@ ghost use Rattle.sq_merge.specs.PartsValue.{parts_of};
 ghost use Rattle.sq_model.specs.Matches.{IsMatched};
 
 use crate::acting::{Acting, call_at};
-use crate::calls::{Answer, Call};
 use crate::homes::{never_opened_homes, no_such_home};
 use crate::options::{MOST_FLIGHTS, MOST_HOMES, MOST_QUEUES, MOST_ROWS, MOST_TRANSIT, Options};
 use sq_audit::homes::{Homes, home_index};
@@ -23,14 +23,17 @@ use sq_audit::parts::Parts;
 use sq_base::ids::{HomeId, HomeNo, QueueNo};
 use sq_base::name::QueueName;
 use sq_base::refusal::Refusal;
+use sq_calls::calls::{Answer, Call};
 use sq_directory::directory::Directory;
 use sq_history::recorded::Home;
-use sq_model::directory::{Attributes, QueueSettings};
+use sq_model::directory::{DirectoryCall, DirectoryReply};
+use sq_model::listed::Listed;
 use sq_model::place::Limits;
 use sq_model::replies::HomeReply;
+use sq_model::task::NamedQueue;
 use sq_sample::sampler::{HomeCount, Sampler};
 use sq_steps::act::{Act, HomeAct, Outcome, Step};
-use sq_steps::journal::{Journal, create_step, home_step};
+use sq_steps::journal::{Journal, directory_step, home_step};
 use sq_steps::journals::{Journals, open};
 use std::alloc::Global;
 use std::marker::Model;
@@ -95,13 +98,17 @@ impl World {
         ensures err { OnErr result (self.new ≡ self.old) }
     {
         match &step.act {
-            Act::Create(name, attributes) => {
-                let made = self.create(alloc, step.actor, step.clock, name, attributes)?;
-                Ok(Outcome::Made(made))
+            Act::Directory(call) => {
+                let reply = self.directed(alloc, step.actor, step.clock, call)?;
+                Ok(Outcome::Directory(reply))
             }
             Act::Resolve(name) => {
                 let queue = self.resolve(alloc, step.actor, name)?;
                 Ok(Outcome::Resolved(queue))
+            }
+            Act::Names => {
+                let names = self.names(alloc, step.actor)?;
+                Ok(Outcome::Named(names))
             }
             Act::Home(id, act) => {
                 // A home that is not there is answered before memory is asked for.
@@ -201,29 +208,42 @@ impl World {
         self.sampler.draw(alloc, self.per_queue, self.sample)
     }
 
-    // Makes a queue or finds it.
-    pub(crate) fn create(
+    // A step of the directory.
+    pub(crate) fn directed(
         &mut self,
         alloc: Global,
         actor: u32,
         now: u64,
-        name: &QueueName,
-        attributes: &Attributes,
-    ) -> Result<QueueSettings, Refusal>
-        ensures created { IfOk result (Created self.old self.new actor now name.now attributes.now) }
-        ensures refusal { IfErr result (CreateRefused self.old actor now name.now attributes.now) }
+        call: &DirectoryCall,
+    ) -> Result<DirectoryReply, Refusal>
+        ensures stepped { IfOk result (DirectoryStepped self.old self.new actor now call.now) }
+        ensures made { IfOk result (IsAnsweredByName self.new.directory.events self.new.directory.last call.now) }
+        ensures refusal { IfErr result (DirectoryRefused self.old actor now call.now) }
         ensures err { OnErr result (self.new ≡ self.old) }
     {
         let count = self.journals.len();
         let at = open(&mut self.journals, alloc, actor)?;
         let journal = &mut self.journals[at];
-        match create_step(alloc, &mut self.directory, journal, now, name, attributes) {
-            Ok(made) => Ok(made),
+        match directory_step(alloc, &mut self.directory, journal, now, call) {
+            Ok(by) => Ok(by),
             Err(refusal) => {
                 self.journals.truncate(count);
                 Err(refusal)
             }
         }
+    }
+
+    // Reads the names and numbers of all queues. Refused only where memory is out.
+    fn names(&mut self, alloc: Global, actor: u32) -> Result<Listed<NamedQueue>, Refusal>
+        ensures read { IfOk result (λ names. (names ≡ all_named self.old.directory.directory) × (self.new ≡ having_read self.old actor)) }
+        ensures refusal { IfErr result (λ e. e ≡ Refusal.NoMemory) }
+        ensures err { OnErr result (self.new ≡ self.old) }
+    {
+        let names = self.directory.names(alloc)?;
+        let stamp = self.directory.last();
+        let at = open(&mut self.journals, alloc, actor)?;
+        self.journals[at].see(stamp);
+        Ok(names)
     }
 
     // Reads the number of a queue.

@@ -53,8 +53,11 @@ impl SourceNames {
         }
     }
 
+    /// The names, 1 to 10.
     pub fn as_slice(&self) -> &[QueueName]
-        ensures { result.now ≡ self.now }
+        ensures value { result.now ≡ self.now }
+        ensures least { 1 ≤ length self.now }
+        ensures greatest { length self.now ≤ 10 }
     {
         self.names.as_slice()
     }

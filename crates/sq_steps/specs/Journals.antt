@@ -77,8 +77,8 @@ abbrev pub IsHomeRefused : HistoryValue → Journal → ℕ → HomeCall → Ref
 IsHomeRefused old journal now call e = IsNotReady journal now e ⊎ ((journal.next ≢ last_place) × home.IsRefused old (actor_of journal) now call e)
 
 -- why an actor's step of the directory is refused
-abbrev pub IsCreateRefused : DirectoryHistory → Journal → ℕ → DirectoryCall → Refusal → Type 0
-IsCreateRefused old journal now call e = IsNotReady journal now e ⊎ ((journal.next ≢ last_place) × directory.IsDirectoryRefused old (actor_of journal) now call e)
+abbrev pub IsDirectoryStepRefused : DirectoryHistory → Journal → ℕ → DirectoryCall → Refusal → Type 0
+IsDirectoryStepRefused old journal now call e = IsNotReady journal now e ⊎ ((journal.next ≢ last_place) × directory.IsDirectoryRefused old (actor_of journal) now call e)
 
 -- this is the actor's of this number
 abbrev pub is_of : ℕ → Journal → Bool

@@ -2,16 +2,19 @@
 use sq_base::ids::{HomeId, QueueNo};
 use sq_base::name::QueueName;
 pub use sq_history::act::HomeAct;
-use sq_model::directory::{Attributes, QueueSettings};
+use sq_model::directory::{DirectoryCall, DirectoryReply};
+use sq_model::listed::Listed;
 use sq_model::replies::HomeReply;
+use sq_model::task::NamedQueue;
 
 /// What an actor does in one step.
 #[derive(Drop)]
 pub enum Act {
-    /// Makes a queue of this name, or finds the one that has these attributes.
-    Create(QueueName, Attributes),
+    Directory(DirectoryCall),
     /// Reads the number of a queue; it is no event.
     Resolve(QueueName),
+    /// Reads the names and numbers of all queues; it is no event.
+    Names,
     Home(HomeId, HomeAct),
 }
 
@@ -26,9 +29,10 @@ pub struct Step {
 /// What a step tells.
 #[derive(Drop)]
 pub enum Outcome {
-    /// The queue that was made or found.
-    Made(QueueSettings),
+    Directory(DirectoryReply),
     /// The number of the queue.
     Resolved(QueueNo),
+    /// All queues, in order of creation.
+    Named(Listed<NamedQueue>),
     Home(HomeReply),
 }

@@ -2,12 +2,11 @@
 ghost use Rattle.std.specs.Prelude.{◌≡◌, ◌≢◌, ◌⊎◌, ◌==◌, ◌+◌, ◌<◌, ◌++◌, ◌∷◌, [], IfOk, IfErr, OnOk, OnErr};
 ghost use Rattle.std.specs.List.{list_any};
 ghost use Rattle.sq_model.specs.RecordValues.{RecordsRise, place_of_record, stamp_of};
-ghost use Rattle.sq_model.specs.declared.directory.DirectoryCall.TheVariants.{Create};
-ghost use Rattle.sq_model.specs.declared.directory.DirectoryReply.TheVariants.{Made};
 ghost use Rattle.sq_history.specs.Acts.{call_of};
 ghost use Rattle.sq_history.specs.Rooms.{IsReady, KeepsRoom};
+ghost use Rattle.sq_directory.specs.Makers.{IsAnsweredByName};
 ghost use Rattle.sq_steps.specs.Records.{value_of_record, values_of_records};
-ghost use Rattle.sq_steps.specs.Journals.{new_journal, having_seen, without_record, last_place, worn_at, HomeMoves, DirectoryMoves, IsHomeRefused, IsCreateRefused};
+ghost use Rattle.sq_steps.specs.Journals.{new_journal, having_seen, without_record, last_place, worn_at, HomeMoves, DirectoryMoves, IsHomeRefused, IsDirectoryStepRefused};
 
 use crate::act::HomeAct;
 use crate::record::Record;
@@ -17,7 +16,7 @@ use sq_base::stamp::{STAMP_END, Stamp};
 use sq_directory::directory::Directory;
 use sq_history::growing::Growing;
 use sq_history::recorded::Home;
-use sq_model::directory::{Attributes, QueueSettings};
+use sq_model::directory::{DirectoryCall, DirectoryReply};
 use sq_model::event::Actor;
 use sq_model::replies::HomeReply;
 use std::alloc::Global;
@@ -162,27 +161,28 @@ pub fn home_step(
 }
 
 /// A step of the directory that is lent, by an actor that is lent; all that grows does so before it. A clock reading is
-/// in ms. Refused as NoMemory (the actor's records or the directory's history have room for none, or queues are listed),
-/// ClockRange, Worn, QueueNameExists, InvalidAttributeValue, TableFull.
-pub fn create_step(
+/// in ms. Refused as NoMemory (the actor's records or the directory's history have room for none, or lists of queues or
+/// attributes are copied), ClockRange, Worn, and then as the directory's call.
+pub fn directory_step(
     alloc: Global,
     directory: &mut Directory,
     journal: &mut Journal,
     now: u64,
-    name: &QueueName,
-    attributes: &Attributes,
-) -> Result<QueueSettings, Refusal>
-    ensures step { IfOk result (λ made. DirectoryMoves directory.old directory.new journal.old journal.new now (Create name.now attributes.now) (Made made)) }
-    ensures refusal { IfErr result (IsCreateRefused directory.old journal.old now (Create name.now attributes.now)) }
+    call: &DirectoryCall,
+) -> Result<DirectoryReply, Refusal>
+    ensures step { IfOk result (λ reply. DirectoryMoves directory.old directory.new journal.old journal.new now call.now reply) }
+    // The queue that is answered was made by the name that was asked.
+    ensures made { IfOk result (IsAnsweredByName directory.new.events directory.new.last call.now) }
+    ensures refusal { IfErr result (IsDirectoryStepRefused directory.old journal.old now call.now) }
     ensures directory_err { OnErr result (directory.new ≡ directory.old) }
     ensures journal_err { OnErr result (journal.new ≡ journal.old) }
 {
     ready(&journal.by, &mut journal.records, now)?;
-    let (made, record) = directory.create(alloc, &journal.by, now, name, attributes)?;
+    let (reply, record) = directory.step(alloc, &journal.by, now, call)?;
     keep(
         &mut journal.by,
         &mut journal.records,
         Record::Directory(record),
     );
-    Ok(made)
+    Ok(reply)
 }

@@ -7,6 +7,7 @@ use sq_audit::merge::merge;
 use sq_audit::parts::Parts;
 use sq_audit::places::places_of;
 use sq_base::ids::{HomeId, HomeNo, QueueNo};
+use sq_base::name::QueueName;
 use sq_base::ranges::{MaxMessages, Retention, Timeout};
 use sq_base::refusal::Refusal;
 use sq_base::row::Row;
@@ -14,10 +15,10 @@ use sq_base::settings::Settings;
 use sq_directory::directory::Directory;
 use sq_merge::world::World;
 use sq_model::calls::Receipt;
-use sq_model::directory::Attributes;
+use sq_model::directory::{Attributes, DirectoryCall, NamePrefix};
 use sq_model::replies::HomeReply;
 use sq_steps::act::{Act, HomeAct, Outcome, Step};
-use sq_steps::journal::{Journal, create_step};
+use sq_steps::journal::{Journal, directory_step};
 use std::alloc::Global;
 use std::process::Abort;
 
@@ -69,11 +70,8 @@ impl Choices {
     // Half of the acts at homes are where the last message was received.
     fn act(&mut self, alloc: Global, held: &Held) -> Result<Act, Refusal> {
         let place = self.below(50);
-        if place == 0 {
-            return Ok(Act::Create(named(self.name())?, Attributes::none()));
-        }
-        if place == 1 {
-            return Ok(Act::Resolve(named(self.name())?));
+        if place < 8 {
+            return directory_act(named(self.name())?, place);
         }
         let at = if place < 26 { held.home } else { self.home() };
         Ok(Act::Home(at, self.home_act(alloc, held.receipt)?))
@@ -89,6 +87,20 @@ impl Choices {
             act: self.act(alloc, held)?,
         })
     }
+}
+
+// One of the steps of the directory, or of its reads.
+fn directory_act(name: QueueName, place: u64) -> Result<Act, Refusal> {
+    Ok(match place {
+        0 => Act::Directory(DirectoryCall::Create(name, Attributes::none())),
+        1 => Act::Resolve(name),
+        2 => Act::Names,
+        3 => Act::Directory(DirectoryCall::Set(name, Attributes::none())),
+        4 => Act::Directory(DirectoryCall::PurgeTicket(name)),
+        5 => Act::Directory(DirectoryCall::Read(name)),
+        6 => Act::Directory(DirectoryCall::List(NamePrefix::Text(name))),
+        _ => Act::Directory(DirectoryCall::Remove(name)),
+    })
 }
 
 // A message is kept for a minute.
@@ -120,7 +132,7 @@ impl Held {
 
     fn keep(&mut self, act: &Act, outcome: &Outcome) {
         match (act, outcome) {
-            (Act::Resolve(_), _) => return,
+            (Act::Resolve(_) | Act::Names, _) => return,
             (_, Outcome::Home(HomeReply::Sent(_))) => self.sends = self.sends.saturating_add(1),
             (Act::Home(home, _), Outcome::Home(HomeReply::Looked(rows))) => {
                 self.hold(home, rows.as_slice());
@@ -239,7 +251,10 @@ fn made(rt: &impl Abort, alloc: Global, names: &[&str]) -> Parts {
         let step = Step {
             actor: 3,
             clock: 1000,
-            act: Act::Create(named(name).expect(rt, "a name"), Attributes::none()),
+            act: Act::Directory(DirectoryCall::Create(
+                named(name).expect(rt, "a name"),
+                Attributes::none(),
+            )),
         };
         let _ = world.step(alloc, &step).expect(rt, "memory");
     }
@@ -263,15 +278,10 @@ fn with_an_actor_twice(rt: &impl Abort, alloc: Global) -> Option<AuditFault> {
     let mut parts = made(rt, alloc, &["a", "b"]);
     let mut other = Journal::new(alloc, 3);
     let name = named("a").expect(rt, "a name");
-    let _ = create_step(
-        alloc,
-        &mut parts.directory,
-        &mut other,
-        1000,
-        &name,
-        &Attributes::none(),
-    )
-    .expect(rt, "memory");
+    let call = DirectoryCall::Create(name, Attributes::none());
+    let _ = directory_step(alloc, &mut parts.directory, &mut other, 1000, &call).expect(
+        rt, "memory",
+    );
     fault(alloc, &parts)
 }
 

@@ -3,7 +3,7 @@ use crate::setup::{Answers, Ask, first_wrong, named, options};
 use sq_audit::merge::merge;
 use sq_base::ranges::MaxMessages;
 use sq_base::refusal::Refusal;
-use sq_merge::calls::{
+use sq_calls::calls::{
     Answer, AskedAttributes, BodyText, Call, CreateQueue, ReceiveMessage, SendMessage,
 };
 use sq_merge::options::Options;

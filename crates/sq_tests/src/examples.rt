@@ -6,7 +6,7 @@ use sq_base::message_id::MessageId;
 use sq_base::name::QueueName;
 use sq_base::ranges::{MaxMessages, Receives};
 use sq_base::refusal::Refusal;
-use sq_merge::calls::{
+use sq_calls::calls::{
     Answer, AskedAttributes, BodyText, Call, CreateQueue, DeleteMessage, ReceiveMessage,
     SendMessage,
 };

@@ -6,8 +6,8 @@ use sq_base::settings::Settings;
 use sq_base::stamp::Stamp;
 use sq_merge::world::World;
 use sq_model::place::Place;
+use sq_replies::text::Text;
 use sq_wire::audit::{audit_world, place_name, stamp_text};
-use sq_wire::text::Text;
 use std::alloc::Global;
 use std::process::Abort;
 

@@ -14,7 +14,7 @@ use sq_base::stamp::Stamp;
 use sq_merge::options::Options;
 use sq_merge::world::World;
 use sq_model::calls::Receipt;
-use sq_model::directory::Attributes;
+use sq_model::directory::{Attributes, DirectoryCall, DirectoryReply};
 use sq_model::replies::HomeReply;
 use sq_steps::act::{Act, HomeAct, Outcome, Step};
 use std::alloc::Global;
@@ -132,7 +132,7 @@ pub fn home_act(alloc: Global, ask: Ask) -> Result<HomeAct, Refusal> {
 /// The step that asks this.
 pub fn step(alloc: Global, actor: u32, clock: u64, at: HomeId, ask: Ask) -> Result<Step, Refusal> {
     let act = match ask {
-        Ask::Create => Act::Create(named("q")?, Attributes::none()),
+        Ask::Create => Act::Directory(DirectoryCall::Create(named("q")?, Attributes::none())),
         _ => Act::Home(at, home_act(alloc, ask)?),
     };
     Ok(Step { actor, clock, act })
@@ -161,7 +161,7 @@ pub fn answer_of(reply: &HomeReply) -> Answers {
 
 fn outcome_answered(outcome: &Result<Outcome, Refusal>) -> Answers {
     match outcome {
-        Ok(Outcome::Made(made)) => Answers::Made(made.queue.get()),
+        Ok(Outcome::Directory(DirectoryReply::Made(made))) => Answers::Made(made.queue.get()),
         Ok(Outcome::Home(reply)) => answer_of(reply),
         Ok(_) => Answers::Other,
         Err(refusal) => Answers::Refused(*refusal),

@@ -10,7 +10,7 @@ use sq_base::refusal::Refusal;
 use sq_base::row::Row;
 use sq_base::stamp::{Stamp, derived_order};
 use sq_model::item::{BoxedItem, Item, ItemNo, Reason};
-use sq_wire::reply::reply_text;
+use sq_replies::reply::reply_text;
 use uuid::Uuid;
 
 fn handle_of(queue: u64, home: u64, slot: u32, serial: u64, receive: u64) -> Option<Handle> {

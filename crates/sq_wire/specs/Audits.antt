@@ -18,7 +18,7 @@ use Rattle.sq_audit.specs.AllPlaces.{ArePlaces}
 use Rattle.sq_audit.specs.SystemNow.{events_of, nothing_moved, system_now}
 use Rattle.sq_merge.specs.WorldValue.{WorldValue}
 use Rattle.sq_audit.specs.HomeIds.{histories_of, IsNumbered}
-use Rattle.sq_wire.specs.Replies.{id_text}
+use Rattle.sq_replies.specs.Replies.{id_text}
 
 -- the moment in ms and the count, in decimal digits. Own.
 abbrev pub stamp_text : StampValue → List ℕ

@@ -1,10 +1,3 @@
-pub mod Reading
-pub mod Members
-pub mod Attributes
-pub mod Actions
-pub mod Requests
-pub mod Replies
 pub mod Audits
 pub mod Scripts
-pub mod Texts
 pub mod Runs

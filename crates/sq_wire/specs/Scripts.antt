@@ -3,13 +3,13 @@ use Rattle.std.specs.Prelude.{◌≡◌, ◌⊎◌, ◌<◌, ℕ, List, length, 
 use Rattle.sq_base.specs.declared.refusal.Refusal.{Refusal}
 use Rattle.sq_base.specs.declared.refusal.Refusal.TheVariants.{NoMemory}
 use Rattle.sq_merge.specs.WorldValue.{WorldValue}
-use Rattle.sq_wire.specs.Requests.{line_request}
+use Rattle.sq_requests.specs.Requests.{line_request}
 use Rattle.sq_merge.specs.Acting.{counts_of, ActorStepped}
 use Rattle.sq_merge.specs.Fits.{CallFits}
 use Rattle.sq_merge.specs.Performs.{Performs}
-use Rattle.sq_wire.specs.Replies.{reply_text_of}
-use Rattle.sq_merge.specs.declared.calls.Answer.{Answer}
-use Rattle.sq_wire.specs.declared.request.Request.{Request}
+use Rattle.sq_replies.specs.Replies.{reply_text_of}
+use Rattle.sq_calls.specs.declared.calls.Answer.{Answer}
+use Rattle.sq_requests.specs.declared.request.Request.{Request}
 
 -- a world, and the clock reading of the last line that was read as a request
 pub record ScriptValue : Type 0 where

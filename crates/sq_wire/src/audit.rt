@@ -9,8 +9,6 @@ ghost use Rattle.sq_model.specs.Systems.{System, RunFrom, opening, IsOnePlace};
 ghost use Rattle.sq_model.specs.declared.place.Site.{Site};
 ghost use Rattle.sq_wire.specs.Audits.{ListsPlaces, stamp_text, place_name, placed_data, events_data, places_data, audit_data, IsAudit, TellsRun};
 
-use crate::reply::id_text;
-use crate::text::Text;
 use serde_json::{Value, json};
 use sq_base::message_id::MessageId;
 use sq_base::refusal::Refusal;
@@ -18,6 +16,8 @@ use sq_base::stamp::Stamp;
 use sq_merge::world::World;
 use sq_merge::{AuditFault, Run, Tagged, merge, places_of};
 use sq_model::place::Place;
+use sq_replies::reply::id_text;
+use sq_replies::text::Text;
 use std::alloc::{AllocError, Global};
 use uuid::Uuid;
 

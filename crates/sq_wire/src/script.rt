@@ -2,12 +2,12 @@
 ghost use Rattle.std.specs.Prelude.{IfOk, OnErr};
 ghost use Rattle.sq_wire.specs.Scripts.{script_at, LineAnswered, LineReplies, LineUnanswered};
 
-use crate::reply::reply_text;
-use crate::request::read_request;
-use crate::text::Text;
 use sq_base::refusal::Refusal;
-use sq_merge::calls::Answer;
+use sq_calls::calls::Answer;
 use sq_merge::world::World;
+use sq_replies::reply::reply_text;
+use sq_replies::text::Text;
+use sq_requests::request::read_request;
 use std::alloc::{AllocError, Global};
 
 // Does what a line asks; its clock reading stands for the lines after it that have none.

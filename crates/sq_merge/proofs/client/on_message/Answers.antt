@@ -1,5 +1,5 @@
 use Rattle.std.proofs.Common.{rules, ◌≡◌, refl, inl, inr, Ok, Err}
-use Rattle.sq_merge.specs.declared.calls.Answer.TheVariants.{Done}
+use Rattle.sq_calls.specs.declared.calls.Answer.TheVariants.{Done}
 use Rattle.sq_merge.specs.Messages.{act_of}
 use Rattle.sq_merge.proofs.ClientLaws.{answered_lost, answered_handle, answered_no_handle, message_done}
 use Rattle.sq_merge.proofs.client.on_message.Goals as goal

@@ -1,7 +1,7 @@
 use Rattle.std.proofs.Common.{rules, ◌≡◌, refl, inl, inr, Ok, Err}
 use Rattle.sq_model.specs.declared.replies.HomeReply.TheVariants as reply
 use Rattle.sq_history.specs.declared.act.HomeAct.TheVariants.{Send}
-use Rattle.sq_merge.specs.declared.calls.Answer.TheVariants as answer
+use Rattle.sq_calls.specs.declared.calls.Answer.TheVariants as answer
 use Rattle.sq_merge.specs.Fits.{at_home}
 use Rattle.sq_merge.proofs.PathLaws.{answered_one}
 use Rattle.sq_merge.proofs.client.put.Goals as goal

@@ -1,0 +1,185 @@
+//! What clients ask and the answers that they get, as values (SQS API Reference).
+ghost use Rattle.std.specs.Prelude.{◌≡◌, IfOk, IfErr};
+
+use crate::digest::Digest;
+use crate::received_messages::ReceivedMessages;
+use sq_base::handle::Handle;
+use sq_base::message_id::MessageId;
+use sq_base::name::QueueName;
+use sq_base::ranges::{Delay, MaxMessages, Timeout};
+use sq_base::refusal::Refusal;
+use sq_model::directory::{Attributes, NamePrefix, QueueAttributes};
+use sq_model::listed::Listed;
+use std::alloc::Global;
+use std::marker::Model;
+
+/// CreateQueue; an attribute that is not given has its default.
+#[derive(Drop)]
+pub struct CreateQueue {
+    pub name: QueueName,
+    pub attributes: Attributes,
+}
+
+/// The text of a body whose characters are not checked yet.
+#[derive(Drop)]
+pub struct BodyText {
+    text: String,
+}
+
+impl Model for BodyText {
+    ghost use Rattle.std.specs.Prelude.{List, ℕ, string_bytes};
+
+    ghost Value = { List ℕ };
+
+    ghost view = { λ b. string_bytes b.text };
+}
+
+impl BodyText {
+    /// Refused only where memory is out.
+    pub fn new(alloc: Global, text: &str) -> Result<BodyText, Refusal>
+        ensures text { IfOk result (λ b. b ≡ text.now) }
+        ensures refused { IfErr result (λ e. e ≡ Refusal.NoMemory) }
+    {
+        Ok(BodyText {
+            text: String::from_str(alloc, text)?,
+        })
+    }
+
+    pub fn as_str(&self) -> &str
+        ensures { result.now ≡ self.now }
+    {
+        self.text.as_str()
+    }
+}
+
+/// SendMessage. A body is to have 1 to `BODY_LIMIT` bytes, as one that was read from a line has; another one is refused as
+/// InvalidParameterValue once the queue is found.
+#[derive(Drop)]
+pub struct SendMessage {
+    pub queue: QueueName,
+    pub body: BodyText,
+    pub delay: Option<Delay>,
+}
+
+/// The attributes that a received message is shown with.
+#[derive(Clone, Copy, PartialEq, Eq, Debug)]
+pub struct AskedAttributes {
+    /// ApproximateReceiveCount.
+    pub receive_count: bool,
+    /// SentTimestamp.
+    pub sent_timestamp: bool,
+}
+
+/// ReceiveMessage.
+#[derive(Clone, Copy, PartialEq, Eq, Debug)]
+pub struct ReceiveMessage {
+    pub queue: QueueName,
+    pub max: MaxMessages,
+    pub timeout: Option<Timeout>,
+    pub attributes: AskedAttributes,
+}
+
+/// DeleteMessage; without a handle where its text is none.
+#[derive(Clone, Copy, PartialEq, Eq, Debug)]
+pub struct DeleteMessage {
+    pub queue: QueueName,
+    pub handle: Option<Handle>,
+}
+
+/// ChangeMessageVisibility; without a handle where its text is none.
+#[derive(Clone, Copy, PartialEq, Eq, Debug)]
+pub struct ChangeMessageVisibility {
+    pub queue: QueueName,
+    pub handle: Option<Handle>,
+    pub timeout: Timeout,
+}
+
+/// SetQueueAttributes; an attribute that is not given stays as it is.
+#[derive(Drop)]
+pub struct SetQueueAttributes {
+    pub queue: QueueName,
+    pub attributes: Attributes,
+}
+
+/// The attributes of a queue that are asked for (SQS API Reference, GetQueueAttributes, AttributeNames).
+#[derive(Clone, Copy, PartialEq, Eq, Debug)]
+pub struct AskedOfQueue {
+    /// ApproximateNumberOfMessages.
+    pub visible: bool,
+    /// ApproximateNumberOfMessagesDelayed.
+    pub delayed: bool,
+    /// ApproximateNumberOfMessagesNotVisible.
+    pub flying: bool,
+    /// DelaySeconds.
+    pub delay: bool,
+    /// MessageRetentionPeriod.
+    pub retention: bool,
+    /// QueueArn.
+    pub arn: bool,
+    /// ReceiveMessageWaitTimeSeconds.
+    pub wait_time: bool,
+    /// RedriveAllowPolicy.
+    pub allow: bool,
+    /// RedrivePolicy.
+    pub redrive: bool,
+    /// VisibilityTimeout.
+    pub timeout: bool,
+}
+
+/// GetQueueAttributes.
+#[derive(Clone, Copy, PartialEq, Eq, Debug)]
+pub struct GetQueueAttributes {
+    pub queue: QueueName,
+    pub asked: AskedOfQueue,
+}
+
+/// A request of a client.
+#[derive(Drop)]
+pub enum Call {
+    CreateQueue(CreateQueue),
+    GetQueueUrl(QueueName),
+    ListQueues(NamePrefix),
+    SetQueueAttributes(SetQueueAttributes),
+    GetQueueAttributes(GetQueueAttributes),
+    PurgeQueue(QueueName),
+    DeleteQueue(QueueName),
+    ListDeadLetterSourceQueues(QueueName),
+    SendMessage(SendMessage),
+    ReceiveMessage(ReceiveMessage),
+    DeleteMessage(DeleteMessage),
+    ChangeMessageVisibility(ChangeMessageVisibility),
+}
+
+/// How many messages of a queue are in which state, over all its homes.
+#[derive(Clone, Copy, PartialEq, Eq, Debug)]
+pub struct QueueCounts {
+    pub visible: u64,
+    pub flying: u64,
+    pub delayed: u64,
+}
+
+/// A queue with its attributes, and which of them are shown.
+#[derive(Drop)]
+pub struct ShownAttributes {
+    pub queue: QueueName,
+    pub asked: AskedOfQueue,
+    pub attributes: QueueAttributes,
+    /// All 0 where none is shown.
+    pub counts: QueueCounts,
+}
+
+/// What a client gets where its request is not refused.
+#[derive(Drop)]
+pub enum Answer {
+    /// The queue whose URL is the answer.
+    Queue(QueueName),
+    /// The queues whose URLs are the answer, in order of creation.
+    Queues(Listed<QueueName>),
+    /// The same of the queues that have one for their dead letters.
+    Sources(Listed<QueueName>),
+    Attributes(ShownAttributes),
+    /// The id of a message that was sent, and the digest of its body.
+    Sent(MessageId, Digest),
+    Received(ReceivedMessages),
+    Done,
+}

@@ -1,0 +1,6 @@
+//! What clients ask and are answered, as values.
+#![tactic(auto)]
+
+pub mod calls;
+pub mod digest;
+pub mod received_messages;

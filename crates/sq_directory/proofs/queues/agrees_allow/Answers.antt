@@ -1,5 +1,0 @@
-use Rattle.sq_directory.proofs.PolicyLaws.{allow_agrees}
-use Rattle.sq_directory.proofs.queues.agrees_allow.Goals as goal
-
-pub returns-in-Some : goal.returns-in-Some
-returns-in-Some c = allow_agrees _ _ c.args.policy.now _ c.in-Some.is c.is_same_allow.ensures

@@ -1,0 +1,16 @@
+use Rattle.std.proofs.Common.{rules, ◌≡◌, Err}
+use Rattle.sq_model.specs.declared.directory.DirectoryCall.TheVariants as asks
+use Rattle.sq_model.specs.declared.directory.DirectoryReply.TheVariants as told
+use Rattle.sq_merge.specs.Fits.{Shows}
+use Rattle.sq_merge.proofs.ClientLaws.{answered_refused, answered_directed}
+use Rattle.sq_merge.proofs.client.get_attributes.Goals as goal
+
+pub returns-in_err-attributes : goal.returns-in_err-attributes
+returns-in_err-attributes g c =
+    let is : c.from_residual.result ≡ Err c.in_err-attributes.field-0.0 = search rules in
+    answered_refused _ _ _ _ _ _ _ is c.in_err-attributes.ensures.refusal c.in_err-attributes.ensures.did
+
+pub returns : goal.returns
+returns g c =
+    answered_directed _ g.S.LockSteps.counts (asks.Read c.args.call.now.queue) (λ n. Shows n.homes c.args.call.now) _ _ _ _ (told.Read c.in-Read.attributes) _
+    (rw c.in-Read.is at c.in_ok-attributes.ensures.did) c.directed.ensures.same_counts (rw c.in-Read.is at c.in_ok-attributes.ensures.reply) c.show.ensures (λ ds fits. fits)

@@ -1,0 +1,4 @@
+pub mod DigitLaws
+pub mod ArnLaws
+pub mod SourceLaws
+pub mod PolicyLaws

@@ -1,0 +1,3 @@
+pub mod AsciiLaws
+pub mod FloatLaws
+pub mod TextLaws

@@ -1,0 +1,4 @@
+pub mod Puts
+pub mod Replies
+pub mod Texts
+pub mod Worked

@@ -1,0 +1,135 @@
+-- The texts of replies.
+use Rattle.std.specs.Prelude.{ℕ, List, [], ◌∷◌, ◌++◌, map, codes, Bool, true, false, ◌||◌, if◌then◌else◌, Option, Some, None, option_map, Result, Ok, Err, decimal}
+use Rattle.std.specs.Int.{w128, to_be_bytes}
+use Rattle.hex.specs.Hex.{encode_lower}
+use Rattle.md5.specs.Md5.{md5}
+use Rattle.serde_json.specs.Data.{Data, object, array, string, Members, member, no_members}
+use Rattle.serde_json.specs.View.{items_of}
+use Rattle.serde_json.specs.Written.{compact_text}
+use Rattle.uuid.specs.Text.{hyphenated_text, lower}
+use Rattle.sq_base.specs.declared.handle.Handle.{Handle}
+use Rattle.sq_base.specs.declared.ids.HomeId.{HomeId}
+use Rattle.sq_base.specs.declared.message_id.MessageId.{MessageId}
+use Rattle.sq_base.specs.declared.refusal.Refusal.{Refusal}
+use Rattle.sq_base.specs.declared.row.Row.{Row}
+use Rattle.sq_base.specs.Handles.{handle_text}
+use Rattle.sq_base.specs.MessageIds.{id_number}
+use Rattle.sq_base.specs.Refusals.{name_of, number_of}
+use Rattle.sq_calls.specs.declared.calls.AskedAttributes.{AskedAttributes}
+use Rattle.sq_calls.specs.declared.calls.Answer.{Answer}
+use Rattle.sq_calls.specs.declared.calls.Answer.TheVariants.{Queue, Queues, Sources, Attributes, Sent, Received, Done}
+use Rattle.sq_calls.specs.declared.calls.ShownAttributes.{ShownAttributes}
+use Rattle.sq_policy.specs.PolicyTexts.{arn_text, redrive_data, allow_data}
+
+-- the text of a refusal: its name, and its number in decimal digits. Own.
+unfoldable pub error_text : Refusal → List ℕ
+error_text r = codes "{\"Error\":{\"Code\":\"" ++ name_of r ++ codes "\",\"Number\":" ++ decimal (number_of r) ++ codes "}}"
+
+-- the URL of a queue (SQS API Reference, QueueUrl)
+abbrev pub queue_url : List ℕ → List ℕ
+queue_url name = codes "http://localhost/000000000000/" ++ name
+
+-- the UUID of an id in lower case, with hyphens
+unfoldable pub id_text : MessageId → List ℕ
+id_text id = hyphenated_text lower (to_be_bytes w128 (id_number id))
+
+-- the handle of a row that a home gave
+abbrev pub handle_of : HomeId → Row → Handle
+handle_of home row = record { queue = home.queue; home = home.home; slot = row.slot; serial = row.serial; receive = row.receives }
+
+abbrev pub queue_data : List ℕ → Data
+queue_data name = object (member (codes "QueueUrl") (string (queue_url name)) no_members)
+
+-- the URLs of queues, in the order of their names
+abbrev pub urls_data : List (List ℕ) → Data
+urls_data names = array (items_of (map (λ name. string (queue_url name)) names))
+
+-- (SQS API Reference, ListQueues, QueueUrls)
+abbrev pub queues_data : List (List ℕ) → Data
+queues_data names = object (member (codes "QueueUrls") (urls_data names) no_members)
+
+-- (SQS API Reference, ListDeadLetterSourceQueues, queueUrls)
+abbrev pub source_queues_data : List (List ℕ) → Data
+source_queues_data names = object (member (codes "queueUrls") (urls_data names) no_members)
+
+-- a text that is there where it is asked for
+abbrev pub if_asked : Bool → List ℕ → Option (List ℕ)
+if_asked asked text = if asked then Some text else None
+
+-- what each attribute of a queue is shown as, if at all, in ascending byte order of their names (SQS API Reference, GetQueueAttributes, AttributeNames)
+abbrev pub shown_texts : ShownAttributes → List (List ℕ × Option (List ℕ))
+shown_texts s =
+    (codes "ApproximateNumberOfMessages", if_asked s.asked.visible (decimal s.counts.visible))
+    ∷ (codes "ApproximateNumberOfMessagesDelayed", if_asked s.asked.delayed (decimal s.counts.delayed))
+    ∷ (codes "ApproximateNumberOfMessagesNotVisible", if_asked s.asked.flying (decimal s.counts.flying))
+    ∷ (codes "DelaySeconds", if_asked s.asked.delay (decimal s.attributes.settings.delay))
+    ∷ (codes "MessageRetentionPeriod", if_asked s.asked.retention (decimal s.attributes.settings.retention))
+    ∷ (codes "QueueArn", if_asked s.asked.arn (arn_text s.queue))
+    ∷ (codes "ReceiveMessageWaitTimeSeconds", if_asked s.asked.wait_time (decimal s.attributes.settings.wait_time))
+    ∷ (codes "RedriveAllowPolicy", if s.asked.allow then option_map (λ p. compact_text (allow_data p)) s.attributes.allow else None)
+    ∷ (codes "RedrivePolicy", if s.asked.redrive then option_map (λ p. compact_text (redrive_data p)) s.attributes.redrive else None)
+    ∷ (codes "VisibilityTimeout", if_asked s.asked.timeout (decimal s.attributes.settings.timeout))
+    ∷ []
+
+-- a member whose value is a text, where there is one
+abbrev pub text_member : List ℕ → Option (List ℕ) → Members → Members
+text_member name None rest = rest
+text_member name (Some text) rest = member name (string text) rest
+
+-- those that have a text, in order
+abbrev pub text_members : List (List ℕ × Option (List ℕ)) → Members
+text_members [] = no_members
+text_members (t ∷ rest) = text_member t.0 t.1 (text_members rest)
+
+-- the attributes of a queue that are asked for, each as a text (SQS API Reference, GetQueueAttributes, Attributes)
+abbrev pub shown_data : ShownAttributes → Data
+shown_data shown = object (member (codes "Attributes") (object (text_members (shown_texts shown))) no_members)
+
+-- the digest of a body, and the UUID of the message
+abbrev pub sent_data : List ℕ → List ℕ → Data
+sent_data digest id = object (member (codes "MD5OfMessageBody") (string digest) (member (codes "MessageId") (string id) no_members))
+
+-- a member that is there where the test is true
+abbrev pub member_if : Bool → List ℕ → Data → Members → Members
+member_if true name d rest = member name d rest
+member_if false name d rest = rest
+
+-- the attributes of a message that are asked for: how often it was received, and the moment in ms at which it was sent
+-- (SQS API Reference, ReceiveMessage, MessageSystemAttributeNames)
+abbrev pub attributes_data : AskedAttributes → Row → Option Data
+attributes_data asked row = if asked.receive_count || asked.sent_timestamp then Some (object
+    (member_if asked.receive_count (codes "ApproximateReceiveCount") (string (decimal row.receives))
+    (member_if asked.sent_timestamp (codes "SentTimestamp") (string (decimal row.enqueued)) no_members))) else None
+
+abbrev pub answered_members : List ℕ → List ℕ → List ℕ → List ℕ → Members
+answered_members body digest id handle =
+    member (codes "Body") (string body)
+    (member (codes "MD5OfBody") (string digest)
+    (member (codes "MessageId") (string id)
+    (member (codes "ReceiptHandle") (string handle) no_members)))
+
+-- a message of a receive (SQS API Reference, Message)
+abbrev pub answered_data : Option Data → List ℕ → List ℕ → List ℕ → List ℕ → Data
+answered_data None body digest id handle = object (answered_members body digest id handle)
+answered_data (Some attributes) body digest id handle = object (member (codes "Attributes") attributes (answered_members body digest id handle))
+
+abbrev pub message_data : AskedAttributes → HomeId → Row → Data
+message_data asked home row =
+    answered_data (attributes_data asked row) row.body (encode_lower (md5 row.body)) (id_text row.id) (handle_text (handle_of home row))
+
+abbrev pub received_data : AskedAttributes → HomeId → List Row → Data
+received_data asked home rows = object (member (codes "Messages") (array (items_of (map (message_data asked home) rows))) no_members)
+
+abbrev pub answer_data : Answer → Data
+answer_data (Queue name) = queue_data name
+answer_data (Queues names) = queues_data names
+answer_data (Sources names) = source_queues_data names
+answer_data (Attributes shown) = shown_data shown
+answer_data (Sent id digest) = sent_data digest (id_text id)
+answer_data (Received received) = received_data received.attributes received.home received.rows
+answer_data Done = object no_members
+
+-- the text of a reply: JSON with no space, and the members of an object in the order of their bytes
+abbrev pub reply_text_of : Result Answer Refusal → List ℕ
+reply_text_of (Ok answer) = compact_text (answer_data answer)
+reply_text_of (Err refusal) = error_text refusal

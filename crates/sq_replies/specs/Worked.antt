@@ -1,0 +1,29 @@
+-- The answers of the worked cases.
+use Rattle.std.specs.Prelude.{ℕ, List, codes, true, false, Option, None}
+use Rattle.serde_json.specs.Written.{compact_text}
+use Rattle.sq_calls.specs.declared.calls.Answer.{Answer}
+use Rattle.sq_calls.specs.declared.calls.Answer.TheVariants.{Attributes}
+use Rattle.sq_calls.specs.declared.calls.AskedOfQueue.{AskedOfQueue}
+use Rattle.sq_model.specs.declared.directory.QueueAttributes.{QueueAttributes}
+use Rattle.sq_model.specs.declared.policy.RedrivePolicy.{RedrivePolicy}
+use Rattle.sq_replies.specs.Replies.{answer_data}
+
+abbrev pub text_of : Answer → List ℕ
+text_of answer = compact_text (answer_data answer)
+
+abbrev pub none_asked : AskedOfQueue
+none_asked = record { visible = false; delayed = false; flying = false; delay = false; retention = false; arn = false; wait_time = false; allow = false; redrive = false; timeout = false }
+
+abbrev pub all_asked : AskedOfQueue
+all_asked = record { visible = true; delayed = true; flying = true; delay = true; retention = true; arn = true; wait_time = true; allow = true; redrive = true; timeout = true }
+
+abbrev pub redrive_asked : AskedOfQueue
+redrive_asked = record none_asked { redrive = true }
+
+-- a queue with the default settings
+abbrev pub plain_with : Option RedrivePolicy → QueueAttributes
+plain_with redrive = record { queue = 1; settings = record { delay = 0; retention = 345600; wait_time = 0; timeout = 30; redrive = None }; redrive = redrive; allow = None }
+
+-- queue q with no messages
+abbrev pub q_shown : AskedOfQueue → Option RedrivePolicy → Answer
+q_shown asked redrive = Attributes (record { queue = codes "q"; asked = asked; attributes = plain_with redrive; counts = record { visible = 0; flying = 0; delayed = 0 } })

@@ -1,0 +1,24 @@
+//! Worked cases: the texts of some answers, each the contract of a function without code.
+
+ghost use Rattle.std.specs.Prelude.{◌≡◌, List, [], ◌∷◌, codes, Some, None};
+ghost use Rattle.sq_calls.specs.declared.calls.Answer.TheVariants.{Queues, Sources};
+ghost use Rattle.sq_replies.specs.Worked.{text_of, none_asked, all_asked, redrive_asked, q_shown};
+
+/// The URLs of no queue, of two queues, and of one queue that has another one for its dead letters.
+pub fn queues_are_listed_by_their_urls()
+    ensures none { text_of (Queues []) ≡ codes "{\"QueueUrls\":[]}" }
+    ensures two { text_of (Queues (codes "d" ∷ codes "q" ∷ [])) ≡ codes "{\"QueueUrls\":[\"http://localhost/000000000000/d\",\"http://localhost/000000000000/q\"]}" }
+    ensures source { text_of (Sources (codes "q" ∷ [])) ≡ codes "{\"queueUrls\":[\"http://localhost/000000000000/q\"]}" }
+{}
+
+/// A queue without messages and policies, where nothing is asked for, and where everything is.
+pub fn a_new_queue_is_shown_with_its_defaults()
+    ensures nothing { text_of (q_shown none_asked None) ≡ codes "{\"Attributes\":{}}" }
+    ensures everything { text_of (q_shown all_asked None) ≡ codes "{\"Attributes\":{\"ApproximateNumberOfMessages\":\"0\",\"ApproximateNumberOfMessagesDelayed\":\"0\",\"ApproximateNumberOfMessagesNotVisible\":\"0\",\"DelaySeconds\":\"0\",\"MessageRetentionPeriod\":\"345600\",\"QueueArn\":\"arn:aws:sqs:local:000000000000:q\",\"ReceiveMessageWaitTimeSeconds\":\"0\",\"VisibilityTimeout\":\"30\"}}" }
+{}
+
+/// A policy is JSON in a text. It is shown only where it is set.
+pub fn a_policy_is_a_text_within_a_text()
+    ensures set { text_of (q_shown redrive_asked (Some (record { target = codes "d"; max_receives = 1000 }))) ≡ codes "{\"Attributes\":{\"RedrivePolicy\":\"{\\\"deadLetterTargetArn\\\":\\\"arn:aws:sqs:local:000000000000:d\\\",\\\"maxReceiveCount\\\":1000}\"}}" }
+    ensures unset { text_of (q_shown redrive_asked None) ≡ codes "{\"Attributes\":{}}" }
+{}

@@ -1,0 +1,59 @@
+-- Reading a request.
+use Rattle.std.proofs.Common.{◌≡◌, ℕ, Bool, true, false, not, List, [], ◌∷◌, length, refl, arith, ap, sym, ◌∙◌, ◌≤◌, Ok, Err, Result, Some, None, inl, inr, ◌⊎◌, ◌<◌, suc}
+use Rattle.std.specs.Prelude.{String, nat_lt, ◌||◌, ◌==◌}
+use Rattle.sq_base.specs.declared.refusal.Refusal.{Refusal}
+use Rattle.sq_base.specs.declared.refusal.Refusal.TheVariants.{NoMemory}
+use Rattle.std.proofs.lemmas.Bool.{lt-ltb, le-ltb}
+use Rattle.std.specs.declared.alloc.Global.{Global}
+use Rattle.serde_json.specs.declared.value.Value.{Value}
+use Rattle.serde_json.specs.View.{members_view}
+use Rattle.json.specs.Json.{value}
+use Rattle.json.specs.Lex.{lex, punctuate}
+use Rattle.serde_json.specs.Data.{Data}
+use Rattle.serde_json.specs.Read.{read}
+use Rattle.std.specs.Str.{is_utf8}
+use Rattle.sq_policy.specs.Reading.{Reads}
+use Rattle.sq_requests.specs.Memory.{ReadsAsking}
+use Rattle.sq_requests.specs.Requests.{line_request, request_of, request_asks, ReadsLine}
+use Rattle.sq_requests.specs.declared.request.Request.{Request}
+use Rattle.sq_requests.specs.Members.{is_empty}
+
+-- what is refused reads so
+pub reads_refused : {A : Type 0} (e : Refusal) (read : Result A Refusal) → read ≡ Err e → Reads (Err e) read
+reads_refused NoMemory read h = rw h refl
+reads_refused e read h = h
+
+-- a line that is read has a byte
+none_read : read [] ≡ None
+unfolding lex punctuate value
+none_read = refl
+
+some_byte : (line : List ℕ) (d : Data) → read line ≡ Some d → 0 < length line
+some_byte [] d e = absurd (let none = none_read in cc)
+some_byte (b ∷ line) d e = omega arith
+
+-- what was read of a line's value is what was read of the line
+pub reads_line : (line : List ℕ) (d : Data) (r : Result Request Refusal) → is_utf8 line ≡ true → read line ≡ Some d → ReadsAsking (request_asks d) r (request_of d) → ReadsLine r line
+unfolding line_request
+reads_line line d (Ok request) utf8 e h = rw (utf8, e) h
+reads_line line d (Err NoMemory) utf8 e h = some_byte line d e
+reads_line line d (Err refusal) utf8 e h = rw (utf8, e) h
+
+-- an object is empty where it has no entries
+pub empty_by : (es : List (String Global × Value)) (b : Bool) → (b ≡ true → length es ≡ 0) × (length es ≡ 0 → b ≡ true) → not b ≡ not (is_empty (members_view es))
+empty_by [] b h = ap not (h.1 refl)
+empty_by (e ∷ es) true h = absurd (let none : suc (length es) ≡ 0 = h.0 refl in omega (arith, none))
+empty_by (e ∷ es) false h = refl
+
+or_right : (a b : Bool) → b ≡ true → (a || b) ≡ true
+or_right true b e = refl
+or_right false b e = e
+
+-- a length that is refused
+pub length_refused : (n : ℕ) (empty : Bool) → empty ≡ (n == 0) → (empty ≡ true) ⊎ ((empty ≡ false) × (262144 < n)) → (n == 0 || nat_lt 262144 n) ≡ true
+length_refused n empty e (inl h) = let t : (n == 0) ≡ true = sym e ∙ h in rw t refl
+length_refused n empty e (inr h) = or_right (n == 0) (nat_lt 262144 n) (lt-ltb _ _ h.1)
+
+-- and one that is not
+pub length_allowed : (n : ℕ) (empty : Bool) → empty ≡ (n == 0) → empty ≡ false → n ≤ 262144 → (n == 0 || nat_lt 262144 n) ≡ false
+length_allowed n empty e h le = let t : (n == 0) ≡ false = sym e ∙ h in let u : nat_lt 262144 n ≡ false = le-ltb _ _ le in rw (t, u) refl

@@ -1,0 +1,7 @@
+pub mod Memory
+pub mod Members
+pub mod Attributes
+pub mod Asked
+pub mod Actions
+pub mod Queues
+pub mod Requests

@@ -1,0 +1,78 @@
+-- What a member of a request says. One of a wrong type is InvalidRequest, and so is a missing one that must be there.
+use Rattle.std.specs.Prelude.{ℕ, List, Bool, true, false, not, nat_lt, if◌then◌else◌, Option, Some, None, Result, Ok, Err, codes, option_and_then, ok_or, length, take, drop}
+use Rattle.std.specs.Str.{bytes_eq}
+use Rattle.serde_json.specs.Data.{Data, Members, no_members, member}
+use Rattle.serde_json.specs.Find.{get, as_str, as_number, as_object}
+use Rattle.sq_base.specs.Handles.{handle_at}
+use Rattle.sq_base.specs.declared.handle.Handle.{Handle}
+use Rattle.sq_base.specs.declared.refusal.Refusal.{Refusal}
+use Rattle.sq_base.specs.declared.refusal.Refusal.TheVariants.{InvalidRequest}
+use Rattle.sq_policy.specs.Reading.{◌>>=◌}
+use Rattle.sq_policy.specs.Amounts.{amount_of, received}
+use Rattle.sq_policy.specs.PolicyTexts.{as_name}
+use Rattle.sq_policy.specs.declared.amount.Amount.{Amount}
+
+-- the text of a member that must be there
+abbrev pub as_text : Option (List ℕ) → Result (List ℕ) Refusal
+as_text text = ok_or text InvalidRequest
+
+unfoldable pub text_at : List ℕ → Data → Result (List ℕ) Refusal
+text_at name d = as_text (option_and_then as_str (get name d))
+
+-- and of one that may be there
+abbrev pub as_text_if : Option (List ℕ) → Result (Option (List ℕ)) Refusal
+as_text_if None = Err InvalidRequest
+as_text_if (Some text) = Ok (Some text)
+
+abbrev pub text_if_in : Option Data → Result (Option (List ℕ)) Refusal
+text_if_in None = Ok None
+text_if_in (Some d) = as_text_if (as_str d)
+
+unfoldable pub text_if_at : List ℕ → Data → Result (Option (List ℕ)) Refusal
+text_if_at name d = text_if_in (get name d)
+
+-- a queue's URL: a fixed text and the queue's name
+unfoldable pub url_name : List ℕ → Option (List ℕ)
+url_name url =
+    if nat_lt (length url) 30 then None
+    else if bytes_eq (take 30 url) (codes "http://localhost/000000000000/") then as_name (drop 30 url) else None
+
+-- the queue of the URL (SQS API Reference, QueueUrl), where it is one
+unfoldable pub url_at : Data → Result (Option (List ℕ)) Refusal
+url_at d = text_at (codes "QueueUrl") d >>= λ url. Ok (url_name url)
+
+-- what the receipt handle names (SQS API Reference, ReceiptHandle), where it is one
+unfoldable pub receipt_handle_at : Data → Result (Option Handle) Refusal
+receipt_handle_at d = text_at (codes "ReceiptHandle") d >>= λ handle. Ok (handle_at handle)
+
+-- whether a member that may be there is an object with members
+abbrev pub is_empty : Members → Bool
+is_empty no_members = true
+is_empty (member name d rest) = false
+
+abbrev pub as_members : Option Members → Result Bool Refusal
+as_members None = Err InvalidRequest
+as_members (Some members) = Ok (not (is_empty members))
+
+abbrev pub has_members : Option Data → Result Bool Refusal
+has_members None = Ok false
+has_members (Some d) = as_members (as_object d)
+
+unfoldable pub has_members_at : List ℕ → Data → Result Bool Refusal
+has_members_at name d = has_members (get name d)
+
+-- the whole number of a member that must be there
+abbrev pub amount_in : Option Data → Result Amount Refusal
+amount_in None = Err InvalidRequest
+amount_in (Some d) = amount_of (as_number d)
+
+unfoldable pub amount_at : List ℕ → Data → Result Amount Refusal
+amount_at name d = amount_in (get name d)
+
+-- and of one that may be there
+abbrev pub amount_if_in : Option Data → Result (Option Amount) Refusal
+amount_if_in None = Ok None
+amount_if_in (Some d) = received (amount_of (as_number d))
+
+unfoldable pub amount_if_at : List ℕ → Data → Result (Option Amount) Refusal
+amount_if_at name d = amount_if_in (get name d)

@@ -1,0 +1,193 @@
+//! The attributes that a request gives (SQS API Reference, CreateQueue and SetQueueAttributes: Attributes).
+ghost use Rattle.std.specs.Prelude.{◌≡◌, option_map, Ok};
+ghost use Rattle.serde_json.specs.View.{view, members_view};
+ghost use Rattle.sq_policy.specs.Reading.{seen_as};
+ghost use Rattle.sq_policy.specs.PolicyTexts.{redrive_of, allow_of};
+ghost use Rattle.sq_requests.specs.Memory.{ReadsAsking};
+ghost use Rattle.sq_requests.specs.Attributes.{attribute_at, amounts_in, is_settable, has_other, texts_of, given_in, given_at, given_if_at, numbers_of, named_numbers, if_given, has_text, attributes_of, attributes_ask};
+
+use crate::members::text_if_at;
+use serde_json::{Map, Value};
+use sq_base::refusal::Refusal;
+use sq_model::directory::Attributes;
+use sq_model::policy::{AllowPolicy, RedrivePolicy};
+use sq_policy::amount::{Amount, attribute_of, in_range_if};
+use sq_policy::policy::{read_allow, read_redrive};
+use std::alloc::Global;
+
+/// The numeric attributes that a request gives (SQS API Reference, SetQueueAttributes: Attributes), their ranges not
+/// checked yet.
+#[derive(Drop)]
+pub struct Amounts {
+    pub delay: Option<Amount>,
+    pub retention: Option<Amount>,
+    pub wait_time: Option<Amount>,
+    pub timeout: Option<Amount>,
+}
+
+/// The attributes that a request gives (SQS API Reference, SetQueueAttributes: Attributes), their names and values not
+/// checked yet.
+#[derive(Drop)]
+pub struct Given<'a> {
+    pub amounts: Amounts,
+    pub redrive: Option<&'a str>,
+    pub allow: Option<&'a str>,
+    /// One is given that cannot be set.
+    pub has_other: bool,
+}
+
+// The numeric attribute of a name, where it is given.
+#[tactic(auto, unfolding(crate::specs::Attributes::attribute_at))]
+fn attribute_at(attributes: &Value, name: &str) -> Result<Option<Amount>, Refusal>
+    ensures { result ≡ attribute_at name.now (view attributes.now) }
+{
+    match attributes.get(name) {
+        Some(member) => Ok(Some(attribute_of(member)?)),
+        None => Ok(None),
+    }
+}
+
+#[tactic(auto, unfolding(crate::specs::Attributes::amounts_in))]
+fn amounts_in(attributes: &Value) -> Result<Amounts, Refusal>
+    ensures { result ≡ amounts_in (view attributes.now) }
+{
+    Ok(Amounts {
+        delay: attribute_at(attributes, "DelaySeconds")?,
+        retention: attribute_at(attributes, "MessageRetentionPeriod")?,
+        wait_time: attribute_at(attributes, "ReceiveMessageWaitTimeSeconds")?,
+        timeout: attribute_at(attributes, "VisibilityTimeout")?,
+    })
+}
+
+/// Whether an attribute of this name can be set (SQS API Reference, SetQueueAttributes: Attributes).
+#[tactic(auto, unfolding(crate::specs::Attributes::is_settable))]
+pub fn is_settable(name: &str) -> bool
+    ensures { result ≡ is_settable name.now }
+{
+    name == "DelaySeconds"
+        || name == "MessageRetentionPeriod"
+        || name == "ReceiveMessageWaitTimeSeconds"
+        || name == "RedriveAllowPolicy"
+        || name == "RedrivePolicy"
+        || name == "VisibilityTimeout"
+}
+
+fn has_other(attributes: &Map<String, Value>) -> bool
+    ensures { result ≡ has_other (members_view attributes.now.entries) }
+{
+    attributes.keys().any(|name| !is_settable(name.as_str()))
+}
+
+#[tactic(auto, unfolding(crate::specs::Attributes::given_in))]
+fn given_in(attributes: &Value) -> Result<Given<'_>, Refusal>
+    ensures { seen_as texts_of result ≡ given_in (view attributes.now) }
+{
+    let Some(members) = attributes.as_object() else {
+        return Err(Refusal::InvalidRequest);
+    };
+    let amounts = amounts_in(attributes)?;
+    let redrive = text_if_at(attributes, "RedrivePolicy")?;
+    let allow = text_if_at(attributes, "RedriveAllowPolicy")?;
+    Ok(Given {
+        amounts,
+        redrive,
+        allow,
+        has_other: has_other(members),
+    })
+}
+
+/// What the member `Attributes` gives, which must be there (SQS API Reference, SetQueueAttributes); InvalidRequest where
+/// it is no object, a numeric attribute neither a text nor a whole number, or a policy no text.
+#[tactic(auto, unfolding(crate::specs::Attributes::given_at))]
+pub fn given_at(value: &Value) -> Result<Given<'_>, Refusal>
+    ensures { seen_as texts_of result ≡ given_at (view value.now) }
+{
+    match value.get("Attributes") {
+        Some(attributes) => given_in(attributes),
+        None => Err(Refusal::InvalidRequest),
+    }
+}
+
+/// The same where it may be missing (SQS API Reference, CreateQueue).
+#[tactic(auto, unfolding(crate::specs::Attributes::given_if_at))]
+pub fn given_if_at(value: &Value) -> Result<Given<'_>, Refusal>
+    ensures { seen_as texts_of result ≡ given_if_at (view value.now) }
+{
+    match value.get("Attributes") {
+        Some(attributes) => given_in(attributes),
+        None => Ok(Given {
+            amounts: Amounts {
+                delay: None,
+                retention: None,
+                wait_time: None,
+                timeout: None,
+            },
+            redrive: None,
+            allow: None,
+            has_other: false,
+        }),
+    }
+}
+
+#[tactic(auto, unfolding(crate::specs::Attributes::numbers_of))]
+fn numbers_of(amounts: &Amounts) -> Result<Attributes, Refusal>
+    ensures { result ≡ numbers_of amounts.now }
+{
+    Ok(Attributes {
+        delay: in_range_if(amounts.delay, Refusal::InvalidAttributeValue)?,
+        retention: in_range_if(amounts.retention, Refusal::InvalidAttributeValue)?,
+        wait_time: in_range_if(amounts.wait_time, Refusal::InvalidAttributeValue)?,
+        timeout: in_range_if(amounts.timeout, Refusal::InvalidAttributeValue)?,
+        redrive: None,
+        allow: None,
+    })
+}
+
+// The numeric attributes, where each name is that of an attribute and each number is in its range.
+#[tactic(auto, unfolding(crate::specs::Attributes::named_numbers))]
+fn named_numbers(given: &Given<'_>) -> Result<Attributes, Refusal>
+    ensures { result ≡ named_numbers (texts_of given.now) }
+{
+    if given.has_other {
+        return Err(Refusal::InvalidAttributeName);
+    }
+    numbers_of(&given.amounts)
+}
+
+fn redrive_if(alloc: Global, text: Option<&str>) -> Result<Option<Option<RedrivePolicy>>, Refusal>
+    ensures { let given = option_map (λ t. t.now) text.entry in
+        ReadsAsking (Ok (has_text given)) result (if_given redrive_of given) }
+{
+    match text {
+        Some(text) => Ok(Some(read_redrive(alloc, text)?)),
+        None => Ok(None),
+    }
+}
+
+fn allow_if(alloc: Global, text: Option<&str>) -> Result<Option<Option<AllowPolicy>>, Refusal>
+    ensures { let given = option_map (λ t. t.now) text.entry in
+        ReadsAsking (Ok (has_text given)) result (if_given allow_of given) }
+{
+    match text {
+        Some(text) => Ok(Some(read_allow(alloc, text)?)),
+        None => Ok(None),
+    }
+}
+
+/// The attributes, where each can be set: InvalidAttributeName where one cannot, then InvalidAttributeValue for a number
+/// out of its range and for a text that is no policy; NoMemory only of a policy whose text is not empty (SQS API
+/// Reference, SetQueueAttributes).
+#[tactic(auto, unfolding(crate::specs::Attributes::attributes_of, crate::specs::Attributes::attributes_ask))]
+pub fn attributes_of(alloc: Global, given: &Given<'_>) -> Result<Attributes, Refusal>
+    ensures { let given = texts_of given.now in
+        ReadsAsking (attributes_ask given) result (attributes_of given) }
+{
+    let numbers = named_numbers(given)?;
+    let redrive = redrive_if(alloc, given.redrive)?;
+    let allow = allow_if(alloc, given.allow)?;
+    Ok(Attributes {
+        redrive,
+        allow,
+        ..numbers
+    })
+}

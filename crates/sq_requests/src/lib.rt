@@ -1,0 +1,9 @@
+//! What lines ask: requests read from JSON.
+#![tactic(auto)]
+
+pub mod actions;
+pub mod asked;
+pub mod attributes;
+pub mod members;
+pub mod queues;
+pub mod request;

@@ -1,0 +1,119 @@
+//! The members of a request's object.
+ghost use Rattle.std.specs.Prelude.{◌≡◌, not, option_map};
+ghost use Rattle.serde_json.specs.View.{view, members_view};
+ghost use Rattle.sq_policy.specs.Reading.{seen_as};
+ghost use Rattle.sq_requests.specs.Members.{url_name, text_at, text_if_at, url_at, receipt_handle_at, is_empty, has_members_at, amount_at, amount_if_at};
+
+use serde_json::{Map, Value};
+use sq_base::handle::{Handle, read_handle};
+use sq_base::name::QueueName;
+use sq_base::refusal::Refusal;
+use sq_policy::amount::{Amount, amount_of};
+
+/// What a queue's URL begins with, before its name.
+const URL_START: &str = "http://localhost/000000000000/";
+
+// The queue that a URL names.
+#[tactic(auto, unfolding(crate::specs::Members::url_name))]
+fn queue_at(url: &str) -> Option<QueueName>
+    ensures { result ≡ url_name url.now }
+{
+    let bytes = url.as_bytes();
+    if bytes.len() < 30 {
+        return None;
+    }
+    let (front, name) = bytes.split_at(30);
+    if front == URL_START.as_bytes() {
+        QueueName::new(name)
+    } else {
+        None
+    }
+}
+
+/// The text of a member that must be there.
+#[tactic(auto, unfolding(crate::specs::Members::text_at))]
+pub fn text_at<'a>(value: &'a Value, name: &str) -> Result<&'a str, Refusal>
+    ensures { seen_as (λ t. t.now) result ≡ text_at name.now (view value.now) }
+{
+    match value.get(name) {
+        Some(member) => match member.as_str() {
+            Some(text) => Ok(text),
+            None => Err(Refusal::InvalidRequest),
+        },
+        None => Err(Refusal::InvalidRequest),
+    }
+}
+
+/// The text of a member that may be there.
+#[tactic(auto, unfolding(crate::specs::Members::text_if_at))]
+pub fn text_if_at<'a>(value: &'a Value, name: &str) -> Result<Option<&'a str>, Refusal>
+    ensures { seen_as (option_map (λ t. t.now)) result ≡ text_if_at name.now (view value.now) }
+{
+    match value.get(name) {
+        Some(member) => match member.as_str() {
+            Some(text) => Ok(Some(text)),
+            None => Err(Refusal::InvalidRequest),
+        },
+        None => Ok(None),
+    }
+}
+
+/// The queue of the member `QueueUrl`; none where that is no queue's URL.
+#[tactic(auto, unfolding(crate::specs::Members::url_at))]
+pub fn url_at(value: &Value) -> Result<Option<QueueName>, Refusal>
+    ensures { result ≡ url_at (view value.now) }
+{
+    let url = text_at(value, "QueueUrl")?;
+    Ok(queue_at(url))
+}
+
+/// The handle of the member `ReceiptHandle`; none where that is no handle.
+#[tactic(auto, unfolding(crate::specs::Members::receipt_handle_at))]
+pub fn receipt_handle_at(value: &Value) -> Result<Option<Handle>, Refusal>
+    ensures { result ≡ receipt_handle_at (view value.now) }
+{
+    let handle = text_at(value, "ReceiptHandle")?;
+    Ok(read_handle(handle.as_bytes()))
+}
+
+fn has_members(members: &Map<String, Value>) -> bool
+    ensures { result ≡ not (is_empty (members_view members.now.entries)) }
+{
+    !members.is_empty()
+}
+
+/// Whether a member that may be there is an object with members.
+#[tactic(auto, unfolding(crate::specs::Members::has_members_at))]
+pub fn has_members_at(value: &Value, name: &str) -> Result<bool, Refusal>
+    ensures { result ≡ has_members_at name.now (view value.now) }
+{
+    match value.get(name) {
+        None => Ok(false),
+        Some(member) => match member.as_object() {
+            Some(members) => Ok(has_members(members)),
+            None => Err(Refusal::InvalidRequest),
+        },
+    }
+}
+
+/// The whole number of a member that must be there.
+#[tactic(auto, unfolding(crate::specs::Members::amount_at))]
+pub fn amount_at(value: &Value, name: &str) -> Result<Amount, Refusal>
+    ensures { result ≡ amount_at name.now (view value.now) }
+{
+    match value.get(name) {
+        Some(member) => amount_of(member),
+        None => Err(Refusal::InvalidRequest),
+    }
+}
+
+/// The whole number of a member that may be there.
+#[tactic(auto, unfolding(crate::specs::Members::amount_if_at))]
+pub fn amount_if_at(value: &Value, name: &str) -> Result<Option<Amount>, Refusal>
+    ensures { result ≡ amount_if_at name.now (view value.now) }
+{
+    match value.get(name) {
+        Some(member) => Ok(Some(amount_of(member)?)),
+        None => Ok(None),
+    }
+}

@@ -1,0 +1,102 @@
+//! What a line asks.
+ghost use Rattle.std.specs.Prelude.{◌≡◌};
+ghost use Rattle.serde_json.specs.View.{view};
+ghost use Rattle.sq_requests.specs.Memory.{ReadsAsking};
+ghost use Rattle.sq_requests.specs.Requests.{clock_at, actor_at, call_of, call_asks, request_of, request_asks, line_request, ReadsLine};
+
+use crate::actions::{change_of, delete_of, receive_of, send_of};
+use crate::members::text_at;
+use crate::queues::{
+    create_of, delete_queue_of, get_of, get_url_of, list_of, list_sources_of, purge_of, set_of,
+};
+use serde_json::Value;
+use sq_base::refusal::Refusal;
+use sq_calls::calls::Call;
+use std::alloc::Global;
+
+/// A request, who makes it (0 to 63), and the clock reading of its line in ms, where it has one.
+#[derive(Drop)]
+pub struct Request {
+    pub clock: Option<u64>,
+    pub actor: u32,
+    pub call: Call,
+}
+
+// The clock reading of a line.
+#[tactic(auto, unfolding(crate::specs::Requests::clock_at))]
+fn clock_at(value: &Value) -> Result<Option<u64>, Refusal>
+    ensures { result ≡ clock_at (view value.now) }
+{
+    match value.get("Now") {
+        None => Ok(None),
+        Some(member) => match member.as_u64() {
+            Some(reading) => Ok(Some(reading)),
+            None => Err(Refusal::InvalidRequest),
+        },
+    }
+}
+
+// The number of the actor of a line.
+#[tactic(auto, unfolding(crate::specs::Requests::actor_at))]
+fn actor_at(value: &Value) -> Result<u32, Refusal>
+    ensures { result ≡ actor_at (view value.now) }
+{
+    match value.get("Actor") {
+        None => Ok(0),
+        Some(member) => match member.as_u64() {
+            Some(actor) if actor < 64 => Ok(actor as u32),
+            _ => Err(Refusal::InvalidRequest),
+        },
+    }
+}
+
+#[tactic(auto, unfolding(crate::specs::Requests::call_of, crate::specs::Requests::call_asks))]
+fn call_of(alloc: Global, value: &Value, action: &str) -> Result<Call, Refusal>
+    ensures { let d = view value.now in
+        ReadsAsking (call_asks action.now d) result (call_of action.now d) }
+{
+    match action {
+        "CreateQueue" => create_of(alloc, value),
+        "SetQueueAttributes" => set_of(alloc, value),
+        "GetQueueAttributes" => get_of(value),
+        "GetQueueUrl" => get_url_of(value),
+        "ListQueues" => list_of(value),
+        "PurgeQueue" => purge_of(value),
+        "DeleteQueue" => delete_queue_of(value),
+        "ListDeadLetterSourceQueues" => list_sources_of(value),
+        "SendMessage" => send_of(alloc, value),
+        "ReceiveMessage" => receive_of(value),
+        "DeleteMessage" => delete_of(value),
+        "ChangeMessageVisibility" => change_of(value),
+        _ => Err(Refusal::UnsupportedOperation),
+    }
+}
+
+#[tactic(auto, unfolding(crate::specs::Requests::request_of, crate::specs::Requests::request_asks))]
+fn request_of(alloc: Global, value: &Value) -> Result<Request, Refusal>
+    ensures { let d = view value.now in
+        ReadsAsking (request_asks d) result (request_of d) }
+{
+    if !value.is_object() {
+        return Err(Refusal::InvalidRequest);
+    }
+    let action = text_at(value, "Action")?;
+    let clock = clock_at(value)?;
+    let actor = actor_at(value)?;
+    let call = call_of(alloc, value, action)?;
+    Ok(Request { clock, actor, call })
+}
+
+/// What a line asks, or the first reason in order why it is refused: InvalidRequest (not an object, a member of a
+/// wrong type or missing), UnsupportedOperation, InvalidAddress, InvalidAttributeName, InvalidAttributeValue,
+/// InvalidParameterValue; NoMemory where a growth was refused, and so of no empty line.
+#[tactic(auto, unfolding(crate::specs::Requests::line_request))]
+pub fn read_request(alloc: Global, line: &[u8]) -> Result<Request, Refusal>
+    ensures { ReadsLine result line.now }
+{
+    match Value::from_slice(alloc, line) {
+        Ok(value) => request_of(alloc, &value),
+        Err(e) if e.is_memory() => Err(Refusal::NoMemory),
+        Err(_) => Err(Refusal::InvalidRequest),
+    }
+}
