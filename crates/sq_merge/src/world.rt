@@ -126,8 +126,9 @@ impl World {
     /// name first. Refused as its first check in order that fails; steps that were done before that stand:
     /// QueueDoesNotExist; NoMemory of an actor that is new; InvalidParameterValue and InvalidMessageContents of a body;
     /// ReceiptHandleIsInvalid of what is no handle of the queue and of one of its homes; NoMemory; ClockRange; Worn; and
-    /// then as the home's call. CreateQueue is refused as QueueNameExists, InvalidAttributeValue and TableFull too, and ReceiveMessage as OverLimit
-    /// where no home that was asked gave a message and one of them has too many in flight.
+    /// then as the home's call. CreateQueue is refused as QueueNameExists, QueueDeletedRecently, InvalidAttributeValue and
+    /// TableFull too, SetQueueAttributes as InvalidAttributeValue, PurgeQueue as PurgeQueueInProgress, and ReceiveMessage as
+    /// OverLimit where no home that was asked gave a message and one of them has too many in flight.
     pub fn call(
         &mut self,
         alloc: Global,
