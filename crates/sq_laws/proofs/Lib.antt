@@ -13,6 +13,7 @@ pub mod DirectoryAnswers
 pub mod DirectoryLists
 pub mod DirectoryPolicies
 pub mod DirectoryHolds
+pub mod CreationLaws
 pub mod SystemLaws
 pub mod RunLaws
 pub mod ReceiveLaws

@@ -2,3 +2,4 @@ pub mod Worked
 pub mod WorkedMoves
 pub mod WorkedDirectory
 pub mod WorkedRun
+pub mod Creations
