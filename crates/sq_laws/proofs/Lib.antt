@@ -18,4 +18,4 @@ pub mod SystemLaws
 pub mod RunLaws
 pub mod ReceiveLaws
 pub mod PairLaws
-pub mod WorkedRunLaws
+pub mod Computed
