@@ -2,4 +2,5 @@ pub mod Worked
 pub mod WorkedMoves
 pub mod WorkedDirectory
 pub mod WorkedRun
+pub mod WorkedTasks
 pub mod Creations

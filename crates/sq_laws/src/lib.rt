@@ -8,3 +8,4 @@ pub mod worked;
 pub mod worked_directory;
 pub mod worked_moves;
 pub mod worked_run;
+pub mod worked_tasks;
