@@ -3,4 +3,5 @@ pub mod WorkedMoves
 pub mod WorkedDirectory
 pub mod WorkedRun
 pub mod WorkedTasks
+pub mod WorkedQueues
 pub mod Creations
