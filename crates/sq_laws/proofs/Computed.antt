@@ -242,65 +242,36 @@ module _ (site : Site) (s : Settings) (v n : ℕ) (rows : List Row) (l : Ledger)
 
   -- ---- of an item
 
-  abbrev pub enters : HomeCall → Option Item → Outcome
-  enters call None = not_done call (Serving s v n rows) l
-  enters call (Some item) = record {
-    done = may_enter site.home item && is_placed site.limits n slot kept;
-    call = asks.Enter item;
-    reply = Entered (record { serial = n; slot = slot });
-    home = Serving s v (n + 1) (kept ++ entered_row site.home n slot e.stamp.moment item ∷ []);
-    ledger = without_item l item with_moved;
-  }
+  abbrev pub comes_in : Bool → HomeCall → Row → Ledger → Outcome
+  comes_in may call row after = record { done = may && is_placed site.limits n slot kept; call = call; reply = Entered (record { serial = n; slot = slot }); home = Serving s v (n + 1) (kept ++ row ∷ []); ledger = after }
 
-  entered : (call : HomeCall) (number : ℕ) (found : Option Item) → item_of number l ≡ found → (enters call found).done ≡ true → IsDone site (Serving s v n rows) l e (enters call found)
+  abbrev pub item_comes : HomeCall → Option Item → Outcome
+  item_comes (asks.Enter asked) (Some item) = comes_in (may_enter site.home item) (asks.Enter item) (entered_row site.home n slot e.stamp.moment item) (without_item l item with_moved)
+  item_comes (asks.GiveBack asked) (Some item) = comes_in (may_return site.home item) (asks.GiveBack item) (returned_row n slot e.stamp.moment item) (without_item l item with_back)
+  item_comes call found = not_done call (Serving s v n rows) l
+
+  item_came : (call : HomeCall) (number : ℕ) (found : Option Item) → item_of number l ≡ found → (item_comes call found).done ≡ true → IsDone site (Serving s v n rows) l e (item_comes call found)
   unfolding HomeStep LedgerStep
-  entered call number None is h = absurd cc
-  entered call number (Some item) is h =
-      let both = and_both _ _ h in
-      record { step = (both.0, placed _ _ _ _ both.1, refl, refl); in_ledger = (both.0, (by_its_number number l item is, refl)) }
-
-  abbrev pub comes_back : HomeCall → Option Item → Outcome
-  comes_back call None = not_done call (Serving s v n rows) l
-  comes_back call (Some item) = record {
-    done = may_return site.home item && is_placed site.limits n slot kept;
-    call = asks.GiveBack item;
-    reply = Entered (record { serial = n; slot = slot });
-    home = Serving s v (n + 1) (kept ++ returned_row n slot e.stamp.moment item ∷ []);
-    ledger = without_item l item with_back;
-  }
-
-  came_back : (call : HomeCall) (number : ℕ) (found : Option Item) → item_of number l ≡ found → (comes_back call found).done ≡ true → IsDone site (Serving s v n rows) l e (comes_back call found)
-  unfolding HomeStep LedgerStep
-  came_back call number None is h = absurd cc
-  came_back call number (Some item) is h =
-      let both = and_both _ _ h in
-      record { step = (both.0, placed _ _ _ _ both.1, refl, refl); in_ledger = (both.0, (by_its_number number l item is, refl)) }
+  item_came (asks.Enter asked) number (Some item) is h = let both = and_both _ _ h in record { step = (both.0, placed _ _ _ _ both.1, refl, refl); in_ledger = (both.0, (by_its_number number l item is, refl)) }
+  item_came (asks.GiveBack asked) number (Some item) is h = let both = and_both _ _ h in record { step = (both.0, placed _ _ _ _ both.1, refl, refl); in_ledger = (both.0, (by_its_number number l item is, refl)) }
+  item_came call number found is h = absurd cc
 
 -- at a home that is closed
 module _ (site : Site) (l : Ledger) (e : HomeEvent) where
-  abbrev pub turns : HomeCall → Option Item → Outcome
-  turns call None = not_done call Closed l
-  turns call (Some item) = record {
-    done = may_enter site.home item;
-    call = asks.TurnBack item;
-    reply = Done;
-    home = Closed;
-    ledger = record l { items = map (turned_if item.number) l.items; tasks = changed_for item.reason (with_status (failed_as because.DestinationClosed)) l.tasks };
-  }
+  abbrev pub goes_on : Bool → HomeCall → Ledger → Outcome
+  goes_on may call after = record { done = may; call = call; reply = Done; home = Closed; ledger = after }
 
-  turned_back : (call : HomeCall) (number : ℕ) (found : Option Item) → item_of number l ≡ found → (turns call found).done ≡ true → IsDone site Closed l e (turns call found)
+  abbrev pub item_goes_on : HomeCall → Option Item → Outcome
+  item_goes_on (asks.TurnBack asked) (Some item) =
+      goes_on (may_enter site.home item) (asks.TurnBack item) (record l { items = map (turned_if item.number) l.items; tasks = changed_for item.reason (with_status (failed_as because.DestinationClosed)) l.tasks })
+  item_goes_on (asks.GiveUp asked) (Some item) = goes_on (may_return site.home item) (asks.GiveUp item) (without_item l item with_given_up)
+  item_goes_on call found = not_done call Closed l
+
+  item_went_on : (call : HomeCall) (number : ℕ) (found : Option Item) → item_of number l ≡ found → (item_goes_on call found).done ≡ true → IsDone site Closed l e (item_goes_on call found)
   unfolding HomeStep LedgerStep
-  turned_back call number None is h = absurd cc
-  turned_back call number (Some item) is h = record { step = (h, refl); in_ledger = (h, by_its_number number l item is, refl) }
-
-  abbrev pub gives_up : HomeCall → Option Item → Outcome
-  gives_up call None = not_done call Closed l
-  gives_up call (Some item) = record { done = may_return site.home item; call = asks.GiveUp item; reply = Done; home = Closed; ledger = without_item l item with_given_up }
-
-  given_away : (call : HomeCall) (number : ℕ) (found : Option Item) → item_of number l ≡ found → (gives_up call found).done ≡ true → IsDone site Closed l e (gives_up call found)
-  unfolding HomeStep LedgerStep
-  given_away call number None is h = absurd cc
-  given_away call number (Some item) is h = record { step = (h, refl); in_ledger = (h, (by_its_number number l item is, refl)) }
+  item_went_on (asks.TurnBack asked) number (Some item) is h = record { step = (h, refl); in_ledger = (h, by_its_number number l item is, refl) }
+  item_went_on (asks.GiveUp asked) number (Some item) is h = record { step = (h, refl); in_ledger = (h, (by_its_number number l item is, refl)) }
+  item_went_on call number found is h = absurd cc
 
 abbrev pub at_home : Site → Home → Ledger → HomeEvent → HomeCall → Outcome
 at_home site Unopened l e (asks.Configure t w) = record { done = true; call = asks.Configure t w; reply = Done; home = Serving t w 0 []; ledger = l }
@@ -312,10 +283,10 @@ at_home site (Serving s v n rows) l e asks.Purge = alone site s v n rows l e tru
 at_home site (Serving s v n rows) l e asks.Count = alone site s v n rows l e true asks.Count (Counted (counts_of e.stamp.moment (kept site s v n rows l e))) (kept site s v n rows l e)
 at_home site (Serving s v n rows) l e asks.LeaveDead = dead_leaves site s v n rows l e (dead_target s.redrive) (find (is_dead s e.stamp.moment) (kept site s v n rows l e))
 at_home site (Serving s v n rows) l e (asks.LeaveTask number) = task_leaves site s v n rows l e number (task_of number l) (find (is_live s e.stamp.moment) (kept site s v n rows l e))
-at_home site (Serving s v n rows) l e (asks.Enter item) = enters site s v n rows l e (asks.Enter item) (item_of item.number l)
-at_home site (Serving s v n rows) l e (asks.GiveBack item) = comes_back site s v n rows l e (asks.GiveBack item) (item_of item.number l)
-at_home site Closed l e (asks.TurnBack item) = turns site l e (asks.TurnBack item) (item_of item.number l)
-at_home site Closed l e (asks.GiveUp item) = gives_up site l e (asks.GiveUp item) (item_of item.number l)
+at_home site (Serving s v n rows) l e (asks.Enter item) = item_comes site s v n rows l e (asks.Enter item) (item_of item.number l)
+at_home site (Serving s v n rows) l e (asks.GiveBack item) = item_comes site s v n rows l e (asks.GiveBack item) (item_of item.number l)
+at_home site Closed l e (asks.TurnBack item) = item_goes_on site l e (asks.TurnBack item) (item_of item.number l)
+at_home site Closed l e (asks.GiveUp item) = item_goes_on site l e (asks.GiveUp item) (item_of item.number l)
 at_home site home l e call = not_done call home l
 
 pub home_done : (site : Site) (home : Home) (l : Ledger) (e : HomeEvent) (call : HomeCall) → (at_home site home l e call).done ≡ true → IsDone site home l e (at_home site home l e call)
@@ -329,10 +300,10 @@ home_done site (Serving s v n rows) l e asks.Purge h = record { step = refl; in_
 home_done site (Serving s v n rows) l e asks.Count h = record { step = (refl, refl); in_ledger = refl }
 home_done site (Serving s v n rows) l e asks.LeaveDead h = dead_left site s v n rows l e (dead_target s.redrive) _ refl refl h
 home_done site (Serving s v n rows) l e (asks.LeaveTask number) h = task_left site s v n rows l e number (task_of number l) _ refl refl h
-home_done site (Serving s v n rows) l e (asks.Enter item) h = entered site s v n rows l e (asks.Enter item) item.number (item_of item.number l) refl h
-home_done site (Serving s v n rows) l e (asks.GiveBack item) h = came_back site s v n rows l e (asks.GiveBack item) item.number (item_of item.number l) refl h
-home_done site Closed l e (asks.TurnBack item) h = turned_back site l e (asks.TurnBack item) item.number (item_of item.number l) refl h
-home_done site Closed l e (asks.GiveUp item) h = given_away site l e (asks.GiveUp item) item.number (item_of item.number l) refl h
+home_done site (Serving s v n rows) l e (asks.Enter item) h = item_came site s v n rows l e (asks.Enter item) item.number (item_of item.number l) refl h
+home_done site (Serving s v n rows) l e (asks.GiveBack item) h = item_came site s v n rows l e (asks.GiveBack item) item.number (item_of item.number l) refl h
+home_done site Closed l e (asks.TurnBack item) h = item_went_on site l e (asks.TurnBack item) item.number (item_of item.number l) refl h
+home_done site Closed l e (asks.GiveUp item) h = item_went_on site l e (asks.GiveUp item) item.number (item_of item.number l) refl h
 home_done site home l e call h = absurd cc
 
 -- ---- a step of the directory

@@ -25,11 +25,9 @@ pub fn a_policy_is_refused_in_one_run()
 /// another queue may be made: that one has the next number, and a message that is sent to it an id of that number.
 pub fn a_queue_is_made_again_in_one_run()
     ensures run { IsWorked again_run after_again }
-    ensures purged { IsWorked until_purged after_purge }
+    ensures until { IsWorked until_purged after_purge × IsWorked until_deleted (after_deletion 64) × IsRun 1 10000 both_sites until_deleted (after_deletion 1) }
     ensures early_purge { directory_refusal after_purge.directory 60999 (PurgeTicket (codes "q")) ≡ Some PurgeQueueInProgress }
-    ensures deleted { IsWorked until_deleted (after_deletion 64) }
     ensures no_queue { resolved (codes "q") (after_deletion 64).directory ≡ Err QueueDoesNotExist }
     ensures early_name { directory_refusal (after_deletion 64).directory 120999 (Create (codes "q") nothing_given) ≡ Some QueueDeletedRecently }
-    ensures one_place { IsRun 1 10000 both_sites until_deleted (after_deletion 1) }
     ensures no_place { directory_refusal (after_deletion 1).directory 121000 (Create (codes "q") nothing_given) ≡ Some TableFull }
 {}

@@ -17,8 +17,7 @@ ghost use Rattle.sq_laws.specs.WorkedRun.{IsWorked, after_all, after_back, after
 /// At each point it is in one place. A step of a home and the ledger is stamped above both and above what its actor had seen.
 pub fn a_dead_letter_moves_in_one_run()
     ensures run { IsWorked worked_run after_all }
-    ensures received { IsWorked until_dead after_receive }
-    ensures left { IsWorked until_left after_leave }
+    ensures until { IsWorked until_dead after_receive × IsWorked until_left after_leave }
     ensures at_its_source { homes_with (id_of 0) after_receive.homes ≡ 1 }
     ensures not_in_transit { items_with (id_of 0) after_receive.ledger.items ≡ 0 }
     ensures in_no_home { homes_with (id_of 0) after_leave.homes ≡ 0 }
@@ -46,6 +45,6 @@ pub fn a_dead_letter_without_a_queue_is_dropped()
 /// deleted, it does.
 pub fn a_dead_letter_waits_for_room()
     ensures run { IsRun 64 10000 narrow_sites full_run after_room }
-    ensures on_its_way { IsRun 64 10000 narrow_sites until_full after_full }
+    ensures until { IsRun 64 10000 narrow_sites until_full after_full }
     ensures full { shared_refusal narrow_letters (with_rows plain 1 (message_x ∷ [])) after_full.ledger 31000 (Enter 1) ≡ Some OverLimit }
 {}

@@ -17,9 +17,8 @@ ghost use Rattle.sq_laws.specs.WorkedTasks.{after_cancel, after_cancelled, after
 /// It waits for the third, and ends once that came in. Three messages are received at their destination, and two stay.
 pub fn a_task_is_cancelled_in_one_run()
     ensures run { IsWorked cancelled_run after_cancelled }
-    ensures two_left { IsWorked until_two_left after_two_left }
+    ensures until { IsWorked until_two_left after_two_left × IsWorked until_cancelled after_cancel }
     ensures throttled { IsUnrecorded letters_site (with_letters (2 ∷ 3 ∷ 4 ∷ [])) after_two_left.ledger 1999 (LeaveTask 1) }
-    ensures cancelled { IsWorked until_cancelled after_cancel }
     ensures once { ledger_refusal after_cancel.ledger 2001 (CancelTask 1) ≡ Some UnsupportedOperation }
     ensures waiting { ledger_refusal after_cancel.ledger 2001 (FinishTask 1) ≡ Some UnsupportedOperation }
 {}
@@ -28,7 +27,7 @@ pub fn a_task_is_cancelled_in_one_run()
 /// mover that tried the second one last goes on with the first.
 pub fn a_task_fails_when_its_destination_is_deleted()
     ensures run { IsWorked deleted_run after_deleted }
-    ensures turned { IsWorked until_turned after_turned }
+    ensures until { IsWorked until_turned after_turned }
     ensures again { peek 2 after_turned.ledger ≡ Some (turned_letter 0) }
 {}
 

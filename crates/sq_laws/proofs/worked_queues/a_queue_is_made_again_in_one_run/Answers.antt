@@ -5,11 +5,5 @@ use Rattle.sq_laws.proofs.worked_queues.a_queue_is_made_again_in_one_run.Goals a
 pub returns-clause-run : goal.returns-clause-run
 returns-clause-run c = computed _ _ _ _ _ refl refl
 
-pub returns-clause-purged : goal.returns-clause-purged
-returns-clause-purged c = computed _ _ _ _ _ refl refl
-
-pub returns-clause-deleted : goal.returns-clause-deleted
-returns-clause-deleted c = computed _ _ _ _ _ refl refl
-
-pub returns-clause-one_place : goal.returns-clause-one_place
-returns-clause-one_place c = computed _ _ _ _ _ refl refl
+pub returns-clause-until : goal.returns-clause-until
+returns-clause-until c = (computed _ _ _ _ _ refl refl, computed _ _ _ _ _ refl refl, computed _ _ _ _ _ refl refl)

@@ -5,5 +5,5 @@ use Rattle.sq_laws.proofs.worked_tasks.a_task_fails_when_its_destination_is_dele
 pub returns-clause-run : goal.returns-clause-run
 returns-clause-run c = computed _ _ _ _ _ refl refl
 
-pub returns-clause-turned : goal.returns-clause-turned
-returns-clause-turned c = computed _ _ _ _ _ refl refl
+pub returns-clause-until : goal.returns-clause-until
+returns-clause-until c = computed _ _ _ _ _ refl refl
