@@ -1,6 +1,6 @@
 -- Queues are numbered in the order in which they are made, and their names are answered in that order.
 use Rattle.std.proofs.Common.{ap, ◌≡◌, ℕ, zero, suc, ◌<◌, ◌≤◌, Bool, true, false, not, cond, List, [], ◌∷◌, ◌++◌, length, map, refl, sym, ◌∙◌, subst, arith, ◌⊎◌, inl, inr, Option, Some, None}
-use Rattle.std.specs.Prelude.{◌-◌, ◌==◌, ◌↔◌, filter, slice_get, slice_index_or}
+use Rattle.std.specs.Prelude.{◌-◌, ◌==◌, ◌↔◌, filter, slice_get, slice_index_or, unwrap_or, option_map, if◌then◌else◌}
 use Rattle.std.specs.List.{AllByRecursion, Contains}
 use Rattle.std.proofs.lemmas.Bool.{eqb-true}
 use Rattle.std.proofs.lemmas.Grind.{common_steps}
@@ -15,11 +15,12 @@ use Rattle.sq_model.specs.declared.directory.DirectoryReply.TheVariants as answe
 use Rattle.sq_model.specs.declared.directory.NamePrefix.{NamePrefix}
 use Rattle.sq_model.specs.declared.directory.Queue.{Queue}
 use Rattle.sq_model.specs.declared.directory.QueueSettings.{QueueSettings}
-use Rattle.sq_model.specs.Directories.{Creates, Directory, DirectoryStep, IsDirectory, IsThere, begins, changed_queue, has_name, has_target, is_source_of, names_with, new_queue, opening_directory, queue_of, with_attributes}
+use Rattle.sq_model.specs.declared.policy.RedrivePolicy.{RedrivePolicy}
+use Rattle.sq_model.specs.Directories.{Creates, Directory, DirectoryStep, HasPolicy, IsDirectory, IsPolicy, IsThere, begins, changed_queue, changed_redrive, has_name, has_target, is_source_of, names_with, new_queue, opening_directory, queue_of, with_attributes}
 use Rattle.sq_model.specs.Replays.{Replays}
 use Rattle.sq_model.specs.Rises.{Rise}
 use Rattle.sq_model.specs.Systems.{DirectoryEvent}
-use Rattle.sq_laws.specs.Creations.{IsBegunBy, IsSource, NumbersRise, made_by, made_in, named_if_new}
+use Rattle.sq_laws.specs.Creations.{IsBegunBy, IsSource, Names, NumbersRise, made_by, made_in, named_if_new}
 use Rattle.sq_laws.proofs.DirectoryHolds.{directory_holds, purges, sets}
 use Rattle.sq_laws.proofs.DirectoryLists.{IsChange, counted_cons, counts, found_all, found_named, name_stays, number_stays, one_changed, some_counted}
 use Rattle.sq_laws.proofs.LedgerLists.{all_append, all_filtered, all_mapped, all_with, one_longer, some_same}
@@ -41,16 +42,50 @@ module _ {X : Type 0} where
 abbrev IsNth : List (List ℕ) → Queue → Type 0
 IsNth made queue = slice_get made (queue.number - 1) ≡ Some queue.name
 
--- these are all that were made, each queue at its number
+-- the queue that homes go by of a policy is the one of the name that the policy has
+abbrev PointsTo : List (List ℕ) → Option RedrivePolicy → Option Redrive → Type 0
+PointsTo made (Some policy) (Some redrive) = slice_get made (redrive.target - 1) ≡ Some policy.target
+PointsTo made policy redrive = Unit {0}
+
+abbrev HasNamed : List (List ℕ) → Queue → Type 0
+HasNamed made queue = PointsTo made queue.redrive queue.settings.redrive
+
+-- these are all that were made, each queue at its number, and what it has for its dead letters too
 record AreMade (made : List (List ℕ)) (d : Directory) : Type 0 where
   pub counted : length made ≡ d.made
   pub each : AllByRecursion (IsNth made) d.queues
+  pub targets : AllByRecursion (HasNamed made) d.queues
+
+points_later : (made more : List (List ℕ)) (policy : Option RedrivePolicy) (redrive : Option Redrive) → PointsTo made policy redrive → PointsTo (made ++ more) policy redrive
+points_later made more (Some policy) (Some redrive) h = nth_kept made more (redrive.target - 1) policy.target h
+points_later made more (Some policy) None h = tt
+points_later made more None redrive h = tt
+
+to_found : (made : List (List ℕ)) (queues : List Queue) (policy : RedrivePolicy) (found : Option Queue) → queue_of policy.target queues ≡ found → AllByRecursion (IsNth made) queues
+    → PointsTo made (Some policy) (option_map (λ number. record { target = number; max_receives = policy.max_receives }) (option_map (λ queue. queue.number) found))
+to_found made queues policy None is h = tt
+to_found made queues policy (Some queue) is h = found_all (IsNth made) policy.target queues queue h is ∙ ap Some (found_named policy.target queues queue is)
+
+-- whatever policy is given
+points_given : (made : List (List ℕ)) (queues : List Queue) (given : Option (Option RedrivePolicy)) (old : Option RedrivePolicy) (redrive : Option Redrive) → AllByRecursion (IsNth made) queues → PointsTo made old redrive
+    → PointsTo made (unwrap_or given old) (changed_redrive queues given redrive)
+points_given made queues None old redrive each h = h
+points_given made queues (Some None) old redrive each h = tt
+points_given made queues (Some (Some policy)) old redrive each h = to_found made queues policy (queue_of policy.target queues) refl each
 
 nth_changed : (made : List (List ℕ)) (name : List ℕ) (change : Queue → Queue) → IsChange change → (queue : Queue) → IsNth made queue → IsNth made (one_changed name change queue)
 nth_changed made name change c queue e = rw (number_stays name change c queue, name_stays name change c queue) e
 
-changed_made : (made : List (List ℕ)) (d : Directory) (name : List ℕ) (change : Queue → Queue) → IsChange change → AreMade made d → AreMade made (record d { queues = changed_queue name change d.queues })
-changed_made made d name change c h = record { counted = h.counted; each = all_mapped (IsNth made) (IsNth made) (one_changed name change) d.queues (nth_changed made name change c) h.each }
+target_changed : (made : List (List ℕ)) (name : List ℕ) (change : Queue → Queue) → ((queue : Queue) → HasNamed made queue → HasNamed made (change queue)) → (queue : Queue) → HasNamed made queue → HasNamed made (one_changed name change queue)
+target_changed made name change keeps queue h = elim (has_name name queue) as (λ b. HasNamed made (if b then change queue else queue)) [ true ↦ keeps queue h | false ↦ h ]
+
+changed_made : (made : List (List ℕ)) (d : Directory) (name : List ℕ) (change : Queue → Queue) → IsChange change → ((queue : Queue) → HasNamed made queue → HasNamed made (change queue)) → AreMade made d
+    → AreMade made (record d { queues = changed_queue name change d.queues })
+changed_made made d name change c keeps h = record {
+  counted = h.counted;
+  each = all_mapped (IsNth made) (IsNth made) (one_changed name change) d.queues (nth_changed made name change c) h.each;
+  targets = all_mapped (HasNamed made) (HasNamed made) (one_changed name change) d.queues (target_changed made name change keeps) h.targets;
+}
 
 no_more : (made : List (List ℕ)) (d : Directory) → AreMade made d → AreMade (made ++ []) d
 no_more made d h = rw (append-nil made) h
@@ -61,15 +96,18 @@ creates_made made d m name given None settings after s h = rw s.2 (record {
   each = all_append (IsNth (made ++ name ∷ [])) d.queues (new_queue d name given)
       (all_with (IsNth made) (IsNth (made ++ name ∷ [])) d.queues (λ queue e. nth_kept made (name ∷ []) (queue.number - 1) queue.name e) h.each)
       (let number : d.made ≡ suc d.made - 1 = omega arith in subst (λ (k : ℕ). slice_get (made ++ name ∷ []) k ≡ Some name) (h.counted ∙ number) (nth_last made name));
+  targets = all_append (HasNamed (made ++ name ∷ [])) d.queues (new_queue d name given)
+      (all_with (HasNamed made) (HasNamed (made ++ name ∷ [])) d.queues (λ queue p. points_later made (name ∷ []) queue.redrive queue.settings.redrive p) h.targets)
+      (points_later made (name ∷ []) (new_queue d name given).redrive (new_queue d name given).settings.redrive (points_given made d.queues given.redrive None None h.each tt));
 })
 creates_made made d m name given (Some queue) settings after s h = rw s.2 (no_more made d h)
 
 step_made : (made : List (List ℕ)) (d : Directory) (m : ℕ) (call : DirectoryCall) (reply : DirectoryReply) (after : Directory) → DirectoryStep d m call reply after → AreMade made d → AreMade (made ++ made_by d call) after
 unfolding DirectoryStep
 step_made made d m (asks.Create name given) (answers.Made settings) after s h = creates_made made d m name given (queue_of name d.queues) settings after s h
-step_made made d m (asks.Set name given) (answers.Changed changed) after s h = rw s.5 (no_more made _ (changed_made made d name (with_attributes d.queues given) (sets d.queues given) h))
-step_made made d m (asks.Remove name) (answers.Removed number) after s h = rw s.3 (no_more made _ (record { counted = h.counted; each = all_filtered (IsNth made) (λ queue. not (has_name name queue)) d.queues h.each }))
-step_made made d m (asks.PurgeTicket name) (answers.Ticket number) after s h = rw s.4 (no_more made _ (changed_made made d name (λ q. record q { last_purge = Some m }) (purges m) h))
+step_made made d m (asks.Set name given) (answers.Changed changed) after s h = rw s.5 (no_more made _ (changed_made made d name (with_attributes d.queues given) (sets d.queues given) (λ queue p. points_given made d.queues given.redrive queue.redrive queue.settings.redrive h.each p) h))
+step_made made d m (asks.Remove name) (answers.Removed number) after s h = rw s.3 (no_more made _ (record { counted = h.counted; each = all_filtered (IsNth made) (λ queue. not (has_name name queue)) d.queues h.each; targets = all_filtered (HasNamed made) (λ queue. not (has_name name queue)) d.queues h.targets }))
+step_made made d m (asks.PurgeTicket name) (answers.Ticket number) after s h = rw s.4 (no_more made _ (changed_made made d name (λ q. record q { last_purge = Some m }) (purges m) (λ queue p. p) h))
 step_made made d m (asks.Url name) (answers.Found number) after s h = rw s.1 (no_more made d h)
 step_made made d m (asks.List prefix) (answers.Listed names) after s h = rw s.1 (no_more made d h)
 step_made made d m (asks.Sources name) (answers.Sources names) after s h = rw s.1 (no_more made d h)
@@ -82,12 +120,12 @@ all_made made d (e ∷ es) after h r =
     subst (λ (names : List (List ℕ)). AreMade names after) (append_assoc made (made_by d e.call) (made_in r.0 es after r.2))
     (all_made (made ++ made_by d e.call) r.0 es after (step_made made d e.stamp.moment e.call e.reply r.0 r.1 h) r.2)
 
+from_opening : (places : ℕ) (events : List DirectoryEvent) (d : Directory) (r : Replays DirectoryStep (opening_directory places) events d) → AreMade (made_in (opening_directory places) events d r) d
+from_opening places events d r = all_made [] (opening_directory places) events d (record { counted = refl; each = tt; targets = tt }) r
+
 pub numbered : (places : ℕ) (events : List DirectoryEvent) (d : Directory) (r : Replays DirectoryStep (opening_directory places) events d) (name : List ℕ) (queue : Queue) → IsThere d name queue
     → slice_get (made_in (opening_directory places) events d r) (queue.number - 1) ≡ Some name
-numbered places events d r name queue there =
-    let made = made_in (opening_directory places) events d r in
-    let h : AreMade made d = all_made [] (opening_directory places) events d (record { counted = refl; each = tt }) r in
-    found_all (IsNth made) name d.queues queue h.each there ∙ ap Some (found_named name d.queues queue there)
+numbered places events d r name queue there = found_all (IsNth (made_in (opening_directory places) events d r)) name d.queues queue (from_opening places events d r).each there ∙ ap Some (found_named name d.queues queue there)
 
 -- ---- names of the queues of a kind
 
@@ -224,3 +262,26 @@ unfolding DirectoryStep
 sources_exactly places events d r m asked queue names after there s name =
     let same : s.0.0 ≡ queue = some_same s.0.0 queue (sym s.0.1 ∙ there) in
     rw (s.0.2, same) (through (kept_exactly (is_source_of queue.number) d name (directory_holds places events d r)) (is_source queue.number d name))
+
+named_target : (made : List (List ℕ)) (count number : ℕ) (asked : List ℕ) (policy : Option RedrivePolicy) (redrive : Redrive) → IsPolicy count number policy (Some redrive) → PointsTo made policy (Some redrive) → slice_get made (redrive.target - 1) ≡ Some asked
+    → (given : RedrivePolicy) × (policy ≡ Some given) × (given.target ≡ asked)
+named_target made count number asked None redrive is to at = absurd is
+named_target made count number asked (Some given) redrive is to at = (given, refl, some_same given.target asked (sym to ∙ at))
+
+pub sources_name_it : (places : ℕ) (events : List DirectoryEvent) (d : Directory) → Replays DirectoryStep (opening_directory places) events d → (m : ℕ) (asked : List ℕ) (names : List (List ℕ)) (after : Directory)
+    → DirectoryStep d m (asks.Sources asked) (answers.Sources names) after → (name : List ℕ) → Contains names name → Names asked d name
+unfolding DirectoryStep
+sources_name_it places events d r m asked names after s name c =
+    let made = made_in (opening_directory places) events d r in
+    let source = (sources_exactly places events d r m asked s.0.0 names after s.0.1 s name).0 c in
+    let h = directory_holds places events d r in
+    let at = numbered places events d r asked s.0.0 s.0.1 in
+    let policy : IsPolicy d.made source.0.number source.0.redrive source.0.settings.redrive = found_all (HasPolicy d.made) name d.queues source.0 h.policies source.1 in
+    let to : PointsTo made source.0.redrive source.0.settings.redrive = found_all (HasNamed made) name d.queues source.0 (from_opening places events d r).targets source.1 in (
+      source.0,
+      source.1,
+      named_target made d.made source.0.number asked source.0.redrive source.2.0
+          (subst (λ (x : Option Redrive). IsPolicy d.made source.0.number source.0.redrive x) source.2.1 policy)
+          (subst (λ (x : Option Redrive). PointsTo made source.0.redrive x) source.2.1 to)
+          (subst (λ (k : ℕ). slice_get made (k - 1) ≡ Some asked) (sym source.2.2) at),
+    )

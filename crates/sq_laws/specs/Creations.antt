@@ -5,6 +5,7 @@ use Rattle.sq_model.specs.declared.directory.DirectoryCall.{DirectoryCall}
 use Rattle.sq_model.specs.declared.directory.DirectoryCall.TheVariants.{Create}
 use Rattle.sq_model.specs.declared.directory.NamePrefix.{NamePrefix}
 use Rattle.sq_model.specs.declared.directory.Queue.{Queue}
+use Rattle.sq_model.specs.declared.policy.RedrivePolicy.{RedrivePolicy}
 use Rattle.sq_model.specs.Directories.{Directory, DirectoryStep, IsThere, begins, queue_of}
 use Rattle.sq_model.specs.Replays.{Replays}
 use Rattle.sq_model.specs.Systems.{DirectoryEvent}
@@ -35,3 +36,7 @@ IsBegunBy prefix d name = (queue : Queue) × IsThere d name queue × (begins pre
 -- a queue of this name is there, and has a policy whose target is the queue of this number
 abbrev pub IsSource : ℕ → Directory → List ℕ → Type 0
 IsSource number d name = (queue : Queue) × IsThere d name queue × ((redrive : Redrive) × (queue.settings.redrive ≡ Some redrive) × (redrive.target ≡ number))
+
+-- a queue of this name is there, and its policy names another one, as it is printed
+abbrev pub Names : List ℕ → Directory → List ℕ → Type 0
+Names target d name = (queue : Queue) × IsThere d name queue × ((policy : RedrivePolicy) × (queue.redrive ≡ Some policy) × (policy.target ≡ target))

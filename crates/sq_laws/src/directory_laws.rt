@@ -10,7 +10,7 @@ ghost use Rattle.sq_model.specs.declared.directory.Queue.{Queue};
 ghost use Rattle.sq_model.specs.Directories.{Directory, DirectoryStep, IsDirectory, IsGone, IsThere, directory_refusal, opening_directory};
 ghost use Rattle.sq_model.specs.Replays.{Replays};
 ghost use Rattle.sq_model.specs.Systems.{DirectoryEvent};
-ghost use Rattle.sq_laws.specs.Creations.{IsBegunBy, IsSource, NumbersRise, made_in};
+ghost use Rattle.sq_laws.specs.Creations.{IsBegunBy, IsSource, Names, NumbersRise, made_in};
 
 /// A step is given only where no check fails.
 pub fn directory_steps_are_allowed()
@@ -55,10 +55,12 @@ pub fn queues_are_listed_in_order_of_creation()
 {}
 
 /// ListDeadLetterSourceQueues names the queues that are there and have a policy whose target is this queue's number, each of them and
-/// no other, in order of creation.
+/// no other, in order of creation. Each has a policy that names this queue, as it is printed.
 pub fn sources_are_listed_in_order_of_creation()
     ensures in_order { (places : ℕ) (events : List DirectoryEvent) (d : Directory) → Replays DirectoryStep (opening_directory places) events d → (m : ℕ) (asked : List ℕ) (names : List (List ℕ)) (after : Directory)
         → DirectoryStep d m (Sources asked) (SourcesAre names) after → NumbersRise d.queues 1 names }
     ensures exactly { (places : ℕ) (events : List DirectoryEvent) (d : Directory) → Replays DirectoryStep (opening_directory places) events d → (m : ℕ) (asked : List ℕ) (queue : Queue) (names : List (List ℕ)) (after : Directory)
         → IsThere d asked queue → DirectoryStep d m (Sources asked) (SourcesAre names) after → (name : List ℕ) → Contains names name ↔ IsSource queue.number d name }
+    ensures by_name { (places : ℕ) (events : List DirectoryEvent) (d : Directory) → Replays DirectoryStep (opening_directory places) events d → (m : ℕ) (asked : List ℕ) (names : List (List ℕ)) (after : Directory)
+        → DirectoryStep d m (Sources asked) (SourcesAre names) after → (name : List ℕ) → Contains names name → Names asked d name }
 {}
