@@ -7,9 +7,9 @@ use Rattle.sq_base.specs.declared.row.Row.{Row}
 use Rattle.sq_base.specs.declared.settings.Settings.{Settings}
 use Rattle.sq_model.specs.declared.calls.HomeCall.{HomeCall}
 use Rattle.sq_model.specs.declared.calls.HomeCall.TheVariants as asks
-use Rattle.sq_model.specs.declared.directory.DirectoryCall.{DirectoryCall}
 use Rattle.sq_model.specs.declared.directory.Attributes.{Attributes}
-use Rattle.sq_model.specs.declared.directory.DirectoryCall.TheVariants as asks_of
+use Rattle.sq_model.specs.declared.directory.DirectoryCall.{DirectoryCall}
+use Rattle.sq_model.specs.declared.directory.DirectoryCall.TheVariants as directory_asks
 use Rattle.sq_model.specs.declared.directory.DirectoryReply.{DirectoryReply}
 use Rattle.sq_model.specs.declared.directory.DirectoryReply.TheVariants as answers
 use Rattle.sq_model.specs.declared.directory.Queue.{Queue}
@@ -327,23 +327,23 @@ creates d m name given None =
     }
 
 abbrev pub of_found : Directory → ℕ → DirectoryCall → Option Queue → DirectoryOutcome
-of_found d m (asks_of.Remove name) (Some queue) = record { done = true; reply = answers.Removed queue.number; after = record d { queues = queues_without name d.queues; deleted = d.deleted ++ record { name = name; moment = m } ∷ [] } }
-of_found d m (asks_of.PurgeTicket name) (Some queue) =
+of_found d m (directory_asks.Remove name) (Some queue) = record { done = true; reply = answers.Removed queue.number; after = record d { queues = queues_without name d.queues; deleted = d.deleted ++ record { name = name; moment = m } ∷ [] } }
+of_found d m (directory_asks.PurgeTicket name) (Some queue) =
     record { done = not (purged_recently m queue.last_purge); reply = answers.Ticket queue.number; after = record d { queues = changed_queue name (λ q. record q { last_purge = Some m }) d.queues } }
-of_found d m (asks_of.Read name) (Some queue) = record { done = true; reply = answers.Read (attributes_at queue); after = d }
+of_found d m (directory_asks.Read name) (Some queue) = record { done = true; reply = answers.Read (attributes_at queue); after = d }
 of_found d m call found = no_outcome d
 
 abbrev pub in_directory : Directory → ℕ → DirectoryCall → DirectoryOutcome
-in_directory d m (asks_of.Create name given) = creates d m name given (queue_of name d.queues)
-in_directory d m (asks_of.Remove name) = of_found d m (asks_of.Remove name) (queue_of name d.queues)
-in_directory d m (asks_of.PurgeTicket name) = of_found d m (asks_of.PurgeTicket name) (queue_of name d.queues)
-in_directory d m (asks_of.Read name) = of_found d m (asks_of.Read name) (queue_of name d.queues)
+in_directory d m (directory_asks.Create name given) = creates d m name given (queue_of name d.queues)
+in_directory d m (directory_asks.Remove name) = of_found d m (directory_asks.Remove name) (queue_of name d.queues)
+in_directory d m (directory_asks.PurgeTicket name) = of_found d m (directory_asks.PurgeTicket name) (queue_of name d.queues)
+in_directory d m (directory_asks.Read name) = of_found d m (directory_asks.Read name) (queue_of name d.queues)
 in_directory d m call = no_outcome d
 
 abbrev pub IsDirectoryDone : Directory → ℕ → DirectoryCall → DirectoryOutcome → Type 0
 IsDirectoryDone d m call o = DirectoryStep d m call o.reply o.after
 
-created : (d : Directory) (m : ℕ) (name : List ℕ) (given : Attributes) (found : Option Queue) → queue_of name d.queues ≡ found → (creates d m name given found).done ≡ true → IsDirectoryDone d m (asks_of.Create name given) (creates d m name given found)
+created : (d : Directory) (m : ℕ) (name : List ℕ) (given : Attributes) (found : Option Queue) → queue_of name d.queues ≡ found → (creates d m name given found).done ≡ true → IsDirectoryDone d m (directory_asks.Create name given) (creates d m name given found)
 unfolding DirectoryStep
 created d m name given (Some queue) is h = rw is (h, refl, refl)
 created d m name given None is h =
@@ -351,26 +351,26 @@ created d m name given None is h =
     let both = and_both _ _ fresh.1 in
     rw is (record { name_free = is_false _ fresh.0; policy = both.0; place = under _ _ both.1 }, refl, refl)
 
-removed : (d : Directory) (m : ℕ) (name : List ℕ) (found : Option Queue) → queue_of name d.queues ≡ found → (of_found d m (asks_of.Remove name) found).done ≡ true → IsDirectoryDone d m (asks_of.Remove name) (of_found d m (asks_of.Remove name) found)
+removed : (d : Directory) (m : ℕ) (name : List ℕ) (found : Option Queue) → queue_of name d.queues ≡ found → (of_found d m (directory_asks.Remove name) found).done ≡ true → IsDirectoryDone d m (directory_asks.Remove name) (of_found d m (directory_asks.Remove name) found)
 unfolding DirectoryStep
 removed d m name None is h = absurd cc
 removed d m name (Some queue) is h = (queue, is, refl, refl)
 
-ticketed : (d : Directory) (m : ℕ) (name : List ℕ) (found : Option Queue) → queue_of name d.queues ≡ found → (of_found d m (asks_of.PurgeTicket name) found).done ≡ true → IsDirectoryDone d m (asks_of.PurgeTicket name) (of_found d m (asks_of.PurgeTicket name) found)
+ticketed : (d : Directory) (m : ℕ) (name : List ℕ) (found : Option Queue) → queue_of name d.queues ≡ found → (of_found d m (directory_asks.PurgeTicket name) found).done ≡ true → IsDirectoryDone d m (directory_asks.PurgeTicket name) (of_found d m (directory_asks.PurgeTicket name) found)
 unfolding DirectoryStep
 ticketed d m name None is h = absurd cc
 ticketed d m name (Some queue) is h = (queue, is, is_false _ h, refl, refl)
 
-was_read : (d : Directory) (m : ℕ) (name : List ℕ) (found : Option Queue) → queue_of name d.queues ≡ found → (of_found d m (asks_of.Read name) found).done ≡ true → IsDirectoryDone d m (asks_of.Read name) (of_found d m (asks_of.Read name) found)
+was_read : (d : Directory) (m : ℕ) (name : List ℕ) (found : Option Queue) → queue_of name d.queues ≡ found → (of_found d m (directory_asks.Read name) found).done ≡ true → IsDirectoryDone d m (directory_asks.Read name) (of_found d m (directory_asks.Read name) found)
 unfolding DirectoryStep
 was_read d m name None is h = absurd cc
 was_read d m name (Some queue) is h = ((queue, is, refl), refl)
 
 pub directory_done : (d : Directory) (m : ℕ) (call : DirectoryCall) → (in_directory d m call).done ≡ true → IsDirectoryDone d m call (in_directory d m call)
-directory_done d m (asks_of.Create name given) h = created d m name given (queue_of name d.queues) refl h
-directory_done d m (asks_of.Remove name) h = removed d m name (queue_of name d.queues) refl h
-directory_done d m (asks_of.PurgeTicket name) h = ticketed d m name (queue_of name d.queues) refl h
-directory_done d m (asks_of.Read name) h = was_read d m name (queue_of name d.queues) refl h
+directory_done d m (directory_asks.Create name given) h = created d m name given (queue_of name d.queues) refl h
+directory_done d m (directory_asks.Remove name) h = removed d m name (queue_of name d.queues) refl h
+directory_done d m (directory_asks.PurgeTicket name) h = ticketed d m name (queue_of name d.queues) refl h
+directory_done d m (directory_asks.Read name) h = was_read d m name (queue_of name d.queues) refl h
 directory_done d m call h = absurd cc
 
 -- ---- a step of the ledger alone
