@@ -1,4 +1,4 @@
-use Rattle.std.proofs.Common.{rules, ◌≡◌, Err}
+use Rattle.std.proofs.Common.{rules}
 use Rattle.sq_model.specs.declared.directory.DirectoryReply.TheVariants as told
 use Rattle.sq_merge.specs.Fits.{ThenAll}
 use Rattle.sq_merge.proofs.ClientLaws.{answered_directed, answered_refused}

@@ -1,4 +1,4 @@
-use Rattle.std.proofs.Common.{rules, ◌≡◌, Err}
+use Rattle.std.proofs.Common.{rules}
 use Rattle.sq_merge.proofs.ClientLaws.{answered_copied, answered_uncopied}
 use Rattle.sq_merge.proofs.client.create_queue.Goals as goal
 

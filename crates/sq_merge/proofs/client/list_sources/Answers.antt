@@ -1,4 +1,4 @@
-use Rattle.std.proofs.Common.{rules, ◌≡◌, refl, Err}
+use Rattle.std.proofs.Common.{rules, refl}
 use Rattle.sq_merge.proofs.ClientLaws.{answered_refused, answered_told}
 use Rattle.sq_merge.proofs.client.list_sources.Goals as goal
 

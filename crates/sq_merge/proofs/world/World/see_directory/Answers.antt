@@ -1,4 +1,4 @@
-use Rattle.std.proofs.Common.{rules, ◌≡◌, subst, sym}
+use Rattle.std.proofs.Common.{◌≡◌, subst, sym}
 use Rattle.std.specs.List.{slice_index_or}
 use Rattle.sq_steps.specs.Journals.{index_in, opened}
 use Rattle.sq_merge.specs.WorldValue.{WorldValue}
