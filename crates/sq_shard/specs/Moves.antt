@@ -1,8 +1,8 @@
 -- Messages that leave a home or come in, as the home sees it.
-use Rattle.std.specs.Prelude.{◌≡◌, ◌⊎◌, ℕ, ◌+◌, ◌&&◌, ◌==◌, Bool, true, not, List, [], ◌∷◌, ◌++◌, Option, Some, None}
+use Rattle.std.specs.Prelude.{◌≡◌, ℕ, ◌+◌, ◌&&◌, ◌==◌, Bool, true, not, List, [], ◌∷◌, ◌++◌, Option, Some, None}
 use Rattle.std.specs.List.{Contains}
 use Rattle.sq_base.specs.declared.refusal.Refusal.{Refusal}
-use Rattle.sq_base.specs.declared.refusal.Refusal.TheVariants.{NoMemory, QueueDoesNotExist, UnsupportedOperation}
+use Rattle.sq_base.specs.declared.refusal.Refusal.TheVariants.{QueueDoesNotExist, UnsupportedOperation}
 use Rattle.sq_base.specs.declared.row.Row.{Row}
 use Rattle.sq_model.specs.declared.place.Site.{Site}
 use Rattle.sq_model.specs.Homes.{Home, Unopened, Serving, Closed, HasPlace, dead_target, place_refusal, refused_if}
@@ -59,7 +59,3 @@ abbrev pub closed_refusal : Home → Bool → Option Refusal
 closed_refusal (Serving s v n rows) is_its = Some UnsupportedOperation
 closed_refusal Unopened is_its = Some QueueDoesNotExist
 closed_refusal Closed is_its = refused_if (not is_its) UnsupportedOperation None
-
--- Out of memory, where nothing else refuses it; or the first check that fails.
-abbrev pub IsOutOrRefused : Option Refusal → Refusal → Type 0
-IsOutOrRefused first e = ((e ≡ NoMemory) × (first ≡ None)) ⊎ (first ≡ Some e)

@@ -1,5 +1,5 @@
 //! Messages that leave a home or come in, as the home sees it.
-ghost use Rattle.std.specs.Prelude.{◌≡◌, ◌⊎◌, ◌<◌, Bool, true, false, not, Some, None, option_map, IfOk, IfErr, IfSome, IfNone, OnErr, OnOk};
+ghost use Rattle.std.specs.Prelude.{◌≡◌, ◌<◌, Bool, true, false, not, Some, None, option_map, IfOk, IfErr, IfSome, IfNone, OnErr, OnOk};
 ghost use Rattle.sq_base.specs.Stamps.{stamp_end};
 ghost use Rattle.sq_model.specs.declared.item.Item.{Item as Moved};
 ghost use Rattle.sq_model.specs.declared.calls.HomeCall.TheVariants.{LeaveDead, Enter, TurnBack, GiveBack, GiveUp};
@@ -7,7 +7,7 @@ ghost use Rattle.sq_model.specs.declared.replies.HomeReply.TheVariants.{Done, En
 ghost use Rattle.sq_model.specs.Homes.{HomeStep, IsIdle, home_refusal, may_enter, may_return, refused_if};
 ghost use Rattle.sq_model.specs.Shared.{is_entering, is_returning};
 ghost use Rattle.sq_model.specs.Homes.{Closed as Gone};
-ghost use Rattle.sq_shard.specs.Moves.{IsDeadAt, HasRow, GoesWithout, IsOutOrRefused, coming_refusal, closed_refusal};
+ghost use Rattle.sq_shard.specs.Moves.{IsDeadAt, HasRow, GoesWithout, coming_refusal, closed_refusal};
 
 use crate::rows;
 use crate::shard::{Shard, Status};
@@ -88,66 +88,102 @@ impl<S: Store> Shard<S> {
         }
     }
 
-    /// Puts the row of an item last, which comes in here as its target.
-    /// Refused as QueueDoesNotExist (not serving), Worn (no serial is left), OverLimit (full), UnsupportedOperation (no
-    /// item, or not one on its way to this queue), NoMemory.
-    #[tactic(auto, using(crate::proofs::MoveLaws::entered_at, crate::proofs::MoveLaws::place_later))]
-    pub fn enter(&mut self, moment: u64, item: Option<&Item>) -> Result<EnteredRow, Refusal>
-        requires { moment < stamp_end }
-        ensures step { IfOk result (λ entered. (it : Moved) × (option_map (λ i. i.now) item.entry ≡ Some it) × HomeStep self.old.site self.old.home moment (Enter it) (Entered entered) self.new.home) }
+    /// The item, where its row may be put here, which comes in at its target. Refused as QueueDoesNotExist (not
+    /// serving), Worn (no serial is left), OverLimit (full), UnsupportedOperation (no item, or not one on its way to this
+    /// queue).
+    #[tactic(auto, using(crate::proofs::MoveLaws::place_later))]
+    pub fn check_enter<'a>(&self, moment: u64, item: Option<&'a Item>) -> Result<&'a Item, Refusal>
+        ensures item { IfOk result (λ it. option_map (λ i. i.now) item.entry ≡ Some it.now) }
+        ensures may { IfOk result (λ it. may_enter self.now.site.home it.now ≡ true) }
+        ensures place { OnOk result (coming_refusal self.now.site self.now.home moment None ≡ None) }
+        ensures refusal { IfErr result (λ e. coming_refusal self.now.site self.now.home moment (refused_if (not (is_entering self.now.site.home (option_map (λ i. i.now) item.entry))) Refusal.UnsupportedOperation None) ≡ Some e) }
+    {
+        self.check_place(moment)?;
+        entering(&self.site.home, item)
+    }
+
+    /// The item, where its row may be put here, which comes back to its source. Refused as QueueDoesNotExist (not
+    /// serving), Worn (no serial is left), OverLimit (full), UnsupportedOperation (no item, or not one on its way back to
+    /// this queue).
+    #[tactic(auto, using(crate::proofs::MoveLaws::place_later))]
+    pub fn check_give_back<'a>(
+        &self,
+        moment: u64,
+        item: Option<&'a Item>,
+    ) -> Result<&'a Item, Refusal>
+        ensures item { IfOk result (λ it. option_map (λ i. i.now) item.entry ≡ Some it.now) }
+        ensures may { IfOk result (λ it. may_return self.now.site.home it.now ≡ true) }
+        ensures place { OnOk result (coming_refusal self.now.site self.now.home moment None ≡ None) }
+        ensures refusal { IfErr result (λ e. coming_refusal self.now.site self.now.home moment (refused_if (not (is_returning self.now.site.home (option_map (λ i. i.now) item.entry))) Refusal.UnsupportedOperation None) ≡ Some e) }
+    {
+        self.check_place(moment)?;
+        returning(&self.site.home, item)
+    }
+
+    /// Puts the row of an item last, which comes in here, as `check_enter` found. Refused only where memory is out.
+    #[tactic(auto, using(crate::proofs::MoveLaws::entered_at))]
+    pub fn enter(&mut self, moment: u64, item: &Item) -> Result<EnteredRow, Refusal>
+        requires may { may_enter self.old.site.home item.now ≡ true }
+        requires place { coming_refusal self.old.site self.old.home moment None ≡ None }
+        ensures step { IfOk result (λ entered. HomeStep self.old.site self.old.home moment (Enter item.now) (Entered entered) self.new.home) }
         ensures site { self.new.site ≡ self.old.site }
-        ensures refusal { IfErr result (λ e. IsOutOrRefused (coming_refusal self.old.site self.old.home moment (refused_if (not (is_entering self.old.site.home (option_map (λ i. i.now) item.entry))) Refusal.UnsupportedOperation None)) e) }
+        ensures refused { IfErr result (λ e. e ≡ Refusal.NoMemory) }
         ensures err { OnErr result (self.new ≡ self.old) }
     {
-        let serial = self.check_place(moment)?;
-        let item = entering(&self.site.home, item)?;
+        let serial = self.next;
         let row = rows::entered_row(&self.site.home, serial, moment, item)?;
         let slot = self.put(moment, row)?;
         Ok(EnteredRow { serial, slot })
     }
 
-    /// Puts the row of an item last, which comes back here, to its source.
-    /// Refused as QueueDoesNotExist (not serving), Worn (no serial is left), OverLimit (full), UnsupportedOperation (no
-    /// item, or not one on its way back to this queue), NoMemory.
-    #[tactic(auto, using(crate::proofs::MoveLaws::returned_at, crate::proofs::MoveLaws::place_later))]
-    pub fn give_back(&mut self, moment: u64, item: Option<&Item>) -> Result<EnteredRow, Refusal>
-        requires { moment < stamp_end }
-        ensures step { IfOk result (λ entered. (it : Moved) × (option_map (λ i. i.now) item.entry ≡ Some it) × HomeStep self.old.site self.old.home moment (GiveBack it) (Entered entered) self.new.home) }
+    /// Puts the row of an item last, which comes back, as `check_give_back` found. Refused only where memory is out.
+    #[tactic(auto, using(crate::proofs::MoveLaws::returned_at))]
+    pub fn give_back(&mut self, moment: u64, item: &Item) -> Result<EnteredRow, Refusal>
+        requires may { may_return self.old.site.home item.now ≡ true }
+        requires place { coming_refusal self.old.site self.old.home moment None ≡ None }
+        ensures step { IfOk result (λ entered. HomeStep self.old.site self.old.home moment (GiveBack item.now) (Entered entered) self.new.home) }
         ensures site { self.new.site ≡ self.old.site }
-        ensures refusal { IfErr result (λ e. IsOutOrRefused (coming_refusal self.old.site self.old.home moment (refused_if (not (is_returning self.old.site.home (option_map (λ i. i.now) item.entry))) Refusal.UnsupportedOperation None)) e) }
+        ensures refused { IfErr result (λ e. e ≡ Refusal.NoMemory) }
         ensures err { OnErr result (self.new ≡ self.old) }
     {
-        let serial = self.check_place(moment)?;
-        let item = returning(&self.site.home, item)?;
+        let serial = self.next;
         let row = rows::returned_row(serial, moment, item)?;
         let slot = self.put(moment, row)?;
         Ok(EnteredRow { serial, slot })
     }
 
-    /// An item whose target is closed is sent back; the home stays as it is.
+    /// The item, where its target is this home, which is closed: it is sent back, and the home stays as it is.
     /// Refused as QueueDoesNotExist (never opened), UnsupportedOperation (serving, no item, or not one on its way to this
     /// queue).
     #[tactic(auto, using(crate::proofs::MoveLaws::turned_at))]
-    pub fn turn_back(&self, moment: u64, item: Option<&Item>) -> Result<(), Refusal>
-        ensures step { OnOk result ((it : Moved) × (option_map (λ i. i.now) item.entry ≡ Some it) × HomeStep self.now.site self.now.home moment (TurnBack it) Done self.now.home) }
+    pub fn check_turn_back<'a>(
+        &self,
+        moment: u64,
+        item: Option<&'a Item>,
+    ) -> Result<&'a Item, Refusal>
+        ensures item { IfOk result (λ it. option_map (λ i. i.now) item.entry ≡ Some it.now) }
+        ensures step { IfOk result (λ it. HomeStep self.now.site self.now.home moment (TurnBack it.now) Done self.now.home) }
         ensures refusal { IfErr result (λ e. closed_refusal self.now.home (is_entering self.now.site.home (option_map (λ i. i.now) item.entry)) ≡ Some e) }
     {
         self.check_closed()?;
-        entering(&self.site.home, item)?;
-        Ok(())
+        entering(&self.site.home, item)
     }
 
-    /// An item that came back to a source that is closed is given up; the home stays as it is.
+    /// The item, where its source is this home, which is closed: it is given up, and the home stays as it is.
     /// Refused as QueueDoesNotExist (never opened), UnsupportedOperation (serving, no item, or not one on its way back to
     /// this queue).
     #[tactic(auto, using(crate::proofs::MoveLaws::given_up_at))]
-    pub fn give_up(&self, moment: u64, item: Option<&Item>) -> Result<(), Refusal>
-        ensures step { OnOk result ((it : Moved) × (option_map (λ i. i.now) item.entry ≡ Some it) × HomeStep self.now.site self.now.home moment (GiveUp it) Done self.now.home) }
+    pub fn check_give_up<'a>(
+        &self,
+        moment: u64,
+        item: Option<&'a Item>,
+    ) -> Result<&'a Item, Refusal>
+        ensures item { IfOk result (λ it. option_map (λ i. i.now) item.entry ≡ Some it.now) }
+        ensures step { IfOk result (λ it. HomeStep self.now.site self.now.home moment (GiveUp it.now) Done self.now.home) }
         ensures refusal { IfErr result (λ e. closed_refusal self.now.home (is_returning self.now.site.home (option_map (λ i. i.now) item.entry)) ≡ Some e) }
     {
         self.check_closed()?;
-        returning(&self.site.home, item)?;
-        Ok(())
+        returning(&self.site.home, item)
     }
 
     // Refused as QueueDoesNotExist (never opened), UnsupportedOperation (serving).

@@ -7,7 +7,7 @@ ghost use Rattle.sq_model.specs.declared.calls.HomeCall.TheVariants.{Configure, 
 ghost use Rattle.sq_model.specs.declared.replies.HomeReply.TheVariants.{Done, Sent, Counted};
 ghost use Rattle.sq_base.specs.declared.refusal.Refusal.{Refusal as Refused};
 ghost use Rattle.sq_shard.specs.Looks.{look_reply, look_after, GivesAny, GivesRows};
-ghost use Rattle.sq_shard.specs.Moves.{IsNextOf, IsPut, coming_refusal};
+ghost use Rattle.sq_shard.specs.Moves.{IsPut, coming_refusal};
 ghost use Rattle.sq_model.specs.Rows.{ms};
 
 use crate::rows;
@@ -49,7 +49,7 @@ pub struct Shard<S: Store> {
     pub(crate) status: Status,
     pub(crate) settings: Settings,
     version: u64,
-    next: Serial,
+    pub(crate) next: Serial,
     pub(crate) store: S,
 }
 
@@ -141,19 +141,18 @@ impl<S: Store> Shard<S> {
         ensures err { OnErr result (self.new ≡ self.old) }
     {
         // What refuses a message is checked before it asks for memory.
-        let next = self.check_place(moment)?;
+        self.check_place(moment)?;
         let delay = delay.unwrap_or(self.settings.delay);
         let until = after_seconds(moment, delay.get());
-        let row = rows::sent_row(&self.site.home, next, moment, until, body);
-        let id = rows::fresh_id(&self.site.home, next);
+        let row = rows::sent_row(&self.site.home, self.next, moment, until, body);
+        let id = rows::fresh_id(&self.site.home, self.next);
         let slot = self.put(moment, row)?;
         Ok(SentMessage { id, slot })
     }
 
-    // The serial of the next row. Refused as QueueDoesNotExist (not serving), Worn (no serial is left), OverLimit (full).
+    // Refused as QueueDoesNotExist (not serving), Worn (no serial is left), OverLimit (full).
     #[tactic(auto, using(crate::proofs::Few::full_refused, crate::proofs::Few::place_left))]
-    pub(crate) fn check_place(&self, moment: u64) -> Result<Serial, Refusal>
-        ensures next { IfOk result (IsNextOf self.now.home) }
+    pub(crate) fn check_place(&self, moment: u64) -> Result<(), Refusal>
         ensures place { OnOk result (coming_refusal self.now.site self.now.home moment None ≡ None) }
         ensures refused { IfErr result (λ e. (later : Option Refused) → coming_refusal self.now.site self.now.home moment later ≡ Some e) }
     {
@@ -166,7 +165,7 @@ impl<S: Store> Shard<S> {
         if self.store.count_kept(&self.settings, moment) >= self.site.limits.rows as usize {
             return Err(Refusal::OverLimit);
         }
-        Ok(self.next)
+        Ok(())
     }
 
     // Puts a row last, with the next serial, and gives its slot. Refused as NoMemory.
