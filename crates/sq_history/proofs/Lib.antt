@@ -1,1 +1,2 @@
 pub mod HistoryLaws
+pub mod HalfLaws

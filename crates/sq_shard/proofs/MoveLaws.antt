@@ -180,12 +180,6 @@ place_later site (Serves s v n rows) m later h =
     let takes = takes_one Serving site s v n m rows h in
     rw (over n last_serial takes.not_worn, over (length (trimmed s m rows)) slots takes.slot_left, over (length (trimmed s m rows)) site.limits.rows takes.within) refl
 
--- no row is dead where no policy is set
-pub none_dead : (s : Settings) (m : ℕ) (rows : List Row) → s.redrive ≡ None → list_any (is_dead s m) rows ≡ false
-none_dead s m [] none = refl
-none_dead s m (row ∷ rows) none =
-    rw none (elim (is_visible m row) as (λ v. ((v && false) || list_any (is_dead s m) rows) ≡ false) [ true ↦ none_dead s m rows none | false ↦ none_dead s m rows none ])
-
 in_slot : (reason : Reason) (home : HomeId) (source serial slot m : ℕ) (row : Row) → record (entered_as reason home source serial 0 m row) { serial = serial; slot = slot } ≡ entered_as reason home source serial slot m row
 in_slot DeadLetter home source serial slot m row = refl
 in_slot (Task number) home source serial slot m row = refl

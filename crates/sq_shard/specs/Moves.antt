@@ -17,11 +17,17 @@ pub record IsOneOf (p : Row → Bool) (rows : List Row) (row : Row) : Type 0 whe
 abbrev pub is_at : ℕ → ℕ → Row → Bool
 is_at slot serial row = (row.slot == slot) && (row.serial == serial)
 
--- a dead row of the home at m, and the queue that it leaves for
-abbrev pub IsDeadAt : Home → ℕ → Row → ℕ → Type 0
-IsDeadAt (Serving s v n rows) m row target = IsOneOf (is_dead s m) (trimmed s m rows) row × (Some target ≡ dead_target s.redrive)
-IsDeadAt Unopened m row target = ⊥
-IsDeadAt Closed m row target = ⊥
+-- a dead row of the home at m
+abbrev pub IsDeadAt : Home → ℕ → Row → Type 0
+IsDeadAt (Serving s v n rows) m row = IsOneOf (is_dead s m) (trimmed s m rows) row
+IsDeadAt Unopened m row = ⊥
+IsDeadAt Closed m row = ⊥
+
+-- the queue that a dead row leaves for
+abbrev pub target_at : Home → Option ℕ
+target_at (Serving s v n rows) = dead_target s.redrive
+target_at Unopened = None
+target_at Closed = None
 
 -- the home has this row at m
 abbrev pub HasRow : Home → ℕ → Row → Type 0

@@ -7,7 +7,7 @@ ghost use Rattle.sq_model.specs.declared.replies.HomeReply.TheVariants.{Done, En
 ghost use Rattle.sq_model.specs.Homes.{HomeStep, IsIdle, home_refusal, may_enter, may_return, refused_if};
 ghost use Rattle.sq_model.specs.Shared.{is_entering, is_returning};
 ghost use Rattle.sq_model.specs.Homes.{Closed as Gone};
-ghost use Rattle.sq_shard.specs.Moves.{IsDeadAt, HasRow, GoesWithout, coming_refusal, closed_refusal};
+ghost use Rattle.sq_shard.specs.Moves.{IsDeadAt, HasRow, GoesWithout, target_at, coming_refusal, closed_refusal};
 
 use crate::rows;
 use crate::shard::{Shard, Status};
@@ -53,25 +53,27 @@ fn returning<'a>(home: &HomeId, item: Option<&'a Item>) -> Result<&'a Item, Refu
 }
 
 impl<S: Store> Shard<S> {
-    /// A dead message, any of them, as it stands, and the queue that it leaves for; none where none is dead.
-    /// Refused as QueueDoesNotExist (not serving).
-    #[tactic(auto, unfolding(sq_model::specs::Homes::home_refusal), using(crate::proofs::MoveLaws::none_dead))]
-    pub fn find_dead(&self, moment: u64) -> Result<Option<(&Row, QueueNo)>, Refusal>
-        ensures found { IfOk result (λ found. IfSome found (λ pair. IsDeadAt self.now.home moment pair.0.now pair.1)) }
+    /// A dead message, any of them, as it stands; none where none is dead. Refused as QueueDoesNotExist (not serving).
+    #[tactic(auto, unfolding(sq_model::specs::Homes::home_refusal))]
+    pub fn find_dead(&self, moment: u64) -> Result<Option<&Row>, Refusal>
+        ensures found { IfOk result (λ found. IfSome found (λ row. IsDeadAt self.now.home moment row.now)) }
         ensures none { IfOk result (λ found. IfNone found (IsIdle self.now.home moment LeaveDead)) }
         ensures refusal { IfErr result (λ e. home_refusal self.now.site self.now.home moment LeaveDead ≡ Some e) }
     {
         let Status::Serving = self.status else {
             return Err(Refusal::QueueDoesNotExist);
         };
-        // Without a policy none is dead.
-        let Some(redrive) = &self.settings.redrive else {
-            return Ok(None);
+        Ok(self.store.find_dead(&self.settings, moment))
+    }
+
+    /// The queue that dead messages leave for.
+    pub fn dead_letter_queue(&self) -> Option<QueueNo>
+        ensures { result ≡ target_at self.now.home }
+    {
+        let Status::Serving = self.status else {
+            return None;
         };
-        match self.store.find_dead(&self.settings, moment) {
-            Some(row) => Ok(Some((row, redrive.target))),
-            None => Ok(None),
-        }
+        self.settings.redrive.as_ref().map(|redrive| redrive.target)
     }
 
     /// Takes out this row, which is there at this moment, and hands it over.
@@ -96,6 +98,7 @@ impl<S: Store> Shard<S> {
         ensures item { IfOk result (λ it. option_map (λ i. i.now) item.entry ≡ Some it.now) }
         ensures may { IfOk result (λ it. may_enter self.now.site.home it.now ≡ true) }
         ensures place { OnOk result (coming_refusal self.now.site self.now.home moment None ≡ None) }
+        ensures none { OnOk result (coming_refusal self.now.site self.now.home moment (refused_if (not (is_entering self.now.site.home (option_map (λ i. i.now) item.entry))) Refusal.UnsupportedOperation None) ≡ None) }
         ensures refusal { IfErr result (λ e. coming_refusal self.now.site self.now.home moment (refused_if (not (is_entering self.now.site.home (option_map (λ i. i.now) item.entry))) Refusal.UnsupportedOperation None) ≡ Some e) }
     {
         self.check_place(moment)?;
@@ -114,6 +117,7 @@ impl<S: Store> Shard<S> {
         ensures item { IfOk result (λ it. option_map (λ i. i.now) item.entry ≡ Some it.now) }
         ensures may { IfOk result (λ it. may_return self.now.site.home it.now ≡ true) }
         ensures place { OnOk result (coming_refusal self.now.site self.now.home moment None ≡ None) }
+        ensures none { OnOk result (coming_refusal self.now.site self.now.home moment (refused_if (not (is_returning self.now.site.home (option_map (λ i. i.now) item.entry))) Refusal.UnsupportedOperation None) ≡ None) }
         ensures refusal { IfErr result (λ e. coming_refusal self.now.site self.now.home moment (refused_if (not (is_returning self.now.site.home (option_map (λ i. i.now) item.entry))) Refusal.UnsupportedOperation None) ≡ Some e) }
     {
         self.check_place(moment)?;
@@ -163,6 +167,7 @@ impl<S: Store> Shard<S> {
     ) -> Result<&'a Item, Refusal>
         ensures item { IfOk result (λ it. option_map (λ i. i.now) item.entry ≡ Some it.now) }
         ensures step { IfOk result (λ it. HomeStep self.now.site self.now.home moment (TurnBack it.now) Done self.now.home) }
+        ensures none { OnOk result (closed_refusal self.now.home (is_entering self.now.site.home (option_map (λ i. i.now) item.entry)) ≡ None) }
         ensures refusal { IfErr result (λ e. closed_refusal self.now.home (is_entering self.now.site.home (option_map (λ i. i.now) item.entry)) ≡ Some e) }
     {
         self.check_closed()?;
@@ -180,6 +185,7 @@ impl<S: Store> Shard<S> {
     ) -> Result<&'a Item, Refusal>
         ensures item { IfOk result (λ it. option_map (λ i. i.now) item.entry ≡ Some it.now) }
         ensures step { IfOk result (λ it. HomeStep self.now.site self.now.home moment (GiveUp it.now) Done self.now.home) }
+        ensures none { OnOk result (closed_refusal self.now.home (is_returning self.now.site.home (option_map (λ i. i.now) item.entry)) ≡ None) }
         ensures refusal { IfErr result (λ e. closed_refusal self.now.home (is_returning self.now.site.home (option_map (λ i. i.now) item.entry)) ≡ Some e) }
     {
         self.check_closed()?;
