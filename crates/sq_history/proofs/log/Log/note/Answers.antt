@@ -3,8 +3,8 @@ use Rattle.sq_base.specs.Stamps.{start}
 use Rattle.sq_model.specs.Replays.{StampsRise}
 use Rattle.sq_model.proofs.ReplayLaws.{rise_push}
 use Rattle.sq_history.specs.Logs.{event_by}
-use Rattle.sq_history.proofs.log.Log.add.Given as picked
-use Rattle.sq_history.proofs.log.Log.add.Goals as goal
+use Rattle.sq_history.proofs.log.Log.note.Given as picked
+use Rattle.sq_history.proofs.log.Log.note.Goals as goal
 
 rises : (g : picked.Over) (c : goal.After-stamp-1 g) → StampsRise start c.push.new.self.items c.args.stamp
 rises g c =
