@@ -52,27 +52,15 @@ directory_kept_more old new by now call its_record kept rising more =
       own = rw more.events (own_push old.events event kept.own refl);
     }
 
--- a step with a reply that lists queues, or shows what may list them, changes nothing
-pub listing_stays : (d : Directory) (m : ℕ) (call : DirectoryCall) (reply : DirectoryReply) (after : Directory) → DirectoryStep d m call reply after → is_listing reply ≡ true → after ≡ d
+-- a step with a reply that lists queues, or shows what may list them, copies bytes and changes nothing
+pub listing_stays : (d : Directory) (m : ℕ) (call : DirectoryCall) (reply : DirectoryReply) (after : Directory) → DirectoryStep d m call reply after → is_listing reply ≡ true → (after ≡ d) × (copies_bytes call ≡ true)
 unfolding DirectoryStep
-listing_stays d m (asks.List prefix) (answers.Listed names) after h listing = h.1
-listing_stays d m (asks.Sources name) (answers.Sources names) after h listing = h.1
-listing_stays d m (asks.Read name) (answers.Read attributes) after h listing = h.1
+listing_stays d m (asks.List prefix) (answers.Listed names) after h listing = (h.1, refl)
+listing_stays d m (asks.Sources name) (answers.Sources names) after h listing = (h.1, refl)
+listing_stays d m (asks.Read name) (answers.Read attributes) after h listing = (h.1, refl)
 listing_stays d m (asks.Create name given) (answers.Made made) after h listing = absurd cc
 listing_stays d m (asks.Set name given) (answers.Changed changed) after h listing = absurd cc
 listing_stays d m (asks.Remove name) (answers.Removed number) after h listing = absurd cc
 listing_stays d m (asks.PurgeTicket name) (answers.Ticket number) after h listing = absurd cc
 listing_stays d m (asks.Url name) (answers.Found number) after h listing = absurd cc
 listing_stays d m call reply after h listing = elim h [ ]
-
-pub listing_copies : (d : Directory) (m : ℕ) (call : DirectoryCall) (reply : DirectoryReply) (after : Directory) → DirectoryStep d m call reply after → is_listing reply ≡ true → copies_bytes call ≡ true
-unfolding DirectoryStep
-listing_copies d m (asks.List prefix) (answers.Listed names) after h listing = refl
-listing_copies d m (asks.Sources name) (answers.Sources names) after h listing = refl
-listing_copies d m (asks.Read name) (answers.Read attributes) after h listing = refl
-listing_copies d m (asks.Create name given) (answers.Made made) after h listing = absurd cc
-listing_copies d m (asks.Set name given) (answers.Changed changed) after h listing = absurd cc
-listing_copies d m (asks.Remove name) (answers.Removed number) after h listing = absurd cc
-listing_copies d m (asks.PurgeTicket name) (answers.Ticket number) after h listing = absurd cc
-listing_copies d m (asks.Url name) (answers.Found number) after h listing = absurd cc
-listing_copies d m call reply after h listing = elim h [ ]

@@ -35,23 +35,17 @@ pub record DirectoryRecords (old new : DirectoryHistory) (by : Actor) (now : ℕ
 abbrev pub copies_bytes : DirectoryCall → Bool
 copies_bytes (asks.Create name given) = has_list given.allow
 copies_bytes (asks.Set name given) = has_list given.allow
-copies_bytes (asks.Remove name) = false
-copies_bytes (asks.PurgeTicket name) = false
-copies_bytes (asks.Url name) = false
 copies_bytes (asks.List prefix) = true
 copies_bytes (asks.Sources name) = true
 copies_bytes (asks.Read name) = true
+copies_bytes other = false
 
 -- a reply that lists queues, or shows what may list them
 abbrev pub is_listing : DirectoryReply → Bool
-is_listing (answers.Made made) = false
-is_listing (answers.Changed changed) = false
-is_listing (answers.Removed number) = false
-is_listing (answers.Ticket number) = false
-is_listing (answers.Found number) = false
 is_listing (answers.Listed names) = true
 is_listing (answers.Sources names) = true
 is_listing (answers.Read attributes) = true
+is_listing other = false
 
 -- why the queues do not answer a call at m: no memory was found for a copy, or the first check that fails
 abbrev pub IsUnanswered : Directory → ℕ → DirectoryCall → Refusal → Type 0

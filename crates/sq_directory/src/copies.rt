@@ -58,14 +58,26 @@ pub fn copy_reply(alloc: Global, reply: &DirectoryReply) -> Result<DirectoryRepl
     })
 }
 
+/// The same reply twice: for the event, and for its record. Refused as a copy of it is.
+pub fn copy_twice(
+    alloc: Global,
+    reply: &DirectoryReply,
+) -> Result<(DirectoryReply, DirectoryReply), Refusal>
+    ensures kept { IfOk result (λ copies. copies.0 ≡ reply.now) }
+    ensures for_record { IfOk result (λ copies. copies.1 ≡ reply.now) }
+    ensures err { IfErr result (λ e. (e ≡ Refusal.NoMemory) × (is_listing reply.now ≡ true)) }
+{
+    let kept = copy_reply(alloc, reply)?;
+    let for_record = copy_reply(alloc, reply)?;
+    Ok((kept, for_record))
+}
+
 fn copy_attributes(alloc: Global, attributes: &QueueAttributes) -> Result<QueueAttributes, Refusal>
     ensures copy { IfOk result (λ copy. copy ≡ attributes.now) }
     ensures err { IfErr result (λ e. e ≡ Refusal.NoMemory) }
 {
     Ok(QueueAttributes {
-        queue: attributes.queue,
-        settings: attributes.settings,
-        redrive: attributes.redrive,
         allow: copy_allow(alloc, &attributes.allow)?,
+        ..*attributes
     })
 }

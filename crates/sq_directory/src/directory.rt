@@ -4,8 +4,7 @@ ghost use Rattle.sq_base.specs.Stamps.{start};
 ghost use Rattle.sq_model.specs.Directories.{number_named, all_named, opening_directory};
 ghost use Rattle.sq_directory.specs.Makers.{IsMadeBy, IsAnsweredByName};
 
-use crate::answer::{Thrice, answer};
-use crate::copies::copy_call;
+use crate::copies::{copy_call, copy_twice};
 use crate::queues::Queues;
 use crate::record::DirectoryRecord;
 use sq_base::ids::QueueNo;
@@ -105,11 +104,9 @@ impl Directory {
         let stamp = self.log.begin(by, now)?;
         let in_event = copy_call(alloc, call)?;
         let in_record = copy_call(alloc, call)?;
-        let Thrice {
-            kept,
-            for_record,
-            answered,
-        } = answer(&mut self.queues, alloc, stamp.moment, call)?;
+        let answered = self.queues.answer(alloc, stamp.moment, call)?;
+        // Only a reply of a call that changes nothing takes memory.
+        let (kept, for_record) = copy_twice(alloc, &answered)?;
         let part = Component::Directory;
         let step = self
             .log

@@ -1,7 +1,6 @@
 //! The queues of a service, and all that was done to them.
 #![tactic(auto)]
 
-pub mod answer;
 pub mod attributes;
 pub mod copies;
 pub mod creations;

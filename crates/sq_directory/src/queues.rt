@@ -103,9 +103,12 @@ impl Queues {
             DirectoryCall::Read(name) => self.read(alloc, name),
         }
     }
+}
 
+// What each call does.
+#[tactic(auto, unfolding(sq_model::specs::Directories::DirectoryStep, sq_model::specs::Directories::directory_refusal))]
+impl Queues {
     // Makes a queue of this name with these attributes, where there is none; else it must have them.
-    #[tactic(auto, unfolding(sq_model::specs::Directories::DirectoryStep, sq_model::specs::Directories::directory_refusal))]
     fn create(
         &mut self,
         alloc: Global,
@@ -169,7 +172,6 @@ impl Queues {
     }
 
     // Changes the attributes that are given.
-    #[tactic(auto, unfolding(sq_model::specs::Directories::DirectoryStep, sq_model::specs::Directories::directory_refusal))]
     fn set(
         &mut self,
         alloc: Global,
@@ -197,16 +199,12 @@ impl Queues {
     }
 
     // Takes a queue out; its name rests from this moment on.
-    #[tactic(auto, unfolding(sq_model::specs::Directories::DirectoryStep, sq_model::specs::Directories::directory_refusal))]
     fn remove(&mut self, moment: u64, name: &QueueName) -> Result<DirectoryReply, Refusal>
         ensures step { IfOk result (λ reply. DirectoryStep self.old moment (asks.Remove name.now) reply self.new) }
         ensures refusal { IfErr result (IsUnanswered self.old moment (asks.Remove name.now)) }
         ensures err { OnErr result (self.new ≡ self.old) }
     {
-        let Some(queue) = self.queues.get(name) else {
-            return Err(Refusal::QueueDoesNotExist);
-        };
-        let number = queue.number;
+        let number = self.number_of(name)?;
         self.queues.remove(name);
         let gone = DeletedName {
             name: *name,
@@ -217,7 +215,6 @@ impl Queues {
     }
 
     // Lets a queue be purged, where the last purge was 60,000 ms before or earlier.
-    #[tactic(auto, unfolding(sq_model::specs::Directories::DirectoryStep, sq_model::specs::Directories::directory_refusal))]
     fn purge_ticket(&mut self, moment: u64, name: &QueueName) -> Result<DirectoryReply, Refusal>
         ensures step { IfOk result (λ reply. DirectoryStep self.old moment (asks.PurgeTicket name.now) reply self.new) }
         ensures refusal { IfErr result (IsUnanswered self.old moment (asks.PurgeTicket name.now)) }
@@ -246,7 +243,6 @@ impl Queues {
     }
 
     // Tells that a queue is there.
-    #[tactic(auto, unfolding(sq_model::specs::Directories::DirectoryStep, sq_model::specs::Directories::directory_refusal))]
     fn url(&self, name: &QueueName) -> Result<DirectoryReply, Refusal>
         ensures step { (m : ℕ) → IfOk result (λ reply. DirectoryStep self.now m (asks.Url name.now) reply self.now) }
         ensures refusal { (m : ℕ) → IfErr result (IsUnanswered self.now m (asks.Url name.now)) }
@@ -256,7 +252,6 @@ impl Queues {
     }
 
     // Lists the names that begin so.
-    #[tactic(auto, unfolding(sq_model::specs::Directories::DirectoryStep, sq_model::specs::Directories::directory_refusal))]
     fn list(&self, alloc: Global, prefix: &NamePrefix) -> Result<DirectoryReply, Refusal>
         ensures step { (m : ℕ) → IfOk result (λ reply. DirectoryStep self.now m (asks.List prefix.now) reply self.now) }
         ensures refusal { (m : ℕ) → IfErr result (IsUnanswered self.now m (asks.List prefix.now)) }
@@ -266,7 +261,6 @@ impl Queues {
     }
 
     // Lists the queues that have this one for their dead letters.
-    #[tactic(auto, unfolding(sq_model::specs::Directories::DirectoryStep, sq_model::specs::Directories::directory_refusal))]
     fn sources(&self, alloc: Global, name: &QueueName) -> Result<DirectoryReply, Refusal>
         ensures step { (m : ℕ) → IfOk result (λ reply. DirectoryStep self.now m (asks.Sources name.now) reply self.now) }
         ensures refusal { (m : ℕ) → IfErr result (IsUnanswered self.now m (asks.Sources name.now)) }
@@ -277,7 +271,6 @@ impl Queues {
     }
 
     // The attributes of a queue.
-    #[tactic(auto, unfolding(sq_model::specs::Directories::DirectoryStep, sq_model::specs::Directories::directory_refusal))]
     fn read(&self, alloc: Global, name: &QueueName) -> Result<DirectoryReply, Refusal>
         ensures step { (m : ℕ) → IfOk result (λ reply. DirectoryStep self.now m (asks.Read name.now) reply self.now) }
         ensures refusal { (m : ℕ) → IfErr result (IsUnanswered self.now m (asks.Read name.now)) }

@@ -140,7 +140,7 @@ found_other name low (x ∷ xs) next queue h e =
       | false ↦ (λ n f. let r = found_from name (suc x.number) xs next queue h.1 f in (λ k a. omega (arith, r, a), found_other name (suc x.number) xs next queue h.1 f))
     ] refl e
 
-found_named : (name : List ℕ) (queues : List Queue) (queue : Queue) → queue_of name queues ≡ Some queue → queue.name ≡ name
+pub found_named : (name : List ℕ) (queues : List Queue) (queue : Queue) → queue_of name queues ≡ Some queue → queue.name ≡ name
 found_named name [] queue e = absurd cc
 found_named name (x ∷ xs) queue e =
     elim (has_name name x) as (λ b. has_name name x ≡ b → cond b (Some x) (queue_of name xs) ≡ Some queue → queue.name ≡ name) [
@@ -158,7 +158,7 @@ found_differ name other queues next queue found h e f differ =
 
 -- ---- a change of the one queue of a name
 
-counted_cons : (name : List ℕ) (x : Queue) (xs : List Queue) → counts name (x ∷ xs) ≡ cond (has_name name x) 1 0 + counts name xs
+pub counted_cons : (name : List ℕ) (x : Queue) (xs : List Queue) → counts name (x ∷ xs) ≡ cond (has_name name x) 1 0 + counts name xs
 counted_cons name x xs = sum_by-cons (λ q. cond (has_name name q) 1 0) x xs
 
 none_changed : (name : List ℕ) (change : Queue → Queue) (queues : List Queue) → counts name queues ≡ 0 → changed_queue name change queues ≡ queues

@@ -13,8 +13,9 @@ pub mod DirectoryAnswers
 pub mod DirectoryLists
 pub mod DirectoryPolicies
 pub mod DirectoryHolds
+pub mod CreationLaws
 pub mod SystemLaws
 pub mod RunLaws
 pub mod ReceiveLaws
 pub mod PairLaws
-pub mod WorkedRunLaws
+pub mod Computed

@@ -115,7 +115,7 @@ room_for : (l : Ledger) → room_refusal l ≡ None → HasRoom l
 room_for l h = let worn = passed _ _ _ h in record { not_worn = above _ _ worn.0; within = above _ _ (passed _ _ _ worn.1).0 }
 
 -- an item that is found is found by its own number too
-by_its_number : (number : ℕ) (l : Ledger) (item : Item) → item_of number l ≡ Some item → item_of item.number l ≡ Some item
+pub by_its_number : (number : ℕ) (l : Ledger) (item : Item) → item_of number l ≡ Some item → item_of item.number l ≡ Some item
 by_its_number number l item e = subst (λ (n : ℕ). item_of n l ≡ Some item) (sym (found_number (λ i. i.number) number l.items item e)) e
 
 -- a step with these halves
@@ -170,7 +170,7 @@ row_goes site s v n rows l m number task may pace room row rest t live None None
 row_goes site s v n rows l m number task may pace room row rest t live None (Some queue) d o = leaves_to site s v n rows l m number task may pace room row rest t live queue (sym (ap (λ (x : Option NamedQueue). destination_or x row.origin) d ∙ o))
 row_goes site s v n rows l m number task may pace room row rest t live (Some queue) origin d o = leaves_to site s v n rows l m number task may pace room row rest t live queue.number (sym (ap (λ (x : Option NamedQueue). destination_or x row.origin) d))
 
-and_both : (a b : Bool) → (a && b) ≡ true → (a ≡ true) × (b ≡ true)
+pub and_both : (a b : Bool) → (a && b) ≡ true → (a ≡ true) × (b ≡ true)
 and_both true b h = (refl, h)
 and_both false b h = absurd cc
 
@@ -183,7 +183,7 @@ found_task site l number (Some task) later e h =
     let both = and_both _ _ (not_false _ p.0) in
     ((task, refl, record { found = e; running = both.0; of_source = both.1 }), p.1)
 
-is_false : (b : Bool) → not b ≡ true → b ≡ false
+pub is_false : (b : Bool) → not b ≡ true → b ≡ false
 is_false true e = absurd cc
 is_false false e = refl
 

@@ -7,4 +7,6 @@ pub mod ledger_laws;
 pub mod worked;
 pub mod worked_directory;
 pub mod worked_moves;
+pub mod worked_queues;
 pub mod worked_run;
+pub mod worked_tasks;

@@ -323,9 +323,15 @@ enum OnMessage {
 }
 
 impl OnMessage {
-    fn act(self, receipt: Receipt) -> HomeAct
-        ensures { result ≡ act_of self receipt }
+    // What its home is asked, by what the handle names there.
+    fn act(self, handle: &Handle) -> HomeAct
+        ensures { result ≡ act_of self (receipt_of handle.now) }
     {
+        let receipt = Receipt {
+            slot: handle.slot,
+            serial: handle.serial,
+            receive: handle.receive,
+        };
         match self {
             OnMessage::Delete => HomeAct::Delete(receipt),
             OnMessage::Change(timeout) => HomeAct::Change(receipt, timeout),
@@ -344,7 +350,7 @@ fn on_message<S: LockSteps>(
 {
     let of = steps.resolve(name)?;
     let handle = handle_at(steps.homes(), of.number, handle)?;
-    let act = what.act(receipt_of(&handle));
+    let act = what.act(&handle);
     steps.at_home(&of, handle.home, act)?;
     Ok(Answer::Done)
 }
@@ -368,16 +374,5 @@ fn handle_at(homes: HomeCount, queue: QueueNo, handle: &Option<Handle>) -> Resul
             Ok(*handle)
         }
         _ => Err(Refusal::ReceiptHandleIsInvalid),
-    }
-}
-
-// What a handle names at its home.
-fn receipt_of(handle: &Handle) -> Receipt
-    ensures { result ≡ receipt_of handle.now }
-{
-    Receipt {
-        slot: handle.slot,
-        serial: handle.serial,
-        receive: handle.receive,
     }
 }

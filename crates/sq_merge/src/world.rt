@@ -1,5 +1,5 @@
 //! All queues of a service with all that was done to them, for one thread.
-ghost use Rattle.std.specs.Prelude.{◌≡◌, ◌⊎◌, ◌↔◌, ◌<◌, ◌≤◌, true, None, Some, length, position, IfOk, IfErr, IfSome, OnErr};
+ghost use Rattle.std.specs.Prelude.{◌≡◌, ◌⊎◌, ◌↔◌, ◌<◌, ◌≤◌, true, None, Some, length, position, IfOk, IfErr, IfSome, OnOk, OnErr};
 ghost use Rattle.rand.specs.Sample.{IsSampleOf};
 ghost use Rattle.sq_model.specs.Directories.{all_named, number_named};
 ghost use Rattle.sq_directory.specs.Makers.{IsAnsweredByName};
@@ -241,9 +241,7 @@ impl World {
         ensures err { OnErr result (self.new ≡ self.old) }
     {
         let names = self.directory.names(alloc)?;
-        let stamp = self.directory.last();
-        let at = open(&mut self.journals, alloc, actor)?;
-        self.journals[at].see(stamp);
+        self.see_directory(alloc, actor)?;
         Ok(names)
     }
 
@@ -262,10 +260,20 @@ impl World {
         let Some(queue) = self.directory.find(name) else {
             return Err(Refusal::QueueDoesNotExist);
         };
+        self.see_directory(alloc, actor)?;
+        Ok(queue)
+    }
+
+    // The actor has seen all that was done to the directory. Refused as NoMemory of a new actor alone.
+    fn see_directory(&mut self, alloc: Global, actor: u32) -> Result<(), Refusal>
+        ensures read { OnOk result (self.new ≡ having_read self.old actor) }
+        ensures refused { IfErr result (λ e. (e ≡ Refusal.NoMemory) × (position (is_of actor) self.old.journals ≡ None)) }
+        ensures err { OnErr result (self.new ≡ self.old) }
+    {
         let last = self.directory.last();
         let at = open(&mut self.journals, alloc, actor)?;
         self.journals[at].see(last);
-        Ok(queue)
+        Ok(())
     }
 
     // A step of a home by an actor that used this name.

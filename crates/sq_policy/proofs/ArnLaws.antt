@@ -6,20 +6,20 @@ use Rattle.std.proofs.lemmas.Bool.{le-ltb}
 use Rattle.std.proofs.lemmas.List.{take-append-drop, length-append}
 use Rattle.std.proofs.lemmas.Slice.Eq.{bytes_eq-Decides}
 use Rattle.sq_base.specs.Names.{is_name}
-use Rattle.sq_policy.specs.PolicyTexts.{arn_name, arn_text}
+use Rattle.sq_policy.specs.PolicyTexts.{arn_name, arn_text, name_behind}
 
 abbrev start : List ℕ
 start = codes "arn:aws:sqs:local:000000000000:"
 
 pub arn_of_name : (name : List ℕ) → is_name name ≡ true → arn_name (arn_text name) ≡ Some name
-unfolding arn_name arn_text
+unfolding arn_name name_behind arn_text
 arn_of_name name h =
     let long : nat_lt (length (start ++ name)) 31 ≡ false = le-ltb _ _ (omega (arith, length-append start name)) in
     rw (long, h) refl
 
 parts : (text name : List ℕ) (short same valid : Bool) → nat_lt (length text) 31 ≡ short → bytes_eq (take 31 text) start ≡ same → is_name (drop 31 text) ≡ valid
     → arn_name text ≡ Some name → (is_name name ≡ true) × (text ≡ arn_text name)
-unfolding arn_name arn_text
+unfolding arn_name name_behind arn_text
 parts text name true same valid e f g h = let none = rw e at h in cc
 parts text name false false valid e f g h = let none = rw (e, f) at h in cc
 parts text name false true false e f g h = let none = rw (e, f, g) at h in cc

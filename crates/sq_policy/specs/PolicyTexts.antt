@@ -20,11 +20,15 @@ use Rattle.sq_policy.specs.declared.amount.Amount.{Amount}
 abbrev pub as_name : List ℕ → Option (List ℕ)
 as_name text = if is_name text then Some text else None
 
+-- the queue whose name stands behind a fixed text
+unfoldable pub name_behind : List ℕ → List ℕ → Option (List ℕ)
+name_behind front text =
+    if nat_lt (length text) (length front) then None
+    else if bytes_eq (take (length front) text) front then as_name (drop (length front) text) else None
+
 -- the queue that an ARN names
 unfoldable pub arn_name : List ℕ → Option (List ℕ)
-arn_name text =
-    if nat_lt (length text) 31 then None
-    else if bytes_eq (take 31 text) (codes "arn:aws:sqs:local:000000000000:") then as_name (drop 31 text) else None
+arn_name text = name_behind (codes "arn:aws:sqs:local:000000000000:") text
 
 -- the ARN of a queue
 unfoldable pub arn_text : List ℕ → List ℕ

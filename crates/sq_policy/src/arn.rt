@@ -2,7 +2,7 @@
 ghost use Rattle.std.specs.Prelude.{◌≡◌, ℕ, List, true, Some, IfOk, ok_or, string_bytes};
 ghost use Rattle.sq_base.specs.Names.{is_name};
 ghost use Rattle.sq_base.specs.declared.refusal.Refusal.TheVariants.{InvalidAddress};
-ghost use Rattle.sq_policy.specs.PolicyTexts.{arn_name, arn_text};
+ghost use Rattle.sq_policy.specs.PolicyTexts.{arn_name, arn_text, name_behind};
 
 use sq_base::name::QueueName;
 use sq_base::refusal::Refusal;
@@ -11,21 +11,29 @@ use std::alloc::{AllocError, Global};
 /// What a queue's ARN begins with, before its name.
 const ARN_START: &str = "arn:aws:sqs:local:000000000000:";
 
+/// The queue whose name stands behind a fixed text.
+#[tactic(auto, unfolding(crate::specs::PolicyTexts::name_behind))]
+pub fn name_behind(front: &str, text: &str) -> Option<QueueName>
+    ensures { result ≡ name_behind front.now text.now }
+{
+    let (front, bytes) = (front.as_bytes(), text.as_bytes());
+    if bytes.len() < front.len() {
+        return None;
+    }
+    let (start, name) = bytes.split_at(front.len());
+    if start == front {
+        QueueName::new(name)
+    } else {
+        None
+    }
+}
+
 /// The queue that an ARN names, where the text is an ARN.
 #[tactic(auto, unfolding(crate::specs::PolicyTexts::arn_name))]
 pub fn queue_of_arn(text: &str) -> Option<QueueName>
     ensures { result ≡ arn_name text.now }
 {
-    let bytes = text.as_bytes();
-    if bytes.len() < 31 {
-        return None;
-    }
-    let (front, name) = bytes.split_at(31);
-    if front == ARN_START.as_bytes() {
-        QueueName::new(name)
-    } else {
-        None
-    }
+    name_behind(ARN_START, text)
 }
 
 /// The queue that an ARN names (SQS API Reference, StartMessageMoveTask: SourceArn); InvalidAddress where the text is

@@ -1,3 +1,4 @@
 pub mod AsciiLaws
 pub mod FloatLaws
 pub mod TextLaws
+pub mod OnLiterals

@@ -1,5 +1,6 @@
 //! The attributes of a queue as a reply shows them.
 ghost use Rattle.std.specs.Prelude.{◌≡◌, ◌∷◌, [], codes, decimal, if◌then◌else◌, None, option_map, IfOk, OnOk, string_bytes};
+ghost use Rattle.serde_json.specs.Data.{Data};
 ghost use Rattle.serde_json.specs.View.{view, members_view};
 ghost use Rattle.serde_json.specs.Written.{compact_text};
 ghost use Rattle.sq_policy.specs.PolicyTexts.{arn_text, redrive_data, allow_data};
@@ -61,8 +62,9 @@ fn put_shown(
         asked.wait_time,
         wait_time,
     )?;
-    put_allow(alloc, members, asked.allow, &shown.attributes.allow)?;
-    put_redrive(alloc, members, asked.redrive, &shown.attributes.redrive)?;
+    let (allow, redrive) = (&shown.attributes.allow, &shown.attributes.redrive);
+    put_policy(alloc, members, "RedriveAllowPolicy", asked.allow, allow)?;
+    put_policy(alloc, members, "RedrivePolicy", asked.redrive, redrive)?;
     put_number(alloc, members, "VisibilityTimeout", asked.timeout, timeout)
 }
 
@@ -135,37 +137,44 @@ fn put_arn(
     Ok(())
 }
 
-fn put_allow(
-    alloc: Global,
-    members: &mut Map<String, Value>,
-    asked: bool,
-    allow: &Option<AllowPolicy>,
-) -> Result<(), AllocError>
-    ensures { OnOk result (members_view members.new.entries
-        ≡ put_text (codes "RedriveAllowPolicy") (if asked then option_map (λ p. compact_text (allow_data p)) allow.now else None) (members_view members.old.entries)) }
-{
-    match allow {
-        Some(allow) if asked => {
-            let text = Value::String(allow_text(alloc, allow)?);
-            serde_json::put(members, alloc, "RedriveAllowPolicy", text)
-        }
-        _ => Ok(()),
+// A policy of a queue, whose text is JSON.
+trait Policy {
+    ghost written: { Self → Data };
+
+    fn text(&self, alloc: Global) -> Result<String, AllocError>
+        ensures { IfOk result (λ s. string_bytes s ≡ compact_text (written self.now)) };
+}
+
+impl Policy for AllowPolicy {
+    ghost written = { allow_data };
+
+    fn text(&self, alloc: Global) -> Result<String, AllocError> {
+        allow_text(alloc, self)
     }
 }
 
-fn put_redrive(
+impl Policy for RedrivePolicy {
+    ghost written = { redrive_data };
+
+    fn text(&self, alloc: Global) -> Result<String, AllocError> {
+        redrive_text(alloc, self)
+    }
+}
+
+fn put_policy<P: Policy>(
     alloc: Global,
     members: &mut Map<String, Value>,
+    name: &str,
     asked: bool,
-    redrive: &Option<RedrivePolicy>,
+    policy: &Option<P>,
 ) -> Result<(), AllocError>
     ensures { OnOk result (members_view members.new.entries
-        ≡ put_text (codes "RedrivePolicy") (if asked then option_map (λ p. compact_text (redrive_data p)) redrive.now else None) (members_view members.old.entries)) }
+        ≡ put_text name.now (if asked then option_map (λ p. compact_text (P.written p)) policy.now else None) (members_view members.old.entries)) }
 {
-    match redrive {
-        Some(redrive) if asked => {
-            let text = Value::String(redrive_text(alloc, redrive)?);
-            serde_json::put(members, alloc, "RedrivePolicy", text)
+    match policy {
+        Some(policy) if asked => {
+            let text = Value::String(policy.text(alloc)?);
+            serde_json::put(members, alloc, name, text)
         }
         _ => Ok(()),
     }

@@ -1,4 +1,5 @@
 //! Worked cases: the texts of some answers, each the contract of a function without code.
+#![tactic(auto, unfolding(crate::proofs::OnLiterals::replies_on_literals))]
 
 ghost use Rattle.std.specs.Prelude.{◌≡◌, List, [], ◌∷◌, codes, Some, None};
 ghost use Rattle.sq_calls.specs.declared.calls.Answer.TheVariants.{Queues, Sources};

@@ -43,7 +43,7 @@ asks name d = asks_text name (as_str d)
 
 -- ---- of messages (SQS API Reference, ReceiveMessage: MessageSystemAttributeNames)
 
-unfoldable pub asked_of : Items → AskedAttributes
+abbrev pub asked_of : Items → AskedAttributes
 asked_of names = record {
   receive_count = any_item (asks (codes "ApproximateReceiveCount")) names;
   sent_timestamp = any_item (asks (codes "SentTimestamp")) names;

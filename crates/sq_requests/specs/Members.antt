@@ -1,6 +1,5 @@
 -- What a member of a request says. One of a wrong type is InvalidRequest, and so is a missing one that must be there.
-use Rattle.std.specs.Prelude.{ℕ, List, Bool, true, false, not, nat_lt, if◌then◌else◌, Option, Some, None, Result, Ok, Err, codes, option_and_then, ok_or, length, take, drop}
-use Rattle.std.specs.Str.{bytes_eq}
+use Rattle.std.specs.Prelude.{ℕ, List, Bool, true, false, not, Option, Some, None, Result, Ok, Err, codes, option_and_then, ok_or}
 use Rattle.serde_json.specs.Data.{Data, Members, no_members, member}
 use Rattle.serde_json.specs.Find.{get, as_str, as_number, as_object}
 use Rattle.sq_base.specs.Handles.{handle_at}
@@ -9,7 +8,7 @@ use Rattle.sq_base.specs.declared.refusal.Refusal.{Refusal}
 use Rattle.sq_base.specs.declared.refusal.Refusal.TheVariants.{InvalidRequest}
 use Rattle.sq_policy.specs.Reading.{◌>>=◌}
 use Rattle.sq_policy.specs.Amounts.{amount_of, received}
-use Rattle.sq_policy.specs.PolicyTexts.{as_name}
+use Rattle.sq_policy.specs.PolicyTexts.{name_behind}
 use Rattle.sq_policy.specs.declared.amount.Amount.{Amount}
 
 -- the text of a member that must be there
@@ -33,9 +32,7 @@ text_if_at name d = text_if_in (get name d)
 
 -- a queue's URL: a fixed text and the queue's name
 unfoldable pub url_name : List ℕ → Option (List ℕ)
-url_name url =
-    if nat_lt (length url) 30 then None
-    else if bytes_eq (take 30 url) (codes "http://localhost/000000000000/") then as_name (drop 30 url) else None
+url_name url = name_behind (codes "http://localhost/000000000000/") url
 
 -- the queue of the URL (SQS API Reference, QueueUrl), where it is one
 unfoldable pub url_at : Data → Result (Option (List ℕ)) Refusal

@@ -50,7 +50,6 @@ fn is_asked(names: &[Value], name: &str) -> bool
     names.iter().any(|value| asks(value, name))
 }
 
-#[tactic(auto, unfolding(crate::specs::Asked::asked_of))]
 fn asked_of(names: &[Value]) -> AskedAttributes
     ensures { result ≡ asked_of (items_view names.now) }
 {

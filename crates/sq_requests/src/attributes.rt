@@ -1,8 +1,9 @@
 //! The attributes that a request gives (SQS API Reference, CreateQueue and SetQueueAttributes: Attributes).
-ghost use Rattle.std.specs.Prelude.{◌≡◌, option_map, Ok};
+ghost use Rattle.std.specs.Prelude.{◌≡◌, ℕ, List, Option, Result, option_map, Ok};
 ghost use Rattle.serde_json.specs.View.{view, members_view};
-ghost use Rattle.sq_policy.specs.Reading.{seen_as};
+ghost use Rattle.sq_policy.specs.Reading.{ReadsText, seen_as};
 ghost use Rattle.sq_policy.specs.PolicyTexts.{redrive_of, allow_of};
+ghost use Rattle.sq_base.specs.declared.refusal.Refusal.{Refusal};
 ghost use Rattle.sq_requests.specs.Memory.{ReadsAsking};
 ghost use Rattle.sq_requests.specs.Attributes.{attribute_at, amounts_in, is_settable, has_other, texts_of, given_in, given_at, given_if_at, numbers_of, named_numbers, if_given, has_text, attributes_of, attributes_ask};
 
@@ -154,22 +155,37 @@ fn named_numbers(given: &Given<'_>) -> Result<Attributes, Refusal>
     numbers_of(&given.amounts)
 }
 
-fn redrive_if(alloc: Global, text: Option<&str>) -> Result<Option<Option<RedrivePolicy>>, Refusal>
-    ensures { let given = option_map (λ t. t.now) text.entry in
-        ReadsAsking (Ok (has_text given)) result (if_given redrive_of given) }
-{
-    match text {
-        Some(text) => Ok(Some(read_redrive(alloc, text)?)),
-        None => Ok(None),
+// A policy that a request may set.
+trait Policy: Sized {
+    /// What a text sets.
+    ghost meaning: { List ℕ → Result (Option Self) Refusal };
+
+    fn read(alloc: Global, text: &str) -> Result<Option<Self>, Refusal>
+        ensures { ReadsText result text.now meaning };
+}
+
+impl Policy for RedrivePolicy {
+    ghost meaning = { redrive_of };
+
+    fn read(alloc: Global, text: &str) -> Result<Option<RedrivePolicy>, Refusal> {
+        read_redrive(alloc, text)
     }
 }
 
-fn allow_if(alloc: Global, text: Option<&str>) -> Result<Option<Option<AllowPolicy>>, Refusal>
+impl Policy for AllowPolicy {
+    ghost meaning = { allow_of };
+
+    fn read(alloc: Global, text: &str) -> Result<Option<AllowPolicy>, Refusal> {
+        read_allow(alloc, text)
+    }
+}
+
+fn policy_if<P: Policy>(alloc: Global, text: Option<&str>) -> Result<Option<Option<P>>, Refusal>
     ensures { let given = option_map (λ t. t.now) text.entry in
-        ReadsAsking (Ok (has_text given)) result (if_given allow_of given) }
+        ReadsAsking (Ok (has_text given)) result (if_given P.meaning given) }
 {
     match text {
-        Some(text) => Ok(Some(read_allow(alloc, text)?)),
+        Some(text) => Ok(Some(P::read(alloc, text)?)),
         None => Ok(None),
     }
 }
@@ -183,8 +199,8 @@ pub fn attributes_of(alloc: Global, given: &Given<'_>) -> Result<Attributes, Ref
         ReadsAsking (attributes_ask given) result (attributes_of given) }
 {
     let numbers = named_numbers(given)?;
-    let redrive = redrive_if(alloc, given.redrive)?;
-    let allow = allow_if(alloc, given.allow)?;
+    let redrive = policy_if::<RedrivePolicy>(alloc, given.redrive)?;
+    let allow = policy_if::<AllowPolicy>(alloc, given.allow)?;
     Ok(Attributes {
         redrive,
         allow,

@@ -9,6 +9,7 @@ use sq_base::handle::{Handle, read_handle};
 use sq_base::name::QueueName;
 use sq_base::refusal::Refusal;
 use sq_policy::amount::{Amount, amount_of};
+use sq_policy::arn::name_behind;
 
 /// What a queue's URL begins with, before its name.
 const URL_START: &str = "http://localhost/000000000000/";
@@ -18,16 +19,7 @@ const URL_START: &str = "http://localhost/000000000000/";
 fn queue_at(url: &str) -> Option<QueueName>
     ensures { result ≡ url_name url.now }
 {
-    let bytes = url.as_bytes();
-    if bytes.len() < 30 {
-        return None;
-    }
-    let (front, name) = bytes.split_at(30);
-    if front == URL_START.as_bytes() {
-        QueueName::new(name)
-    } else {
-        None
-    }
+    name_behind(URL_START, url)
 }
 
 /// The text of a member that must be there.

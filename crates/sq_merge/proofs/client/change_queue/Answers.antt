@@ -1,13 +1,11 @@
-use Rattle.std.proofs.Common.{rules, ◌≡◌, Err}
+use Rattle.std.proofs.Common.{rules}
 use Rattle.sq_model.specs.declared.directory.DirectoryReply.TheVariants as told
 use Rattle.sq_merge.specs.Fits.{ThenAll}
 use Rattle.sq_merge.proofs.ClientLaws.{answered_directed, answered_refused}
 use Rattle.sq_merge.proofs.client.change_queue.Goals as goal
 
 pub returns-in_err-made : goal.returns-in_err-made
-returns-in_err-made g c =
-    let is : c.from_residual.result ≡ Err c.in_err-made.field-0.0 = search rules in
-    answered_refused _ _ _ _ _ _ _ is c.in_err-made.ensures.refusal c.in_err-made.ensures.did
+returns-in_err-made g c = answered_refused _ _ _ _ _ _ _ (search rules) c.in_err-made.ensures.refusal c.in_err-made.ensures.did
 
 pub returns-in-Made : goal.returns-in-Made
 returns-in-Made g c =

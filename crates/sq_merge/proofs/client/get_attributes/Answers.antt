@@ -1,4 +1,4 @@
-use Rattle.std.proofs.Common.{rules, ◌≡◌, Err}
+use Rattle.std.proofs.Common.{rules}
 use Rattle.sq_model.specs.declared.directory.DirectoryCall.TheVariants as asks
 use Rattle.sq_model.specs.declared.directory.DirectoryReply.TheVariants as told
 use Rattle.sq_merge.specs.Fits.{Shows}
@@ -6,9 +6,7 @@ use Rattle.sq_merge.proofs.ClientLaws.{answered_refused, answered_directed}
 use Rattle.sq_merge.proofs.client.get_attributes.Goals as goal
 
 pub returns-in_err-attributes : goal.returns-in_err-attributes
-returns-in_err-attributes g c =
-    let is : c.from_residual.result ≡ Err c.in_err-attributes.field-0.0 = search rules in
-    answered_refused _ _ _ _ _ _ _ is c.in_err-attributes.ensures.refusal c.in_err-attributes.ensures.did
+returns-in_err-attributes g c = answered_refused _ _ _ _ _ _ _ (search rules) c.in_err-attributes.ensures.refusal c.in_err-attributes.ensures.did
 
 pub returns : goal.returns
 returns g c =

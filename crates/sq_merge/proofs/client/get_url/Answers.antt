@@ -1,11 +1,9 @@
-use Rattle.std.proofs.Common.{rules, ◌≡◌, refl, Err}
+use Rattle.std.proofs.Common.{rules, refl}
 use Rattle.sq_merge.proofs.ClientLaws.{answered_refused, answered_told}
 use Rattle.sq_merge.proofs.client.get_url.Goals as goal
 
 pub returns-in_err-directed : goal.returns-in_err-directed
-returns-in_err-directed g c =
-    let is : c.from_residual.result ≡ Err c.in_err-directed.field-0.0 = search rules in
-    answered_refused _ _ _ _ _ _ _ is c.in_err-directed.ensures.refusal c.in_err-directed.ensures.did
+returns-in_err-directed g c = answered_refused _ _ _ _ _ _ _ (search rules) c.in_err-directed.ensures.refusal c.in_err-directed.ensures.did
 
 pub returns : goal.returns
 returns g c = answered_told _ _ _ _ _ _ _ (rw c.in-Found.is at c.in_ok-directed.ensures.did) (rw c.in-Found.is at c.in_ok-directed.ensures.reply) (refl, refl)

@@ -9,6 +9,7 @@ use Rattle.sq_merge.specs.WorldValue.{WorldValue}
 use Rattle.sq_merge.specs.Worlds.{IsKnown}
 use Rattle.sq_merge.proofs.StepLaws.{stepped_opened, refused_opened, refused_unmade, closed_again, home_kept}
 use Rattle.sq_merge.proofs.WorldLaws.{kept_home}
+use Rattle.sq_merge.proofs.world.World.at_home.Goals.{After-truncate}
 use Rattle.sq_merge.proofs.world.World.at_home.Goals as goal
 
 pub returns-in_default-clause-refusal : goal.returns-in_default-clause-refusal
@@ -47,16 +48,24 @@ returns-in-Ok-clause-stepped c =
     rw (← c.self.view_is, c.in_ok-at.ensures.opened, c.in_ok-at.ensures.index)
     (stepped_opened old c.args.actor c.args.now c.args.name c.args.id.now (call_of c.args.act) c.in-Ok.reply c.in-Some.index c.index_mut-home.result.now c.home_step.new.home c.index_mut-journal.result.now c.home_step.new.journal c.self.invariant.kept.numbered c.home_index.ensures.queue index c.index_mut-home.ensures.value own c.in-Ok.ensures.step)
 
-pub invariant_of-self-in-Err : goal.invariant_of-self-in-Err
-invariant_of-self-in-Err c =
+-- a step that was refused leaves the homes and the actors as they were
+kept_homes : (c : After-truncate) → slice_set c.self.inside.homes.items c.in-Some.index c.home_step.new.home ≡ c.self.inside.homes.items
+kept_homes c =
     let old : WorldValue = record { directory = c.self.inside.directory; per_queue = c.self.inside.per_queue; sample = c.self.inside.sample; homes = c.self.inside.homes.items; journals = c.self.inside.journals.items } in
     let index : home_index old.per_queue (length old.homes) c.args.id.now ≡ Some c.in-Some.index = search rules in
-    let own : c.index_mut-journal.result.now ≡ slice_index_or (opened c.args.actor old.journals) (index_in c.args.actor old.journals) c.index_mut-journal.result.now = rw (c.in_ok-at.ensures.opened, c.in_ok-at.ensures.index) at c.index_mut-journal.ensures.value in
-    let count : c.len-count.result ≡ length old.journals = omega (arith, c.len-count.ensures, c.self.inside.journals.ok.0) in
-    let front : c.truncate.new.self.items ≡ old.journals =
-    rw (c.truncate.ensures.items, count, c.in-Err.ensures.journal_err, c.in_ok-at.ensures.opened, c.in_ok-at.ensures.index) (closed_again c.args.actor old.journals c.index_mut-journal.result.now own) in
-    let homes : slice_set old.homes c.in-Some.index c.home_step.new.home ≡ old.homes = rw c.in-Err.ensures.home_err (home_kept old c.args.id.now c.in-Some.index c.index_mut-home.result.now c.home_index.ensures.queue index c.index_mut-home.ensures.value) in
-    rw (homes, front) (record { kept = c.self.invariant.kept; sample = c.self.invariant.sample; few = c.self.invariant.few })
+    rw c.in-Err.ensures.home_err (home_kept old c.args.id.now c.in-Some.index c.index_mut-home.result.now c.home_index.ensures.queue index c.index_mut-home.ensures.value)
+
+kept_journals : (c : After-truncate) → c.truncate.new.self.items ≡ c.self.inside.journals.items
+kept_journals c =
+    let journals = c.self.inside.journals.items in
+    let own : c.index_mut-journal.result.now ≡ slice_index_or (opened c.args.actor journals) (index_in c.args.actor journals) c.index_mut-journal.result.now = rw (c.in_ok-at.ensures.opened, c.in_ok-at.ensures.index) at c.index_mut-journal.ensures.value in
+    let count : c.len-count.result ≡ length journals = omega (arith, c.len-count.ensures, c.self.inside.journals.ok.0) in
+    rw (c.truncate.ensures.items, count, c.in-Err.ensures.journal_err, c.in_ok-at.ensures.opened, c.in_ok-at.ensures.index) (closed_again c.args.actor journals c.index_mut-journal.result.now own)
+
+pub invariant_of-self-in-Err : goal.invariant_of-self-in-Err
+invariant_of-self-in-Err c =
+    let same = (goal.at.invariant_of-self-in-Err c).After-truncate in
+    rw (kept_homes same, kept_journals same) (record { kept = c.self.invariant.kept; sample = c.self.invariant.sample; few = c.self.invariant.few })
 
 pub returns-in-Err-clause-refusal : goal.returns-in-Err-clause-refusal
 returns-in-Err-clause-refusal c =
@@ -68,11 +77,5 @@ returns-in-Err-clause-refusal c =
 
 pub returns-in-Err-clause-err : goal.returns-in-Err-clause-err
 returns-in-Err-clause-err c =
-    let old : WorldValue = record { directory = c.self.inside.directory; per_queue = c.self.inside.per_queue; sample = c.self.inside.sample; homes = c.self.inside.homes.items; journals = c.self.inside.journals.items } in
-    let index : home_index old.per_queue (length old.homes) c.args.id.now ≡ Some c.in-Some.index = search rules in
-    let own : c.index_mut-journal.result.now ≡ slice_index_or (opened c.args.actor old.journals) (index_in c.args.actor old.journals) c.index_mut-journal.result.now = rw (c.in_ok-at.ensures.opened, c.in_ok-at.ensures.index) at c.index_mut-journal.ensures.value in
-    let count : c.len-count.result ≡ length old.journals = omega (arith, c.len-count.ensures, c.self.inside.journals.ok.0) in
-    let front : c.truncate.new.self.items ≡ old.journals =
-    rw (c.truncate.ensures.items, count, c.in-Err.ensures.journal_err, c.in_ok-at.ensures.opened, c.in_ok-at.ensures.index) (closed_again c.args.actor old.journals c.index_mut-journal.result.now own) in
-    let homes : slice_set old.homes c.in-Some.index c.home_step.new.home ≡ old.homes = rw c.in-Err.ensures.home_err (home_kept old c.args.id.now c.in-Some.index c.index_mut-home.result.now c.home_index.ensures.queue index c.index_mut-home.ensures.value) in
-    rw (homes, front) c.self.view_is
+    let same = (goal.at.returns-in-Err-clause-err c).After-truncate in
+    rw (kept_homes same, kept_journals same) c.self.view_is

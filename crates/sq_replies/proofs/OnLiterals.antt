@@ -1,0 +1,9 @@
+-- What computes replies on literals.
+use Rattle.std.specs.Prelude.{⊤}
+use Rattle.std.specs.Fmt.{digits}
+use Rattle.serde_json.proofs.OnLiterals.{serde_json_on_literals}
+use Rattle.sq_policy.specs.PolicyTexts.{arn_text}
+
+unfoldable pub replies_on_literals : ⊤
+unfolding serde_json_on_literals digits arn_text
+replies_on_literals = tt
