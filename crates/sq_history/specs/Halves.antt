@@ -28,10 +28,10 @@ HasDead (Serving s v n rows) m = list_any (is_dead s m) (trimmed s m rows) ≡ t
 HasDead Unopened m = ⊥
 HasDead Closed m = ⊥
 
--- Why no dead message leaves: no memory was found, for an event, or for copies of one that is there; the home's first check that fails; or the ledger takes none in.
+-- Why no dead message leaves: no memory was found, for an event, or for copies of one that may leave; the home's first check that fails; or the ledger takes none in.
 abbrev pub IsLeaveRefused : HistoryValue → ℕ → Result ℕ Refusal → Refusal → Type 0
 IsLeaveRefused old m number e =
-    ((e ≡ NoMemory) × ((old.room ≡ 0) ⊎ HasDead old.home m))
+    ((e ≡ NoMemory) × ((old.room ≡ 0) ⊎ (HasDead old.home m × ((n : ℕ) × (number ≡ Ok n)))))
     ⊎ (home_refusal old.site old.home m LeaveDead ≡ Some e)
     ⊎ (HasDead old.home m × (number ≡ Err e))
 

@@ -1,0 +1,11 @@
+use Rattle.std.proofs.Common.{rules, ◌≡◌, Ok, IfOk, IfErr, IfSome, IfNone, OnErr, ℕ, ◌+◌, ◌-◌, ◌*◌, ◌<◌, ◌≤◌, length, ◌/◌, ◌%◌, Bool, true, false, nat_eq, nat_lt, List, [], ◌∷◌, ◌++◌, slice_index_or, slice_set, bit_and, bit_or, Fits, w8, w32, w64, Bor, MutBor}
+use Rattle.sq_base.specs.Stamps.{Below}
+use Rattle.sq_model.specs.declared.shared.SharedAct.TheVariants as asks
+use Rattle.sq_model.specs.Shared.{IsUnrecorded, shared_stamp}
+use Rattle.sq_ledger.specs.LedgerHistories.{IsPrepared}
+use Rattle.sq_steps.specs.SharedSteps.{asked_as, BothDo, SharedMoves, IsUnmoved, IsPairRefused, IsSharedRefused}
+use Rattle.sq_steps.proofs.shared.leave_dead.Goals as goal
+
+-- src/shared.rt:57:30
+pub returns-in_err-half-clause-refusal : goal.returns-in_err-half-clause-refusal
+returns-in_err-half-clause-refusal c = ?
