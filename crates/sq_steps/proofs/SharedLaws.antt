@@ -1,10 +1,15 @@
 -- The halves of a step that a home and the ledger do together, and why neither is done.
-use Rattle.std.proofs.Common.{◌≡◌, ◌⊎◌, ℕ, true, false, not, Option, Some, None, Result, Ok, Err, refl, sym, ◌∙◌, ap, subst, inl, inr}
+use Rattle.std.proofs.Common.{◌≡◌, ◌⊎◌, ℕ, true, false, not, List, Option, Some, None, Result, Ok, Err, refl, sym, ◌∙◌, ap, subst, inl, inr}
 use Rattle.std.specs.Prelude.{if◌then◌else◌}
 use Rattle.std.specs.List.{list_any}
 use Rattle.sq_base.specs.declared.refusal.Refusal.{Refusal}
 use Rattle.sq_base.specs.declared.refusal.Refusal.TheVariants.{NoMemory, UnsupportedOperation}
+use Rattle.sq_base.specs.StampValue.{StampValue}
+use Rattle.sq_base.specs.declared.ids.HomeId.{HomeId}
+use Rattle.sq_model.specs.declared.calls.HomeCall.{HomeCall}
 use Rattle.sq_model.specs.declared.calls.HomeCall.TheVariants as call
+use Rattle.sq_model.specs.declared.event.Actor.{Actor}
+use Rattle.sq_model.specs.RecordValues.{HomeRecordValue}
 use Rattle.sq_model.specs.declared.item.Item.{Item}
 use Rattle.sq_model.specs.declared.place.Site.{Site}
 use Rattle.sq_model.specs.declared.replies.HomeReply.{HomeReply}
@@ -15,8 +20,8 @@ use Rattle.sq_model.specs.Homes.{Home, Unopened, Serving, Closed, HomeStep, home
 use Rattle.sq_model.specs.Ledgers.{Ledger, item_of, room_refusal}
 use Rattle.sq_model.specs.Rows.{trimmed, is_dead}
 use Rattle.sq_model.specs.Shared.{IsUnrecorded, is_entering, is_returning, shared_refusal}
-use Rattle.sq_shard.specs.Moves.{coming_refusal, closed_refusal}
-use Rattle.sq_history.specs.Halves.{HasDead, IsItemRefused, IsLeaveRefused}
+use Rattle.sq_history.specs.Halves.{coming_refusal, closed_refusal, DoesHalf, HasDead, IsItemRefused, IsLeaveRefused}
+use Rattle.sq_history.specs.declared.shared.HomeHalf.{HomeHalf}
 use Rattle.sq_history.specs.HistoryValue.{HistoryValue}
 use Rattle.sq_ledger.specs.LedgerHistories.{IsEntered}
 use Rattle.sq_steps.specs.SharedSteps.{IsPairRefused}
@@ -93,6 +98,65 @@ item_refused old l m act first e is same (inl (out, inl full)) = inl (out, inl f
 item_refused old l m act first e is same (inl (out, inr none)) = inl (out, inr (sym same ∙ none, recorded old.site old.home l m act is))
 item_refused old l m act first e is same (inr h) = inr (sym same ∙ h)
 
+pub enter_out : (old : HistoryValue) (l : Ledger) (m number : ℕ) (item : Option Item) (e : Refusal) → item ≡ item_of number l
+    → IsItemRefused old (coming_refusal old.site old.home m (refused_if (not (is_entering old.site.home item)) UnsupportedOperation None)) e → IsPairRefused old l m (asks.Enter number) e
+enter_out old l m number item e is h =
+    item_refused old l m (asks.Enter number) _ e tt (ap (λ (it : Option Item). coming_refusal old.site old.home m (refused_if (not (is_entering old.site.home it)) UnsupportedOperation None)) is ∙ enter_refused old.site old.home l m number) h
+
+pub give_back_out : (old : HistoryValue) (l : Ledger) (m number : ℕ) (item : Option Item) (e : Refusal) → item ≡ item_of number l
+    → IsItemRefused old (coming_refusal old.site old.home m (refused_if (not (is_returning old.site.home item)) UnsupportedOperation None)) e → IsPairRefused old l m (asks.GiveBack number) e
+give_back_out old l m number item e is h =
+    item_refused old l m (asks.GiveBack number) _ e tt (ap (λ (it : Option Item). coming_refusal old.site old.home m (refused_if (not (is_returning old.site.home it)) UnsupportedOperation None)) is ∙ give_back_refused old.site old.home l m number) h
+
+pub turn_back_out : (old : HistoryValue) (l : Ledger) (m number : ℕ) (item : Option Item) (e : Refusal) → item ≡ item_of number l
+    → IsItemRefused old (closed_refusal old.home (is_entering old.site.home item)) e → IsPairRefused old l m (asks.TurnBack number) e
+turn_back_out old l m number item e is h =
+    item_refused old l m (asks.TurnBack number) _ e tt (ap (λ (it : Option Item). closed_refusal old.home (is_entering old.site.home it)) is ∙ turn_back_refused old.site old.home l m number) h
+
+pub give_up_out : (old : HistoryValue) (l : Ledger) (m number : ℕ) (item : Option Item) (e : Refusal) → item ≡ item_of number l
+    → IsItemRefused old (closed_refusal old.home (is_returning old.site.home item)) e → IsPairRefused old l m (asks.GiveUp number) e
+give_up_out old l m number item e is h =
+    item_refused old l m (asks.GiveUp number) _ e tt (ap (λ (it : Option Item). closed_refusal old.home (is_returning old.site.home it)) is ∙ give_up_refused old.site old.home l m number) h
+
+-- ---- what the ledger is told
+
+its_home : (old new : HistoryValue) (by : Actor) (stamp : StampValue) (name : Option (List ℕ)) (c : HomeCall) (half : HomeHalf) → DoesHalf old new by stamp name c half → half.its_record.home ≡ old.site.home
+its_home old new by stamp name c half does = ap (λ (r : HomeRecordValue). r.home) does.does.record_is
+
+-- from what the home did with an item follows what it says to the ledger
+half_says : (Says : HomeId → HomeCall → HomeReply → Item → Type 0) (old new : HistoryValue) (by : Actor) (stamp : StampValue) (name : Option (List ℕ)) (c : HomeCall) (item : Item) (half : HomeHalf) → DoesHalf old new by stamp name c half
+    → Says old.site.home c half.its_record.reply item → Says half.its_record.home half.for_ledger.0 half.for_ledger.1 item
+half_says Says old new by stamp name c item half does says =
+    subst (λ (h : HomeId). Says h half.for_ledger.0 half.for_ledger.1 item) (sym (its_home old new by stamp name c half does))
+    (subst (λ (k : HomeCall). Says old.site.home k half.for_ledger.1 item) (sym does.ledger_call)
+    (subst (λ (r : HomeReply). Says old.site.home c r item) (sym does.ledger_reply) says))
+
+pub half_entered : (old new : HistoryValue) (by : Actor) (stamp : StampValue) (name : Option (List ℕ)) (item : Item) (half : HomeHalf) → DoesHalf old new by stamp name (call.Enter item) half
+    → IsEntered half.its_record.home half.for_ledger.0 half.for_ledger.1 item
+half_entered old new by stamp name item half does =
+    half_says IsEntered old new by stamp name (call.Enter item) item half does (entered_by old.site old.home stamp.moment item half.its_record.reply new.home does.does.step)
+
+pub half_returned : (old new : HistoryValue) (by : Actor) (stamp : StampValue) (name : Option (List ℕ)) (item : Item) (half : HomeHalf) → DoesHalf old new by stamp name (call.GiveBack item) half
+    → IsEntered half.its_record.home half.for_ledger.0 half.for_ledger.1 item
+half_returned old new by stamp name item half does =
+    half_says IsEntered old new by stamp name (call.GiveBack item) item half does (returned_by old.site old.home stamp.moment item half.its_record.reply new.home does.does.step)
+
+abbrev IsTurned : HomeId → HomeCall → HomeReply → Item → Type 0
+IsTurned home c reply item = (c ≡ call.TurnBack item) × (may_enter home item ≡ true) × (reply ≡ Done)
+
+pub half_turned : (old new : HistoryValue) (by : Actor) (stamp : StampValue) (name : Option (List ℕ)) (item : Item) (half : HomeHalf) → DoesHalf old new by stamp name (call.TurnBack item) half
+    → IsTurned half.its_record.home half.for_ledger.0 half.for_ledger.1 item
+half_turned old new by stamp name item half does =
+    half_says IsTurned old new by stamp name (call.TurnBack item) item half does (let turned = turned_by old.site old.home stamp.moment item half.its_record.reply new.home does.does.step in (refl, turned.0, turned.1))
+
+abbrev IsGivenUp : HomeId → HomeCall → HomeReply → Item → Type 0
+IsGivenUp home c reply item = (c ≡ call.GiveUp item) × (may_return home item ≡ true) × (reply ≡ Done)
+
+pub half_given_up : (old new : HistoryValue) (by : Actor) (stamp : StampValue) (name : Option (List ℕ)) (item : Item) (half : HomeHalf) → DoesHalf old new by stamp name (call.GiveUp item) half
+    → IsGivenUp half.its_record.home half.for_ledger.0 half.for_ledger.1 item
+half_given_up old new by stamp name item half does =
+    half_says IsGivenUp old new by stamp name (call.GiveUp item) item half does (let up = given_up_by old.site old.home stamp.moment item half.its_record.reply new.home does.does.step in (refl, up.0, up.1))
+
 -- ---- a dead message that does not leave
 
 leave_passes : (site : Site) (home : Home) (l : Ledger) (m : ℕ) → HasDead home m → shared_refusal site home l m asks.LeaveDead ≡ room_refusal l
@@ -115,6 +179,6 @@ home_first site (Serving s v n rows) l m e h = absurd cc
 pub leave_refused : (old : HistoryValue) (l : Ledger) (m : ℕ) (number : Result ℕ Refusal) (e : Refusal) → ((n : ℕ) → number ≡ Ok n → room_refusal l ≡ None) → ((r : Refusal) → number ≡ Err r → room_refusal l ≡ Some r)
     → IsLeaveRefused old m number e → IsPairRefused old l m asks.LeaveDead e
 leave_refused old l m number e passes refuses (inl (out, inl full)) = inl (out, inl full)
-leave_refused old l m number e passes refuses (inl (out, inr (dead, n, is))) = inl (out, inr (leave_passes old.site old.home l m dead ∙ passes n is, leaves_recorded old.site old.home l m dead))
+leave_refused old l m number e passes refuses (inl (out, inr (dead, ok))) = inl (out, inr (leave_passes old.site old.home l m dead ∙ passes ok.0 ok.1, leaves_recorded old.site old.home l m dead))
 leave_refused old l m number e passes refuses (inr (inl h)) = inr (home_first old.site old.home l m e h)
 leave_refused old l m number e passes refuses (inr (inr (dead, is))) = inr (leave_passes old.site old.home l m dead ∙ refuses e is)

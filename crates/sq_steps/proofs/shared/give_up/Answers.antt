@@ -1,19 +1,20 @@
-use Rattle.std.proofs.Common.{rules, ◌≡◌, Ok, IfOk, IfErr, IfSome, IfNone, OnErr, ℕ, ◌+◌, ◌-◌, ◌*◌, ◌<◌, ◌≤◌, length, ◌/◌, ◌%◌, Bool, true, false, nat_eq, nat_lt, List, [], ◌∷◌, ◌++◌, slice_index_or, slice_set, bit_and, bit_or, Fits, w8, w32, w64, Bor, MutBor}
-use Rattle.sq_base.specs.Stamps.{Below}
-use Rattle.sq_model.specs.declared.shared.SharedAct.TheVariants as asks
-use Rattle.sq_model.specs.Shared.{IsUnrecorded, shared_stamp}
-use Rattle.sq_ledger.specs.LedgerHistories.{IsPrepared}
-use Rattle.sq_steps.specs.SharedSteps.{asked_as, BothDo, SharedMoves, IsUnmoved, IsPairRefused, IsSharedRefused}
+use Rattle.std.proofs.Common.{rules, ◌≡◌}
+use Rattle.sq_steps.proofs.SharedLaws.{give_up_out, half_given_up}
 use Rattle.sq_steps.proofs.shared.give_up.Goals as goal
 
--- src/shared.rt:176:9
 pub returns-in_err-answered-clause-refusal : goal.returns-in_err-answered-clause-refusal
-returns-in_err-answered-clause-refusal c = ?
+returns-in_err-answered-clause-refusal c =
+    let refused = give_up_out c.args.home.now c.args.ledger.now.history.ledger c.args.stamp.moment c.args.number _ c.in_err-answered.field-0.0 c.item.ensures c.in_err-answered.ensures.refusal in
+    search rules
 
--- src/shared.rt:177:5
 pub drop_item-requires-clause-given_up : goal.drop_item-requires-clause-given_up
-drop_item-requires-clause-given_up c = ?
+drop_item-requires-clause-given_up c =
+    let did = c.in_ok-answered.ensures.given_up in
+    let half = c.in_ok-answered.field-0 in
+    let says = half_given_up c.args.home.now _ c.args.by.now c.args.stamp c.args.name did.0 half did.2 in
+    (did.0, search rules, says.0, rw c.home.ensures says.1)
 
--- src/shared.rt:177:5
 pub drop_item-requires-clause-reply : goal.drop_item-requires-clause-reply
-drop_item-requires-clause-reply c = ?
+drop_item-requires-clause-reply c =
+    let did = c.in_ok-answered.ensures.given_up in
+    (half_given_up c.args.home.now _ c.args.by.now c.args.stamp c.args.name did.0 c.in_ok-answered.field-0 did.2).2
