@@ -7,7 +7,8 @@ use sq_base::message_id::MessageId;
 use sq_base::ranges::Retention;
 use sq_base::row::Row;
 use sq_model::calls::{HomeCall, Receipt};
-use sq_model::replies::SentMessage;
+use sq_model::item::{Item, Reason};
+use sq_model::replies::{EnteredRow, SentMessage};
 
 /// What decides how a row leaves its home. The moment is in ms.
 #[derive(Clone, Copy, PartialEq, Eq, Debug)]
@@ -52,6 +53,43 @@ pub fn sent(message: &SentMessage, moment: u64) -> RowState
         serial: message.id.serial,
         slot: message.slot,
         enqueued: moment,
+        receives: 0,
+    }
+}
+
+/// Whether slot and serial are those of this row.
+pub fn is_of(row: &Row, state: &RowState) -> bool
+    ensures { result ≡ states.is_of row.now state.now }
+{
+    state.slot == row.slot && state.serial == row.serial
+}
+
+/// The row of an item that comes in at its target at a moment. A dead letter keeps its age.
+pub fn entered(item: &Item, entered: &EnteredRow, moment: u64) -> RowState
+    ensures { result ≡ states.entered_state moment item.now entered.now }
+{
+    let enqueued = match item.reason {
+        Reason::DeadLetter => item.row.enqueued,
+        Reason::Task(_) => moment,
+    };
+    RowState {
+        lineage: item.row.lineage,
+        serial: entered.serial,
+        slot: entered.slot,
+        enqueued,
+        receives: 0,
+    }
+}
+
+/// The row of an item that comes back to its source.
+pub fn returned(item: &Item, entered: &EnteredRow) -> RowState
+    ensures { result ≡ states.returned_state item.now entered.now }
+{
+    RowState {
+        lineage: item.row.lineage,
+        serial: entered.serial,
+        slot: entered.slot,
+        enqueued: item.row.enqueued,
         receives: 0,
     }
 }
