@@ -383,7 +383,7 @@ none_kept (Some policy) m = refl
 
 -- nothing is in a closed home
 closed_stays : (policy : Option Policy) (m : ℕ) → Mirrors Closed policy policy m Stays [] Closed
-closed_stays policy m = rw (none_past policy m, none_kept policy m) (record { rising = tt; goes_by = tt; states = sym (none_kept policy m); ends = ap (λ (rows : List RowState). ended_states Expired rows ++ []) (sym (none_past policy m)); split = tt })
+closed_stays policy m = record { rising = tt; goes_by = tt; states = sym (none_kept policy m); ends = ap (λ (rows : List RowState). ended_states Expired rows ++ []) (sym (none_past policy m)); split = tt }
 
 pub mirrors : (site : Site) (home : Home) (policy : Option Policy) (m : ℕ) (call : HomeCall) (reply : HomeReply) (after : Home) → HomeStep site home m call reply after → IsRising home → GoesBy home policy
     → Mirrors home policy (next_policy policy call) m (effect_of m call reply) (home_ends home m call ++ given_up call) after
