@@ -254,7 +254,7 @@ sent_other x y (Here i row) sends ends items e = refl
 sent_other x y Going sends ends items e = refl
 sent_other x y (Gone place) sends ends items e = refl
 
-same_home_row : (i : ℕ) (row : RowState) → rows_at i (Here i row) ≡ row ∷ []
+pub same_home_row : (i : ℕ) (row : RowState) → rows_at i (Here i row) ≡ row ∷ []
 same_home_row i row = elim (eqb_tells i i) as (λ _. cond (i == i) (row ∷ []) [] ≡ row ∷ []) [ inl q ↦ rw q.0 refl | inr q ↦ absurd (q.1 refl) ]
 
 other_home_row : (i k : ℕ) (row : RowState) → i ≢ k → rows_at k (Here i row) ≡ []
