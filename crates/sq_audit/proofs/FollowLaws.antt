@@ -10,10 +10,11 @@ use Rattle.sq_base.specs.declared.row.Row.{Row}
 use Rattle.sq_model.specs.declared.place.Site.{Site}
 use Rattle.sq_model.specs.declared.calls.HomeCall.{HomeCall}
 use Rattle.sq_model.specs.declared.item.Item.{Item}
+use Rattle.sq_model.specs.declared.replies.HomeReply.{HomeReply}
 use Rattle.sq_model.specs.Homes.{Home, Unopened, IsRising}
 use Rattle.sq_model.specs.Ledgers.{Ledger, LedgerEvent, IsLedger}
 use Rattle.sq_model.specs.Lineages.{Ending, given_up, home_ends, home_ins, home_outs, home_sends, items_with, rows_of, same_id, rows_with, ends_with, sends_with}
-use Rattle.sq_model.specs.Places.{homes_with, place_in, run_ends, run_sends}
+use Rattle.sq_model.specs.Places.{homes_with, place_in, run_ends, run_sends, step_ends, tag_sends}
 use Rattle.sq_model.specs.Replays.{HomeEvent}
 use Rattle.sq_model.specs.Systems.{HomeAt, HomeSteps, System, Tag, OfDirectory, OfLedger, OfHome, IsStep, LedgerGoes, RunFrom, opening, IsOnePlace, is_alone}
 use Rattle.sq_model.specs.declared.ledger.LedgerCall.TheVariants as asks
@@ -32,7 +33,7 @@ use Rattle.sq_audit.specs.Tags.{tag_of, tags_of}
 use Rattle.sq_audit.specs.RowStates.{next_policy, states_of, Effect, Stays, Arrives, Looks, Leaves, Departs, Enters, Drops, effect_of, effect_sends, effect_outs, effect_ins, state_ends}
 use Rattle.sq_audit.specs.MessagePasses.{policy_step, policy_at, leaves, trimmed_state, state_after, is_in, known_policy, next_state, next_pass, pass_step, pass_from, start, answer}
 use Rattle.sq_directory.proofs.ElementLaws.{get_same, get_other}
-use Rattle.sq_audit.proofs.StateLaws.{GoesBy, mirrors, passes}
+use Rattle.sq_audit.proofs.StateLaws.{GoesBy, Passes, mirrors, passes}
 use Rattle.sq_audit.proofs.MessageStateLaws.{mine, rows_at, sent_at, going_at, place_from, place_now, same_home_row, FollowsEvent, follows_event}
 
 -- ---- the passes, event by event
@@ -43,10 +44,6 @@ fold_more f a xs x = fold-append f a xs (x ∷ [])
 -- what a home goes by after one event more
 policy_more : (i : ℕ) (ts : List Tag) (t : Tag) → policy_at i (ts ++ t ∷ []) ≡ policy_step i (policy_at i ts) t
 policy_more i ts t = fold_more (policy_step i) None ts t
-
-pub policy_tags : (i : ℕ) (policy : Option Policy) (ts : List Tagged) → fold (policy_step i) policy (tags_of ts) ≡ fold (λ (p : Option Policy) (t : Tagged). policy_step i p (tag_of t)) policy ts
-policy_tags i policy [] = refl
-policy_tags i policy (t ∷ ts) = policy_tags i (policy_step i policy (tag_of t)) ts
 
 pass_more : (x : MessageId) (before : List Tag) (k : MessagePass) (ts : List Tag) (t : Tag) → pass_from x before k (ts ++ t ∷ []) ≡ pass_step x (before ++ ts) (pass_from x before k ts) t
 pass_more x before k [] t = ap (λ (us : List Tag). pass_step x us k t) (sym (append-nil before))
@@ -90,32 +87,35 @@ ends_lines x [] = refl
 ends_lines x (e ∷ ends) =
     omega (arith, sum_by-cons (λ (y : MessageId). cond (same_id x y) 1 0) e.line (map (λ r. r.line) ends), sum_by-cons (λ (r : Ending). cond (same_id x r.line) 1 0) e ends, ends_lines x ends)
 
--- what a step of a home takes out of transit, and brings in, by its effect
-pub home_moves : (x : MessageId) (before : System) (i : ℕ) (e : HomeEvent) (after : System) (s : IsStep before (OfHome i e) after) → IsLedger before.ledger
-    → items_with x after.ledger.items + sends_with x (effect_ins (effect_of e.stamp.moment e.call e.reply)) ≡ items_with x before.ledger.items + sends_with x (effect_outs (effect_of e.stamp.moment e.call e.reply))
-home_moves x before i e after s h =
-    let passed = passes s.old.site s.old.home e.stamp.moment e.call e.reply s.new s.step in
-    let law = run_law x before (OfHome i e ∷ []) after (after, s, refl) h in
+-- in a step nothing is lost and nothing is made twice
+pub step_counts : (x : MessageId) (before : System) (t : Tag) (after : System) (s : IsStep before t after) → IsLedger before.ledger
+    → homes_with x after.homes + items_with x after.ledger.items + ends_with x (step_ends before t after s) ≡ homes_with x before.homes + items_with x before.ledger.items + sends_with x (tag_sends t)
+step_counts x before t after s h = omega (arith, run_law x before (t ∷ []) after (after, s, refl) h, ends_append x (step_ends before t after s) [], sends_append x (tag_sends t) [])
+
+-- what a step of a home takes out of transit, and brings in
+pub home_transit : (x : MessageId) (before : System) (i : ℕ) (e : HomeEvent) (after : System) (s : IsStep before (OfHome i e) after) → IsLedger before.ledger
+    → items_with x after.ledger.items + rows_with x (home_ins e.call) + ends_with x (given_up e.call) ≡ items_with x before.ledger.items + rows_with x (home_outs e.reply)
+home_transit x before i e after s h =
+    let law = step_counts x before (OfHome i e) after s h in
     let put = ap (homes_with x) s.homes in
     let rows = home_law x s.old.site s.old.home e.stamp.moment e.call e.reply s.new s.step in
     let moved = sum_set (λ (at : HomeAt). rows_with x (rows_of at.home)) before.homes i s.old (record { site = s.old.site; home = s.new }) s.in_list in
-    let outs : sends_with x (effect_outs (effect_of e.stamp.moment e.call e.reply)) ≡ rows_with x (home_outs e.reply) = ap (sends_with x) (sym passed.outs) ∙ rows_lines x (home_outs e.reply) in
-    let ins : sends_with x (effect_ins (effect_of e.stamp.moment e.call e.reply)) ≡ sends_with x (map (λ row. row.lineage) (home_ins e.call)) + sends_with x (map (λ g. g.line) (given_up e.call)) =
-    ap (sends_with x) (sym passed.ins) ∙ sends_append x (map (λ row. row.lineage) (home_ins e.call)) (map (λ g. g.line) (given_up e.call)) in
-    omega (
-      arith,
-      law,
-      put,
-      rows,
-      moved,
-      outs,
-      ins,
-      rows_lines x (home_ins e.call),
-      ends_lines x (given_up e.call),
-      ends_append x (home_ends s.old.home e.stamp.moment e.call ++ given_up e.call) [],
-      ends_append x (home_ends s.old.home e.stamp.moment e.call) (given_up e.call),
-      sends_append x (home_sends e.reply) [],
-    )
+    omega (arith, law, put, rows, moved, ends_append x (home_ends s.old.home e.stamp.moment e.call) (given_up e.call))
+
+-- and by its effect
+outs_by : (x : MessageId) (m : ℕ) (call : HomeCall) (reply : HomeReply) → Passes m call reply → sends_with x (effect_outs (effect_of m call reply)) ≡ rows_with x (home_outs reply)
+outs_by x m call reply passed = ap (sends_with x) (sym passed.outs) ∙ rows_lines x (home_outs reply)
+
+ins_by : (x : MessageId) (m : ℕ) (call : HomeCall) (reply : HomeReply) → Passes m call reply → sends_with x (effect_ins (effect_of m call reply)) ≡ rows_with x (home_ins call) + ends_with x (given_up call)
+ins_by x m call reply passed =
+    let both = ap (sends_with x) (sym passed.ins) ∙ sends_append x (map (λ row. row.lineage) (home_ins call)) (map (λ g. g.line) (given_up call)) in
+    omega (arith, both, rows_lines x (home_ins call), ends_lines x (given_up call))
+
+home_moves : (x : MessageId) (before : System) (i : ℕ) (e : HomeEvent) (after : System) (s : IsStep before (OfHome i e) after) → IsLedger before.ledger
+    → items_with x after.ledger.items + sends_with x (effect_ins (effect_of e.stamp.moment e.call e.reply)) ≡ items_with x before.ledger.items + sends_with x (effect_outs (effect_of e.stamp.moment e.call e.reply))
+home_moves x before i e after s h =
+    let passed = passes s.old.site s.old.home e.stamp.moment e.call e.reply s.new s.step in
+    omega (arith, home_transit x before i e after s h, outs_by x e.stamp.moment e.call e.reply passed, ins_by x e.stamp.moment e.call e.reply passed)
 
 -- no event does both
 one_way : (effect : Effect) → (effect_ins effect ≡ []) ⊎ (effect_outs effect ≡ [])
@@ -126,6 +126,15 @@ one_way (Leaves p cause) = inl refl
 one_way (Departs row) = inl refl
 one_way (Enters row) = inr refl
 one_way (Drops line) = inr refl
+
+pub home_one_way : (x : MessageId) (before : System) (i : ℕ) (e : HomeEvent) (after : System) → IsStep before (OfHome i e) after → (rows_with x (home_ins e.call) ≡ 0) ⊎ (rows_with x (home_outs e.reply) ≡ 0)
+home_one_way x before i e after s =
+    let effect = effect_of e.stamp.moment e.call e.reply in
+    let passed = passes s.old.site s.old.home e.stamp.moment e.call e.reply s.new s.step in
+    elim (one_way effect) as (λ _. (rows_with x (home_ins e.call) ≡ 0) ⊎ (rows_with x (home_outs e.reply) ≡ 0)) [
+      | inl none ↦ (let zero_in : sends_with x (effect_ins effect) ≡ 0 = ap (sends_with x) none in inl (omega (arith, zero_in, ins_by x e.stamp.moment e.call e.reply passed)))
+      | inr none ↦ (let zero_out : sends_with x (effect_outs effect) ≡ 0 = ap (sends_with x) none in inr (omega (arith, zero_out, outs_by x e.stamp.moment e.call e.reply passed)))
+    ]
 
 -- who comes in was in transit
 came_from : (x : MessageId) (effect : Effect) (after before : ℕ) → after + sends_with x (effect_ins effect) ≡ before + sends_with x (effect_outs effect) → sends_with x (effect_ins effect) ≤ before
