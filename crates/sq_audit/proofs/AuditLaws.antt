@@ -15,8 +15,8 @@ use Rattle.sq_model.specs.declared.place.Place.TheVariants as at
 use Rattle.sq_model.specs.declared.place.Site.{Site}
 use Rattle.sq_model.specs.declared.replies.HomeReply.{HomeReply}
 use Rattle.sq_model.specs.Homes.{Home, Unopened, IsRising}
-use Rattle.sq_model.specs.Lineages.{Cause, Expired, GivenUp, Ending, given_up, home_ends, home_ins, home_outs, home_sends, items_with, rows_of, rows_with, same_id, ends_with, sends_with}
-use Rattle.sq_model.specs.Places.{homes_with, place_after, place_within, first_end, place_in, run_ends, run_sends, step_ends}
+use Rattle.sq_model.specs.Lineages.{Cause, Expired, Ending, given_up, home_ends, home_ins, home_outs, home_sends, items_with, rows_of, rows_with, same_id, ends_with, sends_with}
+use Rattle.sq_model.specs.Places.{homes_with, place_after, place_within, first_end, place_in, run_ends, run_sends}
 use Rattle.sq_model.specs.Ledgers.{Ledger, IsLedger}
 use Rattle.sq_model.specs.Systems.{HomeAt, HomeSteps, IsStep, System, Tag, OfDirectory, OfLedger, OfHome, RunFrom, opening, IsOnePlace}
 use Rattle.sq_laws.proofs.LedgerLaws.{opens}
@@ -307,5 +307,5 @@ audit_places x places limit sites ts run same after r a one is =
     let ends = run_ends before run after r in
     let nobody : homes_with x before.homes ≡ 0 = nobody_yet x sites in
     rw (is, sym (fold_tags no_audit ts), same, found.all_sends, found.all_moves, found.all_ends) (listed_law x (run_sends run) (run_moves run) ends after.ledger.items (omega (arith, once.0)) once.1
-        (λ none. nowhere_law x before run after r None (opens limit) (omega (arith, none, nobody)))
-        (λ none. moves_law x before run after r (opens limit) (omega (arith, once.1, nobody)) none))
+    (λ none. nowhere_law x before run after r None (opens limit) (omega (arith, none, nobody)))
+    (λ none. moves_law x before run after r (opens limit) (omega (arith, once.1, nobody)) none))

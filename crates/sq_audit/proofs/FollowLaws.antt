@@ -1,7 +1,7 @@
 -- The pass over a run gives the place of a message.
 use Rattle.std.proofs.Common.{◌≡◌, ◌≢◌, ℕ, zero, suc, ◌+◌, ◌<◌, ◌≤◌, Bool, true, false, cond, List, [], ◌∷◌, ◌++◌, length, map, take, refl, arith, ap, sym, ◌∙◌, subst, inl, inr, Option, Some, None, slice_get, slice_set, get_or, append_assoc}
 use Rattle.std.specs.Prelude.{◌⊎◌, ◌==◌, if◌then◌else◌}
-use Rattle.std.specs.List.{fold, sum_by}
+use Rattle.std.specs.List.{fold}
 use Rattle.std.proofs.lemmas.Bool.Decides.{eqb_tells}
 use Rattle.std.proofs.lemmas.List.{append-nil, map-append, take_more}
 use Rattle.std.proofs.lemmas.List.Sums.{sum_by-cons, fold-append}
@@ -9,7 +9,6 @@ use Rattle.sq_base.specs.declared.message_id.MessageId.{MessageId}
 use Rattle.sq_base.specs.declared.row.Row.{Row}
 use Rattle.sq_model.specs.declared.place.Site.{Site}
 use Rattle.sq_model.specs.declared.calls.HomeCall.{HomeCall}
-use Rattle.sq_model.specs.declared.item.Item.{Item}
 use Rattle.sq_model.specs.declared.replies.HomeReply.{HomeReply}
 use Rattle.sq_model.specs.Homes.{Home, Unopened, IsRising}
 use Rattle.sq_model.specs.Ledgers.{Ledger, LedgerEvent, IsLedger}
@@ -30,8 +29,8 @@ use Rattle.sq_audit.specs.declared.message_pass.MessageState.{MessageState}
 use Rattle.sq_audit.specs.declared.message_pass.MessageState.TheVariants.{Unsent, Here, Going, Gone}
 use Rattle.sq_audit.specs.declared.message_pass.MessagePass.{MessagePass}
 use Rattle.sq_audit.specs.Tags.{tag_of, tags_of}
-use Rattle.sq_audit.specs.RowStates.{next_policy, states_of, Effect, Stays, Arrives, Looks, Leaves, Departs, Enters, Drops, effect_of, effect_sends, effect_outs, effect_ins, state_ends}
-use Rattle.sq_audit.specs.MessagePasses.{policy_step, policy_at, leaves, trimmed_state, state_after, is_in, known_policy, next_state, next_pass, pass_step, pass_from, start, answer}
+use Rattle.sq_audit.specs.RowStates.{next_policy, states_of, Effect, Stays, Arrives, Looks, Leaves, Departs, Enters, Drops, effect_of, effect_sends, effect_outs, effect_ins}
+use Rattle.sq_audit.specs.MessagePasses.{policy_step, policy_at, trimmed_state, state_after, is_in, known_policy, next_state, next_pass, pass_step, pass_from, start, answer}
 use Rattle.sq_directory.proofs.ElementLaws.{get_same, get_other}
 use Rattle.sq_audit.proofs.StateLaws.{GoesBy, Passes, mirrors, passes}
 use Rattle.sq_audit.proofs.MessageStateLaws.{mine, rows_at, sent_at, going_at, place_from, place_now, same_home_row, FollowsEvent, follows_event}

@@ -1,6 +1,6 @@
 -- What an event of a home does to one message.
-use Rattle.std.proofs.Common.{◌≡◌, ◌≢◌, ℕ, ◌+◌, ◌≤◌, Bool, true, false, not, cond, List, [], ◌∷◌, ◌++◌, map, refl, arith, ap, sym, ◌∙◌, subst, inl, inr, Option, Some, None, append_assoc}
-use Rattle.std.specs.Prelude.{◌⊎◌, ◌==◌, ◌&&◌, nat_lt, filter, if◌then◌else◌}
+use Rattle.std.proofs.Common.{◌≡◌, ◌≢◌, ℕ, ◌+◌, ◌≤◌, Bool, true, false, not, cond, List, [], ◌∷◌, ◌++◌, map, refl, arith, ap, sym, ◌∙◌, inl, inr, Option, Some, None, append_assoc}
+use Rattle.std.specs.Prelude.{◌==◌, ◌&&◌, nat_lt, filter, if◌then◌else◌}
 use Rattle.std.proofs.lemmas.Grind.{common_steps}
 use Rattle.std.proofs.lemmas.Bool.Decides.{eqb_tells}
 use Rattle.std.proofs.lemmas.List.{append-nil}
@@ -13,13 +13,13 @@ use Rattle.sq_model.specs.declared.place.Place.{Place}
 use Rattle.sq_model.specs.declared.place.Place.TheVariants as at
 use Rattle.sq_model.specs.Rows.{has_serial}
 use Rattle.sq_model.specs.Lineages.{Cause, Expired, GivenUp, Ending, items_with, same_id, sends_with}
-use Rattle.sq_model.specs.Places.{place_after, place_within, first_end, place_in}
+use Rattle.sq_model.specs.Places.{place_after, first_end, place_in}
 use Rattle.sq_steps.proofs.FilterLaws.{filter_swap}
 use Rattle.sq_audit.specs.declared.state.RowState.{RowState}
 use Rattle.sq_audit.specs.declared.state.Policy.{Policy}
 use Rattle.sq_audit.specs.declared.message_pass.MessageState.{MessageState}
 use Rattle.sq_audit.specs.declared.message_pass.MessageState.TheVariants.{Unsent, Here, Going, Gone}
-use Rattle.sq_audit.specs.RowStates.{is_past, is_of, state_of, sent_state, looked, Effect, Stays, Arrives, Looks, Leaves, Departs, Enters, Drops, effect_sends, effect_outs, effect_ins, kept_states, past_states, states_after, ended_states, left_states, state_ends}
+use Rattle.sq_audit.specs.RowStates.{is_past, state_of, sent_state, looked, Effect, Stays, Arrives, Looks, Leaves, Departs, Enters, Drops, effect_sends, effect_outs, effect_ins, kept_states, past_states, states_after, ended_states, left_states, state_ends}
 use Rattle.sq_audit.specs.MessagePasses.{leaves, changes, becomes, trimmed_state, state_after, answer}
 use Rattle.sq_audit.proofs.StateLaws.{Splits}
 

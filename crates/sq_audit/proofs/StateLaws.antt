@@ -18,7 +18,6 @@ use Rattle.sq_model.specs.declared.replies.EnteredRow.{EnteredRow}
 use Rattle.sq_model.specs.declared.replies.HomeReply.{HomeReply}
 use Rattle.sq_model.specs.declared.replies.HomeReply.TheVariants.{Done, Sent, Looked, Over, Counted, Left, NoLiveRow, NoOrigin, SourceClosed, Entered}
 use Rattle.sq_base.specs.declared.ids.HomeId.{HomeId}
-use Rattle.sq_base.specs.declared.message_id.MessageId.{MessageId}
 use Rattle.sq_model.specs.Rows.{ms, trimmed, is_visible, is_dead, is_live, is_held, serials_of, has_serial, received, received_if, changed_if, RisesFrom, IsLook, Takes}
 use Rattle.sq_model.specs.Homes.{Home, Unopened, Serving, Closed, HomeStep, IsRising, sent_row, entered_as, entered_row, returned_as, returned_row}
 use Rattle.sq_model.specs.Lineages.{Cause, Expired, Deleted, Purged, ClosedAway, GivenUp, Ending, ended, expired, given_up, home_ends, home_ins, home_outs, home_sends}

@@ -5,7 +5,7 @@ ghost use Rattle.sq_model.specs.declared.place.Site.{Site};
 ghost use Rattle.sq_model.specs.Systems.{System, RunFrom, opening, IsOnePlace};
 ghost use Rattle.sq_model.specs.Places.{run_ends, run_sends, place_in};
 ghost use Rattle.sq_model.specs.declared.place.Place.TheVariants as at;
-ghost use Rattle.sq_audit.specs.RowStates.{effect_of, sent_by, looked_by, left_by, entered_by, returned_by, is_named};
+ghost use Rattle.sq_audit.specs.RowStates.{effect_of, sent_by, looked_by, left_by, entered_by, returned_by, is_named, is_past};
 ghost use Rattle.sq_audit.specs.Tags.{tag_of, tags_of};
 ghost use Rattle.sq_audit.specs.MessagePasses as tracks;
 ghost use Rattle.sq_audit.specs.declared.message_pass.MessageState.TheVariants.{Gone};
@@ -16,6 +16,7 @@ use crate::state::{
 };
 use crate::tagged::Tagged;
 use sq_base::message_id::MessageId;
+use sq_base::ranges::Retention;
 use sq_model::calls::{HomeCall, Receipt};
 use sq_model::event::Event;
 use sq_model::item::Item;
@@ -146,13 +147,17 @@ fn policy_after(index: u32, policy: Option<Policy>, tagged: &Tagged<'_>) -> Opti
 fn trimmed(index: u32, policy: Option<Policy>, moment: u64, state: MessageState) -> MessageState
     ensures { result ≡ tracks.trimmed_state index policy moment state }
 {
-    let Some(policy) = policy else {
-        return state;
-    };
+    match policy {
+        Some(policy) => expired(index, policy.retention, moment, state),
+        None => state,
+    }
+}
+
+fn expired(index: u32, retention: Retention, moment: u64, state: MessageState) -> MessageState
+    ensures { result ≡ tracks.leaves index (is_past retention moment) at.Expired state }
+{
     match state {
-        MessageState::Here(home, row)
-            if home == index && is_past(policy.retention, moment, &row) =>
-        {
+        MessageState::Here(home, row) if home == index && is_past(retention, moment, &row) => {
             MessageState::Gone(Place::Expired)
         }
         other => other,

@@ -48,13 +48,7 @@ pub fn is_named(receipt: &Receipt, row: &RowState) -> bool
 pub fn sent(message: &SentMessage, moment: u64) -> RowState
     ensures { result ≡ states.sent_state message.now moment }
 {
-    RowState {
-        lineage: message.id,
-        serial: message.id.serial,
-        slot: message.slot,
-        enqueued: moment,
-        receives: 0,
-    }
+    new_row(message.id, message.id.serial, message.slot, moment)
 }
 
 /// Whether slot and serial are those of this row.
@@ -72,24 +66,30 @@ pub fn entered(item: &Item, entered: &EnteredRow, moment: u64) -> RowState
         Reason::DeadLetter => item.row.enqueued,
         Reason::Task(_) => moment,
     };
-    RowState {
-        lineage: item.row.lineage,
-        serial: entered.serial,
-        slot: entered.slot,
-        enqueued,
-        receives: 0,
-    }
+    new_row(item.row.lineage, entered.serial, entered.slot, enqueued)
 }
 
 /// The row of an item that comes back to its source.
 pub fn returned(item: &Item, entered: &EnteredRow) -> RowState
     ensures { result ≡ states.returned_state item.now entered.now }
 {
+    new_row(
+        item.row.lineage,
+        entered.serial,
+        entered.slot,
+        item.row.enqueued,
+    )
+}
+
+// A row that was never received at its home.
+fn new_row(lineage: MessageId, serial: Serial, slot: u32, enqueued: u64) -> RowState
+    ensures { result ≡ record { lineage = lineage; serial = serial; slot = slot; enqueued = enqueued; receives = 0 } }
+{
     RowState {
-        lineage: item.row.lineage,
-        serial: entered.serial,
-        slot: entered.slot,
-        enqueued: item.row.enqueued,
+        lineage,
+        serial,
+        slot,
+        enqueued,
         receives: 0,
     }
 }
