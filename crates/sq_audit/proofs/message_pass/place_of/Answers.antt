@@ -1,4 +1,4 @@
-use Rattle.std.proofs.Common.{rules, ◌≡◌, ◌<◌, take, length, sym, ap, ◌∙◌, []}
+use Rattle.std.proofs.Common.{rules, ◌≡◌, take, sym, ap, ◌∙◌, []}
 use Rattle.std.proofs.lemmas.List.{take_all}
 use Rattle.sq_audit.specs.Tags.{tag_of, tags_of}
 use Rattle.sq_audit.specs.MessagePasses.{pass_step, pass_from, start, answer}
