@@ -26,7 +26,7 @@ use Rattle.sq_audit.specs.declared.tagged.Tagged.{Tagged}
 use Rattle.sq_audit.specs.declared.state.Policy.{Policy}
 use Rattle.sq_audit.specs.declared.state.RowState.{RowState}
 use Rattle.sq_audit.specs.declared.message_pass.MessageState.{MessageState}
-use Rattle.sq_audit.specs.declared.message_pass.MessageState.TheVariants.{Unsent, Here, Going, Gone}
+use Rattle.sq_audit.specs.declared.message_pass.MessageState.TheVariants.{Unsent, Here, InTransit, Gone}
 use Rattle.sq_audit.specs.declared.message_pass.MessagePass.{MessagePass}
 use Rattle.sq_audit.specs.Tags.{tag_of, tags_of}
 use Rattle.sq_audit.specs.RowStates.{next_policy, states_of, Effect, Stays, Arrives, Looks, Leaves, Departs, Enters, Drops, effect_of, effect_sends, effect_outs, effect_ins}
@@ -153,7 +153,7 @@ FitsAt x i home ts k = IsRising home × GoesBy home (policy_at i ts) × (mine x 
 abbrev Knows : List Tag → Option Policy → MessageState → Type 0
 Knows ts policy Unsent = Unit {0}
 Knows ts policy (Here i row) = policy ≡ policy_at i ts
-Knows ts policy Going = Unit {0}
+Knows ts policy InTransit = Unit {0}
 Knows ts policy (Gone place) = Unit {0}
 
 record Fits (x : MessageId) (system : System) (ts : List Tag) (k : MessagePass) : Type 0 where
@@ -165,7 +165,7 @@ record Fits (x : MessageId) (system : System) (ts : List Tag) (k : MessagePass) 
 knows_same : (ts us : List Tag) (policy : Option Policy) (state : MessageState) → ((i : ℕ) → policy_at i us ≡ policy_at i ts) → Knows ts policy state → Knows us policy state
 knows_same ts us policy Unsent same h = tt
 knows_same ts us policy (Here i row) same h = h ∙ sym (same i)
-knows_same ts us policy Going same h = tt
+knows_same ts us policy InTransit same h = tt
 knows_same ts us policy (Gone place) same h = tt
 
 -- an event that is no home's
@@ -199,13 +199,13 @@ trim_away : (i m : ℕ) (policy : Option Policy) (state : MessageState) → is_i
 trim_away i m None state away = refl
 trim_away i m (Some policy) Unsent away = refl
 trim_away i m (Some policy) (Here j row) away = rw away refl
-trim_away i m (Some policy) Going away = refl
+trim_away i m (Some policy) InTransit away = refl
 trim_away i m (Some policy) (Gone place) away = refl
 
 -- the trim goes by the policy that is kept, where the message is there
 trims_same : (i m : ℕ) (ts : List Tag) (policy : Option Policy) (state : MessageState) → Knows ts policy state → trimmed_state i policy m state ≡ trimmed_state i (policy_at i ts) m state
 trims_same i m ts policy Unsent h = trim_away i m policy Unsent refl ∙ sym (trim_away i m (policy_at i ts) Unsent refl)
-trims_same i m ts policy Going h = trim_away i m policy Going refl ∙ sym (trim_away i m (policy_at i ts) Going refl)
+trims_same i m ts policy InTransit h = trim_away i m policy InTransit refl ∙ sym (trim_away i m (policy_at i ts) InTransit refl)
 trims_same i m ts policy (Gone place) h = trim_away i m policy (Gone place) refl ∙ sym (trim_away i m (policy_at i ts) (Gone place) refl)
 trims_same i m ts policy (Here j row) h =
     elim (eqb_tells j i) as (λ _. trimmed_state i policy m (Here j row) ≡ trimmed_state i (policy_at i ts) m (Here j row)) [
@@ -215,7 +215,7 @@ trims_same i m ts policy (Here j row) h =
 
 kept_is : (i : ℕ) (ts : List Tag) (policy : Option Policy) (state : MessageState) → Knows ts policy state → is_in i state ≡ true → policy ≡ policy_at i ts
 kept_is i ts policy Unsent h e = absurd cc
-kept_is i ts policy Going h e = absurd cc
+kept_is i ts policy InTransit h e = absurd cc
 kept_is i ts policy (Gone place) h e = absurd cc
 kept_is i ts policy (Here j row) h e = elim (eqb_tells j i) as (λ _. policy ≡ policy_at i ts) [ inl q ↦ h ∙ ap (λ (n : ℕ). policy_at n ts) q.1 | inr q ↦ (let off : false ≡ true = sym q.0 ∙ e in absurd cc) ]
 
@@ -230,7 +230,7 @@ known_here i j ts call k row same h =
 known_there : (i j : ℕ) (ts : List Tag) (call : HomeCall) (policy : Option Policy) (state : MessageState) (row : RowState) → i ≢ j → Knows ts policy state → rows_at j (Here j row) ≡ rows_at j state
     → known_policy ts i (record { policy = policy; state = state }) call (Here j row) ≡ policy_at j ts
 known_there i j ts call policy Unsent row ne h same = let e : row ∷ [] ≡ [] = sym (same_home_row j row) ∙ same in absurd cc
-known_there i j ts call policy Going row ne h same = let e : row ∷ [] ≡ [] = sym (same_home_row j row) ∙ same in absurd cc
+known_there i j ts call policy InTransit row ne h same = let e : row ∷ [] ≡ [] = sym (same_home_row j row) ∙ same in absurd cc
 known_there i j ts call policy (Gone place) row ne h same = let e : row ∷ [] ≡ [] = sym (same_home_row j row) ∙ same in absurd cc
 known_there i j ts call policy (Here n r) row ne h same =
     elim (eqb_tells n j) as (λ _. known_policy ts i (record { policy = policy; state = Here n r }) call (Here j row) ≡ policy_at j ts) [
@@ -245,7 +245,7 @@ known_there i j ts call policy (Here n r) row ne h same =
 known_next : (i : ℕ) (ts : List Tag) (e : HomeEvent) (k : MessagePass) (next : MessageState) → Knows ts k.policy k.state → ((j : ℕ) → i ≢ j → rows_at j next ≡ rows_at j k.state)
     → Knows (ts ++ OfHome i e ∷ []) (known_policy ts i k e.call next) next
 known_next i ts e k Unsent h others = tt
-known_next i ts e k Going h others = tt
+known_next i ts e k InTransit h others = tt
 known_next i ts e k (Gone place) h others = tt
 known_next i ts e k (Here j row) h others =
     elim (eqb_tells i j) as (λ _. known_policy ts i k e.call (Here j row) ≡ policy_at j (ts ++ OfHome i e ∷ [])) [

@@ -18,7 +18,7 @@ use Rattle.sq_steps.proofs.FilterLaws.{filter_swap}
 use Rattle.sq_audit.specs.declared.state.RowState.{RowState}
 use Rattle.sq_audit.specs.declared.state.Policy.{Policy}
 use Rattle.sq_audit.specs.declared.message_pass.MessageState.{MessageState}
-use Rattle.sq_audit.specs.declared.message_pass.MessageState.TheVariants.{Unsent, Here, Going, Gone}
+use Rattle.sq_audit.specs.declared.message_pass.MessageState.TheVariants.{Unsent, Here, InTransit, Gone}
 use Rattle.sq_audit.specs.RowStates.{is_past, state_of, sent_state, looked, Effect, Stays, Arrives, Looks, Leaves, Departs, Enters, Drops, effect_sends, effect_outs, effect_ins, kept_states, past_states, states_after, ended_states, left_states, state_ends}
 use Rattle.sq_audit.specs.MessagePasses.{leaves, changes, becomes, trimmed_state, state_after, answer}
 use Rattle.sq_audit.proofs.StateLaws.{Splits}
@@ -30,28 +30,28 @@ mine x rows = filter (λ row. same_id x row.lineage) rows
 abbrev pub rows_at : ℕ → MessageState → List RowState
 rows_at i Unsent = []
 rows_at i (Here j row) = cond (j == i) (row ∷ []) []
-rows_at i Going = []
+rows_at i InTransit = []
 rows_at i (Gone place) = []
 
 -- how often it was sent
 abbrev pub sent_at : MessageState → ℕ
 sent_at Unsent = 0
 sent_at (Here i row) = 1
-sent_at Going = 1
+sent_at InTransit = 1
 sent_at (Gone place) = 1
 
 -- how often it is in transit
 abbrev pub going_at : MessageState → ℕ
 going_at Unsent = 0
 going_at (Here i row) = 0
-going_at Going = 1
+going_at InTransit = 1
 going_at (Gone place) = 0
 
 -- the place, where this is known, the rest comes, and then these items are in transit
 abbrev pub place_from : MessageId → MessageState → List MessageId → List Ending → List Item → Option Place
 place_from x Unsent sends ends items = place_in x sends ends items
 place_from x (Here i row) sends ends items = Some (first_end x ends items)
-place_from x Going sends ends items = Some (first_end x ends items)
+place_from x InTransit sends ends items = Some (first_end x ends items)
 place_from x (Gone place) sends ends items = Some place
 
 none_within : (n : ℕ) → n ≡ 0 → nat_lt 0 n ≡ false
@@ -63,7 +63,7 @@ some_within n e = grind (arith, common_steps, e)
 pub place_now : (x : MessageId) (state : MessageState) (items : List Item) → items_with x items ≡ going_at state → place_from x state [] [] items ≡ answer state
 place_now x Unsent items e = refl
 place_now x (Here i row) items e = ap (λ (v : Bool). Some (if v then at.InTransit else at.InHome)) (none_within (items_with x items) e)
-place_now x Going items e = ap (λ (v : Bool). Some (if v then at.InTransit else at.InHome)) (some_within (items_with x items) e)
+place_now x InTransit items e = ap (λ (v : Bool). Some (if v then at.InTransit else at.InHome)) (some_within (items_with x items) e)
 place_now x (Gone place) items e = refl
 
 filter_push : {X : Type 0} (p : X → Bool) (xs : List X) (y : X) → filter p (xs ++ y ∷ []) ≡ filter p xs ++ cond (p y) (y ∷ []) []
@@ -95,7 +95,7 @@ end_this x cause (row ∷ rows) ends items r some =
 -- seen from its own home, and from another one
 one_leaves : (i : ℕ) (state : MessageState) (p : RowState → Bool) (place : Place) → filter (λ row. not (p row)) (rows_at i state) ≡ rows_at i (leaves i p place state)
 one_leaves i Unsent p place = refl
-one_leaves i Going p place = refl
+one_leaves i InTransit p place = refl
 one_leaves i (Gone other) p place = refl
 one_leaves i (Here j row) p place =
     elim (eqb_tells j i) as (λ _. filter (λ r. not (p r)) (rows_at i (Here j row)) ≡ rows_at i (leaves i p place (Here j row))) [
@@ -106,7 +106,7 @@ one_leaves i (Here j row) p place =
 -- from another home nothing is seen of it
 leaves_others : (i : ℕ) (state : MessageState) (p : RowState → Bool) (place : Place) (k : ℕ) → i ≢ k → rows_at k (leaves i p place state) ≡ rows_at k state
 leaves_others i Unsent p place k ne = refl
-leaves_others i Going p place k ne = refl
+leaves_others i InTransit p place k ne = refl
 leaves_others i (Gone other) p place k ne = refl
 leaves_others i (Here j row) p place k ne =
     elim (eqb_tells j i) as (λ _. rows_at k (leaves i p place (Here j row)) ≡ rows_at k (Here j row)) [
@@ -128,7 +128,7 @@ none_here x p rows none = filter_swap (λ row. same_id x row.lineage) p rows ∙
 leave_place : (x : MessageId) (i : ℕ) (rows : List RowState) (state : MessageState) (p : RowState → Bool) (cause : Cause) (sends : List MessageId) (ends : List Ending) (items : List Item) → mine x rows ≡ rows_at i state
     → place_from x state sends (ended_states cause (filter p rows) ++ ends) items ≡ place_from x (leaves i p (place_after cause) state) sends ends items
 leave_place x i rows Unsent p cause sends ends items same = rw (end_other x cause (filter p rows) ends items (none_here x p rows same)) refl
-leave_place x i rows Going p cause sends ends items same = ap Some (end_other x cause (filter p rows) ends items (none_here x p rows same))
+leave_place x i rows InTransit p cause sends ends items same = ap Some (end_other x cause (filter p rows) ends items (none_here x p rows same))
 leave_place x i rows (Gone other) p cause sends ends items same = refl
 leave_place x i rows (Here j row) p cause sends ends items same =
     elim (eqb_tells j i) as (λ _. Some (first_end x (ended_states cause (filter p rows) ++ ends) items) ≡ place_from x (leaves i p (place_after cause) (Here j row)) sends ends items) [
@@ -142,13 +142,13 @@ leave_place x i rows (Here j row) p cause sends ends items same =
 
 sent_leaves : (i : ℕ) (state : MessageState) (p : RowState → Bool) (place : Place) → sent_at (leaves i p place state) ≡ sent_at state
 sent_leaves i Unsent p place = refl
-sent_leaves i Going p place = refl
+sent_leaves i InTransit p place = refl
 sent_leaves i (Gone other) p place = refl
 sent_leaves i (Here j row) p place = elim ((j == i) && p row) as (λ v. sent_at (if v then Gone place else Here j row) ≡ 1) [ true ↦ refl | false ↦ refl ]
 
 going_leaves : (i : ℕ) (state : MessageState) (p : RowState → Bool) (place : Place) → going_at (leaves i p place state) ≡ going_at state
 going_leaves i Unsent p place = refl
-going_leaves i Going p place = refl
+going_leaves i InTransit p place = refl
 going_leaves i (Gone other) p place = refl
 going_leaves i (Here j row) p place = elim ((j == i) && p row) as (λ v. going_at (if v then Gone place else Here j row) ≡ 0) [ true ↦ refl | false ↦ refl ]
 
@@ -175,26 +175,26 @@ going_trimmed i (Some policy) m state = going_leaves i state (is_past policy.ret
 
 sent_changes : (i : ℕ) (f : RowState → RowState) (state : MessageState) → sent_at (changes i f state) ≡ sent_at state
 sent_changes i f Unsent = refl
-sent_changes i f Going = refl
+sent_changes i f InTransit = refl
 sent_changes i f (Gone place) = refl
 sent_changes i f (Here j row) = elim (j == i) as (λ v. sent_at (if v then Here j (f row) else Here j row) ≡ 1) [ true ↦ refl | false ↦ refl ]
 
 going_changes : (i : ℕ) (f : RowState → RowState) (state : MessageState) → going_at (changes i f state) ≡ going_at state
 going_changes i f Unsent = refl
-going_changes i f Going = refl
+going_changes i f InTransit = refl
 going_changes i f (Gone place) = refl
 going_changes i f (Here j row) = elim (j == i) as (λ v. going_at (if v then Here j (f row) else Here j row) ≡ 0) [ true ↦ refl | false ↦ refl ]
 
 rows_change : (i : ℕ) (f : RowState → RowState) (state : MessageState) → map f (rows_at i state) ≡ rows_at i (changes i f state)
 rows_change i f Unsent = refl
-rows_change i f Going = refl
+rows_change i f InTransit = refl
 rows_change i f (Gone place) = refl
 rows_change i f (Here j row) =
     elim (eqb_tells j i) as (λ _. map f (rows_at i (Here j row)) ≡ rows_at i (changes i f (Here j row))) [ inl q ↦ rw (q.0, q.0) refl | inr q ↦ rw (q.0, q.0) refl ]
 
 others_change : (i : ℕ) (f : RowState → RowState) (state : MessageState) (k : ℕ) → i ≢ k → rows_at k (changes i f state) ≡ rows_at k state
 others_change i f Unsent k ne = refl
-others_change i f Going k ne = refl
+others_change i f InTransit k ne = refl
 others_change i f (Gone place) k ne = refl
 others_change i f (Here j row) k ne =
     elim (eqb_tells j i) as (λ _. rows_at k (changes i f (Here j row)) ≡ rows_at k (Here j row)) [
@@ -207,7 +207,7 @@ others_change i f (Here j row) k ne =
 
 place_change : (x : MessageId) (i : ℕ) (f : RowState → RowState) (state : MessageState) (sends : List MessageId) (ends : List Ending) (items : List Item) → place_from x state sends ends items ≡ place_from x (changes i f state) sends ends items
 place_change x i f Unsent sends ends items = refl
-place_change x i f Going sends ends items = refl
+place_change x i f InTransit sends ends items = refl
 place_change x i f (Gone place) sends ends items = refl
 place_change x i f (Here j row) sends ends items = elim (j == i) as (λ v. Some (first_end x ends items) ≡ place_from x (if v then Here j (f row) else Here j row) sends ends items) [ true ↦ refl | false ↦ refl ]
 
@@ -251,7 +251,7 @@ sent_other x y Unsent sends ends items e =
     let same : sends_with x (y ∷ sends) ≡ sends_with x sends = omega (arith, sends_first x y sends, none) in
     ap (λ (k : ℕ). if nat_lt 0 k then Some (first_end x ends items) else None) same
 sent_other x y (Here i row) sends ends items e = refl
-sent_other x y Going sends ends items e = refl
+sent_other x y InTransit sends ends items e = refl
 sent_other x y (Gone place) sends ends items e = refl
 
 pub same_home_row : (i : ℕ) (row : RowState) → rows_at i (Here i row) ≡ row ∷ []
@@ -282,7 +282,7 @@ arrive_this x i m sent rows Unsent same once e = record {
   going = omega arith;
 }
 arrive_this x i m sent rows (Here j row) same once e = absurd (omega (arith, one_this x sent.id e, once))
-arrive_this x i m sent rows Going same once e = absurd (omega (arith, one_this x sent.id e, once))
+arrive_this x i m sent rows InTransit same once e = absurd (omega (arith, one_this x sent.id e, once))
 arrive_this x i m sent rows (Gone place) same once e = absurd (omega (arith, one_this x sent.id e, once))
 
 arrive_other : (x : MessageId) (i m : ℕ) (sent : SentMessage) (rows : List RowState) (state : MessageState) → mine x rows ≡ rows_at i state → same_id x sent.id ≡ false → Follows x i m (Arrives sent) rows state state
@@ -312,13 +312,13 @@ not_none : (b a : List RowState) (row : RowState) → b ++ row ∷ a ≡ [] → 
 not_none [] a row e = absurd cc
 not_none (z ∷ b) a row e = absurd cc
 
-depart_this : (x : MessageId) (i m : ℕ) (row : Row) (rows : List RowState) (state : MessageState) → mine x rows ≡ rows_at i state → Splits (Departs row) rows → same_id x row.lineage ≡ true → Follows x i m (Departs row) rows state Going
+depart_this : (x : MessageId) (i m : ℕ) (row : Row) (rows : List RowState) (state : MessageState) → mine x rows ≡ rows_at i state → Splits (Departs row) rows → same_id x row.lineage ≡ true → Follows x i m (Departs row) rows state InTransit
 depart_this x i m row rows Unsent same split e = absurd (not_none (mine x split.0) (mine x split.1) (state_of row) (sym (in_rows x split.0 split.1 (state_of row) e) ∙ ap (mine x) (sym split.2) ∙ same))
-depart_this x i m row rows Going same split e = absurd (not_none (mine x split.0) (mine x split.1) (state_of row) (sym (in_rows x split.0 split.1 (state_of row) e) ∙ ap (mine x) (sym split.2) ∙ same))
+depart_this x i m row rows InTransit same split e = absurd (not_none (mine x split.0) (mine x split.1) (state_of row) (sym (in_rows x split.0 split.1 (state_of row) e) ∙ ap (mine x) (sym split.2) ∙ same))
 depart_this x i m row rows (Gone place) same split e = absurd (not_none (mine x split.0) (mine x split.1) (state_of row) (sym (in_rows x split.0 split.1 (state_of row) e) ∙ ap (mine x) (sym split.2) ∙ same))
 depart_this x i m row rows (Here j r) same split e =
     let all : mine x split.0 ++ state_of row ∷ mine x split.1 ≡ rows_at i (Here j r) = sym (in_rows x split.0 split.1 (state_of row) e) ∙ ap (mine x) (sym split.2) ∙ same in
-    elim (eqb_tells j i) as (λ _. Follows x i m (Departs row) rows (Here j r) Going) [
+    elim (eqb_tells j i) as (λ _. Follows x i m (Departs row) rows (Here j r) InTransit) [
       | inl q ↦ record {
         left = ap (mine x) split.3 ∙ filter_append (λ (s : RowState). same_id x s.lineage) split.0 split.1 ∙ only_one (mine x split.0) (mine x split.1) (state_of row) r (all ∙ ap (λ (v : Bool). cond v (r ∷ []) []) q.0);
         others = λ k ne. sym (other_home_row j k r (λ s. ne (sym q.1 ∙ s)));
@@ -339,7 +339,7 @@ depart_other x i m row rows state same split e = record {
 }
 
 enter_this : (x : MessageId) (i m : ℕ) (row : RowState) (rows : List RowState) (state : MessageState) → mine x rows ≡ rows_at i state → sends_with x (row.lineage ∷ []) ≤ going_at state → same_id x row.lineage ≡ true → Follows x i m (Enters row) rows state (Here i row)
-enter_this x i m row rows Going same coming e = record {
+enter_this x i m row rows InTransit same coming e = record {
   left = push_this x rows row same e ∙ sym (same_home_row i row);
   others = λ k ne. other_home_row i k row ne;
   place = λ sends ends items. refl;
@@ -360,7 +360,7 @@ enter_other x i m row rows state same e = record {
 }
 
 drop_this : (x : MessageId) (i m : ℕ) (line : MessageId) (rows : List RowState) (state : MessageState) → mine x rows ≡ rows_at i state → sends_with x (line ∷ []) ≤ going_at state → same_id x line ≡ true → Follows x i m (Drops line) rows state (Gone at.Dropped)
-drop_this x i m line rows Going same coming e = record {
+drop_this x i m line rows InTransit same coming e = record {
   left = same;
   others = λ k ne. refl;
   place = λ sends ends items. ap (λ (v : Bool). Some (if v then place_after GivenUp else first_end x ends items)) e;
@@ -374,7 +374,7 @@ drop_this x i m line rows (Gone place) same coming e = absurd (omega (arith, one
 drop_place : (x line : MessageId) (state : MessageState) (sends : List MessageId) (ends : List Ending) (items : List Item) → same_id x line ≡ false → place_from x state sends (record { line = line; cause = GivenUp } ∷ ends) items ≡ place_from x state sends ends items
 drop_place x line Unsent sends ends items e = rw (skip_end x (record { line = line; cause = GivenUp }) ends items e) refl
 drop_place x line (Here i row) sends ends items e = ap Some (skip_end x (record { line = line; cause = GivenUp }) ends items e)
-drop_place x line Going sends ends items e = ap Some (skip_end x (record { line = line; cause = GivenUp }) ends items e)
+drop_place x line InTransit sends ends items e = ap Some (skip_end x (record { line = line; cause = GivenUp }) ends items e)
 drop_place x line (Gone place) sends ends items e = refl
 
 drop_other : (x : MessageId) (i m : ℕ) (line : MessageId) (rows : List RowState) (state : MessageState) → mine x rows ≡ rows_at i state → same_id x line ≡ false → Follows x i m (Drops line) rows state state
@@ -412,7 +412,7 @@ follows_effect x i m (Leaves p cause) rows state same once coming split = record
   going = omega (arith, going_leaves i state p (place_after cause));
 }
 follows_effect x i m (Departs row) rows state same once coming split =
-    by_line x row.lineage i m (Departs row) rows state Going (depart_this x i m row rows state same split) (depart_other x i m row rows state same split)
+    by_line x row.lineage i m (Departs row) rows state InTransit (depart_this x i m row rows state same split) (depart_other x i m row rows state same split)
 follows_effect x i m (Enters row) rows state same once coming split =
     by_line x row.lineage i m (Enters row) rows state (Here i row) (enter_this x i m row rows state same coming) (enter_other x i m row rows state same)
 follows_effect x i m (Drops line) rows state same once coming split =

@@ -12,7 +12,7 @@ use Rattle.sq_model.specs.Systems.{Tag, OfDirectory, OfLedger, OfHome}
 use Rattle.sq_audit.specs.declared.state.RowState.{RowState}
 use Rattle.sq_audit.specs.declared.state.Policy.{Policy}
 use Rattle.sq_audit.specs.declared.message_pass.MessageState.{MessageState}
-use Rattle.sq_audit.specs.declared.message_pass.MessageState.TheVariants.{Unsent, Here, Going, Gone}
+use Rattle.sq_audit.specs.declared.message_pass.MessageState.TheVariants.{Unsent, Here, InTransit, Gone}
 use Rattle.sq_audit.specs.declared.message_pass.MessagePass.{MessagePass}
 use Rattle.sq_audit.specs.RowStates.{is_past, looked, sent_state, next_policy, Effect, Stays, Arrives, Looks, Leaves, Departs, Enters, Drops, effect_of}
 
@@ -30,13 +30,13 @@ policy_at i ts = fold (policy_step i) None ts
 abbrev pub leaves : ℕ → (RowState → Bool) → Place → MessageState → MessageState
 leaves i p place Unsent = Unsent
 leaves i p place (Here j row) = if (j == i) && p row then Gone place else Here j row
-leaves i p place Going = Going
+leaves i p place InTransit = InTransit
 leaves i p place (Gone other) = Gone other
 
 abbrev pub changes : ℕ → (RowState → RowState) → MessageState → MessageState
 changes i f Unsent = Unsent
 changes i f (Here j row) = if j == i then Here j (f row) else Here j row
-changes i f Going = Going
+changes i f InTransit = InTransit
 changes i f (Gone place) = Gone place
 
 abbrev pub trimmed_state : ℕ → Option Policy → ℕ → MessageState → MessageState
@@ -53,14 +53,14 @@ state_after x i m Stays state = state
 state_after x i m (Arrives sent) state = becomes x sent.id (Here i (sent_state sent m)) state
 state_after x i m (Looks picked) state = changes i (looked picked) state
 state_after x i m (Leaves p cause) state = leaves i p (place_after cause) state
-state_after x i m (Departs row) state = becomes x row.lineage Going state
+state_after x i m (Departs row) state = becomes x row.lineage InTransit state
 state_after x i m (Enters row) state = becomes x row.lineage (Here i row) state
 state_after x i m (Drops line) state = becomes x line (Gone at.Dropped) state
 
 abbrev pub is_in : ℕ → MessageState → Bool
 is_in i Unsent = false
 is_in i (Here j row) = j == i
-is_in i Going = false
+is_in i InTransit = false
 is_in i (Gone place) = false
 
 -- What the home of the message goes by after a call of the home at an index, where the message was, came, or is not.
@@ -89,5 +89,5 @@ start = record { policy = None; state = Unsent }
 abbrev pub answer : MessageState → Option Place
 answer Unsent = None
 answer (Here i row) = Some at.InHome
-answer Going = Some at.InTransit
+answer InTransit = Some at.InTransit
 answer (Gone place) = Some place

@@ -30,7 +30,7 @@ enum MessageState {
     /// In the home at an index, as this row.
     Here(u32, RowState),
     /// Between two queues.
-    Going,
+    InTransit,
     Gone(Place),
 }
 
@@ -113,7 +113,7 @@ fn is_in(index: u32, state: &MessageState) -> bool
 {
     match state {
         MessageState::Here(home, _) => *home == index,
-        MessageState::Unsent | MessageState::Going | MessageState::Gone(_) => false,
+        MessageState::Unsent | MessageState::InTransit | MessageState::Gone(_) => false,
     }
 }
 
@@ -245,7 +245,7 @@ fn departed(x: &MessageId, reply: &HomeReply, state: MessageState) -> MessageSta
     ensures { (index moment : ℕ) → result ≡ tracks.state_after x.now index moment (left_by reply.now) state }
 {
     match reply {
-        HomeReply::Left(item) if item.get().row.lineage == *x => MessageState::Going,
+        HomeReply::Left(item) if item.get().row.lineage == *x => MessageState::InTransit,
         _ => state,
     }
 }
@@ -301,7 +301,7 @@ fn answer(state: MessageState) -> Option<Place>
     match state {
         MessageState::Unsent => None,
         MessageState::Here(_, _) => Some(Place::InHome),
-        MessageState::Going => Some(Place::InTransit),
+        MessageState::InTransit => Some(Place::InTransit),
         MessageState::Gone(place) => Some(place),
     }
 }

@@ -42,7 +42,8 @@ impl Model for Audit {
     ghost view = { λ a. record { homes = a.homes.items; sends = a.sends.items; moves = a.moves.items; ends = a.ends.items } };
 }
 
-/// Where the messages of a run are: each that was sent in it, once, in rising order of id. Refused only where memory is out.
+/// Where the messages of a run are: each that was sent in it, once, in rising order of id. Refused only where memory is
+/// out.
 pub fn places_of(alloc: Global, run: &Run<'_>) -> Result<Vec<(MessageId, Place)>, Refusal>
     ensures places { (places limit : ℕ) (sites : List Site) (after : System) (r : RunFrom (opening places limit sites) run.now after) → IsOnePlace sites
         → IfOk result (λ listed. ArePlaces (run_sends run.now) (run_ends (opening places limit sites) run.now after r) after.ledger.items listed.items) }
