@@ -1,5 +1,7 @@
 -- A dead message that leaves its home.
-use Rattle.std.proofs.Common.{◌≡◌, ℕ, sym, Some}
+use Rattle.std.proofs.Common.{◌≡◌, ℕ, true, false, cond, List, [], ◌∷◌, refl, sym, Option, Some, None}
+use Rattle.std.specs.Prelude.{◌&&◌, ◌||◌}
+use Rattle.std.specs.List.{list_any}
 use Rattle.std.proofs.lemmas.List.Folds.{list_any_at}
 use Rattle.sq_base.specs.declared.row.Row.{Row}
 use Rattle.sq_model.specs.declared.calls.HomeCall.TheVariants.{LeaveDead}
@@ -7,8 +9,8 @@ use Rattle.sq_model.specs.declared.item.Item.{Item}
 use Rattle.sq_model.specs.declared.item.Reason.TheVariants.{DeadLetter}
 use Rattle.sq_model.specs.declared.place.Site.{Site}
 use Rattle.sq_model.specs.declared.replies.HomeReply.TheVariants.{Left}
-use Rattle.sq_model.specs.Homes.{Home, Unopened, Serving, Closed, HomeStep, IsFrom}
-use Rattle.sq_model.specs.Rows.{trimmed, is_dead}
+use Rattle.sq_model.specs.Homes.{Home, Unopened, Serving, Closed, HomeStep, IsFrom, IsIdle}
+use Rattle.sq_model.specs.Rows.{trimmed, is_dead, is_visible}
 use Rattle.sq_shard.specs.Moves.{IsDeadAt, GoesWithout, HasRow, target_at}
 use Rattle.sq_history.specs.Halves.{HasDead}
 

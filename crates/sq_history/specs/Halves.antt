@@ -1,5 +1,5 @@
 -- What a home's half of a step that it shares with the ledger gives.
-use Rattle.std.specs.Prelude.{◌≡◌, ◌⊎◌, ℕ, true, List, Option, Result, Err, Some, None}
+use Rattle.std.specs.Prelude.{◌≡◌, ◌⊎◌, ℕ, true, List, Option, Result, Ok, Err, Some, None}
 use Rattle.std.specs.List.{list_any}
 use Rattle.sq_base.specs.StampValue.{StampValue}
 use Rattle.sq_base.specs.declared.refusal.Refusal.{Refusal}
@@ -7,6 +7,8 @@ use Rattle.sq_base.specs.declared.refusal.Refusal.TheVariants.{NoMemory}
 use Rattle.sq_model.specs.declared.calls.HomeCall.{HomeCall}
 use Rattle.sq_model.specs.declared.calls.HomeCall.TheVariants.{LeaveDead}
 use Rattle.sq_model.specs.declared.event.Actor.{Actor}
+use Rattle.sq_model.specs.declared.item.Item.{Item}
+use Rattle.sq_model.specs.declared.replies.HomeReply.TheVariants.{Left}
 use Rattle.sq_model.specs.Homes.{Home, Unopened, Serving, Closed, home_refusal}
 use Rattle.sq_model.specs.Rows.{trimmed, is_dead}
 use Rattle.sq_history.specs.HistoryValue.{HistoryValue}

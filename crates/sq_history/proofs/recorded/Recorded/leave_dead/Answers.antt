@@ -3,6 +3,7 @@ use Rattle.sq_model.specs.declared.calls.HomeCall.TheVariants.{LeaveDead}
 use Rattle.sq_model.specs.declared.item.Item.{Item}
 use Rattle.sq_model.specs.declared.replies.HomeReply.TheVariants.{Left}
 use Rattle.sq_model.specs.Homes.{HomeStep}
+use Rattle.sq_shard.specs.Moves.{IsDeadAt, GoesWithout, target_at}
 use Rattle.sq_history.proofs.HalfLaws.{left_at}
 use Rattle.sq_history.proofs.HistoryLaws.{kept_shared}
 use Rattle.sq_history.proofs.recorded.Recorded.leave_dead.Goals as goal
