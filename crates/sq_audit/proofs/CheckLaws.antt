@@ -13,6 +13,7 @@ use Rattle.sq_model.specs.declared.calls.HomeCall.TheVariants.{LeaveDead, LeaveT
 use Rattle.sq_model.specs.declared.ledger.LedgerCall.{LedgerCall}
 use Rattle.sq_model.specs.declared.ledger.LedgerCall.TheVariants.{AtHome, StartTask, CancelTask, ListTasks, FinishTask}
 use Rattle.sq_model.specs.declared.ledger.LedgerReply.{LedgerReply}
+use Rattle.sq_model.specs.declared.place.Component.TheVariants as component
 use Rattle.sq_model.specs.Passages.{is_alone, is_leave}
 use Rattle.sq_model.specs.Replays.{HomeEvent, Replays}
 use Rattle.sq_model.specs.Systems.{DirectoryEvent, as_ledger}
@@ -26,12 +27,14 @@ use Rattle.sq_steps.specs.Journals.{AreDistinct, RecordsRiseAt, is_of}
 use Rattle.sq_audit.specs.declared.check.AuditFault.{AuditFault}
 use Rattle.sq_audit.specs.declared.check.AuditFault.TheVariants.{NoMemory, RecordMissing, RecordTwice, LeaveUnmatched, EnterUnmatched}
 use Rattle.sq_audit.specs.declared.check.Part.TheVariants as part
-use Rattle.sq_audit.specs.Faults.{EventIndex, InDirectory, InLedger, InHome, IsBy, HasNoRecord, Gap, TwoEvents, IsWrong, RecordFits, DirectoryFits, LedgerFits, HomeFits, LedgerHas, HomeHas, unmatched, IsRecordFault, IsAt, IsRecordedAt, IsEventFault, EventFits, HasEventFault}
+use Rattle.sq_audit.specs.Faults.{EventIndex, InDirectory, InLedger, InHome, IsBy, HasNoRecord, Gap, TwoEvents, IsWrong, RecordFits, DirectoryFits, LedgerFits, HomeFits, LedgerHas, HomeHas, unmatched, IsRecordFault, IsAt, IsRecordedAt, IsEventFault, EventFits, HasEventFault, IsWithoutPartner}
+use Rattle.sq_history.specs.Histories.{IsKept}
 use Rattle.sq_history.specs.Events.{HasHomeEvent, IsEventAt}
 use Rattle.sq_steps.specs.declared.record.Record.{Record}
 use Rattle.sq_steps.specs.Records.{value_of_record, values_of_records}
 use Rattle.sq_directory.proofs.ElementLaws.{some_same, get_map, get_mapped, all_get}
 use Rattle.sq_steps.proofs.JournalListLaws.{journal_own, found_is, journal_once, same_place}
+use Rattle.sq_audit.proofs.ListLaws.{all_at}
 use Rattle.sq_audit.proofs.HomeIdLaws.{place_found, place_back, place_none}
 
 differing : (j i : ℕ) → j ≢ i → (j < i) ⊎ (j ≡ i) ⊎ (i < j)
@@ -449,6 +452,14 @@ all_shared v (x ∷ xs) after r (suc k) e h = all_shared r.0 xs after r.2 k e h
 item_kind : (call : HomeCall) → is_alone call ≡ false → is_leave call ≡ false → is_of_item call ≡ true
 item_kind call shared no_leave = rw (shared, no_leave) refl
 
+-- a call that is none at a home is the ledger's own
+pub own_if : (call : LedgerCall) → ((home : HomeId) (at : HomeCall) → call ≡ AtHome home at → ⊥) → is_own call ≡ true
+own_if (AtHome home at) h = absurd (h home at refl)
+own_if (StartTask source destination rate) h = refl
+own_if (CancelTask number) h = refl
+own_if (ListTasks source most) h = refl
+own_if (FinishTask number) h = refl
+
 module _ (d : List DirectoryEvent) (l : List LedgerEvent) (hs : List HomeHistory) (journals : List Journal) where
   -- one of a home that the ledger does not have
   pub wrong_at_home : (j k : ℕ) (h : HomeHistory) (e : HomeEvent) → IsHomeEvent hs j k h e → is_alone e.call ≡ false → (IsInLedger l h.home e → ⊥) → IsWrong d l hs journals (unmatched e.call e.stamp)
@@ -467,9 +478,21 @@ module _ (d : List DirectoryEvent) (l : List LedgerEvent) (hs : List HomeHistory
         | false ↦ (λ kind. inr (record { index = k; event = e; in_ledger = there; of_kind = subst (λ (c : LedgerCall). is_shared_as is_of_item c ≡ true) (sym is) (item_kind call alone kind); stamped = refl; alone = lost }))
       ] refl
 
--- where each has the other's, all is paired
-pub has_pairs : (l : List LedgerEvent) (hs : List HomeHistory) → ((j k : ℕ) → LedgerHas l hs j k) → ((k : ℕ) → HomeHas l hs k) → IsPaired l hs
-has_pairs l hs in_ledger in_home = record { in_ledger = in_ledger; in_home = in_home }
+-- an event of a home names it
+event_home : (home : HistoryValue) → IsKept home → (k : ℕ) (e : HomeEvent) → slice_get home.events k ≡ Some e → e.component ≡ component.Home home.site.home
+event_home home kept k e in_events = all_at (λ (x : HomeEvent). x.component ≡ component.Home home.site.home) home.events k e kept.own in_events
+
+module _ (l : List LedgerEvent) (homes : List HistoryValue) (j : ℕ) (home : HistoryValue) (in_homes : slice_get (histories_of homes) j ≡ Some (history_of home)) (kept : IsKept home) (k : ℕ) (e : HomeEvent) (in_events : slice_get home.events k ≡ Some e) where
+  pub ledger_has : (is_alone e.call ≡ false → (id : HomeId) → e.component ≡ component.Home id → IsInLedger l id e) → LedgerHas l (histories_of homes) j k
+  ledger_has has h f there shared =
+      let same : h ≡ history_of home = some_same (sym there.in_homes ∙ in_homes) in
+      let event : f ≡ e = some_same (sym there.in_events ∙ ap (λ (y : HomeHistory). slice_get y.events k) same ∙ in_events) in
+      subst (λ (y : HomeHistory). IsInLedger l y.home f) (sym same) (subst (IsInLedger l home.site.home) (sym event) (has (subst (λ (y : HomeEvent). is_alone y.call ≡ false) event shared) home.site.home (event_home home kept k e in_events)))
+
+  pub ledger_lacks : (d : List DirectoryEvent) (journals : List Journal) (f : AuditFault) → IsWithoutPartner l e f → IsWrong d l (histories_of homes) journals f
+  ledger_lacks d journals f wrong =
+      subst (IsWrong d l (histories_of homes) journals) (sym wrong.told)
+      (wrong_at_home d l (histories_of homes) journals j k (history_of home) e (record { in_homes = in_homes; in_events = in_events }) wrong.shared (wrong.lost home.site.home (event_home home kept k e in_events)))
 
 pub all_partners : (l : List LedgerEvent) (homes : List HistoryValue) → ((j : ℕ) → j < length homes → (k : ℕ) → LedgerHas l (histories_of homes) j k) → (j k : ℕ) → LedgerHas l (histories_of homes) j k
 all_partners l homes each j k h e there = let t = get_mapped history_of homes j h there.in_homes in each j (slice_get_within homes j t.0 t.1) k h e there
