@@ -27,7 +27,7 @@ use Rattle.sq_steps.specs.Journals.{AreDistinct, RecordsRiseAt, is_of}
 use Rattle.sq_audit.specs.declared.check.AuditFault.{AuditFault}
 use Rattle.sq_audit.specs.declared.check.AuditFault.TheVariants.{NoMemory, RecordMissing, RecordTwice, LeaveUnmatched, EnterUnmatched}
 use Rattle.sq_audit.specs.declared.check.Part.TheVariants as part
-use Rattle.sq_audit.specs.Faults.{EventIndex, InDirectory, InLedger, InHome, IsBy, HasNoRecord, Gap, TwoEvents, IsWrong, RecordFits, DirectoryFits, LedgerFits, HomeFits, LedgerHas, HomeHas, unmatched, IsRecordFault, IsAt, IsRecordedAt, IsEventFault, EventFits, HasEventFault, IsWithoutPartner}
+use Rattle.sq_audit.specs.Faults.{EventIndex, InDirectory, InLedger, InHome, IsBy, HasNoRecord, Gap, TwoEvents, IsWrong, RecordFits, DirectoryFits, LedgerFits, HomeFits, LedgerHas, unmatched, IsRecordFault, IsAt, IsRecordedAt, IsEventFault, EventFits, HasEventFault, IsWithoutPartner}
 use Rattle.sq_history.specs.Histories.{IsKept}
 use Rattle.sq_history.specs.Events.{HasHomeEvent, IsEventAt}
 use Rattle.sq_steps.specs.declared.record.Record.{Record}

@@ -239,6 +239,8 @@ fn check_ledger_event(
     ensures partners { OnOk result (is_own event.now.call ≡ false → InHome evidence.now.homes event.now) }
     ensures fault { IfErr result (λ f. IsWrong evidence.now.directory evidence.now.ledger evidence.now.homes evidence.now.journals f) }
 {
+    // As above, this is for the prover.
+    let _ = &evidence.ledger;
     let by = (event.actor, event.place);
     match &event.call {
         LedgerCall::AtHome(home, call) => {
