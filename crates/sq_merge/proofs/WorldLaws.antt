@@ -239,7 +239,7 @@ module _ (old : WorldValue) (actor here : ℕ) (before after : HistoryValue) (na
   entry_stays home e h = (h.0, s.grows h.0 (as_ledger home e) h.1)
 
   -- where the new event is shared, it stands in the ledger's history, and else nothing new does
-  pub pairs : (is_alone call ≡ false → InLedger ledger.events before.site.home event) → ((k : ℕ) (e : LedgerEvent) → slice_get ledger.events k ≡ Some e → (slice_get old.ledger.events k ≡ Some e) ⊎ (is_own e.call ≡ false → InHome (histories_of homes) e)) → IsPaired ledger.events (histories_of homes)
+  pairs : (is_alone call ≡ false → InLedger ledger.events before.site.home event) → ((k : ℕ) (e : LedgerEvent) → slice_get ledger.events k ≡ Some e → (slice_get old.ledger.events k ≡ Some e) ⊎ (is_own e.call ≡ false → InHome (histories_of homes) e)) → IsPaired ledger.events (histories_of homes)
   pairs entered known = record {
     in_ledger = λ j k h e there shared. (
         let t = get_mapped history_of homes j h there.in_homes in
@@ -261,7 +261,7 @@ module _ (old : WorldValue) (actor here : ℕ) (before after : HistoryValue) (na
     in_events = subst (λ (es : List HomeEvent). slice_get es (length before.events) ≡ Some event) (sym s.events) (get_new before.events event);
   }
 
-  pub kept_with : IsPaired ledger.events (histories_of homes) → IsKeptWorld (record old { ledger = ledger; homes = homes; journals = journals })
+  kept_with : IsPaired ledger.events (histories_of homes) → IsKeptWorld (record old { ledger = ledger; homes = homes; journals = journals })
   kept_with paired = record {
     numbered = numbered;
     has_its_event = all_have_events;

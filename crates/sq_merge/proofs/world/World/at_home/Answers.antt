@@ -34,7 +34,7 @@ invariant_of-self-in-Ok c =
     let known : IsKnown old.directory.events (journal_of c.args.actor old.journals) c.args.name c.args.id.now.queue = rw (← c.self.view_is) at c.requires.known in
     record {
       kept = rw (c.in_ok-at.ensures.opened, c.in_ok-at.ensures.index)
-          (kept_home old c.args.actor c.args.now c.args.name c.args.id.now (call_of c.args.act) c.in-Ok.reply _ c.self.invariant.kept known
+          (kept_home old c.args.actor c.args.now c.args.name c.args.id.now c.args.act c.in-Ok.reply _ c.self.invariant.kept known
           (stepped_opened old c.args.actor c.args.now c.args.name c.args.id.now (call_of c.args.act) c.in-Ok.reply c.in-Some.index c.index_mut-home.result.now c.home_step.new.home c.index_mut-journal.result.now c.home_step.new.journal c.self.invariant.kept.numbered c.home_index.ensures.queue index c.index_mut-home.ensures.value own c.in-Ok.ensures.step));
       sample = c.self.invariant.sample;
       few = rw length-set c.self.invariant.few;
