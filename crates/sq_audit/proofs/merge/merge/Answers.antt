@@ -1,5 +1,5 @@
 use Rattle.std.proofs.Common.{ℕ, subst}
-use Rattle.sq_model.specs.Matches.{IsMatched, IsPaired}
+use Rattle.sq_model.specs.Matches.{IsMatched}
 use Rattle.sq_steps.specs.Journals.{RecordsRiseAt}
 use Rattle.sq_audit.specs.EvidenceValue.{EvidenceValue}
 use Rattle.sq_audit.specs.HomeIds.{histories_of}
