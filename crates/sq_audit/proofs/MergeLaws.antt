@@ -17,11 +17,11 @@ use Rattle.sq_base.proofs.StampLaws.{stamps_total, below_not_less}
 use Rattle.sq_model.specs.declared.event.Event.{Event}
 use Rattle.sq_model.specs.declared.place.Component.TheVariants as part
 use Rattle.sq_model.specs.Homes.{Unopened}
-use Rattle.sq_model.specs.Replays.{HomeEvent, StampsRise}
-use Rattle.sq_model.specs.Ledgers.{LedgerEvent, is_own}
+use Rattle.sq_model.specs.Replays.{HomeEvent}
+use Rattle.sq_model.specs.Ledgers.{is_own}
 use Rattle.sq_model.specs.Matches.{IsPaired}
 use Rattle.sq_model.specs.Systems.{Tag, OfDirectory, OfLedger, OfHome, stamp_of, AreOfHome, HomeGoes, IsRun}
-use Rattle.sq_model.specs.Merges.{of_directory, of_home, of_ledger, history_at, rank_of, tag_cmp, is_before, InOrder, IsMerged}
+use Rattle.sq_model.specs.Merges.{of_directory, of_home, history_at, rank_of, tag_cmp, is_before, InOrder, IsMerged}
 use Rattle.sq_laws.proofs.RunLaws.{merged_run}
 use Rattle.sq_history.specs.HistoryValue.{HistoryValue}
 use Rattle.sq_history.specs.Histories.{IsKept}

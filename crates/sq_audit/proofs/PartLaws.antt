@@ -7,7 +7,7 @@ use Rattle.std.proofs.lemmas.Grind.{common_steps}
 use Rattle.std.proofs.lemmas.Bool.Decides.{eqb_tells}
 use Rattle.std.proofs.lemmas.List.{append-nil, take_more, length-take-le, length-map, map-append}
 use Rattle.sq_model.specs.Replays.{HomeEvent}
-use Rattle.sq_model.specs.Ledgers.{LedgerEvent, is_own}
+use Rattle.sq_model.specs.Ledgers.{LedgerEvent}
 use Rattle.sq_model.specs.Systems.{DirectoryEvent, Tag, OfDirectory, OfLedger, OfHome}
 use Rattle.sq_model.specs.Merges.{of_directory, of_home, history_at, rank_of, InOrder}
 use Rattle.sq_history.specs.HistoryValue.{HistoryValue}

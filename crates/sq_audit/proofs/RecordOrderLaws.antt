@@ -1,7 +1,6 @@
 -- The records of the actors order their events in a run.
 use Rattle.std.proofs.Common.{true, ◌≡◌, ℕ, zero, suc, ◌<◌, List, [], ◌∷◌, refl, ap, sym, ◌∙◌, subst, inl, inr, arith, Some, slice_get}
 use Rattle.sq_base.specs.Stamps.{Below}
-use Rattle.sq_model.specs.Replays.{HomeEvent}
 use Rattle.sq_model.specs.Systems.{DirectoryEvent, Tag, OfDirectory, OfLedger, OfHome, stamp_of}
 use Rattle.sq_model.specs.Merges.{LedgerIsAlone, IsMerged, rank_of}
 use Rattle.sq_model.specs.RecordValues as kept

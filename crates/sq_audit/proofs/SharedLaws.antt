@@ -1,24 +1,21 @@
 -- What homes and the ledger share stands once in a list of all events, and with what is the ledger's alone it is the ledger's history.
-use Rattle.std.proofs.Common.{◌≡◌, ℕ, zero, suc, ◌+◌, Bool, true, false, not, cond, List, [], ◌∷◌, ◌++◌, length, refl, ap, sym, ◌∙◌, subst, inl, inr, arith, Some, slice_get}
-use Rattle.std.specs.Prelude.{All, filter, ◌==◌, nat_eq}
+use Rattle.std.proofs.Common.{◌≡◌, ℕ, zero, suc, Bool, true, false, not, cond, List, [], ◌∷◌, ◌++◌, refl, ap, sym, ◌∙◌, subst, inl, inr, arith, Some, slice_get}
+use Rattle.std.specs.Prelude.{All, filter, ◌==◌}
 use Rattle.std.specs.List.{AllByRecursion}
-use Rattle.std.specs.Ordering.{ordering_then, is_lt, nat_cmp}
+use Rattle.std.specs.Ordering.{nat_cmp}
 use Rattle.std.proofs.lemmas.Bool.Decides.{eqb_tells}
-use Rattle.std.proofs.lemmas.Grind.{common_steps}
 use Rattle.sq_base.specs.StampValue.{StampValue}
 use Rattle.sq_base.specs.Stamps.{Below, stamp_cmp}
 use Rattle.sq_base.specs.declared.ids.HomeId.{HomeId}
 use Rattle.sq_base.proofs.StampLaws.{below_less, below_or}
-use Rattle.sq_model.specs.declared.calls.HomeCall.{HomeCall}
-use Rattle.sq_model.specs.declared.ledger.LedgerCall.{LedgerCall}
 use Rattle.sq_model.specs.declared.ledger.LedgerCall.TheVariants.{AtHome}
 use Rattle.sq_model.specs.declared.place.Component.{Component}
 use Rattle.sq_model.specs.declared.place.Component.TheVariants as part
 use Rattle.sq_model.specs.Ledgers.{LedgerEvent, is_own}
-use Rattle.sq_model.specs.Matches.{HomeHistory, InHome, IsPaired}
+use Rattle.sq_model.specs.Matches.{HomeHistory, IsPaired}
 use Rattle.sq_model.specs.Merges.{InOrder, LedgerIsAlone, history_at, is_before, is_move, of_directory, of_home, of_ledger, rank_of}
 use Rattle.sq_model.specs.Replays.{HomeEvent}
-use Rattle.sq_model.specs.Systems.{DirectoryEvent, Tag, OfDirectory, OfLedger, OfHome, as_ledger, is_alone, ledger_part, ledger_part_of, stamp_of}
+use Rattle.sq_model.specs.Systems.{Tag, OfDirectory, OfLedger, OfHome, as_ledger, is_alone, ledger_part, ledger_part_of, stamp_of}
 use Rattle.sq_history.specs.HistoryValue.{HistoryValue}
 use Rattle.sq_history.specs.Histories.{IsKept}
 use Rattle.sq_audit.specs.Actors.{PartsRise}

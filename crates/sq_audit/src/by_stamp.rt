@@ -83,9 +83,7 @@ fn count_own(ledger: &TransitLedger) -> usize
     let events = ledger.events();
     let mut count = 0;
     for event in events {
-        if is_own(&event.call) {
-            count += 1;
-        }
+        count += is_own(&event.call) as usize;
     }
     count
 }

@@ -218,9 +218,9 @@ fn check_ledger(evidence: &Evidence<'_>) -> Result<(), AuditFault>
     ensures fault { IfErr result (λ f. IsWrong evidence.now.directory evidence.now.ledger evidence.now.homes evidence.now.journals f) }
 {
     let ledger = evidence.ledger;
-    let events = ledger.events();
-    for index in 0..events.len() {
-        let event = &events[index];
+    let moved = ledger.events();
+    for index in 0..moved.len() {
+        let event = &moved[index];
         check_ledger_event(evidence, index, event)?;
     }
     Ok(())
@@ -394,8 +394,7 @@ fn check_shared_of(evidence: &Evidence<'_>, at: usize) -> Result<(), AuditFault>
     let homes = evidence.homes;
     let home = &homes[at];
     let events = home.events();
-    for index in 0..events.len() {
-        let event = &events[index];
+    for event in events {
         check_partner(evidence.ledger, event)?;
     }
     Ok(())

@@ -39,13 +39,14 @@ pub fn merge<'a>(alloc: Global, parts: &'a Parts) -> Result<Run<'a>, AuditFault>
     let homes = parts.homes.as_slice();
     let creations = creations(alloc, &parts.directory);
     let records = parts.records.as_slice();
-    check(&Evidence::of(
+    let evidence = Evidence::of(
         &parts.directory,
         &creations,
         &parts.ledger,
         &parts.homes,
         records,
-    ))?;
+    );
+    check(&evidence)?;
     match by_stamp(alloc, &parts.directory, &parts.ledger, homes) {
         Ok(events) => Ok(Run::of(events)),
         Err(_) => Err(AuditFault::NoMemory),

@@ -12,7 +12,7 @@ use Rattle.std.proofs.lemmas.Grind.{common_steps}
 use Rattle.std.proofs.lemmas.Option.{get_or_from_slice_get, slice_get-get_or, slice_get_past, slice_get_read, slice_get_within}
 use Rattle.sq_base.specs.StampValue.{StampValue}
 use Rattle.sq_base.specs.Stamps.{Below, stamp_cmp}
-use Rattle.sq_base.proofs.StampLaws.{below_less, below_not_itself, below_not_less, below_or, below_trans, stamps_total}
+use Rattle.sq_base.proofs.StampLaws.{below_less, below_not_less, below_or, below_trans, stamps_total}
 use Rattle.sq_model.specs.declared.event.Event.{Event}
 use Rattle.sq_model.specs.Replays.{StampsRise}
 use Rattle.sq_history.specs.Events.{IsEventAt, Rises}
@@ -29,22 +29,11 @@ above_low low (x ∷ xs) last r zero e h = let same : x ≡ e = cc in subst (λ 
 above_low low (x ∷ xs) last r (suc k) e h = below_trans low x.stamp e.stamp r.0 (above_low x.stamp xs last r.1 k e h)
 
 -- of two events the later one has the higher stamp
-pub rises_at : {K R : Type 0} (low : StampValue) (es : List (Event K R)) (last : StampValue) → StampsRise low es last → (i j : ℕ) (d e : Event K R) → i < j → slice_get es i ≡ Some d → slice_get es j ≡ Some e → Below d.stamp e.stamp
+rises_at : {K R : Type 0} (low : StampValue) (es : List (Event K R)) (last : StampValue) → StampsRise low es last → (i j : ℕ) (d e : Event K R) → i < j → slice_get es i ≡ Some d → slice_get es j ≡ Some e → Below d.stamp e.stamp
 rises_at low [] last r i j d e lt h g = absurd cc
 rises_at low (x ∷ xs) last r i zero d e lt h g = absurd (omega (arith, lt))
 rises_at low (x ∷ xs) last r zero (suc j) d e lt h g = let same : x ≡ d = cc in subst (λ (y : Event _ _). Below y.stamp e.stamp) same (above_low x.stamp xs last r.1 j e g)
 rises_at low (x ∷ xs) last r (suc i) (suc j) d e lt h g = rises_at x.stamp xs last r.1 i j d e (omega (arith, lt)) h g
-
--- two events of one stamp are one
-pub one_at : {K R : Type 0} (es : List (Event K R)) (i j : ℕ) (d e : Event K R) → Rises es → slice_get es i ≡ Some d → slice_get es j ≡ Some e → d.stamp ≡ e.stamp → i ≡ j
-one_at es i j d e r h g same =
-    elim (cases_lt i j) as (λ _. i ≡ j) [
-      | inl lt ↦ absurd (below_not_itself e.stamp (subst (λ (s : StampValue). Below s e.stamp) same (rises_at r.low es r.last r.rising i j d e lt h g)))
-      | inr ge ↦ elim (cases_lt j i) as (λ _. i ≡ j) [
-        | inl lt ↦ absurd (below_not_itself e.stamp (subst (λ (s : StampValue). Below e.stamp s) same (rises_at r.low es r.last r.rising j i e d lt g h)))
-        | inr le ↦ omega (arith, ge, le)
-      ]
-    ]
 
 not_under : (a : StampValue) → is_lt (stamp_cmp a a) ≡ false
 not_under a = elim (is_lt (stamp_cmp a a)) as (λ (v : Bool). is_lt (stamp_cmp a a) ≡ v → v ≡ false) [ true ↦ (λ e. sym e ∙ stamps_weak.one_way a a e) | false ↦ (λ e. refl) ] refl
@@ -71,7 +60,7 @@ parted es stamp r i j d le lt h =
     ]
 
 -- and the event of the stamp is the first of the others
-pub at_point : {K R : Type 0} (es : List (Event K R)) (stamp : StampValue) (place : ℕ) → Rises es → IsPartitionPoint (λ e. is_under stamp e ≡ true) (λ e. is_under stamp e ≡ false) es place
+at_point : {K R : Type 0} (es : List (Event K R)) (stamp : StampValue) (place : ℕ) → Rises es → IsPartitionPoint (λ e. is_under stamp e ≡ true) (λ e. is_under stamp e ≡ false) es place
     → (e : Event K R) → IsEventAt es stamp e → slice_get es place ≡ Some e
 at_point es stamp place r point e h =
     let within : h.0 < length es = slice_get_within es h.0 e h.1 in
@@ -95,9 +84,14 @@ at_point es stamp place r point e h =
     ]
 
 -- what is read at a place
-pub read_is : {X R : Type 0} (now : R → X) (xs : List X) (place : ℕ) (lent : Option R) → ItemBy now xs place place lent → option_map now lent ≡ slice_get xs place
+read_is : {X R : Type 0} (now : R → X) (xs : List X) (place : ℕ) (lent : Option R) → ItemBy now xs place place lent → option_map now lent ≡ slice_get xs place
 read_is {X} {R} now xs place None h = sym (slice_get_past xs place h.3)
 read_is {X} {R} now xs place (Some x) h = sym (slice_get_read xs (length xs) place (now x) refl h.3.0 h.1)
+
+-- what is lent of the place is the event of the stamp
+pub lent_at : {K R L : Type 0} (now : L → Event K R) (es : List (Event K R)) (stamp : StampValue) (place : ℕ) (lent : Option L) → Rises es → IsPartitionPoint (λ e. is_under stamp e ≡ true) (λ e. is_under stamp e ≡ false) es place
+    → ItemBy now es place place lent → (e : Event K R) → IsEventAt es stamp e → option_map now lent ≡ Some e
+lent_at now es stamp place lent r point by e h = read_is now es place lent by ∙ at_point es stamp place r point e h
 
 one_number : (n : ℕ) → nat_eq n n ≡ true
 one_number n = grind (arith, common_steps)

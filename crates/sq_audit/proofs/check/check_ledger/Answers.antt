@@ -10,17 +10,17 @@ use Rattle.sq_audit.proofs.check.check_ledger.Goals as goal
 
 pub check_ledger_event-requires-clause-shared : goal.check_ledger_event-requires-clause-shared
 check_ledger_event-requires-clause-shared c =
-    let lt : c.loop-index.index < length c.events-events.result.now = search rules in
-    let in_events = read_at c.events-events.result.now _ c.loop-index.index c.index-events-index.result c.events-events.ensures.items lt c.index-events-index.is in
-    all_shared _ _ _ c.events-events.ensures.kept.replays c.loop-index.index c.index-events-index.result in_events
+    let lt : c.loop-index.index < length c.events-moved.result.now = search rules in
+    let in_events = read_at c.events-moved.result.now _ c.loop-index.index c.index-moved-index.result c.events-moved.ensures.items lt c.index-moved-index.is in
+    all_shared _ _ _ c.events-moved.ensures.kept.replays c.loop-index.index c.index-moved-index.result in_events
 
 pub loop-index-preserved : goal.loop-index-preserved
 loop-index-preserved c =
     let ledger = c.args.evidence.now.ledger in
-    let event = c.index-events-index.result in
-    let lt : c.loop-index.index < length c.events-events.result.now = search rules in
-    let items = subst (λ (v : EvidenceValue). c.events-events.result.now ≡ v.ledger) c.evidence.view_is c.events-events.ensures.items in
-    let there : slice_get ledger c.loop-index.index ≡ Some event = read_at c.events-events.result.now ledger c.loop-index.index event items lt c.index-events-index.is in
+    let event = c.index-moved-index.result in
+    let lt : c.loop-index.index < length c.events-moved.result.now = search rules in
+    let items = subst (λ (v : EvidenceValue). c.events-moved.result.now ≡ v.ledger) c.evidence.view_is c.events-moved.ensures.items in
+    let there : slice_get ledger c.loop-index.index ≡ Some event = read_at c.events-moved.result.now ledger c.loop-index.index event items lt c.index-moved-index.is in
     record {
       records = below_more (LedgerFits ledger c.args.evidence.now.journals) c.loop-index.index c.loop-index.invariant.records
           (λ e in_list. subst (λ (x : LedgerEvent). is_own x.call ≡ true → IsRecorded c.args.evidence.now.journals x.actor (IsOfLedger c.loop-index.index x)) (some_same (sym there ∙ in_list)) c.in_ok-check_ledger_event.ensures.records);
@@ -30,12 +30,12 @@ loop-index-preserved c =
 
 pub returns-clause-records : goal.returns-clause-records
 returns-clause-records c k e in_list =
-    let items = subst (λ (v : EvidenceValue). c.events-events.result.now ≡ v.ledger) c.evidence.view_is c.events-events.ensures.items in
-    let lt : k < length c.events-events.result.now = rw items (slice_get_within c.args.evidence.now.ledger k e in_list) in
+    let items = subst (λ (v : EvidenceValue). c.events-moved.result.now ≡ v.ledger) c.evidence.view_is c.events-moved.ensures.items in
+    let lt : k < length c.events-moved.result.now = rw items (slice_get_within c.args.evidence.now.ledger k e in_list) in
     c.loop-index.invariant.records k (search rules) e in_list
 
 pub returns-clause-partners : goal.returns-clause-partners
 returns-clause-partners c k e in_list =
-    let items = subst (λ (v : EvidenceValue). c.events-events.result.now ≡ v.ledger) c.evidence.view_is c.events-events.ensures.items in
-    let lt : k < length c.events-events.result.now = rw items (slice_get_within c.args.evidence.now.ledger k e in_list) in
+    let items = subst (λ (v : EvidenceValue). c.events-moved.result.now ≡ v.ledger) c.evidence.view_is c.events-moved.ensures.items in
+    let lt : k < length c.events-moved.result.now = rw items (slice_get_within c.args.evidence.now.ledger k e in_list) in
     c.loop-index.invariant.partners k (search rules) e in_list
