@@ -143,17 +143,17 @@ turned_word came.Back = codes "back"
 turned_word came.Dropped = codes "dropped"
 turned_word came.Full = codes "full"
 
-unfoldable pub turned_text : Turned → List ℕ
-turned_text turned = codes "{\"Turn\":\"" ++ turned_word turned ++ codes "\"}"
+abbrev pub turned_data : Turned → Data
+turned_data turned = object (member (codes "Turn") (string (turned_word turned)) no_members)
 
 -- the text of a reply: JSON with no space, and the members of an object in the order of their bytes
 abbrev pub reply_text_of : Result Answered Refusal → List ℕ
 reply_text_of (Ok (Call answer)) = compact_text (answer_data answer)
-reply_text_of (Ok (Turn turned)) = turned_text turned
+reply_text_of (Ok (Turn turned)) = compact_text (turned_data turned)
 reply_text_of (Err refusal) = error_text refusal
 
 -- a reply to a turn that was not refused has this
 abbrev pub OnTurned : Result Answered Refusal → Type 0 → Type 0
 OnTurned (Ok (Call answer)) P = ⊤
-OnTurned (Ok (Turn turned)) P = P
+OnTurned (Ok (Turn _)) P = P
 OnTurned (Err refusal) P = ⊤

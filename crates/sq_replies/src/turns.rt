@@ -1,13 +1,14 @@
 //! The texts that turns are answered with.
 ghost use Rattle.std.specs.Prelude.{◌≡◌};
-ghost use Rattle.sq_replies.specs.Replies.{turned_text};
+ghost use Rattle.serde_json.specs.Written.{compact_text};
+ghost use Rattle.sq_replies.specs.Replies.{turned_data};
 
 use sq_calls::turns::Turned;
 
 /// The text of what came of a turn.
-#[tactic(auto, unfolding(crate::specs::Replies::turned_text))]
+#[tactic(auto, unfolding(crate::proofs::OnLiterals::replies_on_literals))]
 pub(crate) fn turned_text(turned: Turned) -> &'static str
-    ensures { result.now ≡ turned_text turned }
+    ensures { result.now ≡ compact_text (turned_data turned) }
 {
     match turned {
         Turned::Left => "{\"Turn\":\"left\"}",

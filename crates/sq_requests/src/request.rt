@@ -99,7 +99,11 @@ fn request_of(alloc: Global, value: &Value) -> Result<Request, Refusal>
     let clock = clock_at(value)?;
     let actor = actor_at(value)?;
     let asked = call_or_turn_of(alloc, value, action)?;
-    Ok(Request { clock, actor, asked })
+    Ok(Request {
+        clock,
+        actor,
+        asked,
+    })
 }
 
 /// What a line asks, or the first reason in order why it is refused: InvalidRequest (not an object, a member of a
