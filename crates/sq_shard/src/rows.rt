@@ -301,6 +301,7 @@ fn is_at(slot: u32, serial: Serial, row: &Row) -> bool
 pub fn take_out(rows: &mut Vec<Row>, slot: u32, serial: Serial) -> Option<Row>
     ensures taken { IfSome result (λ row. (moves.is_at slot serial row ≡ true) × model.Takes row rows.old.items rows.new.items) }
     ensures none { IfNone result (list_any (moves.is_at slot serial) rows.old.items ≡ false) }
+    ensures kept { IfNone result (rows.new.items ≡ rows.old.items) }
     ensures len { vec_len rows.new ≤ vec_len rows.old }
     ensures capacity { vec_capacity rows.new ≡ vec_capacity rows.old }
 {

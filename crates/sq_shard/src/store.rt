@@ -108,6 +108,7 @@ pub trait Store: Drop {
     fn take_out(&mut self, slot: u32, serial: Serial) -> Option<Row>
         ensures taken { IfSome result (λ row. (is_at slot serial row ≡ true) × Takes row (rows self.old) (rows self.new)) }
         ensures none { IfNone result (list_any (is_at slot serial) (rows self.old) ≡ false) }
+        ensures kept { IfNone result (rows self.new ≡ rows self.old) }
         ensures reserved { reserved self.old ≤ reserved self.new };
 
     /// Hides the row of a receipt until another moment, where it is in flight.
