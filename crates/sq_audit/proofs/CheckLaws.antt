@@ -479,20 +479,20 @@ module _ (d : List DirectoryEvent) (l : List LedgerEvent) (hs : List HomeHistory
       ] refl
 
 -- an event of a home names it
-event_home : (home : HistoryValue) → IsKept home → (k : ℕ) (e : HomeEvent) → slice_get home.events k ≡ Some e → e.component ≡ component.Home home.site.home
-event_home home kept k e in_events = all_at (λ (x : HomeEvent). x.component ≡ component.Home home.site.home) home.events k e kept.own in_events
+names_home : (home : HistoryValue) → IsKept home → (k : ℕ) (e : HomeEvent) → slice_get home.events k ≡ Some e → e.component ≡ component.Home home.site.home
+names_home home kept k e in_events = all_at (λ (x : HomeEvent). x.component ≡ component.Home home.site.home) home.events k e kept.own in_events
 
 module _ (l : List LedgerEvent) (homes : List HistoryValue) (j : ℕ) (home : HistoryValue) (in_homes : slice_get (histories_of homes) j ≡ Some (history_of home)) (kept : IsKept home) (k : ℕ) (e : HomeEvent) (in_events : slice_get home.events k ≡ Some e) where
   pub ledger_has : (is_alone e.call ≡ false → (id : HomeId) → e.component ≡ component.Home id → IsInLedger l id e) → LedgerHas l (histories_of homes) j k
   ledger_has has h f there shared =
       let same : h ≡ history_of home = some_same (sym there.in_homes ∙ in_homes) in
       let event : f ≡ e = some_same (sym there.in_events ∙ ap (λ (y : HomeHistory). slice_get y.events k) same ∙ in_events) in
-      subst (λ (y : HomeHistory). IsInLedger l y.home f) (sym same) (subst (IsInLedger l home.site.home) (sym event) (has (subst (λ (y : HomeEvent). is_alone y.call ≡ false) event shared) home.site.home (event_home home kept k e in_events)))
+      subst (λ (y : HomeHistory). IsInLedger l y.home f) (sym same) (subst (IsInLedger l home.site.home) (sym event) (has (subst (λ (y : HomeEvent). is_alone y.call ≡ false) event shared) home.site.home (names_home home kept k e in_events)))
 
   pub ledger_lacks : (d : List DirectoryEvent) (journals : List Journal) (f : AuditFault) → IsWithoutPartner l e f → IsWrong d l (histories_of homes) journals f
   ledger_lacks d journals f wrong =
       subst (IsWrong d l (histories_of homes) journals) (sym wrong.told)
-      (wrong_at_home d l (histories_of homes) journals j k (history_of home) e (record { in_homes = in_homes; in_events = in_events }) wrong.shared (wrong.lost home.site.home (event_home home kept k e in_events)))
+      (wrong_at_home d l (histories_of homes) journals j k (history_of home) e (record { in_homes = in_homes; in_events = in_events }) wrong.shared (wrong.lost home.site.home (names_home home kept k e in_events)))
 
 pub all_partners : (l : List LedgerEvent) (homes : List HistoryValue) → ((j : ℕ) → j < length homes → (k : ℕ) → LedgerHas l (histories_of homes) j k) → (j k : ℕ) → LedgerHas l (histories_of homes) j k
 all_partners l homes each j k h e there = let t = get_mapped history_of homes j h there.in_homes in each j (slice_get_within homes j t.0 t.1) k h e there

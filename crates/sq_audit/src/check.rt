@@ -239,7 +239,7 @@ fn check_ledger_event(
     ensures partners { OnOk result (is_own event.now.call ≡ false → InHome evidence.now.homes event.now) }
     ensures fault { IfErr result (λ f. IsWrong evidence.now.directory evidence.now.ledger evidence.now.homes evidence.now.journals f) }
 {
-    // As above, this is for the prover.
+    // What is always true of the evidence is known to the prover once a part of it is read.
     let _ = &evidence.ledger;
     let by = (event.actor, event.place);
     match &event.call {
@@ -373,7 +373,7 @@ fn is_home_at(evidence: &Evidence<'_>, index: usize, id: &HomeId) -> bool
     }
 }
 
-// What all homes share with the ledger.
+// All that the homes share with the ledger stands in its history too.
 fn check_shared(evidence: &Evidence<'_>) -> Result<(), AuditFault>
     ensures ok { OnOk result ((j k : ℕ) → LedgerHas evidence.now.ledger evidence.now.homes j k) }
     ensures fault { IfErr result (λ f. IsWrong evidence.now.directory evidence.now.ledger evidence.now.homes evidence.now.journals f) }
@@ -385,7 +385,7 @@ fn check_shared(evidence: &Evidence<'_>) -> Result<(), AuditFault>
     Ok(())
 }
 
-// What the home at an index shares with it.
+// And so with what the home at an index shares with it.
 fn check_shared_of(evidence: &Evidence<'_>, at: usize) -> Result<(), AuditFault>
     requires within { at < length evidence.now.homes }
     ensures ok { OnOk result ((k : ℕ) → LedgerHas evidence.now.ledger evidence.now.homes at k) }
@@ -400,7 +400,7 @@ fn check_shared_of(evidence: &Evidence<'_>, at: usize) -> Result<(), AuditFault>
     Ok(())
 }
 
-// One event of a home, which it names: where it is shared with the ledger, it stands there too.
+// One event of the home that it names: where it is shared with the ledger, it stands in the ledger's history too.
 fn check_partner(
     ledger: &TransitLedger,
     event: &Event<HomeCall, HomeReply>,
