@@ -1,6 +1,7 @@
 pub mod OrderLaws
 pub mod PartLaws
-pub mod StillLaws
+pub mod RisingLaws
+pub mod SharedLaws
 pub mod MergeLaws
 pub mod ActorLaws
 pub mod StateLaws

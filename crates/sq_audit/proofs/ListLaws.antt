@@ -1,6 +1,8 @@
--- Lists that are changed element by element, and lists of homes that grow.
-use Rattle.std.proofs.Common.{◌≡◌, ◌∙◌, sym, ℕ, zero, suc, ◌+◌, ◌-◌, ◌<◌, ◌≤◌, inl, inr, List, [], ◌∷◌, ◌++◌, length, take, drop, get_or, set, map, refl, ap, arith}
+-- Lists that are changed element by element, what holds of each element, and lists of homes that grow.
+use Rattle.std.proofs.Common.{Some, slice_get, subst, ◌≡◌, ◌∙◌, sym, ℕ, zero, suc, ◌+◌, ◌-◌, ◌<◌, ◌≤◌, inl, inr, List, [], ◌∷◌, ◌++◌, length, take, drop, get_or, set, map, refl, ap, arith}
+use Rattle.std.specs.List.{All}
 use Rattle.std.proofs.lemmas.Bool.{cases_lt}
+use Rattle.std.proofs.lemmas.List.Elements.{All-head, All-tail}
 use Rattle.std.proofs.lemmas.List.{get_or_default}
 use Rattle.std.proofs.lemmas.List.Edits.{map_over_more}
 use Rattle.sq_audit.specs.HomeValues.{HomeValue}
@@ -8,6 +10,11 @@ use Rattle.sq_audit.specs.Audits.{no_states, grown}
 
 pub map_at : {X : Type 0} (f : X → X) (xs ys : List X) (i : ℕ) (d : X) → i < length xs → i < length ys → ys ≡ map f (take i xs) ++ drop i xs → set ys i (f (get_or ys i d)) ≡ map f (take (i + 1) xs) ++ drop (i + 1) xs
 map_at f xs ys i d h l same = map_over_more f xs ys i (get_or ys i d) h same (get_or_default ys i d (get_or ys i d) l)
+
+pub all_at : {X : Type 0} (P : X → Type 0) (xs : List X) (i : ℕ) (x : X) → All P xs → slice_get xs i ≡ Some x → P x
+all_at {X} P [] i x h e = absurd cc
+all_at {X} P (y ∷ xs) zero x h e = let same : y ≡ x = cc in subst P same (All-head P y xs h)
+all_at {X} P (y ∷ xs) (suc i) x h e = all_at P xs i x (All-tail P y xs h) e
 
 -- a list that is long enough stays
 pub grown_same : (n : ℕ) (homes : List HomeValue) → n ≤ length homes → grown n homes ≡ homes

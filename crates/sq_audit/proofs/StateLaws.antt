@@ -1,8 +1,8 @@
 -- A step of a home on what decides how its rows leave it.
-use Rattle.std.proofs.Common.{◌≡◌, ℕ, zero, suc, ◌+◌, ◌≤◌, Bool, true, false, not, cond, List, [], ◌∷◌, ◌++◌, map, refl, arith, ap, sym, ◌∙◌, subst, inl, inr, Option, Some, None, unwrap_or}
+use Rattle.std.proofs.Common.{◌≡◌, ◌≢◌, ℕ, zero, suc, ◌+◌, ◌<◌, ◌≤◌, Bool, true, false, not, cond, List, [], ◌∷◌, ◌++◌, map, refl, arith, ap, sym, ◌∙◌, subst, inl, inr, Option, Some, None, unwrap_or}
 use Rattle.std.specs.Prelude.{◌⊎◌, ◌&&◌, ◌==◌, nat_lt, filter, if◌then◌else◌}
 use Rattle.std.specs.List.{list_any, All, Contains}
-use Rattle.std.proofs.lemmas.List.{append-nil}
+use Rattle.std.proofs.lemmas.List.{append-nil, map-append}
 use Rattle.std.proofs.lemmas.List.Elements.{All-head, All-tail}
 use Rattle.std.proofs.lemmas.Bool.Decides.{eqb_tells}
 use Rattle.sq_base.specs.declared.row.Row.{Row}
@@ -10,17 +10,21 @@ use Rattle.sq_base.specs.declared.settings.Settings.{Settings}
 use Rattle.sq_model.specs.declared.place.Site.{Site}
 use Rattle.sq_model.specs.declared.calls.Receipt.{Receipt}
 use Rattle.sq_model.specs.declared.calls.HomeCall.{HomeCall}
-use Rattle.sq_model.specs.declared.calls.HomeCall.TheVariants.{Configure, Close, Send, Look, Delete, Change, Purge, Count, LeaveTask, TurnBack, GiveUp}
+use Rattle.sq_model.specs.declared.calls.HomeCall.TheVariants.{Configure, Close, Send, Look, Delete, Change, Purge, Count, LeaveDead, LeaveTask, Enter, TurnBack, GiveBack, GiveUp}
+use Rattle.sq_model.specs.declared.item.Item.{Item}
+use Rattle.sq_model.specs.declared.item.Reason.{Reason}
+use Rattle.sq_model.specs.declared.item.Reason.TheVariants.{DeadLetter, Task}
+use Rattle.sq_model.specs.declared.replies.EnteredRow.{EnteredRow}
 use Rattle.sq_model.specs.declared.replies.HomeReply.{HomeReply}
-use Rattle.sq_model.specs.declared.replies.HomeReply.TheVariants.{Done, Sent, Looked, Over, Counted}
-use Rattle.sq_model.specs.Rows.{ms, trimmed, is_visible, is_dead, is_live, is_held, serials_of, has_serial, received, received_if, changed_if, RisesFrom, IsLook}
-use Rattle.sq_model.specs.Homes.{Home, Unopened, Serving, Closed, HomeStep, IsRising, sent_row}
-use Rattle.sq_model.specs.Lineages.{Cause, Expired, Deleted, Purged, ClosedAway, Ending, ended, expired, home_ends, home_sends}
-use Rattle.sq_model.specs.Systems.{is_alone}
-use Rattle.sq_model.proofs.RowLaws.{rises_trimmed, rises_push, rises_received, rises_changed, rises_without}
+use Rattle.sq_model.specs.declared.replies.HomeReply.TheVariants.{Done, Sent, Looked, Over, Counted, Left, NoLiveRow, NoOrigin, SourceClosed, Entered}
+use Rattle.sq_base.specs.declared.ids.HomeId.{HomeId}
+use Rattle.sq_model.specs.Rows.{ms, trimmed, is_visible, is_dead, is_live, is_held, serials_of, has_serial, received, received_if, changed_if, RisesFrom, IsLook, Takes}
+use Rattle.sq_model.specs.Homes.{Home, Unopened, Serving, Closed, HomeStep, IsRising, sent_row, entered_as, entered_row, returned_as, returned_row}
+use Rattle.sq_model.specs.Lineages.{Cause, Expired, Deleted, Purged, ClosedAway, GivenUp, Ending, ended, expired, given_up, home_ends, home_ins, home_outs, home_sends}
+use Rattle.sq_model.proofs.RowLaws.{rises_filter, rises_trimmed, rises_push, rises_received, rises_changed, rises_without}
 use Rattle.sq_audit.specs.declared.state.RowState.{RowState}
 use Rattle.sq_audit.specs.declared.state.Policy.{Policy}
-use Rattle.sq_audit.specs.RowStates.{state_of, states_of, is_past, is_named, looked, next_policy, Effect, Stays, Leaves, effect_of, effect_sends, kept_states, past_states, states_after, ended_states, state_ends}
+use Rattle.sq_audit.specs.RowStates.{state_of, states_of, is_past, is_named, is_of, enqueued_as, entered_state, returned_state, looked, next_policy, Effect, Stays, Arrives, Looks, Leaves, Departs, Enters, Drops, effect_of, effect_sends, effect_outs, effect_ins, kept_states, past_states, states_after, ended_states, state_ends}
 
 -- membership by cases on the list
 abbrev Has : List Row → Row → Type 0
@@ -154,13 +158,23 @@ GoesBy Unopened policy = policy ≡ None
 GoesBy (Serving s v n rows) policy = policy ≡ Some (record { retention = s.retention; version = v })
 GoesBy Closed policy = Unit {0}
 
+-- one row is taken out, and the rest stays as it was
+abbrev pub Splits : Effect → List RowState → Type 0
+Splits Stays rows = Unit {0}
+Splits (Arrives sent) rows = Unit {0}
+Splits (Looks picked) rows = Unit {0}
+Splits (Leaves p cause) rows = Unit {0}
+Splits (Departs row) rows = (b : List RowState) × (a : List RowState) × (rows ≡ b ++ state_of row ∷ a) × (filter (λ state. not (is_of row state)) rows ≡ b ++ a)
+Splits (Enters row) rows = Unit {0}
+Splits (Drops line) rows = Unit {0}
+
 -- what a step does to a home is what its effect does to the states of its rows
-pub record Mirrors (home : Home) (policy next : Option Policy) (m : ℕ) (effect : Effect) (leaving : List Ending) (reply : HomeReply) (after : Home) : Type 0 where
+pub record Mirrors (home : Home) (policy next : Option Policy) (m : ℕ) (effect : Effect) (leaving : List Ending) (after : Home) : Type 0 where
   pub rising : IsRising after
   pub goes_by : GoesBy after next
   pub states : states_of after ≡ states_after m effect (kept_states policy m (states_of home))
   pub ends : leaving ≡ state_ends policy m effect (states_of home)
-  pub sends : home_sends reply ≡ effect_sends effect
+  pub split : Splits effect (kept_states policy m (states_of home))
 
 abbrev policy_of : Settings → ℕ → Option Policy
 policy_of s v = Some (record { retention = s.retention; version = v })
@@ -172,8 +186,8 @@ past_rows : (s : Settings) (v m : ℕ) (rows : List Row) → ended Expired (expi
 past_rows s v m rows = sym (ended_map Expired (expired s m rows)) ∙ ap (ended_states Expired) (map_filter (is_past s.retention m) rows)
 
 -- only those past the retention leave
-only_past : (s : Settings) (v m : ℕ) (rows : List Row) → ended Expired (expired s m rows) ≡ ended_states Expired (past_states (policy_of s v) m (map state_of rows)) ++ []
-only_past s v m rows = rw append-nil (past_rows s v m rows)
+only_past : (s : Settings) (v m : ℕ) (rows : List Row) → ended Expired (expired s m rows) ++ [] ≡ ended_states Expired (past_states (policy_of s v) m (map state_of rows)) ++ []
+only_past s v m rows = ap (λ (es : List Ending). es ++ []) (past_rows s v m rows)
 
 left_rows : (s : Settings) (v m : ℕ) (p : RowState → Bool) (cause : Cause) (rows : List Row)
     → ended Expired (expired s m rows) ++ ended cause (filter (λ row. p (state_of row)) (trimmed s m rows)) ≡ state_ends (policy_of s v) m (Leaves p cause) (map state_of rows)
@@ -188,32 +202,140 @@ all_left s v m cause rows =
     subst (λ (rs : List Row). ended Expired (expired s m rows) ++ ended cause rs ≡ state_ends (policy_of s v) m (Leaves (λ row. true) cause) (map state_of rows))
     (filter_all (trimmed s m rows)) (left_rows s v m (λ row. true) cause rows)
 
--- the rows change, their states do not
-stays : (s : Settings) (v n m : ℕ) (rows kept : List Row) (reply : HomeReply) → map state_of kept ≡ map state_of (trimmed s m rows) → RisesFrom 0 kept n → home_sends reply ≡ []
-    → Mirrors (Serving s v n rows) (policy_of s v) (policy_of s v) m Stays (ended Expired (expired s m rows)) reply (Serving s v n kept)
-stays s v n m rows kept reply same rising none = record { rising = rising; goes_by = refl; states = same ∙ kept_rows s v m rows; ends = only_past s v m rows; sends = none }
+-- and those that leave
+past_left : (s : Settings) (v m : ℕ) (p : RowState → Bool) (cause : Cause) (rows : List Row)
+    → (ended Expired (expired s m rows) ++ ended cause (filter (λ row. p (state_of row)) (trimmed s m rows))) ++ [] ≡ state_ends (policy_of s v) m (Leaves p cause) (map state_of rows)
+past_left s v m p cause rows = append-nil _ ∙ left_rows s v m p cause rows
 
-serving_mirrors : (site : Site) (s : Settings) (v n : ℕ) (rows : List Row) (m : ℕ) (call : HomeCall) (reply : HomeReply) (after : Home) → HomeStep site (Serving s v n rows) m call reply after → is_alone call ≡ true → RisesFrom 0 rows n
-    → Mirrors (Serving s v n rows) (policy_of s v) (next_policy (policy_of s v) call) m (effect_of call reply) (home_ends (Serving s v n rows) m call) reply after
-unfolding HomeStep
-serving_mirrors site s v n rows m (Configure t w) Done after h a rising =
-    let trimmed_rising = rises_trimmed s m 0 rows n rising in
-    rw h (elim (nat_lt v w) as (λ b. Mirrors (Serving s v n rows) (policy_of s v) (if b then policy_of t w else policy_of s v) m Stays (ended Expired (expired s m rows)) Done (if b then Serving t w n (trimmed s m rows) else Serving s v n (trimmed s m rows))) [
-      | true ↦ record { rising = trimmed_rising; goes_by = refl; states = kept_rows s v m rows; ends = only_past s v m rows; sends = refl }
-      | false ↦ stays s v n m rows (trimmed s m rows) Done refl trimmed_rising refl
-    ])
-serving_mirrors site s v n rows m Close Done after h a rising =
-    rw h (record { rising = tt; goes_by = tt; states = sym (filter_none (kept_states (policy_of s v) m (map state_of rows))); ends = all_left s v m ClosedAway rows; sends = refl })
-serving_mirrors site s v n rows m (Send body delay) (Sent sent) after h a rising =
+past_all : (s : Settings) (v m : ℕ) (cause : Cause) (rows : List Row)
+    → (ended Expired (expired s m rows) ++ ended cause (trimmed s m rows)) ++ [] ≡ state_ends (policy_of s v) m (Leaves (λ row. true) cause) (map state_of rows)
+past_all s v m cause rows = append-nil _ ∙ all_left s v m cause rows
+
+-- the rows change, their states do not
+stays : (s : Settings) (v n m : ℕ) (rows kept : List Row) → map state_of kept ≡ map state_of (trimmed s m rows) → RisesFrom 0 kept n
+    → Mirrors (Serving s v n rows) (policy_of s v) (policy_of s v) m Stays (ended Expired (expired s m rows) ++ []) (Serving s v n kept)
+stays s v n m rows kept same rising = record { rising = rising; goes_by = refl; states = same ∙ kept_rows s v m rows; ends = only_past s v m rows; split = tt }
+
+none_passes : (a b : Bool) → b ≡ false → (a && b) ≡ false
+none_passes true b e = e
+none_passes false b e = refl
+
+other_row : (row r : Row) → r.serial ≢ row.serial → is_of row (state_of r) ≡ false
+other_row row r ne = elim (eqb_tells r.serial row.serial) as (λ _. is_of row (state_of r) ≡ false) [ inl p ↦ absurd (ne p.1) | inr p ↦ none_passes (r.slot == row.slot) (r.serial == row.serial) p.0 ]
+
+same_number : (n : ℕ) → (n == n) ≡ true
+same_number n = elim (eqb_tells n n) as (λ _. (n == n) ≡ true) [ inl p ↦ p.0 | inr p ↦ absurd (p.1 refl) ]
+
+this_row : (row : Row) → is_of row (state_of row) ≡ true
+this_row row = rw (same_number row.slot, same_number row.serial) refl
+
+-- none of these has the slot and serial of a row with a lower serial
+later_stay : (row : Row) (low : ℕ) (rows : List Row) (next : ℕ) → row.serial < low → RisesFrom low rows next → filter (λ r. not (is_of row (state_of r))) rows ≡ rows
+later_stay row low [] next lt h = refl
+later_stay row low (r ∷ rows) next lt h =
+    let other = other_row row r (λ e. omega (arith, e, h.0, lt)) in
+    let rest = later_stay row (r.serial + 1) rows next (omega (arith, h.0, lt)) h.1 in
+    subst (λ (v : Bool). cond (not v) (r ∷ filter (λ q. not (is_of row (state_of q))) rows) (filter (λ q. not (is_of row (state_of q))) rows) ≡ r ∷ rows) (sym other) (ap (λ (rs : List Row). r ∷ rs) rest)
+
+from_low : (low : ℕ) (before : List Row) (row : Row) (after : List Row) (next : ℕ) → RisesFrom low (before ++ row ∷ after) next → low ≤ row.serial
+from_low low [] row after next h = h.0
+from_low low (r ∷ before) row after next h = omega (arith, h.0, from_low (r.serial + 1) before row after next h.1)
+
+-- what has the slot and serial of one row is that row
+taken_row : (low : ℕ) (before : List Row) (row : Row) (after : List Row) (next : ℕ) → RisesFrom low (before ++ row ∷ after) next → filter (λ r. not (is_of row (state_of r))) (before ++ row ∷ after) ≡ before ++ after
+taken_row low [] row after next h =
+    let rest = later_stay row (row.serial + 1) after next (omega arith) h.1 in
+    subst (λ (v : Bool). cond (not v) (row ∷ filter (λ q. not (is_of row (state_of q))) after) (filter (λ q. not (is_of row (state_of q))) after) ≡ after) (sym (this_row row)) rest
+taken_row low (r ∷ before) row after next h =
+    let later = from_low (r.serial + 1) before row after next h.1 in
+    let other = other_row row r (λ e. omega (arith, e, later)) in
+    let rest = taken_row (r.serial + 1) before row after next h.1 in
+    subst (λ (v : Bool). cond (not v) (r ∷ filter (λ q. not (is_of row (state_of q))) (before ++ row ∷ after)) (filter (λ q. not (is_of row (state_of q))) (before ++ row ∷ after)) ≡ r ∷ before ++ after) (sym other) (ap (λ (rs : List Row). r ∷ rs) rest)
+
+-- a row leaves for another queue
+departs : (s : Settings) (v n m : ℕ) (rows rest : List Row) (row : Row) → RisesFrom 0 rows n → Takes row (trimmed s m rows) rest
+    → Mirrors (Serving s v n rows) (policy_of s v) (policy_of s v) m (Departs row) (ended Expired (expired s m rows) ++ []) (Serving s v n rest)
+departs s v n m rows rest row rising t =
     let kept = trimmed s m rows in
-    rw (h.2, h.1) (record {
-      rising = rises_push 0 kept n (sent_row site.home n sent.slot m (m + ms (unwrap_or delay s.delay)) body) (rises_trimmed s m 0 rows n rising) refl;
+    let kept_rising : RisesFrom 0 kept n = rises_trimmed s m 0 rows n rising in
+    let left : filter (λ r. not (is_of row (state_of r))) kept ≡ rest =
+    ap (filter (λ (r : Row). not (is_of row (state_of r)))) t.at ∙ taken_row 0 t.before row t.after n (subst (λ (rs : List Row). RisesFrom 0 rs n) t.at kept_rising) ∙ sym t.left in
+    let states : map state_of rest ≡ filter (λ state. not (is_of row state)) (kept_states (policy_of s v) m (map state_of rows)) =
+    ap (map state_of) (sym left) ∙ map_filter (λ state. not (is_of row state)) kept ∙ ap (filter (λ (state : RowState). not (is_of row state))) (kept_rows s v m rows) in
+    record {
+      rising = subst (λ (rs : List Row). RisesFrom 0 rs n) left (rises_filter (λ r. not (is_of row (state_of r))) 0 kept n kept_rising);
       goes_by = refl;
-      states = map_push kept (sent_row site.home n sent.slot m (m + ms (unwrap_or delay s.delay)) body) ∙ ap (λ (xs : List RowState). xs ++ state_of (sent_row site.home n sent.slot m (m + ms (unwrap_or delay s.delay)) body) ∷ []) (kept_rows s v m rows);
+      states = states;
       ends = only_past s v m rows;
-      sends = refl;
+      split = (
+        map state_of t.before,
+        map state_of t.after,
+        sym (kept_rows s v m rows) ∙ ap (map state_of) t.at ∙ map-append state_of t.before (row ∷ t.after),
+        sym states ∙ ap (map state_of) t.left ∙ map-append state_of t.before t.after,
+      );
+    }
+
+-- a row comes in
+comes_in : (s : Settings) (v n m : ℕ) (rows : List Row) (row : Row) (state : RowState) → RisesFrom 0 rows n → row.serial ≡ n → state_of row ≡ state
+    → Mirrors (Serving s v n rows) (policy_of s v) (policy_of s v) m (Enters state) (ended Expired (expired s m rows) ++ []) (Serving s v (n + 1) (trimmed s m rows ++ row ∷ []))
+comes_in s v n m rows row state rising serial is = record {
+  rising = rises_push 0 (trimmed s m rows) n row (rises_trimmed s m 0 rows n rising) serial;
+  goes_by = refl;
+  states = map_push (trimmed s m rows) row ∙ ap (λ (xs : List RowState). xs ++ state_of row ∷ []) (kept_rows s v m rows) ∙ ap (λ (x : RowState). kept_states (policy_of s v) m (map state_of rows) ++ x ∷ []) is;
+  ends = only_past s v m rows;
+  split = tt;
+}
+
+entered_serial : (reason : Reason) (home : HomeId) (source serial slot m : ℕ) (row : Row) → (entered_as reason home source serial slot m row).serial ≡ serial
+entered_serial DeadLetter home source serial slot m row = refl
+entered_serial (Task task) home source serial slot m row = refl
+
+entered_is : (reason : Reason) (home : HomeId) (source serial slot m : ℕ) (row : Row)
+    → state_of (entered_as reason home source serial slot m row) ≡ record { lineage = row.lineage; serial = serial; slot = slot; enqueued = enqueued_as reason m row.enqueued; receives = 0 }
+entered_is DeadLetter home source serial slot m row = refl
+entered_is (Task task) home source serial slot m row = refl
+
+returned_serial : (reason : Reason) (serial slot m : ℕ) (row : Row) → (returned_as reason serial slot m row).serial ≡ serial
+returned_serial DeadLetter serial slot m row = refl
+returned_serial (Task task) serial slot m row = refl
+
+returned_is : (reason : Reason) (serial slot m : ℕ) (row : Row)
+    → state_of (returned_as reason serial slot m row) ≡ record { lineage = row.lineage; serial = serial; slot = slot; enqueued = row.enqueued; receives = 0 }
+returned_is DeadLetter serial slot m row = refl
+returned_is (Task task) serial slot m row = refl
+
+entered_same : (home : HomeId) (n m : ℕ) (item : Item) (entered : EnteredRow) → entered.serial ≡ n → state_of (entered_row home n entered.slot m item) ≡ entered_state m item entered
+entered_same home n m item entered e =
+    entered_is item.reason home item.source n entered.slot m item.row
+    ∙ ap (λ (k : ℕ). record { lineage = item.row.lineage; serial = k; slot = entered.slot; enqueued = enqueued_as item.reason m item.row.enqueued; receives = 0 }) (sym e)
+
+returned_same : (n m : ℕ) (item : Item) (entered : EnteredRow) → entered.serial ≡ n → state_of (returned_row n entered.slot m item) ≡ returned_state item entered
+returned_same n m item entered e =
+    returned_is item.reason n entered.slot m item.row
+    ∙ ap (λ (k : ℕ). record { lineage = item.row.lineage; serial = k; slot = entered.slot; enqueued = item.row.enqueued; receives = 0 }) (sym e)
+
+serving_mirrors : (site : Site) (s : Settings) (v n : ℕ) (rows : List Row) (m : ℕ) (call : HomeCall) (reply : HomeReply) (after : Home) → HomeStep site (Serving s v n rows) m call reply after → RisesFrom 0 rows n
+    → Mirrors (Serving s v n rows) (policy_of s v) (next_policy (policy_of s v) call) m (effect_of m call reply) (home_ends (Serving s v n rows) m call ++ given_up call) after
+unfolding HomeStep
+serving_mirrors site s v n rows m (Configure t w) Done after h rising =
+    let trimmed_rising = rises_trimmed s m 0 rows n rising in
+    rw h (elim (nat_lt v w) as (λ b. Mirrors (Serving s v n rows) (policy_of s v) (if b then policy_of t w else policy_of s v) m Stays (ended Expired (expired s m rows) ++ []) (if b then Serving t w n (trimmed s m rows) else Serving s v n (trimmed s m rows))) [
+      | true ↦ record { rising = trimmed_rising; goes_by = refl; states = kept_rows s v m rows; ends = only_past s v m rows; split = tt }
+      | false ↦ stays s v n m rows (trimmed s m rows) refl trimmed_rising
+    ])
+serving_mirrors site s v n rows m Close Done after h rising =
+    rw h (record { rising = tt; goes_by = tt; states = sym (filter_none (kept_states (policy_of s v) m (map state_of rows))); ends = past_all s v m ClosedAway rows; split = tt })
+serving_mirrors site s v n rows m (Send body delay) (Sent sent) after h rising =
+    let kept = trimmed s m rows in
+    let row = sent_row site.home n sent.slot m (m + ms (unwrap_or delay s.delay)) body in
+    rw (h.2, h.1) (record {
+      rising = rises_push 0 kept n row (rises_trimmed s m 0 rows n rising) refl;
+      goes_by = refl;
+      states = map_push kept row ∙ ap (λ (xs : List RowState). xs ++ state_of row ∷ []) (kept_rows s v m rows);
+      ends = only_past s v m rows;
+      split = tt;
     })
-serving_mirrors site s v n rows m (Look max timeout) (Looked picked) after h a rising =
+serving_mirrors site s v n rows m (Look max timeout) (Looked picked) after h rising =
     let kept = trimmed s m rows in
     let until = m + ms (unwrap_or timeout s.timeout) in
     let kept_rising = rises_trimmed s m 0 rows n rising in
@@ -222,42 +344,90 @@ serving_mirrors site s v n rows m (Look max timeout) (Looked picked) after h a r
       goes_by = refl;
       states = looked_rows s m until picked kept (λ row i e. picked_live s m until _ kept picked n row kept_rising h.1 i e) ∙ ap (map (looked picked)) (kept_rows s v m rows);
       ends = only_past s v m rows;
-      sends = refl;
+      split = tt;
     })
-serving_mirrors site s v n rows m (Look max timeout) Over after h a rising = rw h.2 (stays s v n m rows (trimmed s m rows) Over refl (rises_trimmed s m 0 rows n rising) refl)
-serving_mirrors site s v n rows m (Delete receipt) Done after h a rising =
+serving_mirrors site s v n rows m (Look max timeout) Over after h rising = rw h.2 (stays s v n m rows (trimmed s m rows) refl (rises_trimmed s m 0 rows n rising))
+serving_mirrors site s v n rows m (Delete receipt) Done after h rising =
     let kept = trimmed s m rows in
     rw h.1 (record {
       rising = rises_without receipt 0 kept n (rises_trimmed s m 0 rows n rising);
       goes_by = refl;
       states = map_filter (λ row. not (is_named receipt row)) kept ∙ ap (filter (λ (row : RowState). not (is_named receipt row))) (kept_rows s v m rows);
-      ends = left_rows s v m (is_named receipt) Deleted rows;
-      sends = refl;
+      ends = past_left s v m (is_named receipt) Deleted rows;
+      split = tt;
     })
-serving_mirrors site s v n rows m (Change receipt timeout) Done after h a rising =
+serving_mirrors site s v n rows m (Change receipt timeout) Done after h rising =
     let kept = trimmed s m rows in
-    rw h.3 (stays s v n m rows (map (changed_if m receipt (m + ms timeout)) kept) Done (changed_rows m receipt (m + ms timeout) kept) (rises_changed m receipt (m + ms timeout) 0 kept n (rises_trimmed s m 0 rows n rising)) refl)
-serving_mirrors site s v n rows m Purge Done after h a rising =
-    rw h (record { rising = omega arith; goes_by = refl; states = sym (filter_none (kept_states (policy_of s v) m (map state_of rows))); ends = all_left s v m Purged rows; sends = refl })
-serving_mirrors site s v n rows m Count (Counted counts) after h a rising = rw h.1 (stays s v n m rows (trimmed s m rows) (Counted counts) refl (rises_trimmed s m 0 rows n rising) refl)
-serving_mirrors site s v n rows m (Configure t w) reply after h a rising = elim h [ ]
-serving_mirrors site s v n rows m Close reply after h a rising = elim h [ ]
-serving_mirrors site s v n rows m (Send body delay) reply after h a rising = elim h [ ]
-serving_mirrors site s v n rows m (Look max timeout) reply after h a rising = elim h [ ]
-serving_mirrors site s v n rows m (Delete receipt) reply after h a rising = elim h [ ]
-serving_mirrors site s v n rows m (Change receipt timeout) reply after h a rising = elim h [ ]
-serving_mirrors site s v n rows m Purge reply after h a rising = elim h [ ]
-serving_mirrors site s v n rows m Count reply after h a rising = elim h [ ]
-serving_mirrors site s v n rows m call reply after h a rising = absurd cc
+    rw h.3 (stays s v n m rows (map (changed_if m receipt (m + ms timeout)) kept) (changed_rows m receipt (m + ms timeout) kept) (rises_changed m receipt (m + ms timeout) 0 kept n (rises_trimmed s m 0 rows n rising)))
+serving_mirrors site s v n rows m Purge Done after h rising =
+    rw h (record { rising = omega arith; goes_by = refl; states = sym (filter_none (kept_states (policy_of s v) m (map state_of rows))); ends = past_all s v m Purged rows; split = tt })
+serving_mirrors site s v n rows m Count (Counted counts) after h rising = rw h.1 (stays s v n m rows (trimmed s m rows) refl (rises_trimmed s m 0 rows n rising))
+serving_mirrors site s v n rows m LeaveDead (Left item) after h rising = rw h.3.2 (departs s v n m rows h.3.0 item.row rising h.3.1)
+serving_mirrors site s v n rows m (LeaveTask task) (Left item) after h rising = rw h.2.2 (departs s v n m rows h.2.0 item.row rising h.2.1)
+serving_mirrors site s v n rows m (LeaveTask task) NoLiveRow after h rising = rw h.1 (stays s v n m rows (trimmed s m rows) refl (rises_trimmed s m 0 rows n rising))
+serving_mirrors site s v n rows m (LeaveTask task) (NoOrigin serial) after h rising = rw h.1 (stays s v n m rows (trimmed s m rows) refl (rises_trimmed s m 0 rows n rising))
+serving_mirrors site s v n rows m (Enter item) (Entered entered) after h rising =
+    rw h.3 (comes_in s v n m rows (entered_row site.home n entered.slot m item) (entered_state m item entered) rising (entered_serial item.reason site.home item.source n entered.slot m item.row) (entered_same site.home n m item entered h.2))
+serving_mirrors site s v n rows m (GiveBack item) (Entered entered) after h rising =
+    rw h.3 (comes_in s v n m rows (returned_row n entered.slot m item) (returned_state item entered) rising (returned_serial item.reason n entered.slot m item.row) (returned_same n m item entered h.2))
+serving_mirrors site s v n rows m call reply after h rising = elim h [ ]
 
-pub mirrors : (site : Site) (home : Home) (policy : Option Policy) (m : ℕ) (call : HomeCall) (reply : HomeReply) (after : Home) → HomeStep site home m call reply after → is_alone call ≡ true → IsRising home → GoesBy home policy
-    → Mirrors home policy (next_policy policy call) m (effect_of call reply) (home_ends home m call) reply after
+none_past : (policy : Option Policy) (m : ℕ) → past_states policy m [] ≡ []
+none_past None m = refl
+none_past (Some policy) m = refl
+
+none_kept : (policy : Option Policy) (m : ℕ) → kept_states policy m [] ≡ []
+none_kept None m = refl
+none_kept (Some policy) m = refl
+
+-- nothing is in a closed home
+closed_stays : (policy : Option Policy) (m : ℕ) → Mirrors Closed policy policy m Stays [] Closed
+closed_stays policy m = record { rising = tt; goes_by = tt; states = sym (none_kept policy m); ends = ap (λ (rows : List RowState). ended_states Expired rows ++ []) (sym (none_past policy m)); split = tt }
+
+pub mirrors : (site : Site) (home : Home) (policy : Option Policy) (m : ℕ) (call : HomeCall) (reply : HomeReply) (after : Home) → HomeStep site home m call reply after → IsRising home → GoesBy home policy
+    → Mirrors home policy (next_policy policy call) m (effect_of m call reply) (home_ends home m call ++ given_up call) after
 unfolding HomeStep
-mirrors site (Serving s v n rows) policy m call reply after h a rising by = rw by (serving_mirrors site s v n rows m call reply after h a rising)
-mirrors site Unopened policy m (Configure t w) Done after h a rising by = rw (by, h) (record { rising = omega arith; goes_by = refl; states = refl; ends = refl; sends = refl })
-mirrors site Unopened policy m Close Done after h a rising by = rw (by, h) (record { rising = tt; goes_by = tt; states = refl; ends = refl; sends = refl })
-mirrors site Unopened policy m call reply after h a rising by = elim h [ ]
-mirrors site Closed policy m (LeaveTask task) reply after h a rising by = absurd cc
-mirrors site Closed policy m (TurnBack item) reply after h a rising by = absurd cc
-mirrors site Closed policy m (GiveUp item) reply after h a rising by = absurd cc
-mirrors site Closed policy m call reply after h a rising by = elim h [ ]
+mirrors site (Serving s v n rows) policy m call reply after h rising by = rw by (serving_mirrors site s v n rows m call reply after h rising)
+mirrors site Unopened policy m (Configure t w) Done after h rising by = rw (by, h) (record { rising = omega arith; goes_by = refl; states = refl; ends = refl; split = tt })
+mirrors site Unopened policy m Close Done after h rising by = rw (by, h) (record { rising = tt; goes_by = tt; states = refl; ends = refl; split = tt })
+mirrors site Closed policy m (LeaveTask task) SourceClosed after h rising by = rw h (closed_stays policy m)
+mirrors site Closed policy m (TurnBack item) Done after h rising by = rw h.1 (closed_stays policy m)
+mirrors site Closed policy m (GiveUp item) Done after h rising by =
+    rw h.1 (record {
+      rising = tt;
+      goes_by = tt;
+      states = sym (none_kept policy m);
+      ends = ap (λ (rows : List RowState). ended_states Expired rows ++ record { line = item.row.lineage; cause = GivenUp } ∷ []) (sym (none_past policy m));
+      split = tt;
+    })
+mirrors site home policy m call reply after h rising by = elim h [ ]
+
+-- who is sent in a step, goes into transit or is there no more, by its effect
+pub record Passes (m : ℕ) (call : HomeCall) (reply : HomeReply) : Type 0 where
+  pub sends : home_sends reply ≡ effect_sends (effect_of m call reply)
+  pub outs : map (λ row. row.lineage) (home_outs reply) ≡ effect_outs (effect_of m call reply)
+  pub ins : map (λ row. row.lineage) (home_ins call) ++ map (λ e. e.line) (given_up call) ≡ effect_ins (effect_of m call reply)
+
+pub passes : (site : Site) (home : Home) (m : ℕ) (call : HomeCall) (reply : HomeReply) (after : Home) → HomeStep site home m call reply after → Passes m call reply
+unfolding HomeStep
+passes site Unopened m (Configure t w) Done after h = record { sends = refl; outs = refl; ins = refl }
+passes site (Serving s v n rows) m (Configure t w) Done after h = record { sends = refl; outs = refl; ins = refl }
+passes site Unopened m Close Done after h = record { sends = refl; outs = refl; ins = refl }
+passes site (Serving s v n rows) m Close Done after h = record { sends = refl; outs = refl; ins = refl }
+passes site (Serving s v n rows) m (Send body delay) (Sent sent) after h = record { sends = refl; outs = refl; ins = refl }
+passes site (Serving s v n rows) m (Look max timeout) (Looked picked) after h = record { sends = refl; outs = refl; ins = refl }
+passes site (Serving s v n rows) m (Look max timeout) Over after h = record { sends = refl; outs = refl; ins = refl }
+passes site (Serving s v n rows) m (Delete receipt) Done after h = record { sends = refl; outs = refl; ins = refl }
+passes site (Serving s v n rows) m (Change receipt timeout) Done after h = record { sends = refl; outs = refl; ins = refl }
+passes site (Serving s v n rows) m Purge Done after h = record { sends = refl; outs = refl; ins = refl }
+passes site (Serving s v n rows) m Count (Counted counts) after h = record { sends = refl; outs = refl; ins = refl }
+passes site (Serving s v n rows) m LeaveDead (Left item) after h = record { sends = refl; outs = refl; ins = refl }
+passes site (Serving s v n rows) m (LeaveTask task) (Left item) after h = record { sends = refl; outs = refl; ins = refl }
+passes site (Serving s v n rows) m (LeaveTask task) NoLiveRow after h = record { sends = refl; outs = refl; ins = refl }
+passes site (Serving s v n rows) m (LeaveTask task) (NoOrigin serial) after h = record { sends = refl; outs = refl; ins = refl }
+passes site Closed m (LeaveTask task) SourceClosed after h = record { sends = refl; outs = refl; ins = refl }
+passes site (Serving s v n rows) m (Enter item) (Entered entered) after h = record { sends = refl; outs = refl; ins = refl }
+passes site Closed m (TurnBack item) Done after h = record { sends = refl; outs = refl; ins = refl }
+passes site (Serving s v n rows) m (GiveBack item) (Entered entered) after h = record { sends = refl; outs = refl; ins = refl }
+passes site Closed m (GiveUp item) Done after h = record { sends = refl; outs = refl; ins = refl }
+passes site home m call reply after h = elim h [ ]

@@ -9,8 +9,9 @@ pub record HomeValue : Type 0 where
   pub policy : Option Policy
   pub rows : List RowState
 
--- the homes, who was sent, and who left the system for which place
+-- the homes, who was sent, who went into transit or came in from there, and who left the system for which place
 pub record AuditValue : Type 0 where
   pub homes : List HomeValue
   pub sends : List MessageId
+  pub moves : List (MessageId × Place)
   pub ends : List (MessageId × Place)

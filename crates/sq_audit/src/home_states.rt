@@ -1,16 +1,19 @@
 //! What decides how the rows of a home leave it, for all rows of the home.
-ghost use Rattle.std.specs.Prelude.{◌≡◌, ◌+◌, ◌++◌, not, map, filter, OnOk, IfErr};
-ghost use Rattle.sq_audit.specs.RowStates.{kept_states, past_states, states_after, effect_of, looked};
+ghost use Rattle.std.specs.Prelude.{◌≡◌, ◌+◌, ◌∷◌, [], ◌++◌, ℕ, not, map, filter, OnOk, IfErr};
+ghost use Rattle.sq_audit.specs.RowStates.{kept_states, past_states, states_after, effect_of, sent_by, looked_by, left_by, entered_by, returned_by, looked, is_of};
 ghost use Rattle.sq_model.specs.declared.place.Place.TheVariants as at;
 ghost use Rattle.sq_audit.specs.Audits as audits;
 
-use crate::state::{Policy, RowState, is_named, is_past, looked, next_policy, sent};
+use crate::state::{
+    Policy, RowState, entered, is_named, is_of, is_past, looked, next_policy, returned, sent,
+};
 use sq_base::message_id::MessageId;
 use sq_base::ranges::Retention;
 use sq_base::refusal::Refusal;
 use sq_base::row::Row;
 use sq_model::calls::{HomeCall, Receipt};
 use sq_model::event::Event;
+use sq_model::item::Item;
 use sq_model::place::Place;
 use sq_model::replies::HomeReply;
 use std::alloc::Global;
@@ -139,11 +142,15 @@ fn change(
     reply: &HomeReply,
     ends: &mut Vec<(MessageId, Place)>,
 ) -> Result<(), Refusal>
-    ensures rows { OnOk result (rows.new.items ≡ states_after moment (effect_of call.now reply.now) rows.old.items) }
-    ensures ends { OnOk result (ends.new.items ≡ ends.old.items ++ audits.placed_left (effect_of call.now reply.now) rows.old.items) }
+    ensures rows { OnOk result (rows.new.items ≡ states_after moment (effect_of moment call.now reply.now) rows.old.items) }
+    ensures ends { OnOk result (ends.new.items ≡ ends.old.items ++ audits.placed_left (effect_of moment call.now reply.now) rows.old.items) }
     ensures err { IfErr result (λ e. e ≡ Refusal.NoMemory) }
 {
     match call {
+        HomeCall::Configure(_, _)
+        | HomeCall::Change(_, _)
+        | HomeCall::Count
+        | HomeCall::TurnBack(_) => Ok(()),
         HomeCall::Send(_, _) => arrive(rows, moment, reply),
         HomeCall::Look(_, _) => {
             receive(rows, reply);
@@ -152,12 +159,18 @@ fn change(
         HomeCall::Delete(receipt) => leave(rows, &Leaving::Named(*receipt), Place::Deleted, ends),
         HomeCall::Purge => leave(rows, &Leaving::All, Place::Purged, ends),
         HomeCall::Close => leave(rows, &Leaving::All, Place::ClosedAway, ends),
-        _ => Ok(()),
+        HomeCall::LeaveDead | HomeCall::LeaveTask(_) => {
+            depart(rows, reply);
+            Ok(())
+        }
+        HomeCall::Enter(item) => enter(rows, moment, item.get(), reply),
+        HomeCall::GiveBack(item) => come_back(rows, item.get(), reply),
+        HomeCall::GiveUp(item) => drop_item(item.get(), ends),
     }
 }
 
 fn arrive(rows: &mut Vec<RowState>, moment: u64, reply: &HomeReply) -> Result<(), Refusal>
-    ensures rows { OnOk result (rows.new.items ≡ audits.arrived moment reply.now rows.old.items) }
+    ensures rows { OnOk result (rows.new.items ≡ states_after moment (sent_by reply.now) rows.old.items) }
     ensures err { IfErr result (λ e. e ≡ Refusal.NoMemory) }
 {
     if let HomeReply::Sent(message) = reply {
@@ -166,8 +179,57 @@ fn arrive(rows: &mut Vec<RowState>, moment: u64, reply: &HomeReply) -> Result<()
     Ok(())
 }
 
+// The row of an item goes into transit.
+fn depart(rows: &mut Vec<RowState>, reply: &HomeReply)
+    ensures { (moment : ℕ) → rows.new.items ≡ states_after moment (left_by reply.now) rows.old.items }
+{
+    if let HomeReply::Left(item) = reply {
+        take_out(rows, &item.get().row);
+    }
+}
+
+fn take_out(rows: &mut Vec<RowState>, row: &Row)
+    ensures { rows.new.items ≡ filter (λ state. not (is_of row.now state)) rows.old.items }
+{
+    rows.retain(|state| !is_of(row, state));
+}
+
+fn enter(
+    rows: &mut Vec<RowState>,
+    moment: u64,
+    item: &Item,
+    reply: &HomeReply,
+) -> Result<(), Refusal>
+    ensures rows { OnOk result (rows.new.items ≡ states_after moment (entered_by moment item.now reply.now) rows.old.items) }
+    ensures err { IfErr result (λ e. e ≡ Refusal.NoMemory) }
+{
+    if let HomeReply::Entered(row) = reply {
+        rows.push(entered(item, row, moment))?;
+    }
+    Ok(())
+}
+
+fn come_back(rows: &mut Vec<RowState>, item: &Item, reply: &HomeReply) -> Result<(), Refusal>
+    ensures rows { OnOk result ((moment : ℕ) → rows.new.items ≡ states_after moment (returned_by item.now reply.now) rows.old.items) }
+    ensures err { IfErr result (λ e. e ≡ Refusal.NoMemory) }
+{
+    if let HomeReply::Entered(row) = reply {
+        rows.push(returned(item, row))?;
+    }
+    Ok(())
+}
+
+// Puts last that an item is given up.
+fn drop_item(item: &Item, ends: &mut Vec<(MessageId, Place)>) -> Result<(), Refusal>
+    ensures ends { OnOk result (ends.new.items ≡ ends.old.items ++ (item.now.row.lineage, at.Dropped) ∷ []) }
+    ensures err { IfErr result (λ e. e ≡ Refusal.NoMemory) }
+{
+    ends.push((item.row.lineage, Place::Dropped))?;
+    Ok(())
+}
+
 fn receive(rows: &mut [RowState], reply: &HomeReply)
-    ensures { rows.new ≡ audits.received reply.now rows.old }
+    ensures { (moment : ℕ) → rows.new ≡ states_after moment (looked_by reply.now) rows.old }
 {
     if let HomeReply::Looked(picked) = reply {
         receive_all(rows, picked.as_slice());

@@ -4,11 +4,11 @@ ghost use Rattle.std.specs.List.{fold};
 ghost use Rattle.std.specs.BTreeMap.{get};
 ghost use Rattle.sq_base.specs.declared.message_id.MessageId.{MessageId};
 ghost use Rattle.sq_model.specs.declared.place.Site.{Site};
-ghost use Rattle.sq_model.specs.Lineages.{home_sends};
-ghost use Rattle.sq_model.specs.Merges.{NothingMoves};
+ghost use Rattle.sq_model.specs.Lineages.{home_ins, home_outs, home_sends};
+ghost use Rattle.sq_model.specs.declared.place.Place.TheVariants as at;
 ghost use Rattle.sq_model.specs.Places.{run_ends, run_sends};
 ghost use Rattle.sq_model.specs.Systems.{System, OfHome, RunFrom, opening, IsOnePlace};
-ghost use Rattle.sq_audit.specs.AllPlaces.{ArePlaces, AreListed, id_cmp, after_end, sent_place};
+ghost use Rattle.sq_audit.specs.AllPlaces.{ArePlaces, AreListed, id_cmp, after_move, sent_place};
 ghost use Rattle.sq_audit.specs.Audits as audits;
 ghost use Rattle.sq_audit.specs.Tags.{tag_of};
 
@@ -30,6 +30,7 @@ use std::marker::Model;
 struct Audit {
     homes: Vec<HomeStates>,
     sends: Vec<MessageId>,
+    moves: Vec<(MessageId, Place)>,
     ends: Vec<(MessageId, Place)>,
 }
 
@@ -38,18 +39,18 @@ impl Model for Audit {
 
     ghost Value = { AuditValue };
 
-    ghost view = { λ a. record { homes = a.homes.items; sends = a.sends.items; ends = a.ends.items } };
+    ghost view = { λ a. record { homes = a.homes.items; sends = a.sends.items; moves = a.moves.items; ends = a.ends.items } };
 }
 
-/// Where the messages of a run are in which none moves between queues: each that was sent in it, once, in rising order of
-/// id. Refused only where memory is out.
+/// Where the messages of a run are: each that was sent in it, once, in rising order of id. Refused only where memory is
+/// out.
 pub fn places_of(alloc: Global, run: &Run<'_>) -> Result<Vec<(MessageId, Place)>, Refusal>
-    ensures places { (places limit : ℕ) (sites : List Site) (after : System) (r : RunFrom (opening places limit sites) run.now after) → IsOnePlace sites → NothingMoves run.now
+    ensures places { (places limit : ℕ) (sites : List Site) (after : System) (r : RunFrom (opening places limit sites) run.now after) → IsOnePlace sites
         → IfOk result (λ listed. ArePlaces (run_sends run.now) (run_ends (opening places limit sites) run.now after r) after.ledger.items listed.items) }
     ensures err { IfErr result (λ e. e ≡ Refusal.NoMemory) }
 {
     let audit = collect(alloc, run.events())?;
-    listed(alloc, &audit.sends, &audit.ends)
+    listed(alloc, &audit.sends, &audit.moves, &audit.ends)
 }
 
 fn collect(alloc: Global, events: &[Tagged<'_>]) -> Result<Audit, Refusal>
@@ -70,6 +71,7 @@ impl Audit {
         Audit {
             homes: Vec::new(alloc),
             sends: Vec::new(alloc),
+            moves: Vec::new(alloc),
             ends: Vec::new(alloc),
         }
     }
@@ -79,7 +81,7 @@ impl Audit {
         ensures err { IfErr result (λ e. e ≡ Refusal.NoMemory) }
     {
         match tagged {
-            Tagged::Directory(_) => Ok(()),
+            Tagged::Directory(_) | Tagged::Ledger(_) => Ok(()),
             Tagged::Home(index, event) => self.apply(alloc, *index, event),
         }
     }
@@ -94,7 +96,8 @@ impl Audit {
         ensures err { IfErr result (λ e. e ≡ Refusal.NoMemory) }
     {
         apply_at(alloc, &mut self.homes, index, event, &mut self.ends)?;
-        record_send(&event.reply, &mut self.sends)
+        record_send(&event.reply, &mut self.sends)?;
+        record_moves(&event.call, &event.reply, &mut self.moves)
     }
 }
 
@@ -139,16 +142,51 @@ fn record_send(reply: &HomeReply, sends: &mut Vec<MessageId>) -> Result<(), Refu
     Ok(())
 }
 
+// Puts last who goes into transit or comes in from there.
+fn record_moves(
+    call: &HomeCall,
+    reply: &HomeReply,
+    moves: &mut Vec<(MessageId, Place)>,
+) -> Result<(), Refusal>
+    ensures moves { OnOk result (moves.new.items ≡ moves.old.items ++ audits.placed_moves call.now reply.now) }
+    ensures err { IfErr result (λ e. e ≡ Refusal.NoMemory) }
+{
+    record_leave(reply, moves)?;
+    record_entry(call, moves)
+}
+
+fn record_leave(reply: &HomeReply, moves: &mut Vec<(MessageId, Place)>) -> Result<(), Refusal>
+    ensures moves { OnOk result (moves.new.items ≡ moves.old.items ++ audits.placed_rows at.InTransit (home_outs reply.now)) }
+    ensures err { IfErr result (λ e. e ≡ Refusal.NoMemory) }
+{
+    if let HomeReply::Left(item) = reply {
+        moves.push((item.get().row.lineage, Place::InTransit))?;
+    }
+    Ok(())
+}
+
+fn record_entry(call: &HomeCall, moves: &mut Vec<(MessageId, Place)>) -> Result<(), Refusal>
+    ensures moves { OnOk result (moves.new.items ≡ moves.old.items ++ audits.placed_rows at.InHome (home_ins call.now)) }
+    ensures err { IfErr result (λ e. e ≡ Refusal.NoMemory) }
+{
+    if let HomeCall::Enter(item) | HomeCall::GiveBack(item) = call {
+        moves.push((item.get().row.lineage, Place::InHome))?;
+    }
+    Ok(())
+}
+
 fn listed(
     alloc: Global,
     sends: &[MessageId],
+    moves: &[(MessageId, Place)],
     ends: &[(MessageId, Place)],
 ) -> Result<Vec<(MessageId, Place)>, Refusal>
-    ensures listed { IfOk result (λ listed. AreListed sends.now ends.now listed.items) }
+    ensures listed { IfOk result (λ listed. AreListed sends.now moves.now ends.now listed.items) }
     ensures err { IfErr result (λ e. e ≡ Refusal.NoMemory) }
 {
     let mut places = sent_places(alloc, sends)?;
-    put_ends(&mut places, ends)?;
+    put_places(&mut places, moves)?;
+    put_places(&mut places, ends)?;
     Ok(places.into_iter().collect(alloc)?)
 }
 
@@ -163,14 +201,15 @@ fn sent_places(alloc: Global, sends: &[MessageId]) -> Result<BTreeMap<MessageId,
     Ok(places)
 }
 
-fn put_ends(
+// What comes later counts.
+fn put_places(
     places: &mut BTreeMap<MessageId, Place>,
-    ends: &[(MessageId, Place)],
+    moves: &[(MessageId, Place)],
 ) -> Result<(), Refusal>
-    ensures each { OnOk result ((x : MessageId) → get id_cmp places.new x ≡ fold (after_end x) (get id_cmp places.old x) ends.now) }
+    ensures each { OnOk result ((x : MessageId) → get id_cmp places.new x ≡ fold (after_move x) (get id_cmp places.old x) moves.now) }
     ensures err { IfErr result (λ e. e ≡ Refusal.NoMemory) }
 {
-    for (id, place) in ends {
+    for (id, place) in moves {
         places.insert(*id, *place)?;
     }
     Ok(())

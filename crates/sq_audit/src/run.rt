@@ -91,6 +91,6 @@ fn sent_by(event: &Tagged<'_>) -> Option<MessageId>
             HomeReply::Sent(message) => Some(message.id),
             _ => None,
         },
-        Tagged::Directory(_) => None,
+        Tagged::Directory(_) | Tagged::Ledger(_) => None,
     }
 }

@@ -1,0 +1,3 @@
+pub mod ItemsValue
+pub mod LedgerHistory
+pub mod LedgerHistories
