@@ -20,7 +20,7 @@ use Rattle.sq_model.specs.Directories.{Creates, Directory, DirectoryStep, HasPol
 use Rattle.sq_model.specs.Replays.{Replays}
 use Rattle.sq_model.specs.Rises.{Rise}
 use Rattle.sq_model.specs.Systems.{DirectoryEvent}
-use Rattle.sq_laws.specs.Creations.{IsBegunBy, IsSource, Names, NumbersRise, made_by, made_in, named_if_new}
+use Rattle.sq_laws.specs.Creations.{IsBegunBy, IsSource, NamedByPolicy, AreInOrder, made_by, made_in, named_if_new}
 use Rattle.sq_laws.proofs.DirectoryHolds.{directory_holds, purges, sets}
 use Rattle.sq_laws.proofs.DirectoryLists.{IsChange, counted_cons, counts, found_all, found_named, name_stays, number_stays, one_changed, some_counted}
 use Rattle.sq_laws.proofs.LedgerLists.{all_append, all_filtered, all_mapped, all_with, one_longer, some_same}
@@ -148,14 +148,14 @@ each_found (x ∷ xs) once =
     let fewer : (name : List ℕ) → counts name xs ≤ 1 = λ name. let sum = subst (λ (k : ℕ). k ≤ 1) (counted_cons name x xs) (once name) in omega (arith, sum) in
     (ap (λ b. cond b (Some x) (queue_of x.name xs)) ((bytes_eq-Decides x.name x.name).1 refl), all_with (IsFoundIn xs) (IsFoundIn (x ∷ xs)) xs (λ queue e. found_later x xs queue (once queue.name) e) (each_found xs fewer))
 
-names_rise : (queues : List Queue) (low : ℕ) (some : List Queue) (next : ℕ) → Rise (λ queue. queue.number) low some next → AllByRecursion (IsFoundIn queues) some → NumbersRise queues low (map (λ queue. queue.name) some)
+names_rise : (queues : List Queue) (low : ℕ) (some : List Queue) (next : ℕ) → Rise (λ queue. queue.number) low some next → AllByRecursion (IsFoundIn queues) some → AreInOrder queues low (map (λ queue. queue.name) some)
 names_rise queues low [] next h f = tt
 names_rise queues low (x ∷ xs) next h f = (x, f.0, h.0, names_rise queues (suc x.number) xs next h.1 f.1)
 
 abbrev names_of : (Queue → Bool) → List Queue → List (List ℕ)
 names_of keep queues = map (λ queue. queue.name) (filter keep queues)
 
-kept_rise : (keep : Queue → Bool) (d : Directory) → IsDirectory d → NumbersRise d.queues 1 (names_of keep d.queues)
+kept_rise : (keep : Queue → Bool) (d : Directory) → IsDirectory d → AreInOrder d.queues 1 (names_of keep d.queues)
 kept_rise keep d h = names_rise d.queues 1 (filter keep d.queues) (suc d.made) (rise_filtered (λ queue. queue.number) keep 1 d.queues (suc d.made) h.numbers_rise) (all_filtered (IsFoundIn d.queues) keep d.queues (each_found d.queues h.names_once))
 
 -- the queue of a name is there and is kept
@@ -214,7 +214,7 @@ filtered_names prefix (x ∷ xs) = elim (begins prefix x.name) as (λ b. cond b 
 ]
 
 pub listed_rise : (places : ℕ) (events : List DirectoryEvent) (d : Directory) → Replays DirectoryStep (opening_directory places) events d → (m : ℕ) (prefix : NamePrefix) (names : List (List ℕ)) (after : Directory)
-    → DirectoryStep d m (asks.List prefix) (answers.Listed names) after → NumbersRise d.queues 1 names
+    → DirectoryStep d m (asks.List prefix) (answers.Listed names) after → AreInOrder d.queues 1 names
 unfolding DirectoryStep
 listed_rise places events d r m prefix names after s = rw (s.0, filtered_names prefix d.queues) (kept_rise (λ queue. begins prefix queue.name) d (directory_holds places events d r))
 
@@ -252,7 +252,7 @@ is_source number d name = (
 )
 
 pub sources_rise : (places : ℕ) (events : List DirectoryEvent) (d : Directory) → Replays DirectoryStep (opening_directory places) events d → (m : ℕ) (asked : List ℕ) (names : List (List ℕ)) (after : Directory)
-    → DirectoryStep d m (asks.Sources asked) (answers.Sources names) after → NumbersRise d.queues 1 names
+    → DirectoryStep d m (asks.Sources asked) (answers.Sources names) after → AreInOrder d.queues 1 names
 unfolding DirectoryStep
 sources_rise places events d r m asked names after s = rw s.0.2 (kept_rise (is_source_of s.0.0.number) d (directory_holds places events d r))
 
@@ -269,7 +269,7 @@ named_target made count number asked None redrive is to at = absurd is
 named_target made count number asked (Some given) redrive is to at = (given, refl, some_same given.target asked (sym to ∙ at))
 
 pub sources_name_it : (places : ℕ) (events : List DirectoryEvent) (d : Directory) → Replays DirectoryStep (opening_directory places) events d → (m : ℕ) (asked : List ℕ) (names : List (List ℕ)) (after : Directory)
-    → DirectoryStep d m (asks.Sources asked) (answers.Sources names) after → (name : List ℕ) → Contains names name → Names asked d name
+    → DirectoryStep d m (asks.Sources asked) (answers.Sources names) after → (name : List ℕ) → Contains names name → NamedByPolicy asked d name
 unfolding DirectoryStep
 sources_name_it places events d r m asked names after s name c =
     let made = made_in (opening_directory places) events d r in

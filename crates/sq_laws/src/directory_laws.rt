@@ -10,7 +10,7 @@ ghost use Rattle.sq_model.specs.declared.directory.Queue.{Queue};
 ghost use Rattle.sq_model.specs.Directories.{Directory, DirectoryStep, IsDirectory, IsGone, IsThere, directory_refusal, opening_directory};
 ghost use Rattle.sq_model.specs.Replays.{Replays};
 ghost use Rattle.sq_model.specs.Systems.{DirectoryEvent};
-ghost use Rattle.sq_laws.specs.Creations.{IsBegunBy, IsSource, Names, NumbersRise, made_in};
+ghost use Rattle.sq_laws.specs.Creations.{IsBegunBy, IsSource, NamedByPolicy, AreInOrder, made_in};
 
 /// A step is given only where no check fails.
 pub fn directory_steps_are_allowed()
@@ -49,7 +49,7 @@ pub fn numbers_are_the_order_of_creation()
 /// ListQueues names the queues that are there and whose names begin as asked, each of them and no other, in order of creation.
 pub fn queues_are_listed_in_order_of_creation()
     ensures in_order { (places : ℕ) (events : List DirectoryEvent) (d : Directory) → Replays DirectoryStep (opening_directory places) events d → (m : ℕ) (prefix : NamePrefix) (names : List (List ℕ)) (after : Directory)
-        → DirectoryStep d m (ListNames prefix) (Listed names) after → NumbersRise d.queues 1 names }
+        → DirectoryStep d m (ListNames prefix) (Listed names) after → AreInOrder d.queues 1 names }
     ensures exactly { (places : ℕ) (events : List DirectoryEvent) (d : Directory) → Replays DirectoryStep (opening_directory places) events d → (m : ℕ) (prefix : NamePrefix) (names : List (List ℕ)) (after : Directory)
         → DirectoryStep d m (ListNames prefix) (Listed names) after → (name : List ℕ) → Contains names name ↔ IsBegunBy prefix d name }
 {}
@@ -58,9 +58,9 @@ pub fn queues_are_listed_in_order_of_creation()
 /// no other, in order of creation. Each has a policy that names this queue, as it is printed.
 pub fn sources_are_listed_in_order_of_creation()
     ensures in_order { (places : ℕ) (events : List DirectoryEvent) (d : Directory) → Replays DirectoryStep (opening_directory places) events d → (m : ℕ) (asked : List ℕ) (names : List (List ℕ)) (after : Directory)
-        → DirectoryStep d m (Sources asked) (SourcesAre names) after → NumbersRise d.queues 1 names }
+        → DirectoryStep d m (Sources asked) (SourcesAre names) after → AreInOrder d.queues 1 names }
     ensures exactly { (places : ℕ) (events : List DirectoryEvent) (d : Directory) → Replays DirectoryStep (opening_directory places) events d → (m : ℕ) (asked : List ℕ) (queue : Queue) (names : List (List ℕ)) (after : Directory)
         → IsThere d asked queue → DirectoryStep d m (Sources asked) (SourcesAre names) after → (name : List ℕ) → Contains names name ↔ IsSource queue.number d name }
     ensures by_name { (places : ℕ) (events : List DirectoryEvent) (d : Directory) → Replays DirectoryStep (opening_directory places) events d → (m : ℕ) (asked : List ℕ) (names : List (List ℕ)) (after : Directory)
-        → DirectoryStep d m (Sources asked) (SourcesAre names) after → (name : List ℕ) → Contains names name → Names asked d name }
+        → DirectoryStep d m (Sources asked) (SourcesAre names) after → (name : List ℕ) → Contains names name → NamedByPolicy asked d name }
 {}
