@@ -29,6 +29,7 @@ use Rattle.sq_history.specs.declared.act.HomeAct.{HomeAct}
 use Rattle.sq_history.specs.Acts.{call_of, HasBytes}
 use Rattle.sq_steps.specs.Journals.{is_of, journal_of, put_journal, having_seen, HomeMoves, DirectoryMoves, IsHomeRefused, IsDirectoryStepRefused, AreDistinct}
 use Rattle.sq_directory.specs.DirectoryHistory.{DirectoryHistory}
+use Rattle.sq_merge.specs.Tried.{is_tried_by, tried_by, put_tried}
 use Rattle.sq_merge.specs.WorldValue.{WorldValue}
 use Rattle.sq_audit.specs.HomeIds.{histories_of, IsNumbered}
 use Rattle.sq_directory.specs.Makers.{IsMadeBy}
@@ -97,6 +98,19 @@ next_of item = record { number = item.number; source = item.source; target = ite
 -- an actor has read the ledger
 abbrev pub having_peeked : WorldValue → ℕ → WorldValue
 having_peeked w actor = record w { journals = put_journal (having_seen (journal_of actor w.journals) w.ledger.last) w.journals }
+
+-- an actor has read which item comes after the one that it tried last; from now on that is the one that it tried last
+abbrev pub having_tried : WorldValue → ℕ → Option NextItem → WorldValue
+having_tried w actor None = having_peeked w actor
+having_tried w actor (Some next) = record (having_peeked w actor) { tried = put_tried (record { actor = actor; item = next.number }) w.tried }
+
+-- that item
+abbrev pub next_tried : WorldValue → ℕ → Option NextItem
+next_tried w actor = option_map next_of (peek (tried_by actor w.tried) w.ledger.ledger)
+
+-- why it is not read: the actor is new, or tries its first item, and no memory was found for that
+abbrev pub NextRefused : WorldValue → ℕ → Refusal → Type 0
+NextRefused w actor e = (e ≡ NoMemory) × ((position (is_of actor) w.journals ≡ None) ⊎ ((position (is_tried_by actor) w.tried ≡ None) × ((next : NextItem) × (next_tried w actor ≡ Some next))))
 
 -- an actor has read the directory
 abbrev pub having_read : WorldValue → ℕ → WorldValue

@@ -6,6 +6,8 @@ pub mod client;
 mod homes;
 pub mod lock_steps;
 pub mod options;
+pub mod tried;
+pub mod turns;
 pub mod world;
 
 pub use sq_audit::check::AuditFault;
@@ -15,4 +17,4 @@ pub use sq_audit::parts::Parts;
 pub use sq_audit::places::places_of;
 pub use sq_audit::run::Run;
 pub use sq_audit::tagged::Tagged;
-pub use sq_steps::act::{Act, HomeAct, Outcome, Step};
+pub use sq_steps::act::{Act, HomeAct, Move, NextItem, Outcome, Step};

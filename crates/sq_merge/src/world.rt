@@ -5,10 +5,11 @@ ghost use Rattle.sq_model.specs.Directories.{all_named, number_named};
 ghost use Rattle.sq_directory.specs.Makers.{IsAnsweredByName};
 ghost use Rattle.sq_history.specs.Acts.{call_of};
 ghost use Rattle.sq_steps.specs.Journals.{is_of, journal_of};
-ghost use Rattle.sq_merge.specs.Worlds.{SharedStepped, NothingLeaves, SharedRefused, next_of, having_peeked, HomeStepped, HomeRefused, DirectoryStepped, DirectoryRefused, NameRefused, having_read, StepDone, StepRefused, Schedule, IsKnown, IsKeptWorld};
+ghost use Rattle.sq_merge.specs.Worlds.{SharedStepped, NothingLeaves, SharedRefused, next_of, having_peeked, next_tried, having_tried, NextRefused, HomeStepped, HomeRefused, DirectoryStepped, DirectoryRefused, NameRefused, having_read, StepDone, StepRefused, Schedule, IsKnown, IsKeptWorld};
 ghost use Rattle.sq_audit.specs.HomeIds.{histories_of};
 ghost use Rattle.sq_merge.specs.Acting.{counts_of, ActorStepped};
 ghost use Rattle.sq_merge.specs.Fits.{CallFits};
+ghost use Rattle.sq_merge.specs.Turns.{TurnFits};
 ghost use Rattle.sq_merge.specs.Performs.{Performs, LeavesRecords};
 ghost use Rattle.sq_merge.specs.Openings.{IsServed, new_world};
 ghost use Rattle.sq_merge.specs.PartsValue.{ArePartsOf};
@@ -16,15 +17,17 @@ ghost use Rattle.sq_model.specs.Ledgers.{peek};
 ghost use Rattle.sq_model.specs.Matches.{IsMatched, IsPaired};
 ghost use Rattle.sq_steps.specs.SharedSteps.{asked_as};
 
-use crate::acting::{Acting, call_at};
+use crate::acting::{Acting, call_at, turn_at};
 use crate::homes::{never_opened_homes, no_such_home};
 use crate::options::{MOST_FLIGHTS, MOST_HOMES, MOST_QUEUES, MOST_ROWS, MOST_TRANSIT, Options};
+use crate::tried::{TriedItem, put_tried, tried_by};
 use sq_audit::homes::{Homes, home_index};
 use sq_audit::parts::Parts;
 use sq_base::ids::{HomeId, HomeNo, QueueNo};
 use sq_base::name::QueueName;
 use sq_base::refusal::Refusal;
 use sq_calls::calls::{Answer, Call};
+use sq_calls::turns::{Turn, Turned};
 use sq_directory::directory::Directory;
 use sq_history::recorded::Home;
 use sq_ledger::ledger::TransitLedger;
@@ -51,6 +54,7 @@ pub struct World {
     sample: HomeCount,
     homes: Vec<Home>,
     journals: Vec<Journal>,
+    tried: Vec<TriedItem>,
     sampler: Sampler,
 }
 
@@ -61,10 +65,10 @@ impl Model for World {
 
     ghost Value = { WorldValue };
 
-    ghost view = { λ w. record { directory = w.directory; ledger = w.ledger.history; per_queue = w.per_queue; sample = w.sample; homes = w.homes.items; journals = w.journals.items } };
+    ghost view = { λ w. record { directory = w.directory; ledger = w.ledger.history; per_queue = w.per_queue; sample = w.sample; homes = w.homes.items; journals = w.journals.items; tried = w.tried.items } };
 
     ghost invariant = { λ w. record {
-      kept : IsKeptWorld (record { directory = w.directory; ledger = w.ledger.history; per_queue = w.per_queue; sample = w.sample; homes = w.homes.items; journals = w.journals.items });
+      kept : IsKeptWorld (record { directory = w.directory; ledger = w.ledger.history; per_queue = w.per_queue; sample = w.sample; homes = w.homes.items; journals = w.journals.items; tried = w.tried.items });
       sample : w.sample ≤ w.per_queue;
       few : length w.homes.items ≤ 16384;
     } };
@@ -93,6 +97,7 @@ impl World {
             sample: HomeCount::of(options.sample),
             homes: never_opened_homes(alloc, options.queues, per_queue, &limits)?,
             journals: Vec::new(alloc),
+            tried: Vec::new(alloc),
             sampler: Sampler::new(options.seed),
         })
     }
@@ -162,6 +167,29 @@ impl World {
             clock: now,
         };
         call_at(&mut acting, call)
+    }
+
+    /// A turn of an actor at a clock reading in ms: one step of moving messages, beside reads. A dead letter leaves a home of
+    /// the queue that is named; or the item in transit that comes after the one that the actor tried last comes in where it
+    /// goes to, is sent back where that home is closed, comes back, or is given up. Refused as QueueDoesNotExist, of a queue
+    /// that is named; NoMemory; ClockRange; Worn. All else is a word of the answer.
+    pub fn turn(
+        &mut self,
+        alloc: Global,
+        actor: u32,
+        now: u64,
+        turn: &Turn,
+    ) -> Result<Turned, Refusal>
+        ensures answered { Performs (ActorStepped actor now) (TurnFits (counts_of self.old).homes turn.now) self.old result self.new }
+        ensures leaves_records { LeavesRecords (TurnFits (counts_of self.old).homes turn.now) (journal_of actor self.old.journals) result (journal_of actor self.new.journals) }
+    {
+        let mut acting = Acting {
+            alloc,
+            world: self,
+            actor,
+            clock: now,
+        };
+        turn_at(&mut acting, turn)
     }
 
     /// One step after another, and how many were not refused. What is refused changes nothing.
@@ -377,6 +405,35 @@ impl World {
         let at = open(&mut self.journals, alloc, actor)?;
         self.journals[at].see(last);
         Ok(self.ledger.peek(number).map(next_item))
+    }
+
+    // Reads where the item goes that comes after the one that the actor tried last, and which it tries now.
+    pub(crate) fn next_item(
+        &mut self,
+        alloc: Global,
+        actor: u32,
+    ) -> Result<Option<NextItem>, Refusal>
+        ensures read { IfOk result (λ next. (next ≡ next_tried self.old actor) × (self.new ≡ having_tried self.old actor next)) }
+        ensures refusal { IfErr result (NextRefused self.old actor) }
+        ensures err { OnErr result (self.new ≡ self.old) }
+    {
+        let count = self.journals.len();
+        let last = self.ledger.last();
+        let at = open(&mut self.journals, alloc, actor)?;
+        let number = tried_by(&self.tried, actor);
+        let next = self.ledger.peek(number).map(next_item);
+        if let Some(next) = &next {
+            let now = TriedItem {
+                actor,
+                item: next.number.get(),
+            };
+            if let Err(refusal) = put_tried(&mut self.tried, now) {
+                self.journals.truncate(count);
+                return Err(refusal);
+            }
+        }
+        self.journals[at].see(last);
+        Ok(next)
     }
 }
 
