@@ -1,6 +1,7 @@
 -- A step of a world, from what was done to its parts.
-use Rattle.std.proofs.Common.{◌≡◌, ◌≢◌, ℕ, zero, suc, ◌*◌, ◌≤◌, List, [], ◌∷◌, length, refl, ap, sym, ◌∙◌, subst, inl, inr, arith, Option, Some, None, slice_get, slice_set, take}
-use Rattle.std.specs.Prelude.{position}
+use Rattle.std.proofs.Common.{◌≡◌, ◌≢◌, ℕ, zero, suc, true, false, ◌*◌, ◌≤◌, List, [], ◌∷◌, length, refl, ap, sym, ◌∙◌, subst, inl, inr, arith, Option, Some, None, slice_get, slice_set, take}
+use Rattle.std.specs.Prelude.{position, ◌==◌, if◌then◌else◌}
+use Rattle.std.proofs.Math.Seq.{take-length}
 use Rattle.std.specs.List.{slice_index_or}
 use Rattle.std.proofs.Math.Nat.{mul-le-mul_right}
 use Rattle.std.proofs.lemmas.Option.{slice_get_read}
@@ -140,6 +141,13 @@ peeked_opened old actor mine own =
     let is = opened_is actor old.journals mine own in
     let recorded_in = having_seen (journal_of actor old.journals) old.ledger.last in
     rw is (ap (λ (bs : List Journal). record old { journals = bs }) (opened_put actor recorded_in old.journals (journal_own actor old.journals)))
+
+-- an actor whose place was made, and taken back
+pub opened_front : (actor : ℕ) (journals : List Journal) → take (length journals) (opened actor journals) ≡ journals
+opened_front actor [] = refl
+opened_front actor (x ∷ xs) =
+    elim (x.actor == actor) as (λ v. take (length (x ∷ xs)) (if v then x ∷ xs else x ∷ opened actor xs) ≡ x ∷ xs)
+    [ true ↦ take-length (x ∷ xs) | false ↦ ap (λ ys. x ∷ ys) (opened_front actor xs) ]
 
 -- ---- a step of the directory
 

@@ -27,6 +27,7 @@ use Rattle.sq_ledger.specs.LedgerHistories.{shared_event}
 use Rattle.sq_directory.specs.DirectoryHistories.{directory_event}
 use Rattle.sq_steps.specs.Journals.{new_journal, journal_of, put_journal, with_record, having_seen}
 use Rattle.sq_merge.specs.WorldValue.{WorldValue}
+use Rattle.sq_merge.specs.declared.tried.TriedItem.{TriedItem}
 use Rattle.sq_audit.specs.HomeIds.{history_of, histories_of, home_id}
 use Rattle.sq_merge.specs.Worlds.{IsKnown, IsKeptWorld, HomeStepped, SharedStepped, DirectoryStepped, having_read, having_peeked}
 use Rattle.sq_directory.proofs.MakerLaws.{seen_below}
@@ -418,6 +419,20 @@ kept_read w actor kept = kept_seen w actor w.directory.last kept
 
 pub kept_peeked : (w : WorldValue) (actor : ℕ) → IsKeptWorld w → IsKeptWorld (having_peeked w actor)
 kept_peeked w actor kept = kept_seen w actor w.ledger.last kept
+
+-- which item an actor tried last is no record and no event
+pub kept_tried : (w : WorldValue) (tried : List TriedItem) → IsKeptWorld w → IsKeptWorld (record w { tried = tried })
+kept_tried w tried kept = record {
+  numbered = kept.numbered;
+  has_its_event = kept.has_its_event;
+  directory_recorded = kept.directory_recorded;
+  ledger_recorded = kept.ledger_recorded;
+  homes_recorded = kept.homes_recorded;
+  exact = kept.exact;
+  counted = kept.counted;
+  distinct = kept.distinct;
+  paired = kept.paired;
+}
 
 -- what a world leaves is matched
 pub kept_matched : (w : WorldValue) → IsKeptWorld w → IsMatched w.directory.events w.ledger.events (histories_of w.homes) w.journals

@@ -136,12 +136,16 @@ IsOfMove (move.TurnBack number) e = e ≡ UnsupportedOperation
 IsOfMove (move.GiveBack number) e = (e ≡ OverLimit) ⊎ (e ≡ UnsupportedOperation)
 IsOfMove (move.GiveUp number) e = e ≡ UnsupportedOperation
 
+-- what may refuse a step of a home and the ledger
+abbrev pub MayRefuseMove : Move → Refusal → Type 0
+MayRefuseMove what e = IsOfAnyStep e ⊎ (e ≡ QueueDoesNotExist) ⊎ IsOfMove what e
+
 -- what may refuse a step
 abbrev pub MayRefuse : Ask → Refusal → Type 0
 MayRefuse (Resolve name) e = (e ≡ QueueDoesNotExist) ⊎ (e ≡ NoMemory)
 MayRefuse (Directed call) e = IsOfAnyStep e ⊎ IsOfDirectory call e
 MayRefuse (AtHome name home act) e = IsOfAnyStep e ⊎ (e ≡ QueueDoesNotExist) ⊎ IsOfAct act e
-MayRefuse (Moving name home what) e = IsOfAnyStep e ⊎ (e ≡ QueueDoesNotExist) ⊎ IsOfMove what e
+MayRefuse (Moving name home what) e = MayRefuseMove what e
 MayRefuse Next e = e ≡ NoMemory
 
 -- a record of a step of the directory

@@ -1,8 +1,9 @@
 //! Which item in transit each actor tried last.
-ghost use Rattle.std.specs.Prelude.{◌≡◌, None, position, IfErr, OnErr, OnOk};
+ghost use Rattle.std.specs.Prelude.{◌≡◌, ◌<◌, None, length, position, IfErr, IfSome, OnErr, OnOk};
 ghost use Rattle.sq_merge.specs.Tried.{is_tried_by, put_tried, tried_by};
 
 use sq_base::refusal::Refusal;
+use sq_steps::capacity::push_within_capacity;
 
 /// The number of the item that an actor tried last.
 #[derive(Clone, Copy, PartialEq, Eq, Debug)]
@@ -21,16 +22,25 @@ pub(crate) fn tried_by(tried: &[TriedItem], actor: u32) -> u64
     }
 }
 
+// Where the item stands that this actor tried last.
+fn tried_at(tried: &[TriedItem], actor: u32) -> Option<usize>
+    ensures index { result ≡ position (is_tried_by actor) tried.now }
+    ensures within { IfSome result (λ at. at < length tried.now) }
+{
+    tried.iter().position(|tried| tried.actor == actor)
+}
+
 /// The actor has tried this item now. Refused as NoMemory of an actor's first item alone.
 pub(crate) fn put_tried(tried: &mut Vec<TriedItem>, now: TriedItem) -> Result<(), Refusal>
     ensures put { OnOk result (tried.new.items ≡ put_tried now tried.old.items) }
     ensures refused { IfErr result (λ e. (e ≡ Refusal.NoMemory) × (position (is_tried_by now.actor) tried.old.items ≡ None)) }
     ensures err { OnErr result (tried.new.items ≡ tried.old.items) }
 {
-    if let Some(at) = tried.iter().position(|tried| tried.actor == now.actor) {
+    if let Some(at) = tried_at(tried, now.actor) {
         tried[at] = now;
         return Ok(());
     }
-    tried.push(now)?;
+    tried.try_reserve(1)?;
+    push_within_capacity(tried, now);
     Ok(())
 }

@@ -1,6 +1,6 @@
 //! What each turn does, over any steps: one step of moving messages, beside reads.
-ghost use Rattle.std.specs.Prelude.{◌≡◌, ◌⊎◌, IfErr, Err};
-ghost use Rattle.sq_merge.specs.Asks.{Moving, MayRefuse, moved_of};
+ghost use Rattle.std.specs.Prelude.{◌≡◌, IfErr, IfNone, IfOk, IfSome, Ok, Err};
+ghost use Rattle.sq_merge.specs.Asks.{MayRefuseMove, moved_of};
 ghost use Rattle.sq_merge.specs.Performs.{Performs, LeavesRecords};
 ghost use Rattle.sq_merge.specs.Turns.{TurnFits, LeaveFits, BringFits, Brings, WordFor, comes_in, goes_back, home_ahead, word_of};
 
@@ -40,18 +40,23 @@ fn leave<S: LockSteps>(steps: &mut S, name: &QueueName) -> Result<Turned, Refusa
         home: steps.pick(),
     };
     let answered = steps.moving(Some(of.name), &home, Move::LeaveDead);
-    word_for(Move::LeaveDead, Some(of.name), &home, answered)
+    match word_for(Move::LeaveDead, answered)? {
+        Some(word) => Ok(word),
+        None => Err(Refusal::QueueDoesNotExist),
+    }
 }
 
 // The next item in transit is brought to one of the homes of the queue that it goes to.
 fn bring<S: LockSteps>(steps: &mut S) -> Result<Turned, Refusal>
     ensures { Performs S.stepped (BringFits (S.counts steps.old).homes) steps.old result steps.new }
 {
-    let Some(next) = steps.next_item()? else {
-        return Ok(Turned::Nothing);
-    };
-    let home = home_ahead(&next, steps.pick());
-    bring_to(steps, &next, &home)
+    match steps.next_item()? {
+        Some(next) => {
+            let home = home_ahead(&next, steps.pick());
+            bring_to(steps, &next, &home)
+        }
+        None => Ok(Turned::Nothing),
+    }
 }
 
 // The item comes in at this home. Where the home is closed, the item goes back to its source, or is given up there.
@@ -62,17 +67,15 @@ fn bring_to<S: LockSteps>(
 ) -> Result<Turned, Refusal>
     ensures { Performs S.stepped (Brings next.now home.now) steps.old result steps.new }
 {
-    let what = comes_in(next);
-    let answered = steps.moving(None, home, what);
-    match word_for(what, None, home, answered) {
-        Err(Refusal::QueueDoesNotExist) => {}
-        word => return word,
+    let answered = steps.moving(None, home, comes_in(next));
+    match word_for(comes_in(next), answered)? {
+        Some(word) => return Ok(word),
+        None => {}
     }
-    let what = goes_back(next);
-    let answered = steps.moving(None, home, what);
-    match word_for(what, None, home, answered) {
-        Err(Refusal::QueueDoesNotExist) => Ok(Turned::Full),
-        word => word,
+    let answered = steps.moving(None, home, goes_back(next));
+    match word_for(goes_back(next), answered)? {
+        Some(word) => Ok(word),
+        None => Ok(Turned::Full),
     }
 }
 
@@ -110,21 +113,22 @@ fn goes_back(next: &NextItem) -> Move
     }
 }
 
-// The word for a step that moves a message; a home that does not serve has none here.
+// The word for a step that moves a message; none where the home does not serve.
 fn word_for(
     what: Move,
-    name: Option<QueueName>,
-    home: &HomeId,
     answered: Result<Option<HomeReply>, Refusal>,
-) -> Result<Turned, Refusal>
-    requires { IfErr answered (MayRefuse (Moving name home.now what)) }
-    ensures { WordFor what (moved_of answered) result ⊎ ((answered ≡ Err Refusal.QueueDoesNotExist) × (result ≡ Err Refusal.QueueDoesNotExist)) }
+) -> Result<Option<Turned>, Refusal>
+    requires { IfErr answered (MayRefuseMove what) }
+    ensures word { IfOk result (λ word. IfSome word (λ word. WordFor what (moved_of answered) (Ok word))) }
+    ensures closed { IfOk result (λ word. IfNone word (answered ≡ Err Refusal.QueueDoesNotExist)) }
+    ensures refused { IfErr result (λ e. WordFor what (moved_of answered) (Err e)) }
 {
     match answered {
-        Ok(Some(_)) => Ok(word_of(what)),
-        Ok(None) => Ok(Turned::Nothing),
-        Err(Refusal::OverLimit) => Ok(Turned::Full),
-        Err(Refusal::UnsupportedOperation) => Ok(Turned::Nothing),
+        Ok(Some(_)) => Ok(Some(word_of(what))),
+        Ok(None) => Ok(Some(Turned::Nothing)),
+        Err(Refusal::OverLimit) => Ok(Some(Turned::Full)),
+        Err(Refusal::UnsupportedOperation) => Ok(Some(Turned::Nothing)),
+        Err(Refusal::QueueDoesNotExist) => Ok(None),
         Err(refusal) => Err(refusal),
     }
 }

@@ -421,19 +421,28 @@ impl World {
         let last = self.ledger.last();
         let at = open(&mut self.journals, alloc, actor)?;
         let number = tried_by(&self.tried, actor);
-        let next = self.ledger.peek(number).map(next_item);
-        if let Some(next) = &next {
-            let now = TriedItem {
-                actor,
-                item: next.number.get(),
-            };
-            if let Err(refusal) = put_tried(&mut self.tried, now) {
-                self.journals.truncate(count);
-                return Err(refusal);
+        match self.ledger.peek(number).map(next_item) {
+            Some(next) => {
+                let now = TriedItem {
+                    actor,
+                    item: next.number.get(),
+                };
+                match put_tried(&mut self.tried, now) {
+                    Ok(()) => {
+                        self.journals[at].see(last);
+                        Ok(Some(next))
+                    }
+                    Err(refusal) => {
+                        self.journals.truncate(count);
+                        Err(refusal)
+                    }
+                }
+            }
+            None => {
+                self.journals[at].see(last);
+                Ok(None)
             }
         }
-        self.journals[at].see(last);
-        Ok(next)
     }
 }
 

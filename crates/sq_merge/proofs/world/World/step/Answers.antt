@@ -11,3 +11,8 @@ returns-in_err-act-in-Home-clause-refusal c =
     let refused : c.from_residual-in_err-act-in-Home.result ≡ Err c.in_err-act-in-Home.field-0.0 = search rules in
     rw (refused, c.in-Home.is, ← c.self.view_is)
     (inl (c.in_err-act-in-Home.ensures.refused.0, (c.in_err-act-in-Home.ensures.refused.1, home_there old c.in-Home.id c.in-Some.field-0 c.self.invariant.kept.numbered c.home_index.ensures.queue place)))
+
+pub returns-in_err-reply-in-Shared-clause-refusal : goal.returns-in_err-reply-in-Shared-clause-refusal
+returns-in_err-reply-in-Shared-clause-refusal c =
+    let refused : c.from_residual-in_err-reply-in-Shared.result ≡ Err c.in_err-reply-in-Shared.field-0.0 = search rules in
+    rw (refused, c.in-Shared.is) c.in_err-reply-in-Shared.ensures.refusal
