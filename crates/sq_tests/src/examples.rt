@@ -1,6 +1,5 @@
 //! The library in use, from a service without queues to where its messages are.
 use sq_audit::merge::merge;
-use sq_audit::message_pass::place_of;
 use sq_base::handle::Handle;
 use sq_base::message_id::MessageId;
 use sq_base::name::QueueName;
@@ -14,6 +13,7 @@ use sq_merge::options::Options;
 use sq_merge::world::World;
 use sq_model::directory::Attributes;
 use sq_model::place::Place;
+use sq_places::message_pass::place_of;
 
 #[test]
 fn a_message_is_sent_received_and_deleted(rt: HostRuntime) {

@@ -14,10 +14,10 @@ use Rattle.sq_model.specs.Merges.{IsMerged}
 use Rattle.sq_model.specs.Places.{run_ends, run_sends}
 use Rattle.sq_model.specs.Systems.{Tag, stamp_of, opening, IsRun, IsOnePlace}
 use Rattle.sq_audit.specs.Actors.{ActorsRise, PartsRise}
-use Rattle.sq_audit.specs.AllPlaces.{ArePlaces}
 use Rattle.sq_audit.specs.SystemNow.{events_of, system_now}
 use Rattle.sq_merge.specs.WorldValue.{WorldValue}
 use Rattle.sq_audit.specs.HomeIds.{histories_of, IsNumbered}
+use Rattle.sq_places.specs.AllPlaces.{ArePlaces}
 use Rattle.sq_replies.specs.Replies.{id_text}
 
 -- the moment in ms and the count, in decimal digits. Own.

@@ -1,0 +1,5 @@
+pub mod StateLaws
+pub mod MessageStateLaws
+pub mod FollowLaws
+pub mod ListLaws
+pub mod AuditLaws

@@ -1,0 +1,12 @@
+use Rattle.std.proofs.Common.{◌∙◌}
+use Rattle.std.proofs.lemmas.Result.{IfOk-weaker}
+use Rattle.sq_places.proofs.AuditLaws.{audit_places}
+use Rattle.sq_places.proofs.places.places_of.Goals as goal
+
+pub returns-clause-places : goal.returns-clause-places
+returns-clause-places c = λ places limit sites after r one.
+    IfOk-weaker c.listed.result _ _ (λ listed h. record {
+      rising = h.rising;
+      each = λ x. h.each x ∙ rw (c.deref.ensures.value, c.deref-2.ensures.value, c.deref-3.ensures.value) (audit_places x places limit sites c.events.result.now c.args.run.now c.events.ensures after r
+          (record { homes = c.audit.inside.homes.items; sends = c.audit.inside.sends.items; moves = c.audit.inside.moves.items; ends = c.audit.inside.ends.items }) one (c.audit.view_is ∙ c.in_ok-audit.ensures.audit));
+    }) c.listed.ensures.listed

@@ -1,0 +1,5 @@
+pub mod RowStates
+pub mod MessagePasses
+pub mod HomeValues
+pub mod Audits
+pub mod AllPlaces
