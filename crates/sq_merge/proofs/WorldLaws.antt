@@ -248,9 +248,9 @@ module _ (old : WorldValue) (actor here : ℕ) (before after : HistoryValue) (na
         elim (set_cases old.homes here j before after t.0 s.in_list t.1) [
           | inl g ↦ rw t.2 (entry_stays t.0.site.home e (kept.paired.in_ledger j k (history_of t.0) e (record { in_homes = get_map history_of old.homes j t.0 g.1; in_events = in_events }) shared))
           | inr g ↦ rw (t.2, g.1, same_home) (elim (get_cases before.events event e k (rw s.events at (rw g.1 at in_events))) [
-              | inl was ↦ entry_stays before.site.home e (kept.paired.in_ledger here k (history_of before) e (record { in_homes = get_map history_of old.homes here before s.in_list; in_events = was }) shared)
-              | inr new ↦ rw new.1 (entered (subst (λ (x : HomeEvent). is_alone x.call ≡ false) new.1 shared))
-            ])
+            | inl was ↦ entry_stays before.site.home e (kept.paired.in_ledger here k (history_of before) e (record { in_homes = get_map history_of old.homes here before s.in_list; in_events = was }) shared)
+            | inr new ↦ rw new.1 (entered (subst (λ (x : HomeEvent). is_alone x.call ≡ false) new.1 shared))
+          ])
         ]);
     in_home = λ k e there shared. elim (known k e there) [ inl was ↦ partner_stays e (kept.paired.in_home k e was shared) | inr new ↦ new shared ];
   }
@@ -328,8 +328,8 @@ kept_shared old actor now name id what reply new kept known s =
     let same : s.after.site.home ≡ s.before.site.home = ap (λ (x : Site). x.home) at_home.site in
     let partner : InHome (histories_of (slice_set old.homes s.at s.after)) entry = (s.at, length s.before.events, history_of s.after, event, there, at_home.shared, ap (λ (x : HomeId). as_ledger x event) (sym same)) in
     let paired =
-        pairs old actor s.at s.before s.after name its_record.call its_record s.recorded_in.room s.ledger kept more (λ shared. entered)
-        (λ k e h. elim (get_cases old.ledger.events entry e k (rw in_ledger.events at h)) [ inl was ↦ inl was | inr new ↦ inr (λ shared. rw new.1 partner) ]) in
+    pairs old actor s.at s.before s.after name its_record.call its_record s.recorded_in.room s.ledger kept more (λ shared. entered)
+    (λ k e h. elim (get_cases old.ledger.events entry e k (rw in_ledger.events at h)) [ inl was ↦ inl was | inr new ↦ inr (λ shared. rw new.1 partner) ]) in
     rw (s.changed, s.moves.recorded_as) (kept_with old actor s.at s.before s.after name its_record.call its_record s.recorded_in.room s.ledger kept more paired)
 
 module _ (old : WorldValue) (actor now : ℕ) (call : DirectoryCall) (reply : DirectoryReply) (new : WorldValue) (kept : IsKeptWorld old) (s : DirectoryStepped old new actor now call reply) where

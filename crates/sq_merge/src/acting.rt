@@ -10,10 +10,9 @@ ghost use Rattle.sq_merge.specs.Turns.{TurnFits};
 ghost use Rattle.sq_merge.specs.Performs.{Performs, LeavesRecords};
 ghost use Rattle.sq_merge.specs.Worlds.{IsKnown};
 
-use crate::client;
 use crate::lock_steps::LockSteps;
-use crate::turns;
 use crate::world::World;
+use crate::{client, turns};
 use sq_base::ids::{HomeId, HomeNo, QueueNo};
 use sq_base::name::QueueName;
 use sq_base::refusal::Refusal;

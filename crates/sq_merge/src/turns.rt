@@ -60,11 +60,7 @@ fn bring<S: LockSteps>(steps: &mut S) -> Result<Turned, Refusal>
 }
 
 // The item comes in at this home. Where the home is closed, the item goes back to its source, or is given up there.
-fn bring_to<S: LockSteps>(
-    steps: &mut S,
-    next: &NextItem,
-    home: &HomeId,
-) -> Result<Turned, Refusal>
+fn bring_to<S: LockSteps>(steps: &mut S, next: &NextItem, home: &HomeId) -> Result<Turned, Refusal>
     ensures { Performs S.stepped (Brings next.now home.now) steps.old result steps.new }
 {
     let answered = steps.moving(None, home, comes_in(next));

@@ -11,12 +11,7 @@ use sq_requests::request::read_request;
 use std::alloc::{AllocError, Global};
 
 // Does what a line asks; its clock reading stands for the lines after it that have none.
-fn tell(
-    alloc: Global,
-    world: &mut World,
-    clock: &mut u64,
-    line: &[u8],
-) -> Result<Answered, Refusal>
+fn tell(alloc: Global, world: &mut World, clock: &mut u64, line: &[u8]) -> Result<Answered, Refusal>
     ensures { LineAnswered (script_at world.old clock.old) line.now result (script_at world.new clock.new) }
 {
     let request = read_request(alloc, line)?;

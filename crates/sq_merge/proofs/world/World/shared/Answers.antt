@@ -9,7 +9,6 @@ use Rattle.sq_merge.specs.WorldValue.{WorldValue}
 use Rattle.sq_merge.specs.Worlds.{IsKnown}
 use Rattle.sq_merge.proofs.StepLaws.{shared_opened, nothing_opened, shared_out, shared_unmade, closed_again, home_kept}
 use Rattle.sq_merge.proofs.WorldLaws.{kept_shared}
-
 use Rattle.sq_merge.proofs.world.World.shared.Goals as goal
 
 pub returns-in_default-clause-refusal : goal.returns-in_default-clause-refusal
