@@ -127,7 +127,7 @@ fn report_audit<E: Write>(errors: &mut E, fault: AuditFault) -> u8
     let name = audit_fault_name(fault);
     let _ = writeln!(errors, "sqd: {name}");
     let _ = errors.flush();
-    match fault {
+    match &fault {
         AuditFault::NoMemory => 1,
         AuditFault::RecordMissing(_, _)
         | AuditFault::RecordTwice(_, _)
