@@ -1,9 +1,9 @@
 //! The rows of a home, found by serial and by age.
-ghost use Rattle.std.specs.Prelude.{◌≡◌, ◌×◌, ◌++◌, [], ◌∷◌, not, map, filter, true, false, OnOk, IfOk, IfErr, IfSome, IfNone, is_some, if◌then◌else◌, option_to_list};
+ghost use Rattle.std.specs.Prelude.{◌≡◌, ◌++◌, [], ◌∷◌, not, map, filter, true, false, OnOk, IfOk, IfErr, IfSome, IfNone, is_some, if◌then◌else◌, option_to_list};
 ghost use Rattle.std.specs.List.{All};
 ghost use Rattle.std.specs.Map.{remove_entry};
 ghost use Rattle.std.specs.Ordering.{nat_cmp};
-ghost use Rattle.std.specs.BTreeMap.{get, is_at};
+ghost use Rattle.std.specs.BTreeMap.{get, is_at, IsOrdered};
 ghost use Rattle.sq_places.specs.RowStates.{is_due, is_named, is_of, is_past, looked, raised};
 ghost use Rattle.sq_model.specs.declared.place.Place.TheVariants as at;
 ghost use Rattle.sq_places.specs.RowIndexes.{AreIndexed};
@@ -39,7 +39,7 @@ impl Model for HomeRows {
 
     ghost view = { λ h. values h.rows };
 
-    ghost invariant = { λ h. AreIndexed h.ages h.rows };
+    ghost invariant = { λ h. AreIndexed h.ages.keys h.rows.entries };
 }
 
 /// Which row leaves.
@@ -121,8 +121,8 @@ impl HomeRows {
         ensures err { IfErr result (λ e. e ≡ Refusal.NoMemory) }
     {
         let past = Leaving::Past(retention, moment);
-        while let Some((_, serial)) = pop_due(&mut self.ages, retention, moment) {
-            if let Some(row) = take(&mut self.rows, serial, &past) {
+        while let Some(age) = pop_due(&mut self.ages, retention, moment) {
+            if let Some(row) = take(&mut self.rows, age.1, &past) {
                 ends.push((row.lineage, Place::Expired))?;
             }
         }
@@ -169,6 +169,7 @@ fn take(
 ) -> Option<RowState>
     ensures taken { result ≡ audits.taken (audits.passes who.now) (get nat_cmp rows.old serial) }
     ensures rows { rows.new.entries ≡ (if is_some result then remove_entry (is_at (nat_cmp serial)) rows.old.entries else rows.old.entries) }
+    ensures ordered { IsOrdered nat_cmp rows.old → IsOrdered nat_cmp rows.new }
 {
     match rows.get(&serial) {
         Some(row) if passes(who, row) => rows.remove(&serial),
