@@ -27,7 +27,7 @@ use Rattle.sq_model.proofs.ReplayLaws.{replays_push}
 use Rattle.sq_laws.proofs.LedgerLists.{found_number, items_low}
 use Rattle.sq_laws.proofs.LedgerLaws.{ledger_holds}
 use Rattle.sq_history.specs.LogValue.{LogValue}
-use Rattle.sq_history.specs.Rooms.{KeepsRoom}
+use Rattle.sq_history.specs.Rooms.{GrowingValue, IsReady, KeepsRoom}
 use Rattle.sq_ledger.specs.LedgerHistory.{LedgerHistory, history_of, ledger_with}
 use Rattle.sq_ledger.specs.LedgerHistories.{IsEntered, IsLedgerKept, LedgerShares, shared_event}
 
@@ -107,11 +107,15 @@ kept_more old new by stamp home call reply kept same rising shares =
     }
 
 -- a step that leaves these items, with its event
-pub one_more : (items left : List Item) (next after limit : ℕ) (log new : LogValue LedgerCall LedgerReply) (by : Actor) (stamp : StampValue) (home : HomeId) (call : HomeCall) (reply : HomeReply)
-    → LedgerStep (ledger_with items next limit) stamp.moment (asks.AtHome home call) (answers.AtHome reply) (ledger_with left after limit)
-    → new.last ≡ stamp → new.events ≡ log.events ++ shared_event stamp by home call reply ∷ [] → KeepsRoom log.room new.room
+pub one_more : (items left : GrowingValue Item) (next after limit : ℕ) (log new : LogValue LedgerCall LedgerReply) (by : Actor) (stamp : StampValue) (home : HomeId) (call : HomeCall) (reply : HomeReply)
+    → LedgerStep (ledger_with items.items next limit) stamp.moment (asks.AtHome home call) (answers.AtHome reply) (ledger_with left.items after limit)
+    → new.last ≡ stamp → new.events ≡ log.events ++ shared_event stamp by home call reply ∷ [] → KeepsRoom log.room new.room → KeepsRoom items.room left.room
     → LedgerShares (history_of items next limit log) (history_of left after limit new) by stamp home call reply
-one_more items left next after limit log new by stamp home call reply step last events room = record { step = step; last = last; events = events; room = room }
+one_more items left next after limit log new by stamp home call reply step last events room item_room = record { step = step; last = last; events = events; room = room; item_room = item_room }
+
+-- items that are ready, and show all their memory once one of them went or turned
+pub shows_all : (old reserved went left shown : ℕ) → IsReady old reserved → went ≡ old → went ≤ shown → reserved ≤ left → shown ≡ left → KeepsRoom old shown
+shows_all old reserved went left shown ready same more kept all = record { used = omega (arith, same, more); got = λ none. omega (arith, ready.got none, kept, all) }
 
 -- the items of a ledger stand below its next number
 pub items_stand : (h : LedgerHistory) → IsLedgerKept h → ItemsRise 1 h.ledger.items h.ledger.next_item

@@ -1,5 +1,5 @@
 -- What a step that the ledger shares with a home does to it, and what is true of the ledger at all times.
-use Rattle.std.specs.Prelude.{◌≡◌, ◌<◌, true, [], ◌∷◌, ◌++◌}
+use Rattle.std.specs.Prelude.{◌≡◌, true, [], ◌∷◌, ◌++◌}
 use Rattle.sq_base.specs.StampValue.{StampValue}
 use Rattle.sq_base.specs.Stamps.{start}
 use Rattle.sq_base.specs.declared.ids.HomeId.{HomeId}
@@ -30,11 +30,12 @@ pub record LedgerShares (old new : LedgerHistory) (by : Actor) (stamp : StampVal
   pub last : new.last ≡ stamp
   pub events : new.events ≡ old.events ++ shared_event stamp by home call reply ∷ []
   pub room : KeepsRoom old.room new.room
+  pub item_room : KeepsRoom old.item_room new.item_room
 
 -- there is memory for one event more, and for one item
 pub record IsPrepared (v : LedgerValue) : Type 0 where
-  pub for_event : IsReady v.history.room v.event_room
-  pub for_item : 0 < v.item_room
+  pub for_event : IsReady v.history.room v.reserved
+  pub for_item : IsReady v.history.item_room v.item_reserved
 
 -- an item goes out of the ledger into a home: into its target, or back into its source
 abbrev pub IsEntered : HomeId → HomeCall → HomeReply → Item → Type 0

@@ -1,3 +1,2 @@
-pub mod ItemsValue
 pub mod LedgerHistory
 pub mod LedgerHistories

@@ -44,15 +44,15 @@ impl Model for TransitLedger {
 
     ghost Value = { LedgerValue };
 
-    ghost view = { λ t. record { history = history_of t.items.items t.next t.limit t.log; event_room = t.log.reserved; item_room = t.items.room } };
+    ghost view = { λ t. record { history = history_of t.items t.next t.limit t.log; reserved = t.log.reserved; item_reserved = t.items.reserved } };
 
-    ghost invariant = { λ t. IsLedgerKept (history_of t.items.items t.next t.limit t.log) };
+    ghost invariant = { λ t. IsLedgerKept (history_of t.items t.next t.limit t.log) };
 }
 
 impl TransitLedger {
     /// No item and no event. It is to hold so many items at most.
     pub fn new(alloc: Global, limit: u32) -> TransitLedger
-        ensures { result.history ≡ record { ledger = opening_ledger limit; last = start; events = []; room = 0 } }
+        ensures { result.history ≡ record { ledger = opening_ledger limit; last = start; events = []; room = 0; item_room = 0 } }
     {
         TransitLedger {
             items: Items::new(alloc),
@@ -108,15 +108,15 @@ impl TransitLedger {
         Ok(number)
     }
 
-    /// Gets memory for one event more and for one item. Refused as NoMemory, where there was room for no event or for no
-    /// item; it may have got some of it then.
+    /// Gets memory for one event more and for one item, and for four where it shows room for none. Refused as NoMemory,
+    /// where it shows room for no event or for no item; it may have got some of it then.
     pub fn prepare(&mut self) -> Result<(), Refusal>
         ensures history { self.new.history ≡ self.old.history }
         ensures prepared { OnOk result (IsPrepared self.new) }
         ensures refused { IfErr result (λ e. e ≡ Refusal.NoMemory) }
-        ensures needed { IfErr result (λ _. (self.old.history.room ≡ 0) ⊎ (self.old.item_room ≡ 0)) }
-        ensures event_room { self.old.event_room ≤ self.new.event_room }
-        ensures item_room { self.old.item_room ≤ self.new.item_room }
+        ensures needed { IfErr result (λ _. (self.old.history.room ≡ 0) ⊎ (self.old.history.item_room ≡ 0)) }
+        ensures reserved { self.old.reserved ≤ self.new.reserved }
+        ensures item_reserved { self.old.item_reserved ≤ self.new.item_reserved }
     {
         self.log.reserve()?;
         self.items.reserve()
@@ -140,7 +140,7 @@ impl TransitLedger {
         requires call { kept.0 ≡ LeaveDead }
         requires reply { kept.1 ≡ Left item }
         ensures shares { LedgerShares self.old.history self.new.history by.now stamp home.now kept.0 kept.1 }
-        ensures item_room { self.old.item_room ≤ self.new.item_room + 1 }
+        ensures item_reserved { self.old.item_reserved ≤ self.new.item_reserved + 1 }
     {
         self.items.push(item);
         self.next += 1;
@@ -161,9 +161,10 @@ impl TransitLedger {
         requires above { Below self.old.history.last stamp }
         requires entered { (item : Moved) × (item_of number self.old.history.ledger ≡ Some item) × IsEntered home.now kept.0 kept.1 item }
         ensures shares { LedgerShares self.old.history self.new.history by.now stamp home.now kept.0 kept.1 }
-        ensures item_room { self.old.item_room ≤ self.new.item_room }
+        ensures item_reserved { self.old.item_reserved ≤ self.new.item_reserved }
     {
         let _entered = self.items.take(number.get());
+        self.items.show_room();
         add_event(&mut self.log, by, stamp, home, kept);
     }
 
@@ -182,9 +183,10 @@ impl TransitLedger {
         requires given_up { (item : Moved) × (item_of number self.old.history.ledger ≡ Some item) × (kept.0 ≡ GiveUp item) × (may_return home.now item ≡ true) }
         requires reply { kept.1 ≡ Done }
         ensures shares { LedgerShares self.old.history self.new.history by.now stamp home.now kept.0 kept.1 }
-        ensures item_room { self.old.item_room ≤ self.new.item_room }
+        ensures item_reserved { self.old.item_reserved ≤ self.new.item_reserved }
     {
         let _given_up = self.items.take(number.get());
+        self.items.show_room();
         add_event(&mut self.log, by, stamp, home, kept);
     }
 
@@ -203,9 +205,10 @@ impl TransitLedger {
         requires turned { (item : Moved) × (item_of number self.old.history.ledger ≡ Some item) × (kept.0 ≡ TurnBack item) × (may_enter home.now item ≡ true) }
         requires reply { kept.1 ≡ Done }
         ensures shares { LedgerShares self.old.history self.new.history by.now stamp home.now kept.0 kept.1 }
-        ensures item_room { self.old.item_room ≤ self.new.item_room }
+        ensures item_reserved { self.old.item_reserved ≤ self.new.item_reserved }
     {
         self.items.turn(number.get());
+        self.items.show_room();
         add_event(&mut self.log, by, stamp, home, kept);
     }
 }

@@ -15,7 +15,7 @@ use Rattle.sq_model.specs.declared.replies.HomeReply.{HomeReply}
 use Rattle.sq_model.specs.declared.directory.DirectoryCall.{DirectoryCall}
 use Rattle.sq_model.specs.declared.directory.DirectoryReply.{DirectoryReply}
 use Rattle.sq_model.specs.declared.shared.SharedAct.{SharedAct}
-use Rattle.sq_ledger.specs.LedgerHistory.{LedgerHistory, LedgerValue}
+use Rattle.sq_ledger.specs.LedgerHistory.{LedgerHistory}
 use Rattle.sq_steps.specs.SharedSteps.{SharedMoves, IsUnmoved, IsSharedRefused}
 use Rattle.sq_model.specs.Replays.{HomeEvent}
 use Rattle.sq_model.specs.RecordValues.{Journal}
@@ -121,19 +121,19 @@ nothing_opened old actor now id what place before mine numbered least found in_l
   unchanged = refl;
 }
 
-pub shared_out : (old : WorldValue) (actor now : ℕ) (id : HomeId) (what : SharedAct) (e : Refusal) (place : ℕ) (before : HistoryValue) (ledger : LedgerValue) (mine : Journal)
+pub shared_out : (old : WorldValue) (actor now : ℕ) (id : HomeId) (what : SharedAct) (e : Refusal) (place : ℕ) (before : HistoryValue) (mine : Journal)
     → IsNumbered old.per_queue old.homes → 1 ≤ id.queue → home_index old.per_queue (length old.homes) id ≡ Some place → before ≡ slice_index_or old.homes place before
-    → ledger.history ≡ old.ledger → mine ≡ slice_index_or (opened actor old.journals) (index_in actor old.journals) mine
-    → IsSharedRefused before ledger mine now what e → SharedRefused old actor now id what e
-shared_out old actor now id what e place before ledger mine numbered least found in_list is own refused =
-    inr (place, before, ledger, home_is old id place before numbered least found in_list, is, subst (λ (b : Journal). IsSharedRefused before ledger b now what e) (opened_is actor old.journals mine own) refused)
+    → mine ≡ slice_index_or (opened actor old.journals) (index_in actor old.journals) mine
+    → IsSharedRefused before old.ledger mine now what e → SharedRefused old actor now id what e
+shared_out old actor now id what e place before mine numbered least found in_list own refused =
+    inr (place, before, home_is old id place before numbered least found in_list, subst (λ (b : Journal). IsSharedRefused before old.ledger b now what e) (opened_is actor old.journals mine own) refused)
 
-pub shared_unmade : (old : WorldValue) (actor now : ℕ) (id : HomeId) (what : SharedAct) (place : ℕ) (ledger : LedgerValue)
-    → IsNumbered old.per_queue old.homes → 1 ≤ id.queue → home_index old.per_queue (length old.homes) id ≡ Some place → position (is_of actor) old.journals ≡ None → ledger.history ≡ old.ledger
+pub shared_unmade : (old : WorldValue) (actor now : ℕ) (id : HomeId) (what : SharedAct) (place : ℕ)
+    → IsNumbered old.per_queue old.homes → 1 ≤ id.queue → home_index old.per_queue (length old.homes) id ≡ Some place → position (is_of actor) old.journals ≡ None
     → SharedRefused old actor now id what NoMemory
-shared_unmade old actor now id what place ledger numbered least found pos is =
+shared_unmade old actor now id what place numbered least found pos =
     let home = home_there old id place numbered least found in
-    inr (home.0, home.1, ledger, home.2, is, subst (λ (b : Journal). IsSharedRefused home.1 ledger b now what NoMemory) (sym (lost_there actor old.journals pos)) (inl (inr (new_is_not_worn actor, refl, refl))))
+    inr (home.0, home.1, home.2, subst (λ (b : Journal). IsSharedRefused home.1 old.ledger b now what NoMemory) (sym (lost_there actor old.journals pos)) (inl (inr (new_is_not_worn actor, refl, refl))))
 
 pub peeked_opened : (old : WorldValue) (actor : ℕ) (mine : Journal) → mine ≡ slice_index_or (opened actor old.journals) (index_in actor old.journals) mine
     → record old { journals = slice_set (opened actor old.journals) (index_in actor old.journals) (having_seen mine old.ledger.last) } ≡ having_peeked old actor

@@ -13,7 +13,7 @@ use Rattle.sq_model.specs.declared.item.Item.{Item}
 use Rattle.sq_model.specs.declared.shared.SharedAct.{SharedAct}
 use Rattle.sq_model.specs.Ledgers.{LedgerEvent, is_own, peek}
 use Rattle.sq_model.specs.Replays.{HomeEvent}
-use Rattle.sq_ledger.specs.LedgerHistory.{LedgerHistory, LedgerValue}
+use Rattle.sq_ledger.specs.LedgerHistory.{LedgerHistory}
 use Rattle.sq_steps.specs.declared.act.NextItem.{NextItem}
 use Rattle.sq_steps.specs.SharedSteps.{asked_as, SharedMoves, IsUnmoved, IsSharedRefused}
 use Rattle.sq_model.specs.Systems.{DirectoryEvent}
@@ -85,11 +85,11 @@ pub record NothingLeaves (old new : WorldValue) (actor now : ℕ) (id : HomeId) 
   pub unmoved : IsUnmoved before old.ledger (journal_of actor old.journals) now what
   pub unchanged : new ≡ old
 
--- why a step that a home shares with the ledger is refused; for how much more the ledger has memory is free
+-- why a step that a home shares with the ledger is refused
 abbrev pub SharedRefused : WorldValue → ℕ → ℕ → HomeId → SharedAct → Refusal → Type 0
 SharedRefused w actor now id what e =
     (((at : ℕ) (h : HistoryValue) → IsHomeOf w id at h → ⊥) × (e ≡ (if nat_le stamp_end now then ClockRange else QueueDoesNotExist)))
-    ⊎ ((at : ℕ) × (h : HistoryValue) × (ledger : LedgerValue) × IsHomeOf w id at h × (ledger.history ≡ w.ledger) × IsSharedRefused h ledger (journal_of actor w.journals) now what e)
+    ⊎ ((at : ℕ) × (h : HistoryValue) × IsHomeOf w id at h × IsSharedRefused h w.ledger (journal_of actor w.journals) now what e)
 
 -- where an item goes
 abbrev pub next_of : Item → NextItem

@@ -15,7 +15,7 @@ use Rattle.sq_model.specs.Shared.{IsCallOf, IsUnrecorded, shared_refusal, shared
 use Rattle.sq_history.specs.Rooms.{KeepsRoom}
 use Rattle.sq_history.specs.HistoryValue.{HistoryValue}
 use Rattle.sq_history.specs.Histories.{RecordsShared}
-use Rattle.sq_ledger.specs.LedgerHistory.{LedgerHistory, LedgerValue}
+use Rattle.sq_ledger.specs.LedgerHistory.{LedgerHistory}
 use Rattle.sq_ledger.specs.LedgerHistories.{LedgerShares}
 use Rattle.sq_steps.specs.Journals.{IsNotReady, last_place, with_record}
 use Rattle.sq_steps.specs.declared.act.Move.{Move}
@@ -60,10 +60,10 @@ IsPairRefused old l m act e =
     ⊎ (shared_refusal old.site old.home l m act ≡ Some e)
 
 -- Why an actor's step of both is refused: the actor's own causes, no memory for the ledger's event or for an item, the clock's or the counts' check, or that neither half is done.
-abbrev pub IsSharedRefused : HistoryValue → LedgerValue → Journal → ℕ → SharedAct → Refusal → Type 0
+abbrev pub IsSharedRefused : HistoryValue → LedgerHistory → Journal → ℕ → SharedAct → Refusal → Type 0
 IsSharedRefused old ledger journal now act e =
     IsNotReady journal now e
     ⊎ ((journal.next ≢ last_place)
-    × (((e ≡ NoMemory) × ((ledger.history.room ≡ 0) ⊎ (ledger.item_room ≡ 0)))
-    ⊎ (shared_stamp old.last ledger.history.last journal.seen now ≡ Err e)
-    ⊎ ((stamp : StampValue) × (shared_stamp old.last ledger.history.last journal.seen now ≡ Ok stamp) × IsPairRefused old ledger.history.ledger stamp.moment act e)))
+    × (((e ≡ NoMemory) × ((ledger.room ≡ 0) ⊎ (ledger.item_room ≡ 0)))
+    ⊎ (shared_stamp old.last ledger.last journal.seen now ≡ Err e)
+    ⊎ ((stamp : StampValue) × (shared_stamp old.last ledger.last journal.seen now ≡ Ok stamp) × IsPairRefused old ledger.ledger stamp.moment act e)))

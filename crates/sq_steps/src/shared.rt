@@ -235,7 +235,7 @@ pub fn shared_step(
     ensures none_home { IfOk result (λ told. IfNone told (home.new ≡ home.old)) }
     ensures none_ledger { IfOk result (λ told. IfNone told (ledger.new.history ≡ ledger.old.history)) }
     ensures none_journal { IfOk result (λ told. IfNone told (journal.new ≡ journal.old)) }
-    ensures refusal { IfErr result (IsSharedRefused home.old ledger.old journal.old now (asked_as act)) }
+    ensures refusal { IfErr result (IsSharedRefused home.old ledger.old.history journal.old now (asked_as act)) }
     ensures home_err { OnErr result (home.new ≡ home.old) }
     ensures ledger_err { OnErr result (ledger.new.history ≡ ledger.old.history) }
     ensures journal_err { OnErr result (journal.new ≡ journal.old) }

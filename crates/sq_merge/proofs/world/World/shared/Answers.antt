@@ -1,4 +1,4 @@
-use Rattle.std.proofs.Common.{rules, ◌≡◌, length, refl, subst, Some, None, Err, arith, inl, slice_set}
+use Rattle.std.proofs.Common.{rules, ◌≡◌, length, subst, Some, None, Err, arith, inl, slice_set}
 use Rattle.std.specs.List.{slice_index_or}
 use Rattle.std.proofs.lemmas.List.{length-set}
 use Rattle.sq_steps.specs.Journals.{journal_of, index_in, opened}
@@ -23,7 +23,7 @@ returns-in_err-at-clause-refusal c =
     let index : home_index old.per_queue (length old.homes) c.args.id.now ≡ Some c.in-Some.index = search rules in
     let refused : c.from_residual.result ≡ Err c.in_err-at.field-0.0 = search rules in
     rw (refused, c.in_err-at.ensures.refused.0, ← c.self.view_is)
-    (shared_unmade old c.args.actor c.args.now c.args.id.now (asked_as c.args.act) c.in-Some.index c.self.inside.ledger c.self.invariant.kept.numbered c.home_index.ensures.queue index c.in_err-at.ensures.refused.1 refl)
+    (shared_unmade old c.args.actor c.args.now c.args.id.now (asked_as c.args.act) c.in-Some.index c.self.invariant.kept.numbered c.home_index.ensures.queue index c.in_err-at.ensures.refused.1)
 
 pub invariant_of-self-in-Ok-Some : goal.invariant_of-self-in-Ok-Some
 invariant_of-self-in-Ok-Some c =
@@ -90,7 +90,7 @@ returns-in-Err-clause-refusal c =
     let index : home_index old.per_queue (length old.homes) c.args.id.now ≡ Some c.in-Some.index = search rules in
     let own : c.index_mut-journal.result.now ≡ slice_index_or (opened c.args.actor old.journals) (index_in c.args.actor old.journals) c.index_mut-journal.result.now = rw (c.in_ok-at.ensures.opened, c.in_ok-at.ensures.index) at c.index_mut-journal.ensures.value in
     rw (← c.self.view_is)
-    (shared_out old c.args.actor c.args.now c.args.id.now (asked_as c.args.act) c.in-Err.refusal c.in-Some.index c.index_mut-home.result.now c.self.inside.ledger c.index_mut-journal.result.now c.self.invariant.kept.numbered c.home_index.ensures.queue index c.index_mut-home.ensures.value refl own c.in-Err.ensures.refusal)
+    (shared_out old c.args.actor c.args.now c.args.id.now (asked_as c.args.act) c.in-Err.refusal c.in-Some.index c.index_mut-home.result.now c.index_mut-journal.result.now c.self.invariant.kept.numbered c.home_index.ensures.queue index c.index_mut-home.ensures.value own c.in-Err.ensures.refusal)
 
 pub returns-in-Err-clause-err : goal.returns-in-Err-clause-err
 returns-in-Err-clause-err c =
