@@ -1,11 +1,10 @@
 -- The rows of a home, found by serial and by age.
-use Rattle.std.proofs.Common.{◌≡◌, ◌≢◌, ℕ, ◌+◌, ◌<◌, ◌≤◌, Bool, true, false, not, cond, List, [], ◌∷◌, ◌++◌, map, take, get_or, length, refl, arith, ap, sym, ◌∙◌, subst, inl, inr, Option, Some, None, append_assoc}
-use Rattle.std.specs.Prelude.{◌⊎◌, ◌==◌, ◌||◌, ◌&&◌, nat_lt, nat_le, nat_eq, filter, if◌then◌else◌, is_some, option_to_list}
+use Rattle.std.proofs.Common.{◌≡◌, ◌≢◌, ℕ, ◌+◌, ◌<◌, Bool, true, false, not, cond, List, [], ◌∷◌, ◌++◌, map, take, get_or, length, refl, arith, ap, sym, ◌∙◌, subst, inl, inr, Option, Some, None, append_assoc}
+use Rattle.std.specs.Prelude.{◌⊎◌, ◌==◌, ◌||◌, ◌&&◌, nat_lt, filter, if◌then◌else◌, is_some, option_to_list}
 use Rattle.std.specs.List.{fold, list_any, All, AllByRecursion}
 use Rattle.std.specs.List.Sorted.{IsStrictlySortedBy}
 use Rattle.std.specs.Map.{keys_of, values_of, lookup, remove_entry, set_value}
 use Rattle.std.specs.Ordering.{nat_cmp, is_eq, ordering_then, match_ordering}
-use Rattle.std.specs.declared.cmp.Ordering.{Ordering}
 use Rattle.std.specs.declared.cmp.Ordering.TheVariants.{Less, Equal, Greater}
 use Rattle.std.specs.BTreeMap.{is_at, insert_entry}
 use Rattle.std.proofs.lemmas.Bool.{eqb-true}
@@ -87,19 +86,19 @@ TakenAt p k e es at b =
 take_here : (p : RowState → Bool) (k : ℕ) (e : ℕ × RowState) (es : Rows) → filter (λ row. not (p row)) (values_of es) ≡ values_of es → filter p (values_of es) ≡ [] → TakenAt p k e es true (p e.1)
 take_here p k e es kept none =
     elim (p e.1) as (λ b. (values_of (if is_some (if b then Some e.1 else None) then es else e ∷ es) ≡ cond (not b) (e.1 ∷ filter (λ row. not (p row)) (values_of es)) (filter (λ row. not (p row)) (values_of es)))
-        × (option_to_list (if b then Some e.1 else None) ≡ cond b (e.1 ∷ filter p (values_of es)) (filter p (values_of es)))) [
+    × (option_to_list (if b then Some e.1 else None) ≡ cond b (e.1 ∷ filter p (values_of es)) (filter p (values_of es)))) [
       | true ↦ (sym kept, ap (λ (rows : List RowState). e.1 ∷ rows) (sym none))
       | false ↦ (ap (λ (rows : List RowState). e.1 ∷ rows) (sym kept), sym none)
     ]
 
 take_there : (p : RowState → Bool) (k : ℕ) (e : ℕ × RowState) (es : Rows) → Taken p k es → TakenAt p k e es false false
 take_there p k e es rest = (
-    elim (is_some (taken p (lookup (is_at (nat_cmp k)) es))) as (λ b. values_of (if b then remove_entry (is_at (nat_cmp k)) es else es) ≡ filter (λ row. not (p row)) (values_of es)
-        → values_of (if b then e ∷ remove_entry (is_at (nat_cmp k)) es else e ∷ es) ≡ e.1 ∷ filter (λ row. not (p row)) (values_of es)) [
-      | true ↦ ap (λ (rows : List RowState). e.1 ∷ rows)
-      | false ↦ ap (λ (rows : List RowState). e.1 ∷ rows)
-    ] rest.0,
-    rest.1,
+  elim (is_some (taken p (lookup (is_at (nat_cmp k)) es))) as (λ b. values_of (if b then remove_entry (is_at (nat_cmp k)) es else es) ≡ filter (λ row. not (p row)) (values_of es)
+      → values_of (if b then e ∷ remove_entry (is_at (nat_cmp k)) es else e ∷ es) ≡ e.1 ∷ filter (λ row. not (p row)) (values_of es)) [
+        | true ↦ ap (λ (rows : List RowState). e.1 ∷ rows)
+        | false ↦ ap (λ (rows : List RowState). e.1 ∷ rows)
+      ] rest.0,
+  rest.1,
 )
 
 -- only the row of this serial may pass
@@ -299,9 +298,9 @@ trim_kept p k (e ∷ es) =
       ] refl
       | false ↦ elim (is_some (taken p (lookup (is_at (nat_cmp k)) es))) as (λ b. filter (λ row. not (p row)) (values_of (if b then remove_entry (is_at (nat_cmp k)) es else es)) ≡ Kept
           → filter (λ row. not (p row)) (values_of (if b then e ∷ remove_entry (is_at (nat_cmp k)) es else e ∷ es)) ≡ filter (λ row. not (p row)) (e.1 ∷ values_of es)) [
-        | true ↦ ap (λ (rows : List RowState). cond (not (p e.1)) (e.1 ∷ rows) rows)
-        | false ↦ (λ q. refl)
-      ] rest
+            | true ↦ ap (λ (rows : List RowState). cond (not (p e.1)) (e.1 ∷ rows) rows)
+            | false ↦ (λ q. refl)
+          ] rest
     ]
 
 -- the order of two that leave for one place does not matter
@@ -318,19 +317,19 @@ trim_first : (x : MessageId) (to : Place) (p : RowState → Bool) (k : ℕ) (es 
 trim_first x to p k [] row is place = absurd cc
 trim_first x to p k (e ∷ es) row is place =
     elim (is_at (nat_cmp k) e.0) as (λ at. taken p (cond at (Some e.1) (lookup (is_at (nat_cmp k)) es)) ≡ Some row
-        → fold (after_move x) place ((row.lineage, to) ∷ placed to (filter p (values_of (cond at es (e ∷ remove_entry (is_at (nat_cmp k)) es))))) ≡ fold (after_move x) place (placed to (filter p (e.1 ∷ values_of es)))) [
+    → fold (after_move x) place ((row.lineage, to) ∷ placed to (filter p (values_of (cond at es (e ∷ remove_entry (is_at (nat_cmp k)) es))))) ≡ fold (after_move x) place (placed to (filter p (e.1 ∷ values_of es)))) [
       | true ↦ elim (p e.1) as (λ b. (if b then Some e.1 else None) ≡ Some row
           → fold (after_move x) place ((row.lineage, to) ∷ placed to (filter p (values_of es))) ≡ fold (after_move x) place (placed to (cond b (e.1 ∷ filter p (values_of es)) (filter p (values_of es))))) [
-        | true ↦ (λ q. let same : row ≡ e.1 = cc in ap (λ (r : RowState). fold (after_move x) place ((r.lineage, to) ∷ placed to (filter p (values_of es)))) same)
-        | false ↦ (λ q. absurd cc)
-      ]
+            | true ↦ (λ q. let same : row ≡ e.1 = cc in ap (λ (r : RowState). fold (after_move x) place ((r.lineage, to) ∷ placed to (filter p (values_of es)))) same)
+            | false ↦ (λ q. absurd cc)
+          ]
       | false ↦ (λ q. elim (p e.1) as (λ b.
           fold (after_move x) place ((row.lineage, to) ∷ placed to (cond b (e.1 ∷ filter p (values_of (remove_entry (is_at (nat_cmp k)) es))) (filter p (values_of (remove_entry (is_at (nat_cmp k)) es)))))
           ≡ fold (after_move x) place (placed to (cond b (e.1 ∷ filter p (values_of es)) (filter p (values_of es))))) [
-        | true ↦ ap (λ (first : Option Place). fold (after_move x) first (placed to (filter p (values_of (remove_entry (is_at (nat_cmp k)) es))))) (swapped x row.lineage e.1.lineage to place)
-            ∙ trim_first x to p k es row q (after_move x place (e.1.lineage, to))
-        | false ↦ trim_first x to p k es row q place
-      ])
+            | true ↦ ap (λ (first : Option Place). fold (after_move x) first (placed to (filter p (values_of (remove_entry (is_at (nat_cmp k)) es))))) (swapped x row.lineage e.1.lineage to place)
+                ∙ trim_first x to p k es row q (after_move x place (e.1.lineage, to))
+            | false ↦ trim_first x to p k es row q place
+          ])
     ] is
 
 age_is : (a b : ℕ × ℕ) → is_at (age_cmp a) b ≡ true → (a.0 ≡ b.0) × (a.1 ≡ b.1)
@@ -392,7 +391,7 @@ none_due retention m ages (e ∷ es) all h =
     let rest = none_due retention m ages es all h.2 in
     let stays : is_past retention m e.1 ≡ false = not_due retention m (age_of e.1) ages all h.1 in
     subst (λ (b : Bool). (cond (not b) (e.1 ∷ filter (λ row. not (is_past retention m row)) (values_of es)) (filter (λ row. not (is_past retention m row)) (values_of es)) ≡ e.1 ∷ values_of es)
-        × (cond b (e.1 ∷ filter (is_past retention m) (values_of es)) (filter (is_past retention m) (values_of es)) ≡ [])) (sym stays)
+    × (cond b (e.1 ∷ filter (is_past retention m) (values_of es)) (filter (is_past retention m) (values_of es)) ≡ [])) (sym stays)
     (ap (λ (rows : List RowState). e.1 ∷ rows) rest.0, rest.1)
 
 -- at a turn of the trim, what is past is listed or still there
@@ -410,7 +409,7 @@ same_first : (retention m k : ℕ) (es : Rows) (ends now : List (MessageId × Pl
     → AreSameEnds (now ++ placed at.Expired (filter (is_past retention m) (values_of (left_of (is_past retention m) k es)))) (ends ++ placed at.Expired (filter (is_past retention m) (values_of es)))
 same_first retention m k es ends now =
     elim (taken (is_past retention m) (lookup (is_at (nat_cmp k)) es)) as (λ o. taken (is_past retention m) (lookup (is_at (nat_cmp k)) es) ≡ o → Reports ends now o
-        → AreSameEnds (now ++ placed at.Expired (filter (is_past retention m) (values_of (if is_some o then remove_entry (is_at (nat_cmp k)) es else es)))) (ends ++ placed at.Expired (filter (is_past retention m) (values_of es)))) [
+    → AreSameEnds (now ++ placed at.Expired (filter (is_past retention m) (values_of (if is_some o then remove_entry (is_at (nat_cmp k)) es else es)))) (ends ++ placed at.Expired (filter (is_past retention m) (values_of es)))) [
       | None ↦ (λ q t x place. ap (λ (es' : List (MessageId × Place)). fold (after_move x) place (es' ++ placed at.Expired (filter (is_past retention m) (values_of es)))) t)
       | Some row ↦ (λ q t x place.
           let rest : List (MessageId × Place) = placed at.Expired (filter (is_past retention m) (values_of (remove_entry (is_at (nat_cmp k)) es))) in

@@ -92,11 +92,7 @@ impl HomeRows {
     }
 
     /// All rows leave for a place, and are put last.
-    pub fn clear(
-        &mut self,
-        place: Place,
-        ends: &mut Vec<(MessageId, Place)>,
-    ) -> Result<(), Refusal>
+    pub fn clear(&mut self, place: Place, ends: &mut Vec<(MessageId, Place)>) -> Result<(), Refusal>
         ensures rows { OnOk result (self.new ≡ []) }
         ensures ends { OnOk result (ends.new.items ≡ ends.old.items ++ audits.placed place self.old) }
         ensures err { IfErr result (λ e. e ≡ Refusal.NoMemory) }
@@ -162,11 +158,7 @@ fn passes(who: &Leaving, row: &RowState) -> bool
 }
 
 // Takes out the row of a serial, where it leaves.
-fn take(
-    rows: &mut BTreeMap<Serial, RowState>,
-    serial: Serial,
-    who: &Leaving,
-) -> Option<RowState>
+fn take(rows: &mut BTreeMap<Serial, RowState>, serial: Serial, who: &Leaving) -> Option<RowState>
     ensures taken { result ≡ audits.taken (audits.passes who.now) (get nat_cmp rows.old serial) }
     ensures rows { rows.new.entries ≡ (if is_some result then remove_entry (is_at (nat_cmp serial)) rows.old.entries else rows.old.entries) }
     ensures ordered { IsOrdered nat_cmp rows.old → IsOrdered nat_cmp rows.new }

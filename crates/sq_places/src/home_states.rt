@@ -145,12 +145,7 @@ fn delete(
     Ok(())
 }
 
-fn enter(
-    rows: &mut HomeRows,
-    moment: u64,
-    item: &Item,
-    reply: &HomeReply,
-) -> Result<(), Refusal>
+fn enter(rows: &mut HomeRows, moment: u64, item: &Item, reply: &HomeReply) -> Result<(), Refusal>
     ensures rows { OnOk result (rows.new ≡ audits.rows_after moment (entered_by moment item.now reply.now) rows.old) }
     ensures err { IfErr result (λ e. e ≡ Refusal.NoMemory) }
 {

@@ -1,4 +1,3 @@
-use Rattle.std.proofs.Common.{rules}
 use Rattle.sq_places.specs.RowStates.{is_named}
 use Rattle.sq_places.proofs.IndexLaws.{take_law, left_ages, only_named}
 use Rattle.sq_places.proofs.home_rows.HomeRows.take_named.Goals as goal

@@ -1,5 +1,4 @@
-use Rattle.std.proofs.Common.{◌∙◌, sym, subst, refl, List, ◌∷◌, ℕ}
-use Rattle.sq_places.specs.RowStates.{is_past}
+use Rattle.std.proofs.Common.{sym, subst, refl, List, ℕ}
 use Rattle.sq_places.specs.RowIndexes.{HaveAges}
 use Rattle.sq_places.proofs.IndexLaws.{Reports, Trims, popped, trim_more, trim_ends}
 use Rattle.sq_places.proofs.home_rows.HomeRows.trim.Goals as goal
