@@ -218,25 +218,15 @@ set_ages k row ages (e ∷ es) is h =
 
 -- ---- the look
 
--- a look receives the row of each serial that is there
-looked_is : (picked : List Row) (row : RowState) → looked picked row ≡ (if has_serial row.serial picked then received row else row)
-looked_is picked row =
-    elim (has_serial row.serial picked) as (λ b. (if nat_lt row.receives 4294967295 && b then record row { receives = row.receives + 1 } else row) ≡ (if b then received row else row)) [
-      | true ↦ elim (nat_lt row.receives 4294967295) as (λ c. (if c && true then record row { receives = row.receives + 1 } else row) ≡ (if c then record row { receives = row.receives + 1 } else row)) [ true ↦ refl | false ↦ refl ]
-      | false ↦ elim (nat_lt row.receives 4294967295) as (λ c. (if c && false then record row { receives = row.receives + 1 } else row) ≡ row) [ true ↦ refl | false ↦ refl ]
-    ]
-
 pub looked_none : (rows : List RowState) → map (looked []) rows ≡ rows
 looked_none [] = refl
-looked_none (row ∷ rows) = ap (λ (r : RowState). r ∷ map (looked []) rows) (looked_is [] row) ∙ ap (λ (rs : List RowState). row ∷ rs) (looked_none rows)
+looked_none (row ∷ rows) = ap (λ (rs : List RowState). row ∷ rs) (looked_none rows)
 
 looked_serial : (picked : List Row) (row : RowState) → (looked picked row).serial ≡ row.serial
-looked_serial picked row =
-    ap (λ (r : RowState). r.serial) (looked_is picked row)
-    ∙ elim (has_serial row.serial picked) as (λ b. (if b then received row else row).serial ≡ row.serial) [ true ↦ ap (λ (a : ℕ × ℕ). a.1) (received_age row) | false ↦ refl ]
+looked_serial picked row = elim (has_serial row.serial picked) as (λ b. (if b then received row else row).serial ≡ row.serial) [ true ↦ ap (λ (a : ℕ × ℕ). a.1) (received_age row) | false ↦ refl ]
 
 looked_same : (few more : List Row) (row : RowState) → has_serial row.serial more ≡ has_serial row.serial few → looked few row ≡ looked more row
-looked_same few more row e = looked_is few row ∙ ap (λ (b : Bool). if b then received row else row) (sym e) ∙ sym (looked_is more row)
+looked_same few more row e = ap (λ (b : Bool). if b then received row else row) (sym e)
 
 has_more : (serial : ℕ) (picked : List Row) (i : ℕ) (d : Row) → i < length picked → d ≡ get_or picked i d → has_serial serial (take (i + 1) picked) ≡ (has_serial serial (take i picked) || (d.serial == serial))
 has_more serial picked i d lt is = list_any_more (λ (row : Row). row.serial == serial) picked i d lt ∙ ap (λ (row : Row). has_serial serial (take i picked) || (row.serial == serial)) (sym is)
@@ -258,8 +248,8 @@ raised_more picked i d lt given none row =
       | inl same ↦ (
           let out : has_serial row.serial (take i picked) ≡ false = subst (λ (n : ℕ). has_serial n (take i picked) ≡ false) same.1 none in
           let now : has_serial row.serial (take (i + 1) picked) ≡ true = more ∙ ap (λ (b : Bool). has_serial row.serial (take i picked) || b) same.0 ∙ or_true _ in
-          ap (raised s) (looked_is (take i picked) row ∙ ap (λ (b : Bool). if b then received row else row) out) ∙ raised_this s row same.1
-          ∙ sym (looked_is (take (i + 1) picked) row ∙ ap (λ (b : Bool). if b then received row else row) now))
+          ap (λ (b : Bool). raised s (if b then received row else row)) out ∙ raised_this s row same.1
+          ∙ sym (ap (λ (b : Bool). if b then received row else row) now))
       | inr other ↦ raised_other s (looked (take i picked) row) (λ q. other.1 (q ∙ looked_serial (take i picked) row))
           ∙ looked_same (take i picked) (take (i + 1) picked) row (more ∙ ap (λ (b : Bool). has_serial row.serial (take i picked) || b) other.0 ∙ or_false _)
     ]

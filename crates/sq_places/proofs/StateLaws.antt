@@ -100,7 +100,7 @@ last_both true b c h = elim b as (λ v. (v && c) ≡ true → c ≡ true) [ true
 last_both false b c h = absurd cc
 
 look_case : (live has few : Bool) (m until : ℕ) (row : Row) → (has ≡ true → live ≡ true) → (live ≡ true → few ≡ true)
-    → state_of (if live && has then received m until row else row) ≡ (if few && has then record (state_of row) { receives = row.receives + 1 } else state_of row)
+    → state_of (if live && has then received m until row else row) ≡ (if has then if few then record (state_of row) { receives = row.receives + 1 } else state_of row else state_of row)
 look_case true true true m until row h k = refl
 look_case true true false m until row h k = let e : false ≡ true = k refl in absurd cc
 look_case false true few m until row h k = let e : false ≡ true = h refl in absurd cc

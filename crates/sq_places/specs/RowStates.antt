@@ -67,7 +67,7 @@ raised serial row = if row.serial == serial then received row else row
 
 -- after a receive that gave these rows
 abbrev pub looked : List Row → RowState → RowState
-looked picked row = if nat_lt row.receives 4294967295 && has_serial row.serial picked then record row { receives = row.receives + 1 } else row
+looked picked row = if has_serial row.serial picked then received row else row
 
 abbrev pub is_newer : Option Policy → ℕ → Bool
 is_newer None version = true
