@@ -1,12 +1,11 @@
 //! The rows of a home, found by serial and by age.
-ghost use Rattle.std.specs.Prelude.{◌≡◌, ◌++◌, [], ◌∷◌, not, map, filter, true, false, OnOk, IfOk, IfErr, IfSome, IfNone, is_some, if◌then◌else◌, option_to_list};
+ghost use Rattle.std.specs.Prelude.{◌≡◌, ◌++◌, [], ◌∷◌, not, map, filter, true, false, OnOk, IfErr, IfSome, IfNone, is_some, if◌then◌else◌, option_to_list};
 ghost use Rattle.std.specs.List.{All};
 ghost use Rattle.std.specs.Map.{remove_entry};
 ghost use Rattle.std.specs.Ordering.{nat_cmp};
 ghost use Rattle.std.specs.BTreeMap.{get, is_at, IsOrdered};
 ghost use Rattle.sq_places.specs.RowStates.{is_due, is_named, is_of, is_past, looked, raised};
 ghost use Rattle.sq_model.specs.declared.place.Place.TheVariants as at;
-ghost use Rattle.sq_places.specs.RowIndexes.{AreIndexed};
 ghost use Rattle.sq_places.specs.Audits as audits;
 
 use crate::state::{RowState, has_serial, is_due, is_named, is_past, received};

@@ -1,5 +1,5 @@
 //! What decides how the rows of a home leave it, for all rows of the home.
-ghost use Rattle.std.specs.Prelude.{◌≡◌, ◌+◌, ◌∷◌, [], ◌++◌, ℕ, not, map, filter, OnOk, IfErr};
+ghost use Rattle.std.specs.Prelude.{◌≡◌, ◌∷◌, [], ◌++◌, ℕ, not, filter, OnOk, IfErr};
 ghost use Rattle.sq_places.specs.RowStates.{kept_states, past_states, effect_of, sent_by, looked_by, left_by, entered_by, returned_by, is_named};
 ghost use Rattle.sq_model.specs.declared.place.Place.TheVariants as at;
 ghost use Rattle.sq_places.specs.Audits as audits;
