@@ -11,6 +11,7 @@ use sq_base::message_id::MessageId;
 use sq_base::ranges::{MaxMessages, MaxReceives, Retention, Timeout};
 use sq_base::refusal::Refusal;
 use sq_base::row::Row;
+use sq_base::stamp::Stamp;
 use sq_calls::turns::{Turn, Turned};
 use sq_merge::options::Options;
 use sq_merge::world::World;
@@ -23,6 +24,7 @@ use sq_model::replies::HomeReply;
 use sq_places::places::places_of;
 use sq_steps::act::{Act, HomeAct, Move, NextItem, Outcome, Step};
 use std::alloc::Global;
+use std::mem::swap;
 use std::process::Abort;
 
 // Two chains of four queues each. The dead letters of a queue go to the one before it in its chain.
@@ -615,52 +617,60 @@ fn parts_of(rt: &impl Abort, alloc: Global, steps: u64) -> Parts {
     world.parts()
 }
 
+// Which parts are those after a step, in place of those before it. The list of queues is the same.
+#[derive(Clone, Copy, PartialEq, Eq, Debug)]
+struct Mix {
+    homes: bool,
+    ledger: bool,
+    records: bool,
+}
+
+// One of the eight.
+fn mix_of(number: u32) -> Mix {
+    Mix {
+        homes: number % 2 == 1,
+        ledger: number / 2 % 2 == 1,
+        records: number / 4 % 2 == 1,
+    }
+}
+
 // The parts before a step, some of them in place of which are those after it: what the audit says.
 fn mixed(rt: &impl Abort, alloc: Global, number: u64, mix: Mix) -> Option<AuditFault> {
     let mut parts = parts_of(rt, alloc, number);
-    let later = parts_of(rt, alloc, number.saturating_add(1));
-    match mix {
-        Mix::Nothing => {}
-        Mix::Ledger => parts.ledger = later.ledger,
-        Mix::Homes => parts.homes = later.homes,
-        Mix::Records => parts.records = later.records,
-        Mix::LedgerAndRecords => {
-            parts.ledger = later.ledger;
-            parts.records = later.records;
-        }
-        Mix::HomesAndLedger => {
-            parts.homes = later.homes;
-            parts.ledger = later.ledger;
-        }
-        Mix::HomesAndRecords => {
-            parts.homes = later.homes;
-            parts.records = later.records;
-        }
-        Mix::All => parts = later,
+    let mut later = parts_of(rt, alloc, number.saturating_add(1));
+    if mix.homes {
+        swap(&mut parts.homes, &mut later.homes);
+    }
+    if mix.ledger {
+        swap(&mut parts.ledger, &mut later.ledger);
+    }
+    if mix.records {
+        swap(&mut parts.records, &mut later.records);
     }
     fault(alloc, &parts)
 }
 
-// Which parts are those after the step. The list of queues is the same.
-#[derive(Clone, Copy, PartialEq, Eq, Debug)]
-enum Mix {
-    Nothing,
-    Ledger,
-    Homes,
-    Records,
-    LedgerAndRecords,
-    HomesAndLedger,
-    HomesAndRecords,
-    All,
+// The stamp of the last step, where it moved a message.
+fn last_of(rt: &impl Abort, alloc: Global, steps: u64) -> Stamp {
+    parts_of(rt, alloc, steps).ledger.last()
 }
 
-// What is wrong where the step stands in one history of two, and its record agrees with the homes.
-fn unmatched(rt: &impl Abort, alloc: Global, seen: MoveSeen) -> AuditFault {
-    let parts = parts_of(rt, alloc, seen.number.saturating_add(1));
-    let stamp = parts.ledger.last();
-    match seen.word {
-        Turned::Left => AuditFault::LeaveUnmatched(stamp),
-        _ => AuditFault::EnterUnmatched(stamp),
+// What is wrong where a step stands in one history of two, and its record agrees with the homes.
+fn unmatched(word: Turned, stamp: &Stamp) -> AuditFault {
+    match word {
+        Turned::Left => AuditFault::LeaveUnmatched(*stamp),
+        _ => AuditFault::EnterUnmatched(*stamp),
+    }
+}
+
+// What the audit is to say of a step at this stamp that some parts have.
+fn wrong(seen: MoveSeen, stamp: &Stamp, mix: Mix) -> Option<AuditFault> {
+    if mix.homes == mix.ledger && mix.homes == mix.records {
+        None
+    } else if mix.homes == mix.records {
+        Some(unmatched(seen.word, stamp))
+    } else {
+        Some(AuditFault::RecordMissing(seen.actor, seen.place))
     }
 }
 
@@ -669,20 +679,16 @@ fn unmatched(rt: &impl Abort, alloc: Global, seen: MoveSeen) -> AuditFault {
 fn a_move_that_is_not_everywhere_is_reported(rt: HostRuntime) {
     for found in first_moves(&rt, rt.alloc(), 10_000) {
         let seen = found.expect(&rt, "a move");
-        let unmatched = Some(unmatched(&rt, rt.alloc(), seen));
-        let missing = Some(AuditFault::RecordMissing(seen.actor, seen.place));
-        for (mix, want) in [
-            (Mix::Nothing, None),
-            (Mix::Ledger, unmatched),
-            (Mix::Homes, missing),
-            (Mix::Records, missing),
-            (Mix::LedgerAndRecords, missing),
-            (Mix::HomesAndLedger, missing),
-            (Mix::HomesAndRecords, unmatched),
-            (Mix::All, None),
-        ] {
+        let stamp = last_of(&rt, rt.alloc(), seen.number.saturating_add(1));
+        for number in 0..8u32 {
+            let mix = mix_of(number);
             let fault = mixed(&rt, rt.alloc(), seen.number, mix);
-            assert_eq!(rt; fault, want, "{mix:?} at {}", seen.number);
+            assert_eq!(rt;
+                fault,
+                wrong(seen, &stamp, mix),
+                "{mix:?} at {}",
+                seen.number
+            );
         }
     }
 }
