@@ -12,7 +12,7 @@ use Rattle.std.proofs.lemmas.Map.Lookups.{CmpEqualImpliesEq}
 use Rattle.sq_base.specs.declared.message_id.MessageId.{MessageId}
 use Rattle.sq_model.specs.declared.place.Place.{Place}
 use Rattle.sq_model.specs.Lineages.{same_id}
-use Rattle.sq_audit.specs.AllPlaces.{id_cmp}
+use Rattle.sq_audit.specs.RunLineages.{id_cmp}
 
 other_eq : (a b : ℕ) → is_eq (nat_cmp a b) ≡ nat_eq b a
 other_eq a b = grind (arith, common_steps)

@@ -1,15 +1,12 @@
 pub mod OrderLaws
 pub mod PartLaws
-pub mod StillLaws
+pub mod RisingLaws
+pub mod SharedLaws
 pub mod MergeLaws
 pub mod ActorLaws
-pub mod StateLaws
-pub mod MessageStateLaws
-pub mod FollowLaws
 pub mod ListLaws
 pub mod IdOrder
 pub mod RunLaws
-pub mod AuditLaws
 pub mod CheckLaws
 pub mod OnePlaceLaws
 pub mod RecordOrderLaws

@@ -7,15 +7,28 @@ use Rattle.std.proofs.lemmas.Grind.{common_steps}
 use Rattle.std.proofs.lemmas.Bool.Decides.{eqb_tells}
 use Rattle.std.proofs.lemmas.List.{append-nil, take_more, length-take-le, length-map, map-append}
 use Rattle.sq_model.specs.Replays.{HomeEvent}
+use Rattle.sq_model.specs.Ledgers.{LedgerEvent}
 use Rattle.sq_model.specs.Systems.{DirectoryEvent, Tag, OfDirectory, OfLedger, OfHome}
 use Rattle.sq_model.specs.Merges.{of_directory, of_home, history_at, rank_of, InOrder}
 use Rattle.sq_history.specs.HistoryValue.{HistoryValue}
-use Rattle.sq_audit.specs.SystemNow.{home_tags, by_part, events_of}
+use Rattle.sq_audit.specs.SystemNow.{home_tags, by_part, events_of, own_events}
 
 abbrev pub is_directory : Tag → Bool
 is_directory (OfDirectory e) = true
 is_directory (OfLedger e) = false
 is_directory (OfHome i e) = false
+
+abbrev pub is_ledger : Tag → Bool
+is_ledger (OfDirectory e) = false
+is_ledger (OfLedger e) = true
+is_ledger (OfHome i e) = false
+
+-- the events of the ledger alone
+abbrev pub of_own : List Tag → List LedgerEvent
+of_own [] = []
+of_own (OfDirectory e ∷ ts) = of_own ts
+of_own (OfLedger e ∷ ts) = e ∷ of_own ts
+of_own (OfHome i e ∷ ts) = of_own ts
 
 abbrev pub is_home : ℕ → Tag → Bool
 is_home j (OfDirectory e) = false
@@ -27,6 +40,12 @@ directory_part [] = refl
 directory_part (OfDirectory e ∷ ts) = ap (λ us. OfDirectory e ∷ us) (directory_part ts)
 directory_part (OfLedger e ∷ ts) = directory_part ts
 directory_part (OfHome i e ∷ ts) = directory_part ts
+
+pub own_part : (ts : List Tag) → filter is_ledger ts ≡ map OfLedger (of_own ts)
+own_part [] = refl
+own_part (OfDirectory e ∷ ts) = own_part ts
+own_part (OfLedger e ∷ ts) = ap (λ us. OfLedger e ∷ us) (own_part ts)
+own_part (OfHome i e ∷ ts) = own_part ts
 
 pub home_part : (j : ℕ) (ts : List Tag) → filter (is_home j) ts ≡ map (λ e. OfHome j e) (of_home j ts)
 home_part j [] = refl
@@ -45,6 +64,12 @@ directory_alone [] = refl
 directory_alone (OfDirectory e ∷ ts) = ap (λ es. e ∷ es) (directory_alone ts)
 directory_alone (OfLedger e ∷ ts) = directory_alone ts
 directory_alone (OfHome i e ∷ ts) = directory_alone ts
+
+pub own_alone : (ts : List Tag) → of_own (filter is_ledger ts) ≡ of_own ts
+own_alone [] = refl
+own_alone (OfDirectory e ∷ ts) = own_alone ts
+own_alone (OfLedger e ∷ ts) = ap (λ es. e ∷ es) (own_alone ts)
+own_alone (OfHome i e ∷ ts) = own_alone ts
 
 pub home_alone : (j : ℕ) (ts : List Tag) → of_home j (filter (is_home j) ts) ≡ of_home j ts
 home_alone j [] = refl
@@ -72,6 +97,12 @@ directory_append (OfDirectory e ∷ xs) ys = ap (λ es. e ∷ es) (directory_app
 directory_append (OfLedger e ∷ xs) ys = directory_append xs ys
 directory_append (OfHome i e ∷ xs) ys = directory_append xs ys
 
+own_append : (xs ys : List Tag) → of_own (xs ++ ys) ≡ of_own xs ++ of_own ys
+own_append [] ys = refl
+own_append (OfDirectory e ∷ xs) ys = own_append xs ys
+own_append (OfLedger e ∷ xs) ys = ap (λ es. e ∷ es) (own_append xs ys)
+own_append (OfHome i e ∷ xs) ys = own_append xs ys
+
 home_append : (j : ℕ) (xs ys : List Tag) → of_home j (xs ++ ys) ≡ of_home j xs ++ of_home j ys
 home_append j [] ys = refl
 home_append j (OfDirectory e ∷ xs) ys = home_append j xs ys
@@ -90,12 +121,43 @@ directory_of_homes : (c : ℕ) (homes : List (List HomeEvent)) → of_directory 
 directory_of_homes c [] = refl
 directory_of_homes c (es ∷ rest) = rw (directory_append (map (λ e. OfHome c e) es) (home_tags (c + 1) rest), directory_none c es) (directory_of_homes (c + 1) rest)
 
-pub directory_of_all : (directory : List DirectoryEvent) (homes : List (List HomeEvent)) → of_directory (by_part directory homes) ≡ directory
-directory_of_all directory homes = rw (directory_append (map OfDirectory directory) (home_tags 0 homes), directory_mine directory, directory_of_homes 0 homes) (append-nil directory)
+directory_of_ledger : (es : List LedgerEvent) → of_directory (map OfLedger es) ≡ []
+directory_of_ledger [] = refl
+directory_of_ledger (e ∷ es) = directory_of_ledger es
+
+pub directory_of_all : (directory : List DirectoryEvent) (ledger : List LedgerEvent) (homes : List (List HomeEvent)) → of_directory (by_part directory ledger homes) ≡ directory
+directory_of_all directory ledger homes =
+    let own = own_events ledger in
+    rw (directory_append (map OfDirectory directory ++ map OfLedger own) (home_tags 0 homes), directory_append (map OfDirectory directory) (map OfLedger own), directory_mine directory, directory_of_ledger own, directory_of_homes 0 homes) (append-nil (directory ++ []) ∙ append-nil directory)
+
+own_of_directory : (es : List DirectoryEvent) → of_own (map OfDirectory es) ≡ []
+own_of_directory [] = refl
+own_of_directory (e ∷ es) = own_of_directory es
+
+own_mine : (es : List LedgerEvent) → of_own (map OfLedger es) ≡ es
+own_mine [] = refl
+own_mine (e ∷ es) = ap (λ rest. e ∷ rest) (own_mine es)
+
+own_of_home : (i : ℕ) (es : List HomeEvent) → of_own (map (λ e. OfHome i e) es) ≡ []
+own_of_home i [] = refl
+own_of_home i (e ∷ es) = own_of_home i es
+
+own_of_homes : (c : ℕ) (homes : List (List HomeEvent)) → of_own (home_tags c homes) ≡ []
+own_of_homes c [] = refl
+own_of_homes c (es ∷ rest) = rw (own_append (map (λ e. OfHome c e) es) (home_tags (c + 1) rest), own_of_home c es) (own_of_homes (c + 1) rest)
+
+pub own_of_all : (directory : List DirectoryEvent) (ledger : List LedgerEvent) (homes : List (List HomeEvent)) → of_own (by_part directory ledger homes) ≡ own_events ledger
+own_of_all directory ledger homes =
+    let own = own_events ledger in
+    rw (own_append (map OfDirectory directory ++ map OfLedger own) (home_tags 0 homes), own_append (map OfDirectory directory) (map OfLedger own), own_of_directory directory, own_mine own, own_of_homes 0 homes) (append-nil own)
 
 home_none : (j : ℕ) (es : List DirectoryEvent) → of_home j (map OfDirectory es) ≡ []
 home_none j [] = refl
 home_none j (e ∷ es) = home_none j es
+
+home_of_ledger : (j : ℕ) (es : List LedgerEvent) → of_home j (map OfLedger es) ≡ []
+home_of_ledger j [] = refl
+home_of_ledger j (e ∷ es) = home_of_ledger j es
 
 home_mine : (i : ℕ) (es : List HomeEvent) → of_home i (map (λ e. OfHome i e) es) ≡ es
 home_mine i [] = refl
@@ -119,10 +181,11 @@ home_of_homes (suc i) c (es ∷ rest) =
     rw (home_append (c + suc i) (map (λ e. OfHome c e) es) (home_tags (c + 1) rest), home_other (c + suc i) c es (below c (c + suc i) (omega arith)))
     (subst (λ (k : ℕ). of_home k (home_tags (c + 1) rest) ≡ history_at rest i) e (home_of_homes i (c + 1) rest))
 
-pub home_of_all : (directory : List DirectoryEvent) (homes : List (List HomeEvent)) (i : ℕ) → of_home i (by_part directory homes) ≡ history_at homes i
-home_of_all directory homes i =
+pub home_of_all : (directory : List DirectoryEvent) (ledger : List LedgerEvent) (homes : List (List HomeEvent)) (i : ℕ) → of_home i (by_part directory ledger homes) ≡ history_at homes i
+home_of_all directory ledger homes i =
+    let own = own_events ledger in
     let e : 0 + i ≡ i = omega arith in
-    rw (home_append i (map OfDirectory directory) (home_tags 0 homes), home_none i directory) (subst (λ (k : ℕ). of_home k (home_tags 0 homes) ≡ history_at homes i) e (home_of_homes i 0 homes))
+    rw (home_append i (map OfDirectory directory ++ map OfLedger own) (home_tags 0 homes), home_append i (map OfDirectory directory) (map OfLedger own), home_none i directory, home_of_ledger i own) (subst (λ (k : ℕ). of_home k (home_tags 0 homes) ≡ history_at homes i) e (home_of_homes i 0 homes))
 
 -- the events of one more home
 pub home_tags_append : (c : ℕ) (xs ys : List (List HomeEvent)) → home_tags c (xs ++ ys) ≡ home_tags c xs ++ home_tags (c + length xs) ys
@@ -132,29 +195,33 @@ home_tags_append c (x ∷ xs) ys =
     let first = map (λ e. OfHome c e) x in
     ap (λ ts. first ++ ts) (home_tags_append (c + 1) xs ys ∙ ap (λ k. home_tags (c + 1) xs ++ home_tags k ys) e) ∙ sym (append_assoc first (home_tags (c + 1) xs) (home_tags (c + length (x ∷ xs)) ys))
 
-pub by_part_more : (directory : List DirectoryEvent) (hs : List HistoryValue) (i : ℕ) (h : HistoryValue) → i < length hs → h ≡ get_or hs i h
-    → by_part directory (events_of (take (i + 1) hs)) ≡ by_part directory (events_of (take i hs)) ++ map (λ e. OfHome i e) h.events
-by_part_more directory hs i h lt is =
+pub by_part_more : (directory : List DirectoryEvent) (ledger : List LedgerEvent) (hs : List HistoryValue) (i : ℕ) (h : HistoryValue) → i < length hs → h ≡ get_or hs i h
+    → by_part directory ledger (events_of (take (i + 1) hs)) ≡ by_part directory ledger (events_of (take i hs)) ++ map (λ e. OfHome i e) h.events
+by_part_more directory ledger hs i h lt is =
     let n : 0 + length (events_of (take i hs)) ≡ i = rw (length-map (take i hs) (λ (h : HistoryValue). h.events), length-take-le i hs (omega arith)) (omega arith) in
     let more : events_of (take (i + 1) hs) ≡ events_of (take i hs) ++ h.events ∷ [] = rw (take_more hs i h lt, ← is) (map-append (λ (h : HistoryValue). h.events) (take i hs) (h ∷ [])) in
     let tags : home_tags 0 (events_of (take (i + 1) hs)) ≡ home_tags 0 (events_of (take i hs)) ++ map (λ e. OfHome i e) h.events =
     rw (more, home_tags_append 0 (events_of (take i hs)) (h.events ∷ []), n) (ap (λ ts. home_tags 0 (events_of (take i hs)) ++ ts) (append-nil (map (λ e. OfHome i e) h.events))) in
-    rw tags (sym (append_assoc (map OfDirectory directory) (home_tags 0 (events_of (take i hs))) (map (λ e. OfHome i e) h.events)))
+    rw tags (sym (append_assoc (map OfDirectory directory ++ map OfLedger (own_events ledger)) (home_tags 0 (events_of (take i hs))) (map (λ e. OfHome i e) h.events)))
 
--- the directory before the homes, and these in their order
+-- the directory first, the ledger second, and then the homes in their order
 abbrev pub rank_less : Tag → Tag → Bool
 rank_less t u = is_lt (nat_cmp (rank_of t) (rank_of u))
 
 not_less : (a b : ℕ) → b ≤ a → is_lt (nat_cmp a b) ≡ false
 not_less a b h = grind (arith, common_steps)
 
-all_append : (P : Tag → Type 0) (xs ys : List Tag) → AllByRecursion P xs → AllByRecursion P ys → AllByRecursion P (xs ++ ys)
+pub all_append : {X : Type 0} (P : X → Type 0) (xs ys : List X) → AllByRecursion P xs → AllByRecursion P ys → AllByRecursion P (xs ++ ys)
 all_append P [] ys h g = g
 all_append P (x ∷ xs) ys h g = (h.0, all_append P xs ys h.1 g)
 
 all_of_home : (low i : ℕ) (es : List HomeEvent) → low ≤ suc (suc i) → AllByRecursion (λ u. low ≤ rank_of u) (map (λ e. OfHome i e) es)
 all_of_home low i [] h = tt
 all_of_home low i (e ∷ es) h = (h, all_of_home low i es h)
+
+all_of_ledger : (es : List LedgerEvent) → AllByRecursion (λ u. 1 ≤ rank_of u) (map OfLedger es)
+all_of_ledger [] = tt
+all_of_ledger (e ∷ es) = (omega arith, all_of_ledger es)
 
 all_above : (low c : ℕ) (homes : List (List HomeEvent)) → low ≤ suc (suc c) → AllByRecursion (λ u. low ≤ rank_of u) (home_tags c homes)
 all_above low c [] h = tt
@@ -181,5 +248,11 @@ directory_first : (es : List DirectoryEvent) (ts : List Tag) → InOrder rank_le
 directory_first [] ts order = order
 directory_first (e ∷ es) ts order = (none_less (OfDirectory e) (map OfDirectory es ++ ts) (all_from_zero (map OfDirectory es ++ ts)), directory_first es ts order)
 
-pub all_ranked : (directory : List DirectoryEvent) (homes : List (List HomeEvent)) → InOrder rank_less (by_part directory homes)
-all_ranked directory homes = directory_first directory (home_tags 0 homes) (homes_ranked 0 homes)
+ledger_next : (es : List LedgerEvent) (ts : List Tag) → AllByRecursion (λ u. 1 ≤ rank_of u) ts → InOrder rank_less ts → InOrder rank_less (map OfLedger es ++ ts)
+ledger_next [] ts all order = order
+ledger_next (e ∷ es) ts all order = (none_less (OfLedger e) (map OfLedger es ++ ts) (all_append (λ u. 1 ≤ rank_of u) (map OfLedger es) ts (all_of_ledger es) all), ledger_next es ts all order)
+
+pub all_ranked : (directory : List DirectoryEvent) (ledger : List LedgerEvent) (homes : List (List HomeEvent)) → InOrder rank_less (by_part directory ledger homes)
+all_ranked directory ledger homes =
+    subst (InOrder rank_less) (sym (append_assoc (map OfDirectory directory) (map OfLedger (own_events ledger)) (home_tags 0 homes)))
+    (directory_first directory (map OfLedger (own_events ledger) ++ home_tags 0 homes) (ledger_next (own_events ledger) (home_tags 0 homes) (all_above 1 0 homes (omega arith)) (homes_ranked 0 homes)))

@@ -1,35 +1,32 @@
 -- The records of the actors order their events in a run.
-use Rattle.std.proofs.Common.{false, ◌≡◌, ℕ, zero, suc, ◌<◌, List, [], ◌∷◌, refl, ap, sym, ◌∙◌, subst, inl, inr, arith, Some, slice_get}
-use Rattle.std.specs.Prelude.{All}
-use Rattle.sq_base.specs.Stamps.{start, Below}
-use Rattle.sq_model.specs.Replays.{HomeEvent}
+use Rattle.std.proofs.Common.{true, ◌≡◌, ℕ, zero, suc, ◌<◌, List, [], ◌∷◌, refl, ap, sym, ◌∙◌, subst, inl, inr, arith, Some, slice_get}
+use Rattle.sq_base.specs.Stamps.{Below}
 use Rattle.sq_model.specs.Systems.{DirectoryEvent, Tag, OfDirectory, OfLedger, OfHome, stamp_of}
-use Rattle.sq_model.specs.Merges.{history_at, rank_of, IsMerged}
+use Rattle.sq_model.specs.Merges.{LedgerIsAlone, IsMerged, rank_of}
 use Rattle.sq_model.specs.RecordValues as kept
 use Rattle.sq_model.specs.RecordValues.{RecordValue, Journal, RecordsRise}
-use Rattle.sq_model.specs.Matches.{HomeHistory, IsRecorded, IsOfDirectory, IsOfHome, IsMatched}
+use Rattle.sq_model.specs.Matches.{HomeHistory, IsRecorded, IsOfDirectory, IsOfLedger, IsOfHome, IsMatched}
 use Rattle.sq_history.specs.HistoryValue.{HistoryValue}
-use Rattle.sq_history.specs.Histories.{IsKept}
-use Rattle.sq_model.specs.Ledgers.{LedgerEvent}
-use Rattle.sq_model.specs.Merges.{NothingMoves, is_move}
-use Rattle.sq_audit.specs.SystemNow.{nothing_moved}
-use Rattle.sq_audit.proofs.StillLaws.{still_at}
+use Rattle.sq_model.specs.Ledgers.{LedgerEvent, is_own}
 use Rattle.sq_audit.specs.Actors.{event_actor, event_place, ActorsRise, PartsRise, PlacesAgree, PlacesApart}
 use Rattle.sq_steps.specs.Journals.{RecordsRiseAt, AreDistinct}
-use Rattle.sq_directory.specs.DirectoryHistory.{DirectoryHistory}
-use Rattle.sq_directory.specs.DirectoryHistories.{IsDirectoryKept}
 use Rattle.sq_audit.specs.SystemNow.{events_of}
 use Rattle.sq_audit.specs.HomeIds.{history_of, histories_of, IsNumbered}
-use Rattle.sq_audit.proofs.ActorLaws.{actors_rise, homes_rise, in_directory, in_home, merged_parts_rise}
+use Rattle.sq_audit.proofs.ActorLaws.{all_rise, in_directory, in_home}
 use Rattle.sq_audit.proofs.CheckLaws.{nat_compare, records_rise, home_once, recorded_as}
+use Rattle.sq_audit.proofs.SharedLaws.{event_home, in_ledger}
 use Rattle.sq_steps.proofs.JournalListLaws.{journal_once}
 use Rattle.sq_directory.proofs.ElementLaws.{some_same, get_map}
 
--- an event of a home's history is that of a home that is there
-event_home : (homes : List HistoryValue) (j k : ℕ) (e : HomeEvent) → slice_get (history_at (events_of homes) j) k ≡ Some e → (h : HistoryValue) × (slice_get homes j ≡ Some h) × (slice_get h.events k ≡ Some e)
-event_home [] j k e is = absurd cc
-event_home (h ∷ hs) zero k e is = (h, refl, is)
-event_home (h ∷ hs) (suc j) k e is = event_home hs j k e is
+-- what stands as the ledger's is its own
+own_at : (ts : List Tag) → LedgerIsAlone ts → (i : ℕ) (e : LedgerEvent) → slice_get ts i ≡ Some (OfLedger e) → is_own e.call ≡ true
+own_at [] h i e is = absurd cc
+own_at (OfDirectory d ∷ ts) h zero e is = absurd cc
+own_at (OfLedger d ∷ ts) h zero e is = let same : d ≡ e = cc in subst (λ (x : LedgerEvent). is_own x.call ≡ true) same h.0
+own_at (OfHome j d ∷ ts) h zero e is = absurd cc
+own_at (OfDirectory d ∷ ts) h (suc i) e is = own_at ts h i e is
+own_at (OfLedger d ∷ ts) h (suc i) e is = own_at ts h.1 i e is
+own_at (OfHome j d ∷ ts) h (suc i) e is = own_at ts h i e is
 
 -- of two records of one actor, the one with the higher number has the higher stamp
 records_below : (ns : List RecordValue) → RecordsRise ns → (i j : ℕ) (n m : RecordValue) → slice_get ns i ≡ Some n → slice_get ns j ≡ Some m → kept.place_of_record n < kept.place_of_record m → Below (kept.stamp_of n) (kept.stamp_of m)
@@ -53,14 +50,11 @@ record IsLike (homes : List HomeHistory) (t : Tag) (its_record : RecordValue) : 
   of_stamp : kept.stamp_of its_record ≡ stamp_of t
   of_part : IsOfPart homes its_record t
 
-module _ (per_queue : ℕ) (d : List DirectoryEvent) (homes : List HistoryValue) (journals : List Journal) (run : List Tag)
+module _ (per_queue : ℕ) (d : List DirectoryEvent) (l : List LedgerEvent) (homes : List HistoryValue) (journals : List Journal) (run : List Tag)
     (numbered : IsNumbered per_queue homes) (distinct : AreDistinct journals) (rise : (b : ℕ) → RecordsRiseAt journals b)
-    (matched : IsMatched d nothing_moved (histories_of homes) journals) (merged : IsMerged d nothing_moved (events_of homes) run) (still : NothingMoves run) where
+    (matched : IsMatched d l (histories_of homes) journals) (merged : IsMerged d l (events_of homes) run) where
   abbrev hs : List HomeHistory
   hs = histories_of homes
-
-  not_a_move : (i : ℕ) (e : LedgerEvent) → slice_get run i ≡ Some (OfLedger e) → ⊥
-  not_a_move i e is = let none : is_move (OfLedger e) ≡ false = still_at run i (OfLedger e) still is in absurd cc
 
   -- each event of the run has its record
   has_record : (i : ℕ) (t : Tag) → slice_get run i ≡ Some t → IsRecorded journals (event_actor t) (IsLike hs t)
@@ -69,7 +63,11 @@ module _ (per_queue : ℕ) (d : List DirectoryEvent) (homes : List HistoryValue)
       let x = matched.directory_recorded at.0 e (rw merged.of_the_directory at at.1) in
       recorded_as journals e.actor e.actor (IsOfDirectory at.0 e) (IsLike hs (OfDirectory e)) x refl
       (subst (IsLike hs (OfDirectory e)) (sym x.of_event) (record { of_place = refl; of_stamp = refl; of_part = refl }))
-  has_record i (OfLedger e) is = absurd (not_a_move i e is)
+  has_record i (OfLedger e) is =
+      let at = in_ledger run i (OfLedger e) e is (0, refl) in
+      let x = matched.ledger_recorded at.0 e (rw merged.of_the_ledger at at.1) (own_at run merged.ledger_is_alone i e is) in
+      recorded_as journals e.actor e.actor (IsOfLedger at.0 e) (IsLike hs (OfLedger e)) x refl
+      (subst (IsLike hs (OfLedger e)) (sym x.of_event) (record { of_place = refl; of_stamp = refl; of_part = refl }))
   has_record i (OfHome j e) is =
       let at = in_home run i j e is in
       let h = event_home homes j at.0 e (rw (merged.of_each_home j) at at.1) in
@@ -103,15 +101,10 @@ module _ (per_queue : ℕ) (d : List DirectoryEvent) (homes : List HistoryValue)
       let one : x.its_record ≡ y.its_record = some_same (sym x.in_list.in_records ∙ ap (λ (z : Journal). slice_get z.records x.index) same ∙ ap (slice_get y.journal.records) once.1 ∙ y.in_list.in_records) in
       (one_part t u y.its_record (subst (λ (n : RecordValue). IsOfPart hs n t) one x.of_event.of_part) y.of_event.of_part, sym x.of_event.of_stamp ∙ ap kept.stamp_of one ∙ y.of_event.of_stamp)
 
--- the events of each part stand in their order in the run of them all
-pub kept_parts_rise : (directory : DirectoryHistory) (homes : List HistoryValue) (run : List Tag) → IsMerged directory.events nothing_moved (events_of homes) run → NothingMoves run → IsDirectoryKept directory → All IsKept homes → PartsRise run
-kept_parts_rise directory homes run merged still own all =
-    merged_parts_rise directory.events (events_of homes) run merged still (record { low = start; last = directory.last; rising = own.rising }) (λ i. homes_rise homes i all)
-
 -- where records and histories are matched, each actor's events stand in its order in the run of them all
-pub matched_rise : (per_queue : ℕ) (directory : DirectoryHistory) (homes : List HistoryValue) (journals : List Journal) (run : List Tag) → IsNumbered per_queue homes → AreDistinct journals → ((b : ℕ) → RecordsRiseAt journals b)
-    → IsMatched directory.events nothing_moved (histories_of homes) journals → IsMerged directory.events nothing_moved (events_of homes) run → NothingMoves run → IsDirectoryKept directory → All IsKept homes → ActorsRise run
-matched_rise per_queue directory homes journals run numbered distinct rise matched merged still own all =
-    actors_rise directory.events (events_of homes) run merged still (record { low = start; last = directory.last; rising = own.rising }) (λ i. homes_rise homes i all)
-    (places_agree per_queue directory.events homes journals run numbered distinct rise matched merged still)
-    (places_apart per_queue directory.events homes journals run numbered distinct rise matched merged still)
+pub matched_rise : (per_queue : ℕ) (d : List DirectoryEvent) (l : List LedgerEvent) (homes : List HistoryValue) (journals : List Journal) (run : List Tag) → IsNumbered per_queue homes → AreDistinct journals → ((b : ℕ) → RecordsRiseAt journals b)
+    → IsMatched d l (histories_of homes) journals → IsMerged d l (events_of homes) run → PartsRise run → ActorsRise run
+matched_rise per_queue d l homes journals run numbered distinct rise matched merged parts =
+    all_rise run merged.in_order parts
+    (places_agree per_queue d l homes journals run numbered distinct rise matched merged)
+    (places_apart per_queue d l homes journals run numbered distinct rise matched merged)

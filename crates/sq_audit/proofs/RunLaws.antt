@@ -8,7 +8,7 @@ use Rattle.std.proofs.lemmas.Map.Views.{btree_set_contains_iff, btree_set_contai
 use Rattle.sq_base.specs.declared.message_id.MessageId.{MessageId}
 use Rattle.sq_model.specs.Places.{tag_sends, run_sends}
 use Rattle.sq_model.specs.Systems.{Tag}
-use Rattle.sq_audit.specs.AllPlaces.{id_cmp, AreLineages}
+use Rattle.sq_audit.specs.RunLineages.{id_cmp, AreLineages}
 use Rattle.sq_audit.specs.Tags.{tag_of, tags_of}
 use Rattle.sq_audit.specs.declared.tagged.Tagged.{Tagged}
 use Rattle.sq_audit.proofs.IdOrder.{id_apart}

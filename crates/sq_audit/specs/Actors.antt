@@ -1,10 +1,7 @@
 -- The order of each actor's events in a run.
 use Rattle.std.specs.Prelude.{◌≡◌, ℕ, ◌<◌, true, List, [], ◌∷◌, Some, slice_get}
 use Rattle.std.specs.List.{AllByRecursion}
-use Rattle.sq_base.specs.StampValue.{StampValue}
 use Rattle.sq_base.specs.Stamps.{Below}
-use Rattle.sq_model.specs.declared.event.Event.{Event}
-use Rattle.sq_model.specs.Replays.{StampsRise}
 use Rattle.sq_model.specs.Systems.{Tag, OfDirectory, OfLedger, OfHome, stamp_of}
 use Rattle.sq_model.specs.Merges.{is_move, rank_of}
 
@@ -39,9 +36,3 @@ PlacesAgree run = (i j : ℕ) (t u : Tag) → slice_get run i ≡ Some t → sli
 -- two events of one actor at one place are of one part, and have one stamp
 abbrev pub PlacesApart : List Tag → Type 0
 PlacesApart run = (i j : ℕ) (t u : Tag) → slice_get run i ≡ Some t → slice_get run j ≡ Some u → event_actor t ≡ event_actor u → event_place t ≡ event_place u → (rank_of t ≡ rank_of u) × (stamp_of t ≡ stamp_of u)
-
--- the stamps of a history rise strictly
-pub record Rises {K R : Type 0} (es : List (Event K R)) : Type 0 where
-  pub low : StampValue
-  pub last : StampValue
-  pub rising : StampsRise low es last

@@ -1,11 +1,7 @@
 pub mod Tags
 pub mod SystemNow
 pub mod Actors
-pub mod RowStates
-pub mod MessagePasses
-pub mod HomeValues
-pub mod Audits
-pub mod AllPlaces
+pub mod RunLineages
 pub mod HomesValue
 pub mod Faults
 pub mod HomeIds

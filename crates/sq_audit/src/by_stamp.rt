@@ -1,51 +1,64 @@
 //! All events of the system in one order.
-ghost use Rattle.std.specs.Prelude.{◌≡◌, ◌≤◌, ◌-◌, ◌^◌, ◌++◌, min, map, length, ℕ, All, OnOk, IfOk};
-ghost use Rattle.sq_model.specs.Systems.{OfDirectory, OfHome, IsRun};
-ghost use Rattle.sq_model.specs.Merges.{IsMerged, NothingMoves};
+ghost use Rattle.std.specs.Prelude.{◌≡◌, ◌≤◌, ◌-◌, ◌^◌, ◌++◌, min, map, filter, length, ℕ, true, All, OnOk, IfOk};
+ghost use Rattle.sq_model.specs.Ledgers.{is_own};
+ghost use Rattle.sq_model.specs.Matches.{IsPaired};
+ghost use Rattle.sq_model.specs.Systems.{OfDirectory, OfLedger, OfHome, IsRun};
+ghost use Rattle.sq_model.specs.Merges.{IsMerged};
 ghost use Rattle.sq_history.specs.Histories.{IsKept};
+ghost use Rattle.sq_ledger.specs.LedgerHistories.{IsLedgerKept};
 ghost use Rattle.sq_directory.specs.DirectoryHistories.{IsDirectoryKept};
+ghost use Rattle.sq_audit.specs.Actors.{PartsRise};
+ghost use Rattle.sq_audit.specs.HomeIds.{histories_of, IsNumbered};
 ghost use Rattle.sq_audit.specs.Tags.{tags_of};
-ghost use Rattle.sq_audit.specs.SystemNow.{by_part, events_of, nothing_moved, system_now};
+ghost use Rattle.sq_audit.specs.SystemNow.{by_part, events_of, own_events, system_now};
 
 use crate::tagged::Tagged;
 use sq_directory::directory::Directory;
 use sq_history::recorded::Home;
+use sq_ledger::ledger::TransitLedger;
+use sq_model::ledger::LedgerCall;
 use std::alloc::{AllocError, Global};
 
-/// All events of the directory and of the homes, sorted by stamp; at equal stamps the directory comes first, and then
-/// the homes in their order. The list is a run of the whole system from its opening to what the parts are now.
+/// All events of the directory, of the ledger alone and of the homes, sorted by stamp; at equal stamps the directory comes
+/// first, the ledger second, and then the homes in their order. Each home has an id of its own, and what homes and the
+/// ledger share is to stand in the histories of both. Then the list is a run of the whole system from its opening to what
+/// the parts are now, and two events of one part never have one stamp.
 pub fn by_stamp<'a>(
     alloc: Global,
     directory: &'a Directory,
+    ledger: &'a TransitLedger,
     homes: &'a [Home],
 ) -> Result<Vec<Tagged<'a>>, AllocError>
-    requires { length homes.now ≤ 4294967296 }
-    ensures merged { IfOk result (λ run. IsMerged directory.now.events nothing_moved (map (λ h. h.events) homes.now) (tags_of run.items)) }
-    ensures still { IfOk result (λ run. NothingMoves (tags_of run.items)) }
-    ensures run { IfOk result (λ run. (limit : ℕ) → IsRun directory.now.directory.places limit (map (λ h. h.site) homes.now) (tags_of run.items) (system_now limit directory.now homes.now)) }
-    ensures directory { OnOk result (IsDirectoryKept directory.now) }
-    ensures homes { OnOk result (All IsKept homes.now) }
+    requires few { length homes.now ≤ 4294967296 }
+    requires numbered { (per_queue : ℕ) × IsNumbered per_queue homes.now }
+    requires paired { IsPaired ledger.now.history.events (histories_of homes.now) }
+    ensures merged { IfOk result (λ run. IsMerged directory.now.events ledger.now.history.events (events_of homes.now) (tags_of run.items)) }
+    ensures parts { IfOk result (λ run. PartsRise (tags_of run.items)) }
+    ensures run { IfOk result (λ run. IsRun directory.now.directory.places ledger.now.history.ledger.limit (map (λ h. h.site) homes.now) (tags_of run.items) (system_now directory.now ledger.now.history homes.now)) }
 {
-    let mut all = collect(alloc, directory, homes)?;
+    let mut all = collect(alloc, directory, ledger, homes)?;
     // The sort is stable, so what has one stamp stays in the order of its parts.
     all.sort_by_key(|event| event.stamp())?;
     Ok(all)
 }
 
-// The events of the directory, and then those of one home after another.
+// The events of the directory, then those of the ledger alone, and then those of one home after another.
 fn collect<'a>(
     alloc: Global,
     directory: &'a Directory,
+    ledger: &'a TransitLedger,
     homes: &'a [Home],
 ) -> Result<Vec<Tagged<'a>>, AllocError>
     requires { length homes.now ≤ 4294967296 }
-    ensures tags { IfOk result (λ all. tags_of all.items ≡ by_part directory.now.events (events_of homes.now)) }
+    ensures tags { IfOk result (λ all. tags_of all.items ≡ by_part directory.now.events ledger.now.history.events (events_of homes.now)) }
     ensures directory { OnOk result (IsDirectoryKept directory.now) }
+    ensures ledger { OnOk result (IsLedgerKept ledger.now.history) }
     ensures homes { OnOk result (All IsKept homes.now) }
 {
     // Room for all is made at once.
-    let mut all = Vec::with_capacity(alloc, count(directory, homes))?;
+    let mut all = Vec::with_capacity(alloc, count(directory, ledger, homes))?;
     add_directory(&mut all, directory)?;
+    add_ledger(&mut all, ledger)?;
     for (index, home) in homes.iter().enumerate() {
         add_home(&mut all, index as u32, home)?;
     }
@@ -53,14 +66,39 @@ fn collect<'a>(
 }
 
 // The number of all events; of more than a number can say, the greatest, for which no memory is found.
-fn count(directory: &Directory, homes: &[Home]) -> usize
-    ensures { result ≡ min (length (by_part directory.now.events (events_of homes.now))) (2 ^ 64 - 1) }
+fn count(directory: &Directory, ledger: &TransitLedger, homes: &[Home]) -> usize
+    ensures { result ≡ min (length (by_part directory.now.events ledger.now.history.events (events_of homes.now))) (2 ^ 64 - 1) }
 {
-    let mut count = directory.events().len();
+    let mut count = directory.events().len().saturating_add(count_own(ledger));
     for home in homes {
         count = count.saturating_add(home.events().len());
     }
     count
+}
+
+// The number of the events of the ledger alone.
+fn count_own(ledger: &TransitLedger) -> usize
+    ensures { result ≡ length (own_events ledger.now.history.events) }
+{
+    let events = ledger.events();
+    let mut count = 0;
+    for event in events {
+        count += is_own(&event.call) as usize;
+    }
+    count
+}
+
+// Whether the ledger does not share a call with a home.
+fn is_own(call: &LedgerCall) -> bool
+    ensures { result ≡ is_own call.now }
+{
+    match call {
+        LedgerCall::AtHome(_, _) => false,
+        LedgerCall::StartTask(_, _, _)
+        | LedgerCall::CancelTask(_)
+        | LedgerCall::ListTasks(_, _)
+        | LedgerCall::FinishTask(_) => true,
+    }
 }
 
 fn add_directory<'a>(all: &mut Vec<Tagged<'a>>, directory: &'a Directory) -> Result<(), AllocError>
@@ -70,6 +108,20 @@ fn add_directory<'a>(all: &mut Vec<Tagged<'a>>, directory: &'a Directory) -> Res
     let events = directory.events();
     for event in events {
         all.push(Tagged::Directory(event))?;
+    }
+    Ok(())
+}
+
+// What the ledger shares with a home is added as the home's.
+fn add_ledger<'a>(all: &mut Vec<Tagged<'a>>, ledger: &'a TransitLedger) -> Result<(), AllocError>
+    ensures tags { OnOk result (tags_of all.new.items ≡ tags_of all.old.items ++ map OfLedger (own_events ledger.now.history.events)) }
+    ensures kept { OnOk result (IsLedgerKept ledger.now.history) }
+{
+    let events = ledger.events();
+    for event in events {
+        if is_own(&event.call) {
+            all.push(Tagged::Ledger(event))?;
+        }
     }
     Ok(())
 }

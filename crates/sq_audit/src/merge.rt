@@ -1,11 +1,11 @@
 //! The one run of all that was done.
 ghost use Rattle.std.specs.Prelude.{◌≡◌, length, map, ℕ, IfOk, IfErr, OnOk};
 ghost use Rattle.sq_model.specs.Systems.{IsRun, IsOnePlace};
-ghost use Rattle.sq_model.specs.Merges.{IsMerged, NothingMoves};
+ghost use Rattle.sq_model.specs.Merges.{IsMerged};
 ghost use Rattle.sq_model.specs.Matches.{IsMatched, IsPaired};
 ghost use Rattle.sq_audit.specs.Actors.{ActorsRise, PartsRise};
 ghost use Rattle.sq_audit.specs.Faults.{FaultHolds};
-ghost use Rattle.sq_audit.specs.SystemNow.{events_of, nothing_moved, system_now};
+ghost use Rattle.sq_audit.specs.SystemNow.{events_of, system_now};
 ghost use Rattle.sq_audit.specs.HomeIds.{histories_of, IsNumbered};
 
 use crate::by_stamp::by_stamp;
@@ -15,32 +15,39 @@ use crate::run::Run;
 use sq_directory::creations::creations;
 use std::alloc::Global;
 
-/// All that was done to the parts of a service, sorted by stamp; at equal stamps the directory comes first, and then the
-/// homes in their order. It is one run of the whole system, from its opening to what the parts are now, and each event
-/// has its record, and each record its event. The events of each actor stand in its order, and so do those of each part:
-/// two of one actor or of one part never have one stamp. No two homes have one id, as the law of one place asks. No message
-/// moves between queues yet: the ledger has no history, whatever its limit.
+/// All that was done to the parts of a service, sorted by stamp; at equal stamps the directory comes first, the ledger
+/// second, and then the homes in their order. What a home shares with the ledger stands in the histories of both, with one
+/// actor, call and reply, and in the list once, as the home's.
+/// The list is one run of the whole system, from its opening to what the parts are now, and each event has its record, and
+/// each record its event. The events of each actor stand in its order, and so do those of each part: two of one actor or of
+/// one part never have one stamp. No two homes have one id, as the law of one place asks.
 /// Refused for what is wrong with the records and the histories, and where nothing is, as NoMemory; those that a world
 /// leaves are right.
 pub fn merge<'a>(alloc: Global, parts: &'a Parts) -> Result<Run<'a>, AuditFault>
-    ensures matched { OnOk result (IsMatched parts.now.directory.events nothing_moved (histories_of parts.now.homes.homes) parts.now.records) }
-    ensures merged { IfOk result (λ run. IsMerged parts.now.directory.events nothing_moved (events_of parts.now.homes.homes) run) }
-    ensures paired { OnOk result (IsPaired nothing_moved (histories_of parts.now.homes.homes)) }
-    ensures still { IfOk result (λ run. NothingMoves run) }
-    ensures run { IfOk result (λ run. (limit : ℕ) → IsRun parts.now.directory.directory.places limit (map (λ h. h.site) parts.now.homes.homes) run (system_now limit parts.now.directory parts.now.homes.homes)) }
+    ensures matched { OnOk result (IsMatched parts.now.directory.events parts.now.ledger.history.events (histories_of parts.now.homes.homes) parts.now.records) }
+    ensures merged { IfOk result (λ run. IsMerged parts.now.directory.events parts.now.ledger.history.events (events_of parts.now.homes.homes) run) }
+    ensures paired { OnOk result (IsPaired parts.now.ledger.history.events (histories_of parts.now.homes.homes)) }
+    ensures run { IfOk result (λ run. IsRun parts.now.directory.directory.places parts.now.ledger.history.ledger.limit (map (λ h. h.site) parts.now.homes.homes) run (system_now parts.now.directory parts.now.ledger.history parts.now.homes.homes)) }
     ensures actors { IfOk result (λ run. ActorsRise run) }
     ensures parts { IfOk result (λ run. PartsRise run) }
     ensures numbered { OnOk result (IsNumbered parts.now.homes.per_queue parts.now.homes.homes) }
     ensures one_place { OnOk result (IsOnePlace (map (λ h. h.site) parts.now.homes.homes)) }
-    ensures fault { IfErr result (FaultHolds parts.now.directory.events (histories_of parts.now.homes.homes) parts.now.records) }
-    ensures honest { IsMatched parts.now.directory.events nothing_moved (histories_of parts.now.homes.homes) parts.now.records → IfErr result (λ f. f ≡ AuditFault.NoMemory) }
-    ensures out_of_memory { IfErr result (λ f. f ≡ AuditFault.NoMemory → IsMatched parts.now.directory.events nothing_moved (histories_of parts.now.homes.homes) parts.now.records) }
+    ensures fault { IfErr result (FaultHolds parts.now.directory.events parts.now.ledger.history.events (histories_of parts.now.homes.homes) parts.now.records) }
+    ensures honest { IsMatched parts.now.directory.events parts.now.ledger.history.events (histories_of parts.now.homes.homes) parts.now.records → IsPaired parts.now.ledger.history.events (histories_of parts.now.homes.homes) → IfErr result (λ f. f ≡ AuditFault.NoMemory) }
+    ensures out_of_memory { IfErr result (λ f. f ≡ AuditFault.NoMemory → IsMatched parts.now.directory.events parts.now.ledger.history.events (histories_of parts.now.homes.homes) parts.now.records × IsPaired parts.now.ledger.history.events (histories_of parts.now.homes.homes)) }
 {
     let homes = parts.homes.as_slice();
     let creations = creations(alloc, &parts.directory);
     let records = parts.records.as_slice();
-    check(&Evidence::of(&parts.directory, &creations, &parts.homes, records))?;
-    match by_stamp(alloc, &parts.directory, homes) {
+    let evidence = Evidence::of(
+        &parts.directory,
+        &creations,
+        &parts.ledger,
+        &parts.homes,
+        records,
+    );
+    check(&evidence)?;
+    match by_stamp(alloc, &parts.directory, &parts.ledger, homes) {
         Ok(events) => Ok(Run::of(events)),
         Err(_) => Err(AuditFault::NoMemory),
     }

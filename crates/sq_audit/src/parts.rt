@@ -6,12 +6,14 @@ ghost use Rattle.sq_steps.specs.Journals.{without};
 
 use crate::homes::Homes;
 use sq_directory::directory::Directory;
+use sq_ledger::ledger::TransitLedger;
 use sq_steps::journals::Journals;
 
 /// The parts of a service with their histories, and what each actor kept of its steps.
 #[derive(Drop)]
 pub struct Parts {
     pub directory: Directory,
+    pub ledger: TransitLedger,
     pub homes: Homes,
     pub records: Journals,
 }

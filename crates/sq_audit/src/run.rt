@@ -1,7 +1,7 @@
 //! One run of the whole system.
 ghost use Rattle.std.specs.Prelude.{◌≡◌, length, slice_get, option_map, option_to_list, IfOk, IfErr};
 ghost use Rattle.sq_model.specs.Places.{run_sends, tag_sends};
-ghost use Rattle.sq_audit.specs.AllPlaces.{AreLineages};
+ghost use Rattle.sq_audit.specs.RunLineages.{AreLineages};
 ghost use Rattle.sq_audit.specs.Tags.{tag_of, tags_of};
 
 use crate::tagged::Tagged;
@@ -91,6 +91,6 @@ fn sent_by(event: &Tagged<'_>) -> Option<MessageId>
             HomeReply::Sent(message) => Some(message.id),
             _ => None,
         },
-        Tagged::Directory(_) => None,
+        Tagged::Directory(_) | Tagged::Ledger(_) => None,
     }
 }

@@ -3,6 +3,7 @@ ghost use Rattle.std.specs.Prelude.{◌≡◌, IfOk, IfErr};
 
 use crate::digest::Digest;
 use crate::received_messages::ReceivedMessages;
+use crate::turns::{Turn, Turned};
 use sq_base::handle::Handle;
 use sq_base::message_id::MessageId;
 use sq_base::name::QueueName;
@@ -150,6 +151,15 @@ pub enum Call {
     ChangeMessageVisibility(ChangeMessageVisibility),
 }
 
+/// What a line of a script asks.
+#[derive(Drop)]
+pub enum Asked {
+    /// A request of a client.
+    Call(Call),
+    /// One step of moving messages.
+    Turn(Turn),
+}
+
 /// How many messages of a queue are in which state, over all its homes.
 #[derive(Clone, Copy, PartialEq, Eq, Debug)]
 pub struct QueueCounts {
@@ -182,4 +192,13 @@ pub enum Answer {
     Sent(MessageId, Digest),
     Received(ReceivedMessages),
     Done,
+}
+
+/// The answer to what a line of a script asks, where it is not refused.
+#[derive(Drop)]
+pub enum Answered {
+    /// What a client gets.
+    Call(Answer),
+    /// What came of a turn.
+    Turn(Turned),
 }

@@ -4,3 +4,4 @@
 pub mod calls;
 pub mod digest;
 pub mod received_messages;
+pub mod turns;

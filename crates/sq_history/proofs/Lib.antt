@@ -1,1 +1,3 @@
 pub mod HistoryLaws
+pub mod HalfLaws
+pub mod EventLaws

@@ -56,8 +56,8 @@ IsRefused old by now call e =
     ⊎ ((stamp : StampValue) × (after old.last by.seen now ≡ Ok stamp)
     × (((e ≡ NoMemory) × CopiesBytes old.site old.home stamp.moment call) ⊎ (home_refusal old.site old.home stamp.moment call ≡ Some e)))
 
--- True of every recorded home: it is the replay of its events, whose stamps rise, and each event is its own alone.
+-- True of every recorded home: it is the replay of its events, whose stamps rise, and each event is one of it.
 pub record IsKept (h : HistoryValue) : Type 0 where
   pub replays : Replays (HomeStep h.site) Unopened h.events h.home
   pub rising : StampsRise start h.events h.last
-  pub own : All (λ e. (e.component ≡ part.Home h.site.home) × (is_alone e.call ≡ true)) h.events
+  pub own : All (λ e. e.component ≡ part.Home h.site.home) h.events

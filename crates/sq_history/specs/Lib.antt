@@ -5,4 +5,5 @@ pub mod Acts
 pub mod HistoryValue
 pub mod Histories
 pub mod Records
+pub mod Halves
 pub mod Events

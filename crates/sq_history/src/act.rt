@@ -3,7 +3,7 @@ ghost use Rattle.std.specs.Prelude.{◌≡◌, ◌⊎◌, ◌<◌, Some, IfOk, I
 ghost use Rattle.sq_base.specs.Stamps.{stamp_end};
 ghost use Rattle.sq_model.specs.Homes.{HomeStep, home_refusal};
 ghost use Rattle.sq_model.specs.declared.calls.HomeCall.TheVariants.{Look as AsLook};
-ghost use Rattle.sq_model.specs.declared.replies.HomeReply.TheVariants.{Done, Sent, Counted};
+ghost use Rattle.sq_model.specs.declared.replies.HomeReply.TheVariants.{Done, Sent, Counted, Entered};
 ghost use Rattle.sq_shard.specs.Looks.{look_reply, GivesAny, GivesRows};
 ghost use Rattle.sq_history.specs.Acts.{call_of, CopiesBytes, HasBytes};
 
@@ -12,7 +12,7 @@ use sq_base::ranges::{Delay, MaxMessages, Timeout};
 use sq_base::refusal::Refusal;
 use sq_base::settings::Settings;
 use sq_model::calls::{HomeCall, Receipt};
-use sq_model::replies::{Counts, HomeReply, SentMessage};
+use sq_model::replies::{Counts, EnteredRow, HomeReply, SentMessage};
 use sq_model::rows::{Rows, copy_rows};
 use sq_shard::shard::Shard;
 use sq_shard::store::Store;
@@ -139,7 +139,7 @@ impl Model for Answer {
 }
 
 impl Answer {
-    fn done() -> Answer
+    pub(crate) fn done() -> Answer
         ensures { result ≡ Done }
     {
         Answer {
@@ -159,6 +159,18 @@ impl Answer {
             kept: HomeReply::Sent(sent),
             for_record: HomeReply::Sent(for_record),
             answered: HomeReply::Sent(answered),
+        }
+    }
+
+    pub(crate) fn entered(entered: EnteredRow) -> Answer
+        ensures { result ≡ Entered entered }
+    {
+        let for_record = entered;
+        let answered = entered;
+        Answer {
+            kept: HomeReply::Entered(entered),
+            for_record: HomeReply::Entered(for_record),
+            answered: HomeReply::Entered(answered),
         }
     }
 

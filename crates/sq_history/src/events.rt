@@ -1,10 +1,11 @@
 //! Whether a history has the event of a record.
-ghost use Rattle.std.specs.Prelude.{◌≡◌, ◌↔◌, true, IfSome, IsSome};
+ghost use Rattle.std.specs.Prelude.{◌≡◌, ◌↔◌, true, IfSome, IsSome, Some, option_map};
 ghost use Rattle.sq_model.specs.declared.event.Event.{Event as Done};
-ghost use Rattle.sq_history.specs.Events.{IsEventOf, HasHomeEvent};
+ghost use Rattle.sq_history.specs.Events.{IsEventOf, IsEventAt, Rises, HasHomeEvent};
 
 use crate::record::HomeRecord;
 use crate::recorded::Home;
+use sq_base::stamp::Stamp;
 use sq_model::event::{Event, StepRecord};
 use sq_model::same::{is_same_call, is_same_reply};
 
@@ -23,6 +24,20 @@ pub fn event_of<'a, K, R>(
     }
     let event = &events[kept.index as usize];
     if event.actor == actor && event.place == kept.place && event.stamp == kept.stamp {
+        Some(event)
+    } else {
+        None
+    }
+}
+
+/// The event of a stamp, in a history whose stamps rise, by binary search.
+pub fn event_at<'a, K, R>(events: &'a [Event<K, R>], stamp: Stamp) -> Option<&'a Event<K, R>>
+    requires rises { Rises events.now }
+    ensures found { IfSome result (λ e. IsEventAt events.now stamp e.now) }
+    ensures only { (e : Done K R) → IsEventAt events.now stamp e → option_map (λ d. d.now) result ≡ Some e }
+{
+    let event = events.get(events.partition_point(|event| event.stamp < stamp))?;
+    if event.stamp == stamp {
         Some(event)
     } else {
         None

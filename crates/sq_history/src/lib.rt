@@ -7,3 +7,4 @@ pub mod growing;
 pub mod log;
 pub mod record;
 pub mod recorded;
+pub mod shared;

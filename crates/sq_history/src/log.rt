@@ -108,6 +108,28 @@ impl<K: Drop, R: Drop> Log<K, R> {
         ensures for_record { result ≡ record { place = by.now.place; stamp = stamp; index = length self.old.events; call = for_record.0; reply = for_record.1 } }
     {
         let index = self.events.as_slice().len() as u64;
+        self.note(stamp, by, component, kept);
+        let (call, reply) = for_record;
+        StepRecord {
+            place: by.place,
+            stamp,
+            index,
+            call,
+            reply,
+        }
+    }
+
+    /// Adds the event of a step, for which memory was got, with the call and reply that are kept. It makes no record: the
+    /// step's record is of its event in the history of another part.
+    pub fn note(&mut self, stamp: Stamp, by: &Actor, component: Component, kept: (K, R))
+        requires ready { IsReady self.old.room self.old.reserved }
+        requires above { Below self.old.last stamp }
+        ensures last { self.new.last ≡ stamp }
+        ensures events { self.new.events ≡ self.old.events ++ event_by stamp by.now component kept.0 kept.1 ∷ [] }
+        ensures rising { StampsRise start self.new.events self.new.last }
+        ensures shown { self.new.room ≡ self.new.reserved }
+        ensures room { KeepsRoom self.old.room self.new.room }
+    {
         let (call, reply) = kept;
         let event = Event {
             stamp,
@@ -119,13 +141,5 @@ impl<K: Drop, R: Drop> Log<K, R> {
         };
         self.events.push(event);
         self.last = stamp;
-        let (call, reply) = for_record;
-        StepRecord {
-            place: by.place,
-            stamp,
-            index,
-            call,
-            reply,
-        }
     }
 }

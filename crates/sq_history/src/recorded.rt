@@ -29,8 +29,8 @@ pub type Home = Recorded<PlainStore>;
 /// One that is refused changes nothing and adds none. Clock readings are in ms.
 #[derive(Drop)]
 pub struct Recorded<S: Store> {
-    shard: Shard<S>,
-    log: Log<HomeCall, HomeReply>,
+    pub(crate) shard: Shard<S>,
+    pub(crate) log: Log<HomeCall, HomeReply>,
 }
 
 impl<S: Store> Model for Recorded<S> {

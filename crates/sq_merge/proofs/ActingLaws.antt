@@ -5,7 +5,7 @@ use Rattle.sq_base.specs.Stamps.{stamp_end, next_at, after, stamped}
 use Rattle.sq_base.specs.StampValue.{StampValue}
 use Rattle.sq_base.specs.declared.ids.HomeId.{HomeId}
 use Rattle.sq_base.specs.declared.refusal.Refusal.{Refusal}
-use Rattle.sq_base.specs.declared.refusal.Refusal.TheVariants.{ClockRange, Worn, InvalidAttributeValue, InvalidParameterValue, PurgeQueueInProgress, QueueDoesNotExist, OverLimit, ReceiptHandleIsInvalid, MessageNotInflight}
+use Rattle.sq_base.specs.declared.refusal.Refusal.TheVariants.{ClockRange, Worn, InvalidAttributeValue, InvalidParameterValue, PurgeQueueInProgress, QueueDoesNotExist, OverLimit, ReceiptHandleIsInvalid, MessageNotInflight, UnsupportedOperation}
 use Rattle.std.specs.List.{list_any}
 use Rattle.sq_base.specs.declared.row.Row.{Row}
 use Rattle.sq_model.specs.Directories.{Directory, DirectoryStep, agrees, create_refusal, deleted_recently, directory_refusal, last_version, may_have, purged_recently, queue_of, refused_at}
@@ -15,7 +15,12 @@ use Rattle.sq_model.specs.declared.directory.DirectoryCall.TheVariants as asks
 use Rattle.sq_model.specs.declared.directory.DirectoryReply.{DirectoryReply}
 use Rattle.sq_model.specs.declared.directory.DirectoryReply.TheVariants as answers
 use Rattle.sq_model.specs.declared.directory.Queue.{Queue}
-use Rattle.sq_model.specs.Rows.{ms, trimmed, is_held, is_late}
+use Rattle.sq_model.specs.Rows.{ms, trimmed, is_dead, is_held, is_late}
+use Rattle.sq_model.specs.Ledgers.{Ledger, item_of, last_number, room_refusal}
+use Rattle.sq_model.specs.Shared.{after_given, is_entering, is_returning, shared_refusal}
+use Rattle.sq_steps.specs.SharedSteps.{asked_as}
+use Rattle.sq_steps.specs.declared.act.Move.{Move}
+use Rattle.sq_steps.specs.declared.act.Move.TheVariants as move
 use Rattle.sq_model.specs.Homes.{Home, Unopened, Serving, Closed, last_serial, slots, HomeStep, home_refusal, refused_if}
 use Rattle.sq_model.specs.declared.place.Site.{Site}
 use Rattle.sq_model.specs.declared.replies.HomeReply.{HomeReply}
@@ -23,11 +28,11 @@ use Rattle.sq_model.specs.declared.replies.HomeReply.TheVariants as reply
 use Rattle.sq_history.specs.declared.act.HomeAct.{HomeAct}
 use Rattle.sq_history.specs.declared.act.HomeAct.TheVariants as act
 use Rattle.sq_history.specs.Acts.{call_of}
-use Rattle.sq_merge.specs.Asks.{Resolve, Directed, AtHome, IsAnswerTo, IsReplyTo, IsOfAnyStep, IsOfAct, IsOfDirectory, MayRefuse}
+use Rattle.sq_merge.specs.Asks.{Resolve, Directed, AtHome, Moving, IsAnswerTo, IsReplyTo, IsOfAnyStep, IsOfAct, IsOfMove, IsOfDirectory, MayRefuse}
 use Rattle.sq_steps.specs.Journals.{journal_of, worn_at, IsNotReady}
 use Rattle.sq_model.specs.RecordValues.{Journal}
 use Rattle.sq_merge.specs.WorldValue.{WorldValue}
-use Rattle.sq_merge.specs.Worlds.{HomeStepped, HomeRefused, DirectoryStepped, DirectoryRefused, NameRefused, IsKnown}
+use Rattle.sq_merge.specs.Worlds.{HomeStepped, HomeRefused, DirectoryStepped, DirectoryRefused, NameRefused, SharedRefused, IsKnown}
 use Rattle.sq_directory.specs.Makers.{IsAnsweredByName, name_asked, queue_answered}
 use Rattle.sq_merge.proofs.ReceivedLaws.{step_received}
 use Rattle.sq_merge.proofs.KnownLaws.{known_directed, known_stepped}
@@ -128,6 +133,62 @@ worn_refused now e h = elim (nat_le stamp_end now) as (λ v. e ≡ (if v then Cl
 -- why an actor does no step
 not_ready : (journal : Journal) (now : ℕ) (e : Refusal) → IsNotReady journal now e → IsOfAnyStep e
 not_ready journal now e h = elim h [ inl worn ↦ worn_refused now e worn.1 | inr full ↦ inl full.1 ]
+
+-- why a step of a home and the ledger is refused
+room_cases : (l : Ledger) (e : Refusal) → room_refusal l ≡ Some e → IsOfAnyStep e ⊎ (e ≡ OverLimit)
+room_cases l e h = elim (two_cases (nat_le last_number l.next_item) (nat_le l.limit (length l.items)) Worn OverLimit e h) [ inl worn ↦ inl (inr (inr worn)) | inr over ↦ inr over ]
+
+dead_cases : (l : Ledger) (test : Bool) (e : Refusal) → (if test then room_refusal l else None) ≡ Some e → IsOfAnyStep e ⊎ (e ≡ OverLimit)
+dead_cases l true e h = room_cases l e h
+dead_cases l false e h = absurd (no_refusal e h)
+
+place_cases : (a b c : Bool) (e : Refusal) → refused_if a Worn (refused_if b OverLimit (refused_if c UnsupportedOperation None)) ≡ Some e → IsOfAnyStep e ⊎ (e ≡ OverLimit) ⊎ (e ≡ UnsupportedOperation)
+place_cases a b c e h = elim (three_cases a b c Worn OverLimit UnsupportedOperation e h) [ inl worn ↦ inl (inr (inr worn)) | inr rest ↦ inr rest ]
+
+shared_is : (site : Site) (home : Home) (l : Ledger) (m : ℕ) (what : Move) (e : Refusal) → shared_refusal site home l m (asked_as what) ≡ Some e → IsOfAnyStep e ⊎ (e ≡ QueueDoesNotExist) ⊎ IsOfMove what e
+unfolding shared_refusal
+shared_is site Unopened l m move.LeaveDead e h = inr (inl cc)
+shared_is site (Serving s v n rows) l m move.LeaveDead e h = elim (dead_cases l (list_any (is_dead s m) (trimmed s m rows)) e h) [ inl any ↦ inl any | inr over ↦ inr (inr over) ]
+shared_is site Closed l m move.LeaveDead e h = inr (inl cc)
+shared_is site Unopened l m (move.Enter number) e h = inr (inl cc)
+shared_is site (Serving s v n rows) l m (move.Enter number) e h =
+    elim (place_cases (nat_le last_serial n || nat_le slots (length (trimmed s m rows))) (nat_le site.limits.rows (length (trimmed s m rows))) (not (is_entering site.home (item_of number l))) e h) [ inl any ↦ inl any | inr own ↦ inr (inr own) ]
+shared_is site Closed l m (move.Enter number) e h = inr (inl cc)
+shared_is site Unopened l m (move.TurnBack number) e h = inr (inl cc)
+shared_is site (Serving s v n rows) l m (move.TurnBack number) e h = inr (inr cc)
+shared_is site Closed l m (move.TurnBack number) e h = inr (inr (one_case (not (is_entering site.home (item_of number l))) UnsupportedOperation e h))
+shared_is site Unopened l m (move.GiveBack number) e h = inr (inl cc)
+shared_is site (Serving s v n rows) l m (move.GiveBack number) e h =
+    elim (place_cases (nat_le last_serial n || nat_le slots (length (trimmed s m rows))) (nat_le site.limits.rows (length (trimmed s m rows))) (not (is_returning site.home (item_of number l))) e h) [ inl any ↦ inl any | inr own ↦ inr (inr own) ]
+shared_is site Closed l m (move.GiveBack number) e h = inr (inl cc)
+shared_is site Unopened l m (move.GiveUp number) e h = inr (inl cc)
+shared_is site (Serving s v n rows) l m (move.GiveUp number) e h = inr (inr cc)
+shared_is site Closed l m (move.GiveUp number) e h = inr (inr (one_case (not (is_returning site.home (item_of number l))) UnsupportedOperation e h))
+
+-- why no stamp of both is given
+given_refused : (given : Result StampValue Refusal) (seen : StampValue) (now : ℕ) (e : Refusal) → ((x : Refusal) → given ≡ Err x → IsOfAnyStep x) → after_given given seen now ≡ Err e → IsOfAnyStep e
+given_refused (Ok stamp) seen now e first h = after_refused stamp seen now e h
+given_refused (Err x) seen now e first h = first e h
+
+pub moving_may : (w : WorldValue) (actor now : ℕ) (name : Option (List ℕ)) (id : HomeId) (what : Move) (e : Refusal) → SharedRefused w actor now id (asked_as what) e → MayRefuse (Moving name id what) e
+moving_may w actor now name id what e h = elim h [
+  | inl no_such_home ↦ elim (nat_le stamp_end now) as (λ v. e ≡ (if v then ClockRange else QueueDoesNotExist) → MayRefuse (Moving name id what) e) [ true ↦ (λ k. inl (inr (inl k))) | false ↦ (λ k. inr (inl k)) ] no_such_home.1
+  | inr in_list ↦ elim in_list.3 [
+    | inl unready ↦ inl (not_ready (journal_of actor w.journals) now e unready)
+    | inr step ↦ elim step.1 [
+      | inl memory ↦ inl (inl memory.0)
+      | inr rest ↦ elim rest [
+        | inl clock ↦ inl (given_refused _ _ now e (λ x given. after_refused _ _ now x given) clock)
+        | inr own ↦ elim own.2 [ inl copied ↦ inl (inl copied.0) | inr refused ↦ shared_is _ _ _ _ what e refused ]
+      ]
+    ]
+  ]
+]
+
+-- the same of an answer
+pub answered_moving : (w : WorldValue) (actor now : ℕ) (name : Option (List ℕ)) (id : HomeId) (what : Move) (answered : Result (Option HomeReply) Refusal) → IfErr answered (SharedRefused w actor now id (asked_as what)) → IfErr answered (MayRefuse (Moving name id what))
+answered_moving w actor now name id what (Ok told) h = tt
+answered_moving w actor now name id what (Err e) h = moving_may w actor now name id what e h
 
 -- why a step of a home is refused
 pub home_may : (w : WorldValue) (actor now : ℕ) (name : List ℕ) (id : HomeId) (a : HomeAct) (e : Refusal) → HomeRefused w actor now id (call_of a) e → MayRefuse (AtHome name id a) e

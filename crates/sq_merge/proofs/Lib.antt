@@ -6,3 +6,4 @@ pub mod KnownLaws
 pub mod PathLaws
 pub mod ClientLaws
 pub mod ActingLaws
+pub mod TurnLaws

@@ -1,6 +1,7 @@
 -- A step of a world, from what was done to its parts.
-use Rattle.std.proofs.Common.{◌≡◌, ◌≢◌, ℕ, zero, suc, ◌*◌, ◌≤◌, List, [], ◌∷◌, length, refl, ap, sym, ◌∙◌, subst, inl, inr, arith, Option, Some, None, slice_get, slice_set, take}
-use Rattle.std.specs.Prelude.{position}
+use Rattle.std.proofs.Common.{◌≡◌, ◌≢◌, ℕ, zero, suc, true, false, ◌*◌, ◌≤◌, List, [], ◌∷◌, length, refl, ap, sym, ◌∙◌, subst, inl, inr, arith, Option, Some, None, slice_get, slice_set, take}
+use Rattle.std.specs.Prelude.{position, ◌==◌, if◌then◌else◌}
+use Rattle.std.proofs.Math.Seq.{take-length}
 use Rattle.std.specs.List.{slice_index_or}
 use Rattle.std.proofs.Math.Nat.{mul-le-mul_right}
 use Rattle.std.proofs.lemmas.Option.{slice_get_read}
@@ -13,6 +14,9 @@ use Rattle.sq_model.specs.declared.calls.HomeCall.{HomeCall}
 use Rattle.sq_model.specs.declared.replies.HomeReply.{HomeReply}
 use Rattle.sq_model.specs.declared.directory.DirectoryCall.{DirectoryCall}
 use Rattle.sq_model.specs.declared.directory.DirectoryReply.{DirectoryReply}
+use Rattle.sq_model.specs.declared.shared.SharedAct.{SharedAct}
+use Rattle.sq_ledger.specs.LedgerHistory.{LedgerHistory}
+use Rattle.sq_steps.specs.SharedSteps.{SharedMoves, IsUnmoved, IsSharedRefused}
 use Rattle.sq_model.specs.Replays.{HomeEvent}
 use Rattle.sq_model.specs.RecordValues.{Journal}
 use Rattle.sq_model.specs.Matches.{HomeHistory, IsHomeEvent}
@@ -21,7 +25,7 @@ use Rattle.sq_directory.specs.DirectoryHistory.{DirectoryHistory}
 use Rattle.sq_steps.specs.Journals.{is_of, new_journal, journal_of, index_in, opened, having_seen, last_place, HomeMoves, DirectoryMoves, IsHomeRefused, IsDirectoryStepRefused}
 use Rattle.sq_merge.specs.WorldValue.{WorldValue}
 use Rattle.sq_audit.specs.HomeIds.{history_of, histories_of, IsNumbered, home_index}
-use Rattle.sq_merge.specs.Worlds.{IsHomeOf, IsKeptWorld, HomeStepped, HomeRefused, DirectoryStepped, DirectoryRefused, having_read}
+use Rattle.sq_merge.specs.Worlds.{IsHomeOf, IsKeptWorld, HomeStepped, HomeRefused, SharedStepped, NothingLeaves, SharedRefused, DirectoryStepped, DirectoryRefused, having_read, having_peeked}
 use Rattle.sq_merge.specs.declared.options.Options.{Options}
 use Rattle.sq_merge.specs.Openings.{never_opened, never_opened_homes, limits_of, IsServed, new_world}
 use Rattle.sq_directory.proofs.ElementLaws.{some_same, get_cases, get_mapped, get_within}
@@ -83,6 +87,69 @@ pub refused_unmade : (old : WorldValue) (actor now : ℕ) (id : HomeId) (call : 
 refused_unmade old actor now id call place numbered least found pos =
     let home = home_there old id place numbered least found in
     inr (home.0, home.1, home.2, subst (λ (b : Journal). IsHomeRefused home.1 b now call NoMemory) (sym (lost_there actor old.journals pos)) (inl (inr (new_is_not_worn actor, refl, refl))))
+
+-- ---- a step that a home shares with the ledger
+
+pub shared_opened : (old : WorldValue) (actor now : ℕ) (name : Option (List ℕ)) (id : HomeId) (what : SharedAct) (reply : HomeReply) (place : ℕ) (before after : HistoryValue) (ledger : LedgerHistory) (mine recorded_in : Journal)
+    → IsNumbered old.per_queue old.homes → 1 ≤ id.queue → home_index old.per_queue (length old.homes) id ≡ Some place → before ≡ slice_index_or old.homes place before
+    → mine ≡ slice_index_or (opened actor old.journals) (index_in actor old.journals) mine
+    → SharedMoves before after old.ledger ledger mine recorded_in now name what reply
+    → SharedStepped old (record old { ledger = ledger; homes = slice_set old.homes place after; journals = slice_set (opened actor old.journals) (index_in actor old.journals) recorded_in }) actor now name id what reply
+shared_opened old actor now name id what reply place before after ledger mine recorded_in numbered least found in_list own moves =
+    let is = opened_is actor old.journals mine own in
+    let recorded_own : recorded_in.actor ≡ actor = ap (λ (b : Journal). b.actor) moves.recorded_as ∙ ap (λ (b : Journal). b.actor) is ∙ journal_own actor old.journals in
+    record {
+      at = place;
+      before = before;
+      after = after;
+      ledger = ledger;
+      recorded_in = recorded_in;
+      home = home_is old id place before numbered least found in_list;
+      moves = subst (λ (b : Journal). SharedMoves before after old.ledger ledger b recorded_in now name what reply) is moves;
+      changed = ap (λ (bs : List Journal). record old { ledger = ledger; homes = slice_set old.homes place after; journals = bs }) (opened_put actor recorded_in old.journals recorded_own);
+    }
+
+pub nothing_opened : (old : WorldValue) (actor now : ℕ) (id : HomeId) (what : SharedAct) (place : ℕ) (before : HistoryValue) (mine : Journal)
+    → IsNumbered old.per_queue old.homes → 1 ≤ id.queue → home_index old.per_queue (length old.homes) id ≡ Some place → before ≡ slice_index_or old.homes place before
+    → mine ≡ slice_index_or (opened actor old.journals) (index_in actor old.journals) mine
+    → IsUnmoved before old.ledger mine now what → NothingLeaves old old actor now id what
+nothing_opened old actor now id what place before mine numbered least found in_list own unmoved = record {
+  at = place;
+  before = before;
+  home = home_is old id place before numbered least found in_list;
+  unmoved = subst (λ (b : Journal). IsUnmoved before old.ledger b now what) (opened_is actor old.journals mine own) unmoved;
+  unchanged = refl;
+}
+
+pub shared_out : (old : WorldValue) (actor now : ℕ) (id : HomeId) (what : SharedAct) (e : Refusal) (place : ℕ) (before : HistoryValue) (mine : Journal)
+    → IsNumbered old.per_queue old.homes → 1 ≤ id.queue → home_index old.per_queue (length old.homes) id ≡ Some place → before ≡ slice_index_or old.homes place before
+    → mine ≡ slice_index_or (opened actor old.journals) (index_in actor old.journals) mine
+    → IsSharedRefused before old.ledger mine now what e → SharedRefused old actor now id what e
+shared_out old actor now id what e place before mine numbered least found in_list own refused =
+    inr (place, before, home_is old id place before numbered least found in_list, subst (λ (b : Journal). IsSharedRefused before old.ledger b now what e) (opened_is actor old.journals mine own) refused)
+
+pub shared_unmade : (old : WorldValue) (actor now : ℕ) (id : HomeId) (what : SharedAct) (place : ℕ)
+    → IsNumbered old.per_queue old.homes → 1 ≤ id.queue → home_index old.per_queue (length old.homes) id ≡ Some place → position (is_of actor) old.journals ≡ None
+    → SharedRefused old actor now id what NoMemory
+shared_unmade old actor now id what place numbered least found pos =
+    let home = home_there old id place numbered least found in
+    inr (home.0, home.1, home.2, subst (λ (b : Journal). IsSharedRefused home.1 old.ledger b now what NoMemory) (sym (lost_there actor old.journals pos)) (inl (inr (new_is_not_worn actor, refl, refl))))
+
+pub peeked_opened : (old : WorldValue) (actor : ℕ) (mine : Journal) → mine ≡ slice_index_or (opened actor old.journals) (index_in actor old.journals) mine
+    → record old { journals = slice_set (opened actor old.journals) (index_in actor old.journals) (having_seen mine old.ledger.last) } ≡ having_peeked old actor
+peeked_opened old actor mine own =
+    let is = opened_is actor old.journals mine own in
+    let recorded_in = having_seen (journal_of actor old.journals) old.ledger.last in
+    rw is (ap (λ (bs : List Journal). record old { journals = bs }) (opened_put actor recorded_in old.journals (journal_own actor old.journals)))
+
+-- an actor whose place was made, and taken back
+pub opened_front : (actor : ℕ) (journals : List Journal) → take (length journals) (opened actor journals) ≡ journals
+opened_front actor [] = refl
+opened_front actor (x ∷ xs) =
+    elim (x.actor == actor) as (λ v. take (length (x ∷ xs)) (if v then x ∷ xs else x ∷ opened actor xs) ≡ x ∷ xs)
+    [ true ↦ take-length (x ∷ xs) | false ↦ ap (λ ys. x ∷ ys) (opened_front actor xs) ]
+
+-- ---- a step of the directory
 
 pub directed_unmade : (old : WorldValue) (actor now : ℕ) (call : DirectoryCall) → position (is_of actor) old.journals ≡ None → DirectoryRefused old actor now call NoMemory
 directed_unmade old actor now call pos =
@@ -151,8 +218,13 @@ kept_new o = record {
   numbered = λ at h in_list. ap (λ (x : HistoryValue). x.site.home) (opened_at o.homes (limits_of o) (o.queues * o.homes) at h in_list);
   has_its_event = λ b i journal n h. let k = h.in_journals in absurd cc;
   directory_recorded = λ k e h. absurd cc;
+  ledger_recorded = λ k e h own. absurd cc;
   homes_recorded = λ j k h e at. absurd (opening_empty o.homes (limits_of o) (o.queues * o.homes) j k h e at);
   exact = λ b i journal n h. let k = h.in_journals in absurd cc;
   counted = λ b journal h. absurd cc;
   distinct = tt;
+  paired = record {
+    in_ledger = λ j k h e there shared. absurd (opening_empty o.homes (limits_of o) (o.queues * o.homes) j k h e there);
+    in_home = λ k e there shared. absurd cc;
+  };
 }

@@ -1,5 +1,5 @@
 -- Records and events stay of each other in each step.
-use Rattle.std.proofs.Common.{◌≡◌, ◌⊎◌, ℕ, List, [], ◌∷◌, ◌++◌, length, refl, ap, sym, ◌∙◌, subst, inl, inr, arith, Option, Some, None, slice_get, slice_set}
+use Rattle.std.proofs.Common.{◌≡◌, ◌⊎◌, ℕ, List, [], ◌∷◌, ◌++◌, length, true, false, refl, ap, sym, ◌∙◌, subst, inl, inr, arith, Option, Some, None, slice_get, slice_set}
 use Rattle.std.proofs.lemmas.List.{length-append}
 use Rattle.sq_base.specs.StampValue.{StampValue}
 use Rattle.sq_base.specs.Stamps.{Below}
@@ -10,18 +10,26 @@ use Rattle.sq_model.specs.declared.calls.HomeCall.{HomeCall}
 use Rattle.sq_model.specs.declared.replies.HomeReply.{HomeReply}
 use Rattle.sq_model.specs.declared.directory.DirectoryCall.{DirectoryCall}
 use Rattle.sq_model.specs.declared.directory.DirectoryReply.{DirectoryReply}
+use Rattle.sq_model.specs.declared.place.Site.{Site}
+use Rattle.sq_model.specs.declared.shared.SharedAct.{SharedAct}
+use Rattle.sq_model.specs.Ledgers.{LedgerEvent, is_own}
 use Rattle.sq_model.specs.Replays.{HomeEvent}
-use Rattle.sq_model.specs.Systems.{DirectoryEvent}
+use Rattle.sq_model.specs.Systems.{DirectoryEvent, as_ledger, is_alone}
 use Rattle.sq_model.specs.RecordValues.{HomeRecordValue, DirectoryRecordValue, RecordValue, OfDirectory, OfLedger, OfHome, place_of_record, Journal, actor_of, directory_record_of, home_record_of}
-use Rattle.sq_model.specs.Matches.{HomeHistory, IsHomeEvent, IsRecordAt, IsNamed, HasItsEvent, IsRecorded, IsOfDirectory, IsOfHome, IsMatched}
+use Rattle.sq_model.specs.Matches.{HomeHistory, IsHomeEvent, IsRecordAt, IsNamed, HasItsEvent, IsRecorded, IsOfDirectory, IsOfLedger, IsOfHome, IsMatched, IsPaired, InHome, InLedger}
 use Rattle.sq_history.specs.HistoryValue.{HistoryValue}
+use Rattle.sq_history.specs.Acts.{call_of}
 use Rattle.sq_history.specs.Histories.{new_event, new_record}
+use Rattle.sq_history.specs.declared.act.HomeAct.{HomeAct}
+use Rattle.sq_history.specs.declared.act.HomeAct.TheVariants.{Close}
+use Rattle.sq_ledger.specs.LedgerHistory.{LedgerHistory}
+use Rattle.sq_ledger.specs.LedgerHistories.{shared_event}
 use Rattle.sq_directory.specs.DirectoryHistories.{directory_event}
 use Rattle.sq_steps.specs.Journals.{new_journal, journal_of, put_journal, with_record, having_seen}
 use Rattle.sq_merge.specs.WorldValue.{WorldValue}
-use Rattle.sq_audit.specs.SystemNow.{nothing_moved}
+use Rattle.sq_merge.specs.declared.tried.TriedItem.{TriedItem}
 use Rattle.sq_audit.specs.HomeIds.{history_of, histories_of, home_id}
-use Rattle.sq_merge.specs.Worlds.{IsKnown, IsKeptWorld, HomeStepped, DirectoryStepped, having_read}
+use Rattle.sq_merge.specs.Worlds.{IsKnown, IsKeptWorld, HomeStepped, SharedStepped, DirectoryStepped, having_read, having_peeked}
 use Rattle.sq_directory.proofs.MakerLaws.{seen_below}
 use Rattle.sq_directory.proofs.ElementLaws.{get_old, get_new, get_cases, get_map, get_mapped, get_same, set_cases, set_kept}
 use Rattle.sq_steps.proofs.JournalListLaws.{journal_there, journal_own, put_cases, put_there, put_kept, put_distinct}
@@ -38,13 +46,14 @@ named_grows : (ds ds2 : List DirectoryEvent) (n : HomeRecordValue) (name : Optio
 named_grows ds ds2 n None grow h = tt
 named_grows ds ds2 n (Some name) grow h = (h.0, h.1, grow h.0 h.1 h.2, h.3, h.4)
 
-its_event_stays : (ds ds2 : List DirectoryEvent) (hs hs2 : List HomeHistory) (actor : ℕ) (n : RecordValue)
+its_event_stays : (ds ds2 : List DirectoryEvent) (ls ls2 : List LedgerEvent) (hs hs2 : List HomeHistory) (actor : ℕ) (n : RecordValue)
     → ((k : ℕ) (e : DirectoryEvent) → slice_get ds k ≡ Some e → slice_get ds2 k ≡ Some e)
+    → ((k : ℕ) (e : LedgerEvent) → slice_get ls k ≡ Some e → slice_get ls2 k ≡ Some e)
     → ((j : ℕ) (h : HomeHistory) → slice_get hs j ≡ Some h → Grown hs2 j h)
-    → HasItsEvent ds nothing_moved hs actor n → HasItsEvent ds2 nothing_moved hs2 actor n
-its_event_stays ds ds2 hs hs2 actor (OfDirectory n) grow grown h = (h.0, grow n.index h.0 h.1, h.2, h.3)
-its_event_stays ds ds2 hs hs2 actor (OfLedger n) grow grown h = h
-its_event_stays ds ds2 hs hs2 actor (OfHome n) grow grown h =
+    → HasItsEvent ds ls hs actor n → HasItsEvent ds2 ls2 hs2 actor n
+its_event_stays ds ds2 ls ls2 hs hs2 actor (OfDirectory n) grow more grown h = (h.0, grow n.index h.0 h.1, h.2, h.3)
+its_event_stays ds ds2 ls ls2 hs hs2 actor (OfLedger n) grow more grown h = (h.0, more n.index h.0 h.1, h.2, h.3, h.4)
+its_event_stays ds ds2 ls ls2 hs hs2 actor (OfHome n) grow more grown h =
     let g = grown h.0 h.1 h.3.in_homes in
     (h.0, g.new, h.2, record { in_homes = g.in_list; in_events = g.more n.index h.2 h.3.in_events }, h.4, subst (λ (x : HomeId). n ≡ home_record_of x n.index n.name h.2) (sym g.same) h.5, named_grows ds ds2 n n.name grow h.6)
 
@@ -132,99 +141,196 @@ same_record its_record by home other len call name recorded_in same =
     (subst (λ (i : ℕ). its_record ≡ home_record_of home i its_record.name event) (sym (ap (λ (n : HomeRecordValue). n.index) recorded_in))
     (subst (λ (x : Option (List ℕ)). its_record ≡ home_record_of home len x event) (sym (ap (λ (n : HomeRecordValue). n.name) recorded_in)) recorded_in))
 
-module _ (old : WorldValue) (actor now : ℕ) (name : Option (List ℕ)) (id : HomeId) (call : HomeCall) (reply : HomeReply) (new : WorldValue) (kept : IsKeptWorld old) (known : IsKnown old.directory.events (journal_of actor old.journals) name id.queue) (s : HomeStepped old new actor now name id call reply) where
+-- One event more stands in the history of a home, and its record is what its actor keeps of it. The ledger is now this one.
+record OneMore (old : WorldValue) (actor here : ℕ) (before after : HistoryValue) (name : Option (List ℕ)) (call : HomeCall) (its_record : HomeRecordValue) (ledger : LedgerHistory) : Type 0 where
+  in_list : slice_get old.homes here ≡ Some before
+  site : after.site ≡ before.site
+  events : after.events ≡ before.events ++ new_event its_record.stamp (actor_of (journal_of actor old.journals)) before.site.home call its_record.reply ∷ []
+  record_is : its_record ≡ new_record its_record.stamp (actor_of (journal_of actor old.journals)) before.site.home (length before.events) call its_record.reply name
+  named : IsNamed old.directory.events its_record name
+  -- what stood in the ledger's history stands there, and nothing more that is its own
+  grows : (k : ℕ) (e : LedgerEvent) → slice_get old.ledger.events k ≡ Some e → slice_get ledger.events k ≡ Some e
+  own_as_before : (k : ℕ) (e : LedgerEvent) → slice_get ledger.events k ≡ Some e → is_own e.call ≡ true → slice_get old.ledger.events k ≡ Some e
+
+module _ (old : WorldValue) (actor here : ℕ) (before after : HistoryValue) (name : Option (List ℕ)) (call : HomeCall) (its_record : HomeRecordValue) (room : ℕ) (ledger : LedgerHistory) (kept : IsKeptWorld old) (s : OneMore old actor here before after name call its_record ledger) where
   abbrev by : Actor
   by = actor_of (journal_of actor old.journals)
 
   abbrev event : HomeEvent
-  event = new_event s.moves.its_record.stamp by s.before.site.home call s.moves.its_record.reply
-
-  abbrev its_record : HomeRecordValue
-  its_record = s.moves.its_record
+  event = new_event its_record.stamp by before.site.home call its_record.reply
 
   abbrev homes : List HistoryValue
-  homes = slice_set old.homes s.at s.after
+  homes = slice_set old.homes here after
 
   abbrev journals : List Journal
-  journals = put_journal (with_record (journal_of actor old.journals) (OfHome its_record) s.recorded_in.room) old.journals
+  journals = put_journal (with_record (journal_of actor old.journals) (OfHome its_record) room) old.journals
 
-  same_home : s.after.site.home ≡ s.before.site.home
-  same_home = ap (λ (x : _). x.home) s.moves.does.site
+  same_home : after.site.home ≡ before.site.home
+  same_home = ap (λ (x : _). x.home) s.site
 
   home_grown : (j : ℕ) (h : HomeHistory) → slice_get (histories_of old.homes) j ≡ Some h → Grown (histories_of homes) j h
   home_grown j h in_list =
       let t = get_mapped history_of old.homes j h in_list in
-      elim (set_kept old.homes s.at j s.before s.after t.0 s.home.in_list t.1) [
+      elim (set_kept old.homes here j before after t.0 s.in_list t.1) [
         | inl k ↦ record { new = h; in_list = rw t.2 (get_map history_of homes j t.0 k.1); same = refl; more = λ n e g. g }
         | inr k ↦ record {
-          new = history_of s.after;
-          in_list = get_map history_of homes j s.after k.2;
+          new = history_of after;
+          in_list = get_map history_of homes j after k.2;
           same = rw (t.2, k.1) same_home;
-          more = λ n e g. rw s.moves.does.events (get_old s.before.events event e n (subst (λ (x : HomeHistory). slice_get x.events n ≡ Some e) (t.2 ∙ ap history_of k.1) g));
+          more = λ n e g. rw s.events (get_old before.events event e n (subst (λ (x : HomeHistory). slice_get x.events n ≡ Some e) (t.2 ∙ ap history_of k.1) g));
         }
       ]
 
-  new_has_event : HasItsEvent old.directory.events nothing_moved (histories_of homes) actor (OfHome its_record)
+  new_has_event : HasItsEvent old.directory.events ledger.events (histories_of homes) actor (OfHome its_record)
   new_has_event = (
-    s.at,
-    history_of s.after,
+    here,
+    history_of after,
     event,
     record {
-      in_homes = get_map history_of homes s.at s.after (get_same old.homes s.at s.before s.after s.home.in_list);
-      in_events = subst (λ (es : List HomeEvent). slice_get es its_record.index ≡ Some event) (sym s.moves.does.events)
-          (subst (λ (k : ℕ). slice_get (s.before.events ++ event ∷ []) k ≡ Some event) (sym (ap (λ (n : HomeRecordValue). n.index) s.moves.does.record_is)) (get_new s.before.events event));
+      in_homes = get_map history_of homes here after (get_same old.homes here before after s.in_list);
+      in_events = subst (λ (es : List HomeEvent). slice_get es its_record.index ≡ Some event) (sym s.events)
+          (subst (λ (k : ℕ). slice_get (before.events ++ event ∷ []) k ≡ Some event) (sym (ap (λ (n : HomeRecordValue). n.index) s.record_is)) (get_new before.events event));
     },
     journal_own actor old.journals,
-    same_record its_record by s.before.site.home s.after.site.home (length s.before.events) call name s.moves.does.record_is same_home,
-    subst (λ (x : Option (List ℕ)). IsNamed old.directory.events its_record x) (sym (ap (λ (n : HomeRecordValue). n.name) s.moves.does.record_is))
-        (named_by old.directory.events (journal_of actor old.journals) its_record name (after_above_second s.before.last (journal_of actor old.journals).seen now its_record.stamp s.moves.does.stamped)
-        (subst (λ (q : ℕ). IsKnown old.directory.events (journal_of actor old.journals) name q) (sym (ap (λ (n : HomeRecordValue). n.home.queue) s.moves.does.record_is ∙ ap (λ (x : HomeId). x.queue) s.home.has_id)) known)),
+    same_record its_record by before.site.home after.site.home (length before.events) call name s.record_is same_home,
+    subst (λ (x : Option (List ℕ)). IsNamed old.directory.events its_record x) (sym (ap (λ (n : HomeRecordValue). n.name) s.record_is)) s.named,
   )
 
-  all_have_events : (b i : ℕ) (journal : Journal) (n : RecordValue) → IsRecordAt journals b i journal n → HasItsEvent old.directory.events nothing_moved (histories_of homes) journal.actor n
-  all_have_events b i journal n h = elim (old_or_new old.journals actor (OfHome its_record) s.recorded_in.room b i journal n h) [
-    | inl was ↦ subst (λ (a : ℕ). HasItsEvent old.directory.events nothing_moved (histories_of homes) a n) was.own
-        (its_event_stays old.directory.events old.directory.events (histories_of old.homes) (histories_of homes) was.journal.actor n (λ k e g. g) home_grown (kept.has_its_event was.at i was.journal n was.in_list))
-    | inr new ↦ subst (λ (a : ℕ). HasItsEvent old.directory.events nothing_moved (histories_of homes) a n) (sym new.0) (subst (λ (m : RecordValue). HasItsEvent old.directory.events nothing_moved (histories_of homes) actor m) (sym new.2) new_has_event)
+  all_have_events : (b i : ℕ) (journal : Journal) (n : RecordValue) → IsRecordAt journals b i journal n → HasItsEvent old.directory.events ledger.events (histories_of homes) journal.actor n
+  all_have_events b i journal n h = elim (old_or_new old.journals actor (OfHome its_record) room b i journal n h) [
+    | inl was ↦ subst (λ (a : ℕ). HasItsEvent old.directory.events ledger.events (histories_of homes) a n) was.own
+        (its_event_stays old.directory.events old.directory.events old.ledger.events ledger.events (histories_of old.homes) (histories_of homes) was.journal.actor n (λ k e g. g) s.grows home_grown (kept.has_its_event was.at i was.journal n was.in_list))
+    | inr new ↦ subst (λ (a : ℕ). HasItsEvent old.directory.events ledger.events (histories_of homes) a n) (sym new.0) (subst (λ (m : RecordValue). HasItsEvent old.directory.events ledger.events (histories_of homes) actor m) (sym new.2) new_has_event)
   ]
 
   stays : (a : ℕ) (P : RecordValue → Type 0) → IsRecorded old.journals a P → IsRecorded journals a P
-  stays a P h = recorded_kept old.journals actor (with_record (journal_of actor old.journals) (OfHome its_record) s.recorded_in.room) a P (journal_own actor old.journals) (λ i m g. get_old (journal_of actor old.journals).records (OfHome its_record) m i g) h
+  stays a P h = recorded_kept old.journals actor (with_record (journal_of actor old.journals) (OfHome its_record) room) a P (journal_own actor old.journals) (λ i m g. get_old (journal_of actor old.journals).records (OfHome its_record) m i g) h
 
-  of_after : (k : ℕ) (e : HomeEvent) → slice_get s.after.events k ≡ Some e → IsRecorded journals e.actor (IsOfHome s.after.site.home k e)
-  of_after k e h = elim (get_cases s.before.events event e k (rw s.moves.does.events at h)) [
-    | inl g ↦ subst (λ (x : HomeId). IsRecorded journals e.actor (IsOfHome x k e)) (sym same_home) (stays e.actor (IsOfHome s.before.site.home k e) (kept.homes_recorded s.at k (history_of s.before) e (record { in_homes = get_map history_of old.homes s.at s.before s.home.in_list; in_events = g })))
+  of_after : (k : ℕ) (e : HomeEvent) → slice_get after.events k ≡ Some e → IsRecorded journals e.actor (IsOfHome after.site.home k e)
+  of_after k e h = elim (get_cases before.events event e k (rw s.events at h)) [
+    | inl g ↦ subst (λ (x : HomeId). IsRecorded journals e.actor (IsOfHome x k e)) (sym same_home) (stays e.actor (IsOfHome before.site.home k e) (kept.homes_recorded here k (history_of before) e (record { in_homes = get_map history_of old.homes here before s.in_list; in_events = g })))
     | inr g ↦ (
-        let index : its_record.index ≡ k = ap (λ (n : HomeRecordValue). n.index) s.moves.does.record_is ∙ sym g.0 in
-        let is : IsOfHome s.after.site.home k event (OfHome its_record) = (its_record.name, ap OfHome (subst (λ (x : ℕ). its_record ≡ home_record_of s.after.site.home x its_record.name event) index (same_record its_record by s.before.site.home s.after.site.home (length s.before.events) call name s.moves.does.record_is same_home))) in
-        subst (λ (x : HomeEvent). IsRecorded journals x.actor (IsOfHome s.after.site.home k x)) (sym g.1) (subst (λ (a : ℕ). IsRecorded journals a (IsOfHome s.after.site.home k event)) (sym (journal_own actor old.journals)) (new_recorded old.journals actor (OfHome its_record) s.recorded_in.room (IsOfHome s.after.site.home k event) is)))
+        let index : its_record.index ≡ k = ap (λ (n : HomeRecordValue). n.index) s.record_is ∙ sym g.0 in
+        let is : IsOfHome after.site.home k event (OfHome its_record) = (its_record.name, ap OfHome (subst (λ (x : ℕ). its_record ≡ home_record_of after.site.home x its_record.name event) index (same_record its_record by before.site.home after.site.home (length before.events) call name s.record_is same_home))) in
+        subst (λ (x : HomeEvent). IsRecorded journals x.actor (IsOfHome after.site.home k x)) (sym g.1) (subst (λ (a : ℕ). IsRecorded journals a (IsOfHome after.site.home k event)) (sym (journal_own actor old.journals)) (new_recorded old.journals actor (OfHome its_record) room (IsOfHome after.site.home k event) is)))
   ]
 
   all_recorded : (j k : ℕ) (h : HomeHistory) (e : HomeEvent) → IsHomeEvent (histories_of homes) j k h e → IsRecorded journals e.actor (IsOfHome h.home k e)
   all_recorded j k h e at =
       let t = get_mapped history_of homes j h at.in_homes in
       let in_events : slice_get t.0.events k ≡ Some e = subst (λ (x : HomeHistory). slice_get x.events k ≡ Some e) t.2 at.in_events in
-      elim (set_cases old.homes s.at j s.before s.after t.0 s.home.in_list t.1) [
+      elim (set_cases old.homes here j before after t.0 s.in_list t.1) [
         | inl g ↦ rw t.2 (stays e.actor (IsOfHome t.0.site.home k e) (kept.homes_recorded j k (history_of t.0) e (record { in_homes = get_map history_of old.homes j t.0 g.1; in_events = in_events })))
         | inr g ↦ rw (t.2, g.1) (of_after k e (rw g.1 at in_events))
       ]
 
   numbered : (at : ℕ) (h : HistoryValue) → slice_get homes at ≡ Some h → h.site.home ≡ home_id old.per_queue at
-  numbered at h in_list = elim (set_cases old.homes s.at at s.before s.after h s.home.in_list in_list) [
+  numbered at h in_list = elim (set_cases old.homes here at before after h s.in_list in_list) [
     | inl g ↦ kept.numbered at h g.1
-    | inr g ↦ rw (g.1, ← g.0) (same_home ∙ kept.numbered s.at s.before s.home.in_list)
+    | inr g ↦ rw (g.1, ← g.0) (same_home ∙ kept.numbered here before s.in_list)
   ]
 
-  pub kept_home : IsKeptWorld new
-  kept_home = rw (s.changed, s.moves.recorded_as) (record {
+  -- what was shared has its partner as before
+  partner_stays : (e : LedgerEvent) → InHome (histories_of old.homes) e → InHome (histories_of homes) e
+  partner_stays e h =
+      let g = home_grown h.0 h.2 h.4.in_homes in
+      (h.0, h.1, g.new, h.3, record { in_homes = g.in_list; in_events = g.more h.1 h.3 h.4.in_events }, h.5, h.6 ∙ ap (λ (x : HomeId). as_ledger x h.3) (sym g.same))
+
+  entry_stays : (home : HomeId) (e : HomeEvent) → InLedger old.ledger.events home e → InLedger ledger.events home e
+  entry_stays home e h = (h.0, s.grows h.0 (as_ledger home e) h.1)
+
+  -- where the new event is shared, it stands in the ledger's history, and else nothing new does
+  pairs : (is_alone call ≡ false → InLedger ledger.events before.site.home event) → ((k : ℕ) (e : LedgerEvent) → slice_get ledger.events k ≡ Some e → (slice_get old.ledger.events k ≡ Some e) ⊎ (is_own e.call ≡ false → InHome (histories_of homes) e)) → IsPaired ledger.events (histories_of homes)
+  pairs entered known = record {
+    in_ledger = λ j k h e there shared. (
+        let t = get_mapped history_of homes j h there.in_homes in
+        let in_events : slice_get t.0.events k ≡ Some e = subst (λ (x : HomeHistory). slice_get x.events k ≡ Some e) t.2 there.in_events in
+        elim (set_cases old.homes here j before after t.0 s.in_list t.1) [
+          | inl g ↦ rw t.2 (entry_stays t.0.site.home e (kept.paired.in_ledger j k (history_of t.0) e (record { in_homes = get_map history_of old.homes j t.0 g.1; in_events = in_events }) shared))
+          | inr g ↦ rw (t.2, g.1, same_home) (elim (get_cases before.events event e k (rw s.events at (rw g.1 at in_events))) [
+            | inl was ↦ entry_stays before.site.home e (kept.paired.in_ledger here k (history_of before) e (record { in_homes = get_map history_of old.homes here before s.in_list; in_events = was }) shared)
+            | inr new ↦ rw new.1 (entered (subst (λ (x : HomeEvent). is_alone x.call ≡ false) new.1 shared))
+          ])
+        ]);
+    in_home = λ k e there shared. elim (known k e there) [ inl was ↦ partner_stays e (kept.paired.in_home k e was shared) | inr new ↦ new shared ];
+  }
+
+  -- the new event stands there
+  event_there : IsHomeEvent (histories_of homes) here (length before.events) (history_of after) event
+  event_there = record {
+    in_homes = get_map history_of homes here after (get_same old.homes here before after s.in_list);
+    in_events = subst (λ (es : List HomeEvent). slice_get es (length before.events) ≡ Some event) (sym s.events) (get_new before.events event);
+  }
+
+  kept_with : IsPaired ledger.events (histories_of homes) → IsKeptWorld (record old { ledger = ledger; homes = homes; journals = journals })
+  kept_with paired = record {
     numbered = numbered;
     has_its_event = all_have_events;
     directory_recorded = λ k e h. stays e.actor (IsOfDirectory k e) (kept.directory_recorded k e h);
+    ledger_recorded = λ k e h own. stays e.actor (IsOfLedger k e) (kept.ledger_recorded k e (s.own_as_before k e h own) own);
     homes_recorded = all_recorded;
-    exact = exact_more old actor (OfHome its_record) s.recorded_in.room kept (ap (λ (n : HomeRecordValue). n.place) s.moves.does.record_is);
-    counted = counted_more old actor (OfHome its_record) s.recorded_in.room kept;
-    distinct = put_distinct (with_record (journal_of actor old.journals) (OfHome its_record) s.recorded_in.room) old.journals kept.distinct;
-  })
+    exact = exact_more old actor (OfHome its_record) room kept (ap (λ (n : HomeRecordValue). n.place) s.record_is);
+    counted = counted_more old actor (OfHome its_record) room kept;
+    distinct = put_distinct (with_record (journal_of actor old.journals) (OfHome its_record) room) old.journals kept.distinct;
+    paired = paired;
+  }
+
+-- the record of a step of a home by a name that its actor knows
+named_at : (old : WorldValue) (actor : ℕ) (name : Option (List ℕ)) (id home : HomeId) (its_record : HomeRecordValue) → Below (journal_of actor old.journals).seen its_record.stamp → IsKnown old.directory.events (journal_of actor old.journals) name id.queue
+    → its_record.home ≡ home → home ≡ id → IsNamed old.directory.events its_record name
+named_at old actor name id home its_record above known of_home has_id =
+    named_by old.directory.events (journal_of actor old.journals) its_record name above
+    (subst (λ (q : ℕ). IsKnown old.directory.events (journal_of actor old.journals) name q) (sym (ap (λ (x : HomeId). x.queue) (of_home ∙ has_id))) known)
+
+acts_are_alone : (act : HomeAct) → is_alone (call_of act) ≡ true
+acts_are_alone Close = refl
+acts_are_alone act = refl
+
+-- a step of a home alone
+pub kept_home : (old : WorldValue) (actor now : ℕ) (name : Option (List ℕ)) (id : HomeId) (act : HomeAct) (reply : HomeReply) (new : WorldValue) → IsKeptWorld old → IsKnown old.directory.events (journal_of actor old.journals) name id.queue
+    → HomeStepped old new actor now name id (call_of act) reply → IsKeptWorld new
+kept_home old actor now name id act reply new kept known s =
+    let its_record = s.moves.its_record in
+    let does = s.moves.does in
+    let above = after_above_second s.before.last (journal_of actor old.journals).seen now its_record.stamp does.stamped in
+    let more : OneMore old actor s.at s.before s.after name (call_of act) its_record old.ledger = record {
+      in_list = s.home.in_list;
+      site = does.site;
+      events = does.events;
+      record_is = does.record_is;
+      named = named_at old actor name id s.before.site.home its_record above known (ap (λ (n : HomeRecordValue). n.home) does.record_is) s.home.has_id;
+      grows = λ k e h. h;
+      own_as_before = λ k e h own. h;
+    } in
+    let paired = pairs old actor s.at s.before s.after name (call_of act) its_record s.recorded_in.room old.ledger kept more (λ shared. let k : true ≡ false = sym (acts_are_alone act) ∙ shared in cc) (λ k e h. inl h) in
+    rw (s.changed, s.moves.recorded_as) (kept_with old actor s.at s.before s.after name (call_of act) its_record s.recorded_in.room old.ledger kept more paired)
+
+-- a step that a home shares with the ledger
+pub kept_shared : (old : WorldValue) (actor now : ℕ) (name : Option (List ℕ)) (id : HomeId) (what : SharedAct) (reply : HomeReply) (new : WorldValue) → IsKeptWorld old → IsKnown old.directory.events (journal_of actor old.journals) name id.queue
+    → SharedStepped old new actor now name id what reply → IsKeptWorld new
+kept_shared old actor now name id what reply new kept known s =
+    let its_record = s.moves.its_record in
+    let at_home = s.moves.both.at_home in
+    let in_ledger = s.moves.both.in_ledger in
+    let entry = shared_event its_record.stamp (actor_of (journal_of actor old.journals)) s.before.site.home its_record.call its_record.reply in
+    let more : OneMore old actor s.at s.before s.after name its_record.call its_record s.ledger = record {
+      in_list = s.home.in_list;
+      site = at_home.site;
+      events = at_home.events;
+      record_is = at_home.record_is;
+      named = named_at old actor name id s.before.site.home its_record at_home.above_seen known (ap (λ (n : HomeRecordValue). n.home) at_home.record_is) s.home.has_id;
+      grows = λ k e h. rw in_ledger.events (get_old old.ledger.events entry e k h);
+      own_as_before = λ k e h own. elim (get_cases old.ledger.events entry e k (rw in_ledger.events at h)) [ inl was ↦ was | inr new ↦ (let k : false ≡ true = subst (λ (x : LedgerEvent). is_own x.call ≡ true) new.1 own in cc) ];
+    } in
+    let event = new_event its_record.stamp (actor_of (journal_of actor old.journals)) s.before.site.home its_record.call its_record.reply in
+    let entered : InLedger s.ledger.events s.before.site.home event = (length old.ledger.events, rw in_ledger.events (get_new old.ledger.events entry)) in
+    let there = event_there old actor s.at s.before s.after name its_record.call its_record s.recorded_in.room s.ledger kept more in
+    let same : s.after.site.home ≡ s.before.site.home = ap (λ (x : Site). x.home) at_home.site in
+    let partner : InHome (histories_of (slice_set old.homes s.at s.after)) entry = (s.at, length s.before.events, history_of s.after, event, there, at_home.shared, ap (λ (x : HomeId). as_ledger x event) (sym same)) in
+    let paired =
+    pairs old actor s.at s.before s.after name its_record.call its_record s.recorded_in.room s.ledger kept more (λ shared. entered)
+    (λ k e h. elim (get_cases old.ledger.events entry e k (rw in_ledger.events at h)) [ inl was ↦ inl was | inr new ↦ inr (λ shared. rw new.1 partner) ]) in
+    rw (s.changed, s.moves.recorded_as) (kept_with old actor s.at s.before s.after name its_record.call its_record s.recorded_in.room s.ledger kept more paired)
 
 module _ (old : WorldValue) (actor now : ℕ) (call : DirectoryCall) (reply : DirectoryReply) (new : WorldValue) (kept : IsKeptWorld old) (s : DirectoryStepped old new actor now call reply) where
   abbrev directed_by : Actor
@@ -255,11 +361,11 @@ module _ (old : WorldValue) (actor now : ℕ) (call : DirectoryCall) (reply : Di
   directed_there = subst (λ (es : List DirectoryEvent). slice_get es directed_record.index ≡ Some directed_event) (sym s.moves.does.events)
       (subst (λ (k : ℕ). slice_get (old.directory.events ++ directed_event ∷ []) k ≡ Some directed_event) (sym directed_index) (get_new old.directory.events directed_event))
 
-  directed_have_events : (b i : ℕ) (journal : Journal) (n : RecordValue) → IsRecordAt directed_journals b i journal n → HasItsEvent s.after.events nothing_moved (histories_of old.homes) journal.actor n
+  directed_have_events : (b i : ℕ) (journal : Journal) (n : RecordValue) → IsRecordAt directed_journals b i journal n → HasItsEvent s.after.events old.ledger.events (histories_of old.homes) journal.actor n
   directed_have_events b i journal n h = elim (old_or_new old.journals actor (OfDirectory directed_record) s.recorded_in.room b i journal n h) [
-    | inl was ↦ subst (λ (a : ℕ). HasItsEvent s.after.events nothing_moved (histories_of old.homes) a n) was.own
-        (its_event_stays old.directory.events s.after.events (histories_of old.homes) (histories_of old.homes) was.journal.actor n directed_grows (λ j h g. record { new = h; in_list = g; same = refl; more = λ k e f. f }) (kept.has_its_event was.at i was.journal n was.in_list))
-    | inr new ↦ subst (λ (a : ℕ). HasItsEvent s.after.events nothing_moved (histories_of old.homes) a n) (sym new.0) (subst (λ (m : RecordValue). HasItsEvent s.after.events nothing_moved (histories_of old.homes) actor m) (sym new.2) (directed_event, directed_there, journal_own actor old.journals, directed_is))
+    | inl was ↦ subst (λ (a : ℕ). HasItsEvent s.after.events old.ledger.events (histories_of old.homes) a n) was.own
+        (its_event_stays old.directory.events s.after.events old.ledger.events old.ledger.events (histories_of old.homes) (histories_of old.homes) was.journal.actor n directed_grows (λ k e h. h) (λ j h g. record { new = h; in_list = g; same = refl; more = λ k e f. f }) (kept.has_its_event was.at i was.journal n was.in_list))
+    | inr new ↦ subst (λ (a : ℕ). HasItsEvent s.after.events old.ledger.events (histories_of old.homes) a n) (sym new.0) (subst (λ (m : RecordValue). HasItsEvent s.after.events old.ledger.events (histories_of old.homes) actor m) (sym new.2) (directed_event, directed_there, journal_own actor old.journals, directed_is))
   ]
 
   directed_recorded : (k : ℕ) (e : DirectoryEvent) → slice_get s.after.events k ≡ Some e → IsRecorded directed_journals e.actor (IsOfDirectory k e)
@@ -276,10 +382,12 @@ module _ (old : WorldValue) (actor now : ℕ) (call : DirectoryCall) (reply : Di
     numbered = kept.numbered;
     has_its_event = directed_have_events;
     directory_recorded = directed_recorded;
+    ledger_recorded = λ k e h own. directed_stays e.actor (IsOfLedger k e) (kept.ledger_recorded k e h own);
     homes_recorded = λ j k h e at. directed_stays e.actor (IsOfHome h.home k e) (kept.homes_recorded j k h e at);
     exact = exact_more old actor (OfDirectory directed_record) s.recorded_in.room kept (ap (λ (n : DirectoryRecordValue). n.place) s.moves.does.record_is);
     counted = counted_more old actor (OfDirectory directed_record) s.recorded_in.room kept;
     distinct = put_distinct (with_record (journal_of actor old.journals) (OfDirectory directed_record) s.recorded_in.room) old.journals kept.distinct;
+    paired = kept.paired;
   })
 
 -- an actor that has read the directory has the same records
@@ -289,21 +397,44 @@ read_was journals actor stamp b i x m h = elim (put_cases (having_seen (journal_
   | inr same ↦ subst (λ (a : ℕ). WasRecord journals i a m) (sym (ap (λ (y : Journal). y.actor) same ∙ journal_own actor journals)) (was_own journals actor i m (subst (λ (y : Journal). slice_get y.records i ≡ Some m) same h.in_records))
 ]
 
-pub kept_read : (w : WorldValue) (actor : ℕ) → IsKeptWorld w → IsKeptWorld (having_read w actor)
-kept_read w actor kept =
-    let recorded_in = having_seen (journal_of actor w.journals) w.directory.last in
+-- an actor that has seen a stamp
+kept_seen : (w : WorldValue) (actor : ℕ) (stamp : StampValue) → IsKeptWorld w → IsKeptWorld (record w { journals = put_journal (having_seen (journal_of actor w.journals) stamp) w.journals })
+kept_seen w actor stamp kept =
+    let recorded_in = having_seen (journal_of actor w.journals) stamp in
     let stays = λ (a : ℕ) (P : RecordValue → Type 0) (h : IsRecorded w.journals a P). recorded_kept w.journals actor recorded_in a P (journal_own actor w.journals) (λ i m g. g) h in
     record {
       numbered = kept.numbered;
-      has_its_event = λ b i x m h. let was = read_was w.journals actor w.directory.last b i x m h in subst (λ (a : ℕ). HasItsEvent w.directory.events nothing_moved (histories_of w.homes) a m) was.own (kept.has_its_event was.at i was.journal m was.in_list);
+      has_its_event = λ b i x m h. let was = read_was w.journals actor stamp b i x m h in subst (λ (a : ℕ). HasItsEvent w.directory.events w.ledger.events (histories_of w.homes) a m) was.own (kept.has_its_event was.at i was.journal m was.in_list);
       directory_recorded = λ k e h. stays e.actor (IsOfDirectory k e) (kept.directory_recorded k e h);
+      ledger_recorded = λ k e h own. stays e.actor (IsOfLedger k e) (kept.ledger_recorded k e h own);
       homes_recorded = λ j k h e at. stays e.actor (IsOfHome h.home k e) (kept.homes_recorded j k h e at);
-      exact = λ b i x m h. let was = read_was w.journals actor w.directory.last b i x m h in kept.exact was.at i was.journal m was.in_list;
+      exact = λ b i x m h. let was = read_was w.journals actor stamp b i x m h in kept.exact was.at i was.journal m was.in_list;
       counted = λ b x h. elim (put_cases recorded_in w.journals b x h) [ inl k ↦ kept.counted b x k | inr same ↦ rw same (journal_counted w.journals actor kept.counted) ];
       distinct = put_distinct recorded_in w.journals kept.distinct;
+      paired = kept.paired;
     }
 
+pub kept_read : (w : WorldValue) (actor : ℕ) → IsKeptWorld w → IsKeptWorld (having_read w actor)
+kept_read w actor kept = kept_seen w actor w.directory.last kept
+
+pub kept_peeked : (w : WorldValue) (actor : ℕ) → IsKeptWorld w → IsKeptWorld (having_peeked w actor)
+kept_peeked w actor kept = kept_seen w actor w.ledger.last kept
+
+-- which item an actor tried last is no record and no event
+pub kept_tried : (w : WorldValue) (tried : List TriedItem) → IsKeptWorld w → IsKeptWorld (record w { tried = tried })
+kept_tried w tried kept = record {
+  numbered = kept.numbered;
+  has_its_event = kept.has_its_event;
+  directory_recorded = kept.directory_recorded;
+  ledger_recorded = kept.ledger_recorded;
+  homes_recorded = kept.homes_recorded;
+  exact = kept.exact;
+  counted = kept.counted;
+  distinct = kept.distinct;
+  paired = kept.paired;
+}
+
 -- what a world leaves is matched
-pub kept_matched : (w : WorldValue) → IsKeptWorld w → IsMatched w.directory.events nothing_moved (histories_of w.homes) w.journals
+pub kept_matched : (w : WorldValue) → IsKeptWorld w → IsMatched w.directory.events w.ledger.events (histories_of w.homes) w.journals
 kept_matched w kept =
-    fits_match w.directory.events (histories_of w.homes) w.journals kept.distinct (λ b i journal n h. (kept.exact b i journal n h, kept.has_its_event b i journal n h)) kept.directory_recorded kept.homes_recorded
+    fits_match w.directory.events w.ledger.events (histories_of w.homes) w.journals kept.distinct (λ b i journal n h. (kept.exact b i journal n h, kept.has_its_event b i journal n h)) kept.directory_recorded kept.ledger_recorded kept.homes_recorded

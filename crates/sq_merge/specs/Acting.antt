@@ -3,9 +3,10 @@ use Rattle.std.specs.Prelude.{◌≡◌, ℕ, Some, Result, Ok, Err}
 use Rattle.sq_base.specs.declared.refusal.Refusal.{Refusal}
 use Rattle.sq_model.specs.Directories.{number_named}
 use Rattle.sq_history.specs.Acts.{call_of}
-use Rattle.sq_merge.specs.Asks.{Ask, Resolve, Directed, AtHome, Gave, Found, Answered, Replied, HomeCounts}
+use Rattle.sq_steps.specs.SharedSteps.{asked_as}
+use Rattle.sq_merge.specs.Asks.{Ask, Resolve, Directed, AtHome, Moving, Next, Gave, Found, Answered, Replied, Nothing, Peeked, HomeCounts}
 use Rattle.sq_merge.specs.WorldValue.{WorldValue}
-use Rattle.sq_merge.specs.Worlds.{HomeStepped, HomeRefused, DirectoryStepped, DirectoryRefused, NameRefused, having_read}
+use Rattle.sq_merge.specs.Worlds.{HomeStepped, HomeRefused, DirectoryStepped, DirectoryRefused, NameRefused, having_read, SharedStepped, NothingLeaves, SharedRefused, having_tried, next_tried, NextRefused}
 
 abbrev pub counts_of : WorldValue → HomeCounts
 counts_of w = record { homes = w.per_queue; sample = w.sample }
@@ -15,6 +16,9 @@ abbrev pub ActorDoes : ℕ → ℕ → WorldValue → Ask → Gave → WorldValu
 ActorDoes actor now w (Resolve name) (Found queue) t = (number_named name w.directory.directory.queues ≡ Some queue) × (t ≡ having_read w actor)
 ActorDoes actor now w (Directed call) (Answered reply) t = DirectoryStepped w t actor now call reply
 ActorDoes actor now w (AtHome name id act) (Replied reply) t = HomeStepped w t actor now (Some name) id (call_of act) reply
+ActorDoes actor now w (Moving name id what) (Replied reply) t = SharedStepped w t actor now name id (asked_as what) reply
+ActorDoes actor now w (Moving name id what) Nothing t = NothingLeaves w t actor now id (asked_as what)
+ActorDoes actor now w Next (Peeked next) t = (next ≡ next_tried w actor) × (t ≡ having_tried w actor next)
 ActorDoes actor now w ask gave t = ⊥
 
 -- why one is refused
@@ -22,6 +26,8 @@ abbrev pub ActorRefused : ℕ → ℕ → WorldValue → Ask → Refusal → Typ
 ActorRefused actor now w (Resolve name) e = NameRefused w actor name e
 ActorRefused actor now w (Directed call) e = DirectoryRefused w actor now call e
 ActorRefused actor now w (AtHome name id act) e = HomeRefused w actor now id (call_of act) e
+ActorRefused actor now w (Moving name id what) e = SharedRefused w actor now id (asked_as what) e
+ActorRefused actor now w Next e = NextRefused w actor e
 
 -- One step of a call by an actor at a clock reading; what is refused changes nothing.
 abbrev pub ActorStepped : ℕ → ℕ → WorldValue → Ask → Result Gave Refusal → WorldValue → Type 0

@@ -1,15 +1,22 @@
 -- A step of a call leaves its record with its actor, and no others.
-use Rattle.std.specs.Prelude.{◌≡◌, ℕ, List, Result, Ok, Err}
+use Rattle.std.specs.Prelude.{◌≡◌, ℕ, List, Some, None, Result, Ok, Err}
 use Rattle.std.proofs.Common.{◌∙◌, refl, ap, sym, subst}
 use Rattle.sq_base.specs.declared.refusal.Refusal.{Refusal}
 use Rattle.sq_base.specs.Stamps.{Below}
 use Rattle.sq_base.proofs.StampLaws.{after_above_second}
 use Rattle.sq_model.specs.RecordValues.{HomeRecordValue, DirectoryRecordValue, Journal, OfDirectory, OfHome, RecordValue, place_of_record, stamp_of}
+use Rattle.sq_model.specs.declared.calls.HomeCall.{HomeCall}
+use Rattle.sq_model.specs.Ledgers.{Ledger}
+use Rattle.sq_model.specs.Shared.{IsCallOf}
+use Rattle.sq_laws.proofs.LedgerLists.{found_number}
 use Rattle.sq_history.specs.Rooms.{KeepsRoom}
 use Rattle.sq_steps.specs.Journals.{journal_of, put_journal, having_seen, with_record}
+use Rattle.sq_steps.specs.SharedSteps.{asked_as}
+use Rattle.sq_steps.specs.declared.act.Move.{Move}
+use Rattle.sq_steps.specs.declared.act.Move.TheVariants as move
 use Rattle.sq_steps.proofs.JournalListLaws.{journal_own, journal_put}
 use Rattle.sq_merge.specs.Acting.{ActorDoes, ActorStepped}
-use Rattle.sq_merge.specs.Asks.{Ask, Resolve, Directed, AtHome, Gave, Found, Answered, Replied, IsNext, LeavesOf}
+use Rattle.sq_merge.specs.Asks.{Ask, Resolve, Directed, AtHome, Moving, Next, Gave, Found, Answered, Replied, Nothing, Peeked, IsCallFor, IsNext, LeavesOf}
 use Rattle.sq_merge.specs.WorldValue.{WorldValue}
 
 -- what an actor has after a change is the change
@@ -23,6 +30,14 @@ next_is actor s t n b place above more room journals =
     let own : b.actor ≡ actor = ap (λ (x : Journal). x.actor) more ∙ journal_own actor s.journals in
     let after = mine_is actor s t b own journals in
     (place, above, subst (λ (x : Journal). x ≡ with_record (journal_of actor s.journals) n x.room) (sym after) more, subst (λ (x : Journal). KeepsRoom (journal_of actor s.journals).room x.room) (sym after) room)
+
+-- the call of a step of both has the item that was asked
+call_is : (l : Ledger) (what : Move) (call : HomeCall) → IsCallOf l (asked_as what) call → IsCallFor what call
+call_is l move.LeaveDead call h = h
+call_is l (move.Enter number) call h = (h.0, found_number (λ i. i.number) number l.items h.0 h.1, h.2)
+call_is l (move.TurnBack number) call h = (h.0, found_number (λ i. i.number) number l.items h.0 h.1, h.2)
+call_is l (move.GiveBack number) call h = (h.0, found_number (λ i. i.number) number l.items h.0 h.1, h.2)
+call_is l (move.GiveUp number) call h = (h.0, found_number (λ i. i.number) number l.items h.0 h.1, h.2)
 
 does_leaves : (actor now : ℕ) (s t : WorldValue) (ask : Ask) (gave : Gave) → ActorDoes actor now s ask gave t → LeavesOf ask (Ok gave) (journal_of actor s.journals) (journal_of actor t.journals)
 does_leaves actor now s t (Resolve name) (Found queue) h =
@@ -51,6 +66,24 @@ does_leaves actor now s t (AtHome name id act) (Replied reply) h = (
   next_is actor s t (OfHome h.moves.its_record) h.recorded_in (ap (λ (m : HomeRecordValue). m.place) h.moves.does.record_is)
       (after_above_second h.before.last (journal_of actor s.journals).seen now h.moves.its_record.stamp h.moves.does.stamped) h.moves.recorded_as h.moves.room (ap (λ (v : WorldValue). v.journals) h.changed),
 )
+does_leaves actor now s t (Moving name id what) (Replied reply) h = (
+  OfHome h.moves.its_record,
+  record {
+    its_record = h.moves.its_record;
+    value = refl;
+    at = ap (λ (m : HomeRecordValue). m.home) h.moves.both.at_home.record_is ∙ h.home.has_id;
+    asked = call_is s.ledger.ledger what h.moves.its_record.call h.moves.both.asked;
+    replied = h.moves.both.answered;
+    by_name = ap (λ (m : HomeRecordValue). m.name) h.moves.both.at_home.record_is;
+  },
+  next_is actor s t (OfHome h.moves.its_record) h.recorded_in (ap (λ (m : HomeRecordValue). m.place) h.moves.both.at_home.record_is)
+      h.moves.both.at_home.above_seen h.moves.recorded_as h.moves.room (ap (λ (v : WorldValue). v.journals) h.changed),
+)
+does_leaves actor now s t (Moving name id what) Nothing h = ap (λ (v : WorldValue). journal_of actor v.journals) h.unchanged
+does_leaves actor now s t Next (Peeked None) h =
+    (s.ledger.last, mine_is actor s t (having_seen (journal_of actor s.journals) s.ledger.last) (journal_own actor s.journals) (ap (λ (v : WorldValue). v.journals) h.1))
+does_leaves actor now s t Next (Peeked (Some next)) h =
+    (s.ledger.last, mine_is actor s t (having_seen (journal_of actor s.journals) s.ledger.last) (journal_own actor s.journals) (ap (λ (v : WorldValue). v.journals) h.1))
 does_leaves actor now s t ask gave h = elim h [ ]
 
 pub actor_leaves : (actor now : ℕ) (s t : WorldValue) (ask : Ask) (answered : Result Gave Refusal) → ActorStepped actor now s ask answered t → LeavesOf ask answered (journal_of actor s.journals) (journal_of actor t.journals)
@@ -58,3 +91,5 @@ actor_leaves actor now s t ask (Ok gave) h = does_leaves actor now s t ask gave 
 actor_leaves actor now s t (Resolve name) (Err e) h = ap (λ (v : WorldValue). journal_of actor v.journals) h.1
 actor_leaves actor now s t (Directed call) (Err e) h = ap (λ (v : WorldValue). journal_of actor v.journals) h.1
 actor_leaves actor now s t (AtHome name id act) (Err e) h = ap (λ (v : WorldValue). journal_of actor v.journals) h.1
+actor_leaves actor now s t (Moving name id what) (Err e) h = ap (λ (v : WorldValue). journal_of actor v.journals) h.1
+actor_leaves actor now s t Next (Err e) h = ap (λ (v : WorldValue). journal_of actor v.journals) h.1

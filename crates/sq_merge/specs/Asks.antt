@@ -1,17 +1,20 @@
 -- What the steps of calls ask, their replies, and the records that they leave with their actor.
-use Rattle.std.specs.Prelude.{◌≡◌, ◌⊎◌, ℕ, ◌+◌, List, [], ◌∷◌, ◌++◌, length, Some, Result, Ok, Err}
+use Rattle.std.specs.Prelude.{◌≡◌, ◌⊎◌, ℕ, ◌+◌, List, [], ◌∷◌, ◌++◌, length, Option, Some, None, Result, Ok, Err}
 use Rattle.std.specs.List.{All}
 use Rattle.sq_base.specs.StampValue.{StampValue}
 use Rattle.sq_base.specs.Stamps.{Below}
 use Rattle.sq_base.specs.declared.ids.HomeId.{HomeId}
 use Rattle.sq_base.specs.declared.refusal.Refusal.{Refusal}
-use Rattle.sq_base.specs.declared.refusal.Refusal.TheVariants.{NoMemory, ClockRange, Worn, InvalidAttributeValue, InvalidParameterValue, PurgeQueueInProgress, QueueDeletedRecently, QueueDoesNotExist, QueueNameExists, OverLimit, ReceiptHandleIsInvalid, MessageNotInflight, TableFull}
+use Rattle.sq_base.specs.declared.refusal.Refusal.TheVariants.{NoMemory, ClockRange, Worn, InvalidAttributeValue, InvalidParameterValue, PurgeQueueInProgress, QueueDeletedRecently, QueueDoesNotExist, QueueNameExists, OverLimit, ReceiptHandleIsInvalid, MessageNotInflight, TableFull, UnsupportedOperation}
 use Rattle.sq_model.specs.declared.directory.DirectoryCall.{DirectoryCall}
 use Rattle.sq_model.specs.declared.directory.DirectoryCall.TheVariants as asks
 use Rattle.sq_model.specs.declared.directory.DirectoryReply.{DirectoryReply}
 use Rattle.sq_model.specs.declared.directory.DirectoryReply.TheVariants as answers
 use Rattle.sq_model.specs.declared.replies.HomeReply.{HomeReply}
 use Rattle.sq_model.specs.declared.replies.HomeReply.TheVariants as reply
+use Rattle.sq_model.specs.declared.calls.HomeCall.{HomeCall}
+use Rattle.sq_model.specs.declared.calls.HomeCall.TheVariants as at_home
+use Rattle.sq_model.specs.declared.item.Item.{Item}
 use Rattle.sq_model.specs.RecordValues.{HomeRecordValue, DirectoryRecordValue, RecordValue, OfDirectory, OfHome, place_of_record, stamp_of, Journal}
 use Rattle.sq_history.specs.declared.act.HomeAct.{HomeAct}
 use Rattle.sq_history.specs.declared.act.HomeAct.TheVariants as act
@@ -19,20 +22,28 @@ use Rattle.sq_history.specs.Acts.{call_of}
 use Rattle.sq_directory.specs.Makers.{IsSeen}
 use Rattle.sq_history.specs.Rooms.{KeepsRoom}
 use Rattle.sq_steps.specs.Journals.{having_seen, with_record}
+use Rattle.sq_steps.specs.declared.act.Move.{Move}
+use Rattle.sq_steps.specs.declared.act.Move.TheVariants as move
+use Rattle.sq_steps.specs.declared.act.NextItem.{NextItem}
 use Rattle.sq_model.specs.declared.task.NamedQueue.{NamedQueue}
 use Rattle.sq_calls.specs.ReceivedValue.{AreReceived}
 
--- What a step asks: the number of the queue of a name, which is a read; a step of the directory; a step of a home, by the queue's name that was used.
+-- What a step asks: the number of the queue of a name, which is a read; a step of the directory; a step of a home, by the queue's name that was used; a step that a home shares
+-- with the ledger, by the name that was used, if any; which item in transit is tried next, which is a read.
 pub data Ask : Type 0 where
   Resolve : (name : List ℕ) → Ask
   Directed : (call : DirectoryCall) → Ask
   AtHome : (name : List ℕ) (home : HomeId) (act : HomeAct) → Ask
+  Moving : (name : Option (List ℕ)) (home : HomeId) (what : Move) → Ask
+  Next : Ask
 
 -- what it is answered where it is not refused
 pub data Gave : Type 0 where
   Found : (queue : ℕ) → Gave
   Answered : (reply : DirectoryReply) → Gave
   Replied : (reply : HomeReply) → Gave
+  Nothing : Gave
+  Peeked : (next : Option NextItem) → Gave
 
 abbrev pub found_of : Result NamedQueue Refusal → Result Gave Refusal
 found_of (Ok of) = Ok (Found of.number)
@@ -45,6 +56,16 @@ answered_of (Err e) = Err e
 abbrev pub replied_of : Result HomeReply Refusal → Result Gave Refusal
 replied_of (Ok reply) = Ok (Replied reply)
 replied_of (Err e) = Err e
+
+-- nothing was there to leave, or the reply of both
+abbrev pub moved_of : Result (Option HomeReply) Refusal → Result Gave Refusal
+moved_of (Ok (Some reply)) = Ok (Replied reply)
+moved_of (Ok None) = Ok Nothing
+moved_of (Err e) = Err e
+
+abbrev pub peeked_of : Result (Option NextItem) Refusal → Result Gave Refusal
+peeked_of (Ok next) = Ok (Peeked next)
+peeked_of (Err e) = Err e
 
 -- a step that was asked, and what was answered; what is refused is no step of the system, and is asked all the same
 pub record Done : Type 0 where
@@ -107,11 +128,25 @@ IsOfDirectory (asks.List prefix) e = ⊥
 IsOfDirectory (asks.Sources name) e = e ≡ QueueDoesNotExist
 IsOfDirectory (asks.Read name) e = e ≡ QueueDoesNotExist
 
+-- and what may refuse this step of a home and the ledger
+abbrev pub IsOfMove : Move → Refusal → Type 0
+IsOfMove move.LeaveDead e = e ≡ OverLimit
+IsOfMove (move.Enter number) e = (e ≡ OverLimit) ⊎ (e ≡ UnsupportedOperation)
+IsOfMove (move.TurnBack number) e = e ≡ UnsupportedOperation
+IsOfMove (move.GiveBack number) e = (e ≡ OverLimit) ⊎ (e ≡ UnsupportedOperation)
+IsOfMove (move.GiveUp number) e = e ≡ UnsupportedOperation
+
+-- what may refuse a step of a home and the ledger
+abbrev pub MayRefuseMove : Move → Refusal → Type 0
+MayRefuseMove what e = IsOfAnyStep e ⊎ (e ≡ QueueDoesNotExist) ⊎ IsOfMove what e
+
 -- what may refuse a step
 abbrev pub MayRefuse : Ask → Refusal → Type 0
 MayRefuse (Resolve name) e = (e ≡ QueueDoesNotExist) ⊎ (e ≡ NoMemory)
 MayRefuse (Directed call) e = IsOfAnyStep e ⊎ IsOfDirectory call e
 MayRefuse (AtHome name home act) e = IsOfAnyStep e ⊎ (e ≡ QueueDoesNotExist) ⊎ IsOfAct act e
+MayRefuse (Moving name home what) e = MayRefuseMove what e
+MayRefuse Next e = e ≡ NoMemory
 
 -- a record of a step of the directory
 pub record IsDirectoryRecord (call : DirectoryCall) (answered : DirectoryReply) (n : RecordValue) : Type 0 where
@@ -129,11 +164,31 @@ pub record IsHomeRecord (name : List ℕ) (home : HomeId) (act : HomeAct) (answe
   pub replied : its_record.reply ≡ answered
   pub by_name : its_record.name ≡ Some name
 
--- the records of a step that was done: its own, and none of a read
+-- the call of a step of a home and the ledger: with the item of this number
+abbrev pub IsCallFor : Move → HomeCall → Type 0
+IsCallFor move.LeaveDead call = call ≡ at_home.LeaveDead
+IsCallFor (move.Enter number) call = (item : Item) × (item.number ≡ number) × (call ≡ at_home.Enter item)
+IsCallFor (move.TurnBack number) call = (item : Item) × (item.number ≡ number) × (call ≡ at_home.TurnBack item)
+IsCallFor (move.GiveBack number) call = (item : Item) × (item.number ≡ number) × (call ≡ at_home.GiveBack item)
+IsCallFor (move.GiveUp number) call = (item : Item) × (item.number ≡ number) × (call ≡ at_home.GiveUp item)
+
+-- a record of a step of a home and the ledger, by the name that was used; it is the home's
+pub record IsMoveRecord (name : Option (List ℕ)) (home : HomeId) (what : Move) (answered : HomeReply) (n : RecordValue) : Type 0 where
+  pub its_record : HomeRecordValue
+  pub value : n ≡ OfHome its_record
+  pub at : its_record.home ≡ home
+  pub asked : IsCallFor what its_record.call
+  pub replied : its_record.reply ≡ answered
+  pub by_name : its_record.name ≡ name
+
+-- the records of a step that was done: its own, and none of a read, nor where nothing was there to leave
 abbrev pub AreOfReply : Ask → Gave → List RecordValue → Type 0
 AreOfReply (Resolve name) (Found queue) ns = ns ≡ []
 AreOfReply (Directed call) (Answered reply) ns = (n : RecordValue) × IsDirectoryRecord call reply n × (ns ≡ n ∷ [])
 AreOfReply (AtHome name home act) (Replied reply) ns = (n : RecordValue) × IsHomeRecord name home act reply n × (ns ≡ n ∷ [])
+AreOfReply (Moving name home what) (Replied reply) ns = (n : RecordValue) × IsMoveRecord name home what reply n × (ns ≡ n ∷ [])
+AreOfReply (Moving name home what) Nothing ns = ns ≡ []
+AreOfReply Next (Peeked next) ns = ns ≡ []
 AreOfReply ask gave ns = ⊥
 
 -- the records of a step; what was refused has none
@@ -150,14 +205,19 @@ AreOf (d ∷ ds) ns = (front : List RecordValue) × (rest : List RecordValue) ×
 abbrev pub IsNext : Journal → RecordValue → Journal → Type 0
 IsNext before n after = (place_of_record n ≡ before.next) × Below before.seen (stamp_of n) × (after ≡ with_record before n after.room) × KeepsRoom before.room after.room
 
--- A step leaves its one record with its actor; a read leaves none, and raises what the actor has seen; what is refused changes nothing.
+-- A step leaves its one record with its actor; a read leaves none, and raises what the actor has seen; what is refused, or is no step since nothing was there to leave, changes nothing.
 abbrev pub LeavesOf : Ask → Result Gave Refusal → Journal → Journal → Type 0
 LeavesOf (Resolve name) (Ok (Found queue)) before after = (last : StampValue) × (after ≡ having_seen before last)
 LeavesOf (Directed call) (Ok (Answered reply)) before after = (n : RecordValue) × IsDirectoryRecord call reply n × IsNext before n after
 LeavesOf (AtHome name home act) (Ok (Replied reply)) before after = (n : RecordValue) × IsHomeRecord name home act reply n × IsNext before n after
+LeavesOf (Moving name home what) (Ok (Replied reply)) before after = (n : RecordValue) × IsMoveRecord name home what reply n × IsNext before n after
+LeavesOf (Moving name home what) (Ok Nothing) before after = after ≡ before
+LeavesOf Next (Ok (Peeked next)) before after = (last : StampValue) × (after ≡ having_seen before last)
 LeavesOf (Resolve name) (Err e) before after = after ≡ before
 LeavesOf (Directed call) (Err e) before after = after ≡ before
 LeavesOf (AtHome name home act) (Err e) before after = after ≡ before
+LeavesOf (Moving name home what) (Err e) before after = after ≡ before
+LeavesOf Next (Err e) before after = after ≡ before
 LeavesOf ask answered before after = ⊥
 
 -- these records have this number and the numbers after it, and each a stamp above this one and above those before it

@@ -1,3 +1,4 @@
+pub mod Tried
 pub mod WorldValue
 pub mod Worlds
 pub mod Openings
@@ -7,5 +8,6 @@ pub mod Messages
 pub mod Performs
 pub mod Calls
 pub mod Fits
+pub mod Turns
 pub mod Acting
 pub mod ActingLaws

@@ -9,6 +9,7 @@ use Rattle.sq_audit.specs.HomeIds.{home_id}
 use Rattle.sq_merge.specs.declared.options.Options.{Options}
 use Rattle.sq_merge.specs.declared.options.TheConstants.{MOST_HOMES, MOST_QUEUES, MOST_ROWS, MOST_FLIGHTS, MOST_TRANSIT}
 use Rattle.sq_model.specs.Directories.{opening_directory}
+use Rattle.sq_model.specs.Ledgers.{opening_ledger}
 
 -- all are in their ranges
 pub record IsServed (o : Options) : Type 0 where
@@ -36,8 +37,10 @@ limits_of o = record { rows = o.rows; flights = o.flights / o.homes }
 unfoldable pub new_world : Options → WorldValue
 new_world o = record {
   directory = record { directory = opening_directory o.queues; last = start; events = []; room = 0 };
+  ledger = record { ledger = opening_ledger o.transit; last = start; events = []; room = 0; item_room = 0 };
   per_queue = o.homes;
   sample = o.sample;
   homes = never_opened_homes o.homes (limits_of o) (o.queues * o.homes);
   journals = [];
+  tried = [];
 }

@@ -1,6 +1,11 @@
 -- The parts of a world.
+use Rattle.std.specs.Prelude.{◌≡◌}
 use Rattle.sq_merge.specs.WorldValue.{WorldValue}
 use Rattle.sq_audit.specs.declared.parts.Parts.{Parts}
 
-abbrev pub parts_of : WorldValue → Parts
-parts_of w = record { directory = w.directory; homes = record { per_queue = w.per_queue; homes = w.homes }; records = w.journals }
+-- The histories, the homes and the records are the world's; for how much more there is memory is free.
+pub record ArePartsOf (w : WorldValue) (parts : Parts) : Type 0 where
+  pub directory : parts.directory ≡ w.directory
+  pub ledger : parts.ledger.history ≡ w.ledger
+  pub homes : parts.homes ≡ record { per_queue = w.per_queue; homes = w.homes }
+  pub records : parts.records ≡ w.journals

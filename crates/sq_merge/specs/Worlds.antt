@@ -1,5 +1,5 @@
 -- Steps of the whole system by actors, and what is true of it at all times.
-use Rattle.std.specs.Prelude.{◌≡◌, ◌⊎◌, ◌+◌, ℕ, List, [], ◌∷◌, length, nat_le, if◌then◌else◌, position, slice_get, slice_set, Option, Some, None}
+use Rattle.std.specs.Prelude.{◌≡◌, ◌⊎◌, ◌+◌, ℕ, true, List, [], ◌∷◌, length, nat_le, if◌then◌else◌, position, slice_get, slice_set, Option, Some, None, option_map}
 use Rattle.sq_base.specs.Stamps.{stamp_end}
 use Rattle.sq_base.specs.declared.ids.HomeId.{HomeId}
 use Rattle.sq_base.specs.declared.refusal.Refusal.{Refusal}
@@ -9,10 +9,16 @@ use Rattle.sq_model.specs.declared.directory.DirectoryReply.{DirectoryReply}
 use Rattle.sq_model.specs.declared.calls.HomeCall.{HomeCall}
 use Rattle.sq_model.specs.declared.replies.HomeReply.{HomeReply}
 use Rattle.sq_model.specs.Directories.{all_named, number_named}
+use Rattle.sq_model.specs.declared.item.Item.{Item}
+use Rattle.sq_model.specs.declared.shared.SharedAct.{SharedAct}
+use Rattle.sq_model.specs.Ledgers.{LedgerEvent, is_own, peek}
 use Rattle.sq_model.specs.Replays.{HomeEvent}
+use Rattle.sq_ledger.specs.LedgerHistory.{LedgerHistory}
+use Rattle.sq_steps.specs.declared.act.NextItem.{NextItem}
+use Rattle.sq_steps.specs.SharedSteps.{asked_as, SharedMoves, IsUnmoved, IsSharedRefused}
 use Rattle.sq_model.specs.Systems.{DirectoryEvent}
 use Rattle.sq_model.specs.RecordValues.{RecordValue, place_of_record, Journal}
-use Rattle.sq_model.specs.Matches.{HomeHistory, IsRecordAt, IsHomeEvent, HasItsEvent, IsRecorded, IsOfDirectory, IsOfHome}
+use Rattle.sq_model.specs.Matches.{HomeHistory, IsRecordAt, IsHomeEvent, HasItsEvent, IsRecorded, IsOfDirectory, IsOfLedger, IsOfHome, IsPaired}
 use Rattle.sq_history.specs.HistoryValue.{HistoryValue}
 use Rattle.sq_steps.specs.declared.act.Act.{Act}
 use Rattle.sq_steps.specs.declared.act.Act.TheVariants as act
@@ -23,8 +29,8 @@ use Rattle.sq_history.specs.declared.act.HomeAct.{HomeAct}
 use Rattle.sq_history.specs.Acts.{call_of, HasBytes}
 use Rattle.sq_steps.specs.Journals.{is_of, journal_of, put_journal, having_seen, HomeMoves, DirectoryMoves, IsHomeRefused, IsDirectoryStepRefused, AreDistinct}
 use Rattle.sq_directory.specs.DirectoryHistory.{DirectoryHistory}
+use Rattle.sq_merge.specs.Tried.{is_tried_by, tried_by, put_tried}
 use Rattle.sq_merge.specs.WorldValue.{WorldValue}
-use Rattle.sq_audit.specs.SystemNow.{nothing_moved}
 use Rattle.sq_audit.specs.HomeIds.{histories_of, IsNumbered}
 use Rattle.sq_directory.specs.Makers.{IsMadeBy}
 
@@ -60,6 +66,52 @@ pub record DirectoryStepped (old new : WorldValue) (actor now : ℕ) (call : Dir
 abbrev pub DirectoryRefused : WorldValue → ℕ → ℕ → DirectoryCall → Refusal → Type 0
 DirectoryRefused w actor now call e = IsDirectoryStepRefused w.directory (journal_of actor w.journals) now call e
 
+-- One step that a home shares with the ledger, by an actor that used this name, with this reply: the home, the ledger and what the actor has go on by one, and all else stays.
+pub record SharedStepped (old new : WorldValue) (actor now : ℕ) (name : Option (List ℕ)) (id : HomeId) (what : SharedAct) (reply : HomeReply) : Type 0 where
+  pub at : ℕ
+  pub before : HistoryValue
+  pub after : HistoryValue
+  pub ledger : LedgerHistory
+  pub recorded_in : Journal
+  pub home : IsHomeOf old id at before
+  pub moves : SharedMoves before after old.ledger ledger (journal_of actor old.journals) recorded_in now name what reply
+  pub changed : new ≡ record old { ledger = ledger; homes = slice_set old.homes at after; journals = put_journal recorded_in old.journals }
+
+-- nothing is there to leave from a home; nothing is changed
+pub record NothingLeaves (old new : WorldValue) (actor now : ℕ) (id : HomeId) (what : SharedAct) : Type 0 where
+  pub at : ℕ
+  pub before : HistoryValue
+  pub home : IsHomeOf old id at before
+  pub unmoved : IsUnmoved before old.ledger (journal_of actor old.journals) now what
+  pub unchanged : new ≡ old
+
+-- why a step that a home shares with the ledger is refused
+abbrev pub SharedRefused : WorldValue → ℕ → ℕ → HomeId → SharedAct → Refusal → Type 0
+SharedRefused w actor now id what e =
+    (((at : ℕ) (h : HistoryValue) → IsHomeOf w id at h → ⊥) × (e ≡ (if nat_le stamp_end now then ClockRange else QueueDoesNotExist)))
+    ⊎ ((at : ℕ) × (h : HistoryValue) × IsHomeOf w id at h × IsSharedRefused h w.ledger (journal_of actor w.journals) now what e)
+
+-- where an item goes
+abbrev pub next_of : Item → NextItem
+next_of item = record { number = item.number; source = item.source; target = item.target; homeward = item.homeward }
+
+-- an actor has read the ledger
+abbrev pub having_peeked : WorldValue → ℕ → WorldValue
+having_peeked w actor = record w { journals = put_journal (having_seen (journal_of actor w.journals) w.ledger.last) w.journals }
+
+-- an actor has read which item comes after the one that it tried last; from now on that is the one that it tried last
+abbrev pub having_tried : WorldValue → ℕ → Option NextItem → WorldValue
+having_tried w actor None = having_peeked w actor
+having_tried w actor (Some next) = record (having_peeked w actor) { tried = put_tried (record { actor = actor; item = next.number }) w.tried }
+
+-- that item
+abbrev pub next_tried : WorldValue → ℕ → Option NextItem
+next_tried w actor = option_map next_of (peek (tried_by actor w.tried) w.ledger.ledger)
+
+-- why it is not read: the actor is new, or tries its first item, and no memory was found for that
+abbrev pub NextRefused : WorldValue → ℕ → Refusal → Type 0
+NextRefused w actor e = (e ≡ NoMemory) × ((position (is_of actor) w.journals ≡ None) ⊎ ((position (is_tried_by actor) w.tried ≡ None) × ((next : NextItem) × (next_tried w actor ≡ Some next))))
+
 -- an actor has read the directory
 abbrev pub having_read : WorldValue → ℕ → WorldValue
 having_read w actor = record w { journals = put_journal (having_seen (journal_of actor w.journals) w.directory.last) w.journals }
@@ -70,6 +122,9 @@ StepDone old new actor now (act.Directory call) (answered.Directory reply) = Dir
 StepDone old new actor now (act.Resolve name) (answered.Resolved queue) = (number_named name old.directory.directory.queues ≡ Some queue) × (new ≡ having_read old actor)
 StepDone old new actor now act.Names (answered.Named names) = (names ≡ all_named old.directory.directory) × (new ≡ having_read old actor)
 StepDone old new actor now (act.Home id what) (answered.Home reply) = HomeStepped old new actor now None id (call_of what) reply
+StepDone old new actor now (act.Shared id what) (answered.Home reply) = SharedStepped old new actor now None id (asked_as what) reply
+StepDone old new actor now (act.Shared id what) answered.Nothing = NothingLeaves old new actor now id (asked_as what)
+StepDone old new actor now (act.Peek number) (answered.Peeked next) = (next ≡ option_map next_of (peek number old.ledger.ledger)) × (new ≡ having_peeked old actor)
 StepDone old new actor now what outcome = ⊥
 
 -- why a name is not read: there is no such queue; or there is one, the actor is new, and no memory was found for it
@@ -88,6 +143,8 @@ StepRefused w actor now (act.Directory call) e = DirectoryRefused w actor now ca
 StepRefused w actor now (act.Resolve name) e = NameRefused w actor name e
 StepRefused w actor now act.Names e = e ≡ NoMemory
 StepRefused w actor now (act.Home id what) e = ((e ≡ NoMemory) × IsSentTo w id what) ⊎ HomeRefused w actor now id (call_of what) e
+StepRefused w actor now (act.Shared id what) e = SharedRefused w actor now id (asked_as what) e
+StepRefused w actor now (act.Peek number) e = (e ≡ NoMemory) × (position (is_of actor) w.journals ≡ None)
 
 -- Of these steps so many were done, one after another, and the others changed nothing.
 abbrev pub Schedule : WorldValue → List Step → ℕ → WorldValue → Type 0
@@ -96,15 +153,17 @@ Schedule w (s ∷ ss) done after =
     (((e : Refusal) × StepRefused w s.actor s.clock s.act e) × Schedule w ss done after)
     ⊎ ((mid : WorldValue) × (outcome : Outcome) × (rest : ℕ) × StepDone w mid s.actor s.clock s.act outcome × Schedule mid ss rest after × (done ≡ rest + 1))
 
--- True of the system at all times: records and events are of each other, the n-th record of an actor has number n, each actor is there once.
+-- True of the system at all times: records and events are of each other, the n-th record of an actor has number n, each actor is there once, and what a home and the ledger share stands in the histories of both.
 pub record IsKeptWorld (w : WorldValue) : Type 0 where
   pub numbered : IsNumbered w.per_queue w.homes
-  pub has_its_event : (b i : ℕ) (journal : Journal) (n : RecordValue) → IsRecordAt w.journals b i journal n → HasItsEvent w.directory.events nothing_moved (histories_of w.homes) journal.actor n
+  pub has_its_event : (b i : ℕ) (journal : Journal) (n : RecordValue) → IsRecordAt w.journals b i journal n → HasItsEvent w.directory.events w.ledger.events (histories_of w.homes) journal.actor n
   pub directory_recorded : (k : ℕ) (e : DirectoryEvent) → slice_get w.directory.events k ≡ Some e → IsRecorded w.journals e.actor (IsOfDirectory k e)
+  pub ledger_recorded : (k : ℕ) (e : LedgerEvent) → slice_get w.ledger.events k ≡ Some e → is_own e.call ≡ true → IsRecorded w.journals e.actor (IsOfLedger k e)
   pub homes_recorded : (j k : ℕ) (h : HomeHistory) (e : HomeEvent) → IsHomeEvent (histories_of w.homes) j k h e → IsRecorded w.journals e.actor (IsOfHome h.home k e)
   pub exact : (b i : ℕ) (journal : Journal) (n : RecordValue) → IsRecordAt w.journals b i journal n → place_of_record n ≡ i
   pub counted : (b : ℕ) (journal : Journal) → slice_get w.journals b ≡ Some journal → journal.next ≡ length journal.records
   pub distinct : AreDistinct w.journals
+  pub paired : IsPaired w.ledger.events (histories_of w.homes)
 
 -- an actor knows a queue by a name: it was made by it before what the actor has seen
 abbrev pub IsKnown : List DirectoryEvent → Journal → Option (List ℕ) → ℕ → Type 0

@@ -6,21 +6,24 @@ ghost use Rattle.sq_merge.specs.Acting.{counts_of, ActorStepped};
 ghost use Rattle.sq_merge.specs.ActingLaws.{actor_leaves};
 ghost use Rattle.sq_steps.specs.Journals.{journal_of};
 ghost use Rattle.sq_merge.specs.Fits.{CallFits};
+ghost use Rattle.sq_merge.specs.Turns.{TurnFits};
 ghost use Rattle.sq_merge.specs.Performs.{Performs, LeavesRecords};
 ghost use Rattle.sq_merge.specs.Worlds.{IsKnown};
 
-use crate::client;
 use crate::lock_steps::LockSteps;
 use crate::world::World;
+use crate::{client, turns};
 use sq_base::ids::{HomeId, HomeNo, QueueNo};
 use sq_base::name::QueueName;
 use sq_base::refusal::Refusal;
 use sq_calls::calls::{Answer, Call};
+use sq_calls::turns::{Turn, Turned};
 use sq_history::act::HomeAct;
 use sq_model::directory::{DirectoryCall, DirectoryReply};
 use sq_model::replies::HomeReply;
 use sq_model::task::NamedQueue;
 use sq_sample::sampler::HomeCount;
+use sq_steps::act::{Move, NextItem};
 use std::alloc::Global;
 
 /// Does the steps of an actor's calls at a world. A clock reading is in ms.
@@ -76,6 +79,20 @@ impl<'a> LockSteps for Acting<'a> {
         self.world.at_home(self.alloc, self.actor, self.clock, Some(of.name), &id, act)
     }
 
+    fn moving(
+        &mut self,
+        name: Option<QueueName>,
+        home: &HomeId,
+        what: Move,
+    ) -> Result<Option<HomeReply>, Refusal> {
+        self.world
+            .shared(self.alloc, self.actor, self.clock, name, home, what)
+    }
+
+    fn next_item(&mut self) -> Result<Option<NextItem>, Refusal> {
+        self.world.next_item(self.alloc, self.actor)
+    }
+
     fn pick(&mut self) -> HomeNo {
         self.world.pick()
     }
@@ -94,4 +111,13 @@ pub(crate) fn call_at(acting: &mut Acting<'_>, call: &Call) -> Result<Answer, Re
     ensures leaves_records { LeavesRecords (CallFits (counts_of acting.old.world.now) call.now) (journal_of acting.old.actor acting.old.world.now.journals) result (journal_of acting.old.actor acting.new.world.now.journals) }
 {
     client::call(acting, call)
+}
+
+// Does a turn at the world that is borrowed.
+pub(crate) fn turn_at(acting: &mut Acting<'_>, turn: &Turn) -> Result<Turned, Refusal>
+    ensures same_reference { acting.new.world.ghost_name ≡ acting.old.world.ghost_name }
+    ensures answered { Performs (ActorStepped acting.old.actor acting.old.clock) (TurnFits (counts_of acting.old.world.now).homes turn.now) acting.old.world.now result acting.new.world.now }
+    ensures leaves_records { LeavesRecords (TurnFits (counts_of acting.old.world.now).homes turn.now) (journal_of acting.old.actor acting.old.world.now.journals) result (journal_of acting.old.actor acting.new.world.now.journals) }
+{
+    turns::turn(acting, turn)
 }

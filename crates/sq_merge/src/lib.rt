@@ -6,13 +6,15 @@ pub mod client;
 mod homes;
 pub mod lock_steps;
 pub mod options;
+pub mod tried;
+pub mod turns;
 pub mod world;
 
 pub use sq_audit::check::AuditFault;
 pub use sq_audit::merge::merge;
-pub use sq_audit::message_pass::place_of;
 pub use sq_audit::parts::Parts;
-pub use sq_audit::places::places_of;
 pub use sq_audit::run::Run;
 pub use sq_audit::tagged::Tagged;
-pub use sq_steps::act::{Act, HomeAct, Outcome, Step};
+pub use sq_places::message_pass::place_of;
+pub use sq_places::places::places_of;
+pub use sq_steps::act::{Act, HomeAct, Move, NextItem, Outcome, Step};

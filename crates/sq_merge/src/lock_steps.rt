@@ -1,13 +1,13 @@
 //! The steps that calls of clients are made of: each is done under one lock, or changes nothing.
-ghost use Rattle.std.specs.Prelude.{◌≡◌, ◌<◌, ◌≤◌, ℕ, List, Some, Result, IfOk, IfErr};
+ghost use Rattle.std.specs.Prelude.{◌≡◌, ◌<◌, ◌≤◌, ℕ, List, Some, Result, IfOk, IfErr, IfSome};
 ghost use Rattle.rand.specs.Sample.{IsSampleOf};
 ghost use Rattle.sq_base.specs.declared.refusal.Refusal.{Refusal};
 ghost use Rattle.sq_directory.specs.Makers.{name_asked, queue_answered};
 ghost use Rattle.sq_model.specs.RecordValues.{Journal};
-ghost use Rattle.sq_merge.specs.Asks.{Ask, Resolve, Directed, AtHome, Gave, found_of, answered_of, replied_of, HomeCounts, IsAnswerTo, IsReplyTo, MayRefuse, LeavesOf};
+ghost use Rattle.sq_merge.specs.Asks.{Ask, Resolve, Directed, AtHome, Moving, Next, Gave, found_of, answered_of, replied_of, moved_of, peeked_of, HomeCounts, IsAnswerTo, IsReplyTo, MayRefuse, LeavesOf};
 ghost use Rattle.sq_merge.specs.Calls.{home_numbered};
 
-use sq_base::ids::HomeNo;
+use sq_base::ids::{HomeId, HomeNo};
 use sq_base::name::QueueName;
 use sq_base::refusal::Refusal;
 use sq_history::act::HomeAct;
@@ -15,6 +15,7 @@ use sq_model::directory::{DirectoryCall, DirectoryReply};
 use sq_model::replies::HomeReply;
 use sq_model::task::NamedQueue;
 use sq_sample::sampler::HomeCount;
+use sq_steps::act::{Move, NextItem};
 use std::alloc::Global;
 
 /// Does the steps of one actor's calls. A home that the queue does not have refuses its step.
@@ -62,6 +63,27 @@ pub trait LockSteps {
         ensures reply { IfOk result (IsReplyTo act) }
         ensures refusal { IfErr result (MayRefuse (AtHome of.now.name (home_numbered of.now.number home) act)) }
         ensures known { knows self.new of.now.name of.now.number }
+        ensures same_counts { counts self.new ≡ counts self.old };
+
+    /// A step that a home shares with the ledger, by the name of the home's queue that was used, if any. None where nothing
+    /// was there to leave, which is no step.
+    /// Refused as NoMemory, ClockRange, Worn, QueueDoesNotExist, and then as the step: OverLimit, UnsupportedOperation.
+    fn moving(
+        &mut self,
+        name: Option<QueueName>,
+        home: &HomeId,
+        what: Move,
+    ) -> Result<Option<HomeReply>, Refusal>
+        requires known { IfSome name (λ name. knows self.old name home.now.queue) }
+        ensures did { stepped self.old (Moving name home.now what) (moved_of result) self.new }
+        ensures refusal { IfErr result (MayRefuse (Moving name home.now what)) }
+        ensures same_counts { counts self.new ≡ counts self.old };
+
+    /// Where the item in transit goes that comes after the one that the actor tried last; it counts as tried now. Refused
+    /// only where memory is out.
+    fn next_item(&mut self) -> Result<Option<NextItem>, Refusal>
+        ensures did { stepped self.old Next (peeked_of result) self.new }
+        ensures refusal { IfErr result (MayRefuse Next) }
         ensures same_counts { counts self.new ≡ counts self.old };
 
     /// One home of a queue.

@@ -1,40 +1,47 @@
 //! All queues of a service with all that was done to them, for one thread.
-ghost use Rattle.std.specs.Prelude.{◌≡◌, ◌⊎◌, ◌↔◌, ◌<◌, ◌≤◌, true, None, Some, length, position, IfOk, IfErr, IfSome, OnOk, OnErr};
+ghost use Rattle.std.specs.Prelude.{◌≡◌, ◌⊎◌, ◌↔◌, ◌<◌, ◌≤◌, true, None, Some, length, position, IfOk, IfErr, IfSome, IfNone, OnOk, OnErr, option_map};
 ghost use Rattle.rand.specs.Sample.{IsSampleOf};
 ghost use Rattle.sq_model.specs.Directories.{all_named, number_named};
 ghost use Rattle.sq_directory.specs.Makers.{IsAnsweredByName};
 ghost use Rattle.sq_history.specs.Acts.{call_of};
 ghost use Rattle.sq_steps.specs.Journals.{is_of, journal_of};
-ghost use Rattle.sq_merge.specs.Worlds.{HomeStepped, HomeRefused, DirectoryStepped, DirectoryRefused, NameRefused, having_read, StepDone, StepRefused, Schedule, IsKnown, IsKeptWorld};
-ghost use Rattle.sq_audit.specs.SystemNow.{nothing_moved};
+ghost use Rattle.sq_merge.specs.Worlds.{SharedStepped, NothingLeaves, SharedRefused, next_of, having_peeked, next_tried, having_tried, NextRefused, HomeStepped, HomeRefused, DirectoryStepped, DirectoryRefused, NameRefused, having_read, StepDone, StepRefused, Schedule, IsKnown, IsKeptWorld};
 ghost use Rattle.sq_audit.specs.HomeIds.{histories_of};
 ghost use Rattle.sq_merge.specs.Acting.{counts_of, ActorStepped};
 ghost use Rattle.sq_merge.specs.Fits.{CallFits};
+ghost use Rattle.sq_merge.specs.Turns.{TurnFits};
 ghost use Rattle.sq_merge.specs.Performs.{Performs, LeavesRecords};
 ghost use Rattle.sq_merge.specs.Openings.{IsServed, new_world};
-ghost use Rattle.sq_merge.specs.PartsValue.{parts_of};
-ghost use Rattle.sq_model.specs.Matches.{IsMatched};
+ghost use Rattle.sq_merge.specs.PartsValue.{ArePartsOf};
+ghost use Rattle.sq_model.specs.Ledgers.{peek};
+ghost use Rattle.sq_model.specs.Matches.{IsMatched, IsPaired};
+ghost use Rattle.sq_steps.specs.SharedSteps.{asked_as};
 
-use crate::acting::{Acting, call_at};
+use crate::acting::{Acting, call_at, turn_at};
 use crate::homes::{never_opened_homes, no_such_home};
 use crate::options::{MOST_FLIGHTS, MOST_HOMES, MOST_QUEUES, MOST_ROWS, MOST_TRANSIT, Options};
+use crate::tried::{TriedItem, put_tried, tried_by};
 use sq_audit::homes::{Homes, home_index};
 use sq_audit::parts::Parts;
 use sq_base::ids::{HomeId, HomeNo, QueueNo};
 use sq_base::name::QueueName;
 use sq_base::refusal::Refusal;
 use sq_calls::calls::{Answer, Call};
+use sq_calls::turns::{Turn, Turned};
 use sq_directory::directory::Directory;
 use sq_history::recorded::Home;
+use sq_ledger::ledger::TransitLedger;
 use sq_model::directory::{DirectoryCall, DirectoryReply};
+use sq_model::item::Item;
 use sq_model::listed::Listed;
 use sq_model::place::Limits;
 use sq_model::replies::HomeReply;
 use sq_model::task::NamedQueue;
 use sq_sample::sampler::{HomeCount, Sampler};
-use sq_steps::act::{Act, HomeAct, Outcome, Step};
+use sq_steps::act::{Act, HomeAct, Move, NextItem, Outcome, Step};
 use sq_steps::journal::{Journal, directory_step, home_step};
 use sq_steps::journals::{Journals, open};
+use sq_steps::shared::shared_step;
 use std::alloc::Global;
 use std::marker::Model;
 
@@ -42,10 +49,12 @@ use std::marker::Model;
 #[derive(Drop)]
 pub struct World {
     directory: Directory,
+    ledger: TransitLedger,
     per_queue: HomeCount,
     sample: HomeCount,
     homes: Vec<Home>,
     journals: Vec<Journal>,
+    tried: Vec<TriedItem>,
     sampler: Sampler,
 }
 
@@ -56,10 +65,10 @@ impl Model for World {
 
     ghost Value = { WorldValue };
 
-    ghost view = { λ w. record { directory = w.directory; per_queue = w.per_queue; sample = w.sample; homes = w.homes.items; journals = w.journals.items } };
+    ghost view = { λ w. record { directory = w.directory; ledger = w.ledger.history; per_queue = w.per_queue; sample = w.sample; homes = w.homes.items; journals = w.journals.items; tried = w.tried.items } };
 
     ghost invariant = { λ w. record {
-      kept : IsKeptWorld (record { directory = w.directory; per_queue = w.per_queue; sample = w.sample; homes = w.homes.items; journals = w.journals.items });
+      kept : IsKeptWorld (record { directory = w.directory; ledger = w.ledger.history; per_queue = w.per_queue; sample = w.sample; homes = w.homes.items; journals = w.journals.items; tried = w.tried.items });
       sample : w.sample ≤ w.per_queue;
       few : length w.homes.items ≤ 16384;
     } };
@@ -83,10 +92,12 @@ impl World {
         };
         Ok(World {
             directory: Directory::new(alloc, options.queues)?,
+            ledger: TransitLedger::new(alloc, options.transit),
             per_queue,
             sample: HomeCount::of(options.sample),
             homes: never_opened_homes(alloc, options.queues, per_queue, &limits)?,
             journals: Vec::new(alloc),
+            tried: Vec::new(alloc),
             sampler: Sampler::new(options.seed),
         })
     }
@@ -119,6 +130,16 @@ impl World {
                 let reply = self.at_home(alloc, step.actor, step.clock, None, id, act)?;
                 Ok(Outcome::Home(reply))
             }
+            Act::Shared(id, act) => {
+                match self.shared(alloc, step.actor, step.clock, None, id, *act)? {
+                    Some(reply) => Ok(Outcome::Home(reply)),
+                    None => Ok(Outcome::Nothing),
+                }
+            }
+            Act::Peek(number) => {
+                let next = self.peek(alloc, step.actor, *number)?;
+                Ok(Outcome::Peeked(next))
+            }
         }
     }
 
@@ -148,6 +169,29 @@ impl World {
         call_at(&mut acting, call)
     }
 
+    /// A turn of an actor at a clock reading in ms: one step of moving messages, beside reads. A dead letter leaves a home of
+    /// the queue that is named; or the item in transit that comes after the one that the actor tried last comes in where it
+    /// goes to, is sent back where that home is closed, comes back, or is given up. Refused as QueueDoesNotExist, of a queue
+    /// that is named; NoMemory; ClockRange; Worn. All else is a word of the answer.
+    pub fn turn(
+        &mut self,
+        alloc: Global,
+        actor: u32,
+        now: u64,
+        turn: &Turn,
+    ) -> Result<Turned, Refusal>
+        ensures answered { Performs (ActorStepped actor now) (TurnFits (counts_of self.old).homes turn.now) self.old result self.new }
+        ensures leaves_records { LeavesRecords (TurnFits (counts_of self.old).homes turn.now) (journal_of actor self.old.journals) result (journal_of actor self.new.journals) }
+    {
+        let mut acting = Acting {
+            alloc,
+            world: self,
+            actor,
+            clock: now,
+        };
+        turn_at(&mut acting, turn)
+    }
+
     /// One step after another, and how many were not refused. What is refused changes nothing.
     pub fn run(&mut self, alloc: Global, steps: &[Step]) -> u64
         ensures schedule { Schedule self.old steps.now result self.new }
@@ -167,11 +211,13 @@ impl World {
 
     /// Its parts with their histories, and the records of its actors: each record is of an event, each event has one.
     pub fn parts(self) -> Parts
-        ensures parts { result ≡ parts_of self }
-        ensures matched { IsMatched result.directory.events nothing_moved (histories_of result.homes.homes) result.records }
+        ensures parts { ArePartsOf self result }
+        ensures matched { IsMatched result.directory.events result.ledger.history.events (histories_of result.homes.homes) result.records }
+        ensures paired { IsPaired result.ledger.history.events (histories_of result.homes.homes) }
     {
         let World {
             directory,
+            ledger,
             per_queue,
             homes,
             journals,
@@ -179,6 +225,7 @@ impl World {
         } = self;
         Parts {
             directory,
+            ledger,
             homes: Homes::of(per_queue, homes),
             records: Journals::of(journals),
         }
@@ -305,6 +352,109 @@ impl World {
                 Err(refusal)
             }
         }
+    }
+
+    // A step that a home shares with the ledger, by an actor that used this name; none where nothing is there to leave.
+    pub(crate) fn shared(
+        &mut self,
+        alloc: Global,
+        actor: u32,
+        now: u64,
+        name: Option<QueueName>,
+        id: &HomeId,
+        act: Move,
+    ) -> Result<Option<HomeReply>, Refusal>
+        requires known { IsKnown self.old.directory.events (journal_of actor self.old.journals) name id.now.queue }
+        ensures stepped { IfOk result (λ told. IfSome told (SharedStepped self.old self.new actor now name id.now (asked_as act))) }
+        ensures none { IfOk result (λ told. IfNone told (NothingLeaves self.old self.new actor now id.now (asked_as act))) }
+        ensures refusal { IfErr result (SharedRefused self.old actor now id.now (asked_as act)) }
+        ensures err { OnErr result (self.new ≡ self.old) }
+    {
+        let Some(index) = home_index(self.per_queue, self.homes.len(), id) else {
+            return Err(no_such_home(now));
+        };
+        let count = self.journals.len();
+        let at = open(&mut self.journals, alloc, actor)?;
+        let home = &mut self.homes[index];
+        let journal = &mut self.journals[at];
+        match shared_step(alloc, home, &mut self.ledger, journal, now, name, act) {
+            Ok(Some(reply)) => Ok(Some(reply)),
+            Ok(None) => {
+                self.journals.truncate(count);
+                Ok(None)
+            }
+            Err(refusal) => {
+                self.journals.truncate(count);
+                Err(refusal)
+            }
+        }
+    }
+
+    // Reads where the item goes that comes after a number. Refused as NoMemory of a new actor alone.
+    pub(crate) fn peek(
+        &mut self,
+        alloc: Global,
+        actor: u32,
+        number: u64,
+    ) -> Result<Option<NextItem>, Refusal>
+        ensures read { IfOk result (λ next. (next ≡ option_map next_of (peek number self.old.ledger.ledger)) × (self.new ≡ having_peeked self.old actor)) }
+        ensures refused { IfErr result (λ e. (e ≡ Refusal.NoMemory) × (position (is_of actor) self.old.journals ≡ None)) }
+        ensures err { OnErr result (self.new ≡ self.old) }
+    {
+        let last = self.ledger.last();
+        let at = open(&mut self.journals, alloc, actor)?;
+        self.journals[at].see(last);
+        Ok(self.ledger.peek(number).map(next_item))
+    }
+
+    // Reads where the item goes that comes after the one that the actor tried last, and which it tries now.
+    pub(crate) fn next_item(
+        &mut self,
+        alloc: Global,
+        actor: u32,
+    ) -> Result<Option<NextItem>, Refusal>
+        ensures read { IfOk result (λ next. (next ≡ next_tried self.old actor) × (self.new ≡ having_tried self.old actor next)) }
+        ensures refusal { IfErr result (NextRefused self.old actor) }
+        ensures err { OnErr result (self.new ≡ self.old) }
+    {
+        let count = self.journals.len();
+        let last = self.ledger.last();
+        let at = open(&mut self.journals, alloc, actor)?;
+        let number = tried_by(&self.tried, actor);
+        match self.ledger.peek(number).map(next_item) {
+            Some(next) => {
+                let now = TriedItem {
+                    actor,
+                    item: next.number.get(),
+                };
+                match put_tried(&mut self.tried, now) {
+                    Ok(()) => {
+                        self.journals[at].see(last);
+                        Ok(Some(next))
+                    }
+                    Err(refusal) => {
+                        self.journals.truncate(count);
+                        Err(refusal)
+                    }
+                }
+            }
+            None => {
+                self.journals[at].see(last);
+                Ok(None)
+            }
+        }
+    }
+}
+
+// What of an item says where it goes.
+fn next_item(item: &Item) -> NextItem
+    ensures { result ≡ next_of item.now }
+{
+    NextItem {
+        number: item.number,
+        source: item.source,
+        target: item.target,
+        homeward: item.homeward,
     }
 }
 

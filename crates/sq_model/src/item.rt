@@ -1,6 +1,7 @@
 //! A message between two queues.
-ghost use Rattle.std.specs.Prelude.{◌≡◌, IfOk, IfErr};
+ghost use Rattle.std.specs.Prelude.{◌≡◌, ◌≤◌, ◌⊎◌, IfOk, IfErr, IfSome, IfNone};
 
+use crate::rows::copy_row;
 use sq_base::ids::QueueNo;
 use sq_base::refusal::Refusal;
 use sq_base::row::Row;
@@ -29,6 +30,25 @@ impl ItemNo {
         ensures { result ≡ 1 }
     {
         ItemNo(1)
+    }
+
+    /// The item of this number, from 1 to 2^62 - 2.
+    pub fn new(number: u64) -> Option<ItemNo>
+        ensures number { IfSome result (λ n. n ≡ number) }
+        ensures none { IfNone result ((number ≡ 0) ⊎ (4611686018427387903 ≤ number)) }
+    {
+        if 1 <= number && number < 4_611_686_018_427_387_903 {
+            Some(ItemNo(number))
+        } else {
+            None
+        }
+    }
+
+    /// Its number.
+    pub fn get(&self) -> u64
+        ensures { result ≡ self.now }
+    {
+        self.0
     }
 }
 
@@ -68,6 +88,23 @@ pub struct Item {
     pub homeward: bool,
 }
 
+impl Item {
+    /// The same item. Refused only where memory is out.
+    pub fn copy(&self) -> Result<Item, Refusal>
+        ensures copy { IfOk result (λ copy. copy ≡ self.now) }
+        ensures refused { IfErr result (λ e. e ≡ Refusal.NoMemory) }
+    {
+        Ok(Item {
+            number: self.number,
+            row: copy_row(&self.row)?,
+            source: self.source,
+            target: self.target,
+            reason: self.reason,
+            homeward: self.homeward,
+        })
+    }
+}
+
 /// An item behind an address that no contract sees.
 #[derive(Drop)]
 pub struct BoxedItem {
@@ -91,6 +128,14 @@ impl BoxedItem {
         Ok(BoxedItem {
             item: Box::new(alloc, item)?,
         })
+    }
+
+    /// A copy of an item. Refused only where memory is out.
+    pub fn copy_of(alloc: Global, item: &Item) -> Result<BoxedItem, Refusal>
+        ensures item { IfOk result (λ boxed. boxed ≡ item.now) }
+        ensures refused { IfErr result (λ e. e ≡ Refusal.NoMemory) }
+    {
+        BoxedItem::new(alloc, item.copy()?)
     }
 
     pub fn get(&self) -> &Item

@@ -1,5 +1,5 @@
 -- The texts of replies.
-use Rattle.std.specs.Prelude.{ℕ, List, [], ◌∷◌, ◌++◌, map, codes, Bool, true, false, ◌||◌, if◌then◌else◌, Option, Some, None, option_map, Result, Ok, Err, decimal}
+use Rattle.std.specs.Prelude.{⊤, ℕ, List, [], ◌∷◌, ◌++◌, map, codes, Bool, true, false, ◌||◌, if◌then◌else◌, Option, Some, None, option_map, Result, Ok, Err, decimal}
 use Rattle.std.specs.Int.{w128, to_be_bytes}
 use Rattle.hex.specs.Hex.{encode_lower}
 use Rattle.md5.specs.Md5.{md5}
@@ -18,7 +18,11 @@ use Rattle.sq_base.specs.Refusals.{name_of, number_of}
 use Rattle.sq_calls.specs.declared.calls.AskedAttributes.{AskedAttributes}
 use Rattle.sq_calls.specs.declared.calls.Answer.{Answer}
 use Rattle.sq_calls.specs.declared.calls.Answer.TheVariants.{Queue, Queues, Sources, Attributes, Sent, Received, Done}
+use Rattle.sq_calls.specs.declared.calls.Answered.{Answered}
+use Rattle.sq_calls.specs.declared.calls.Answered.TheVariants.{Call, Turn}
 use Rattle.sq_calls.specs.declared.calls.ShownAttributes.{ShownAttributes}
+use Rattle.sq_calls.specs.declared.turns.Turned.{Turned}
+use Rattle.sq_calls.specs.declared.turns.Turned.TheVariants as came
 use Rattle.sq_policy.specs.PolicyTexts.{arn_text, redrive_data, allow_data}
 
 -- the text of a refusal: its name, and its number in decimal digits. Own.
@@ -129,7 +133,27 @@ answer_data (Sent id digest) = sent_data digest (id_text id)
 answer_data (Received received) = received_data received.attributes received.home received.rows
 answer_data Done = object no_members
 
+-- the word for what came of a turn. Own.
+abbrev pub turned_word : Turned → List ℕ
+turned_word came.Left = codes "left"
+turned_word came.Nothing = codes "nothing"
+turned_word came.Entered = codes "entered"
+turned_word came.Turned = codes "turned"
+turned_word came.Back = codes "back"
+turned_word came.Dropped = codes "dropped"
+turned_word came.Full = codes "full"
+
+abbrev pub turned_data : Turned → Data
+turned_data turned = object (member (codes "Turn") (string (turned_word turned)) no_members)
+
 -- the text of a reply: JSON with no space, and the members of an object in the order of their bytes
-abbrev pub reply_text_of : Result Answer Refusal → List ℕ
-reply_text_of (Ok answer) = compact_text (answer_data answer)
+abbrev pub reply_text_of : Result Answered Refusal → List ℕ
+reply_text_of (Ok (Call answer)) = compact_text (answer_data answer)
+reply_text_of (Ok (Turn turned)) = compact_text (turned_data turned)
 reply_text_of (Err refusal) = error_text refusal
+
+-- a reply to a turn that was not refused has this
+abbrev pub OnTurned : Result Answered Refusal → Type 0 → Type 0
+OnTurned (Ok (Call answer)) P = ⊤
+OnTurned (Ok (Turn _)) P = P
+OnTurned (Err refusal) P = ⊤

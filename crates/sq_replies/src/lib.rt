@@ -5,4 +5,5 @@ mod attributes;
 mod queues;
 pub mod reply;
 pub mod text;
+mod turns;
 pub mod worked;

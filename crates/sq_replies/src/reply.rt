@@ -2,11 +2,12 @@
 ghost use Rattle.std.specs.Prelude.{◌≡◌, ◌≤◌, IfOk, OnErr, IsOk, option_map, string_bytes};
 ghost use Rattle.serde_json.specs.View.{view};
 ghost use Rattle.serde_json.specs.Written.{compact_text};
-ghost use Rattle.sq_replies.specs.Replies.{error_text, handle_of, sent_data, attributes_data, answered_data, message_data, id_text, received_data, answer_data, reply_text_of};
+ghost use Rattle.sq_replies.specs.Replies.{error_text, handle_of, sent_data, attributes_data, answered_data, message_data, id_text, received_data, answer_data, reply_text_of, OnTurned};
 
 use crate::attributes::shown_value;
 use crate::queues::{queue_value, queues_value, sources_value};
 use crate::text::{Text, ascii_text};
+use crate::turns::turned_text;
 use serde_json::{Value, json};
 use sq_base::handle::{Handle, write_handle};
 use sq_base::ids::HomeId;
@@ -14,19 +15,21 @@ use sq_base::message_id::MessageId;
 use sq_base::ranges::Receives;
 use sq_base::refusal::Refusal;
 use sq_base::row::Row;
-use sq_calls::calls::{Answer, AskedAttributes};
+use sq_calls::calls::{Answer, Answered, AskedAttributes};
 use sq_calls::digest::Digest;
 use sq_calls::received_messages::ReceivedMessages;
 use std::alloc::{AllocError, Global};
 use uuid::Uuid;
 
-/// The line that a client is sent, without its line feed. A refusal takes no memory.
-pub fn reply_text(alloc: Global, reply: &Result<Answer, Refusal>) -> Result<Text, AllocError>
+/// The line that is sent, without its line feed. A refusal takes no memory, and neither does what came of a turn.
+pub fn reply_text(alloc: Global, reply: &Result<Answered, Refusal>) -> Result<Text, AllocError>
     ensures text { IfOk result (λ text. text ≡ reply_text_of reply.now) }
     ensures refused { OnErr reply.now (IsOk result) }
+    ensures turned { OnTurned reply.now (IsOk result) }
 {
     match reply {
-        Ok(answer) => Ok(Text::made(answer_text(alloc, answer)?)),
+        Ok(Answered::Call(answer)) => Ok(Text::made(answer_text(alloc, answer)?)),
+        Ok(Answered::Turn(turned)) => Ok(Text::fixed(turned_text(*turned))),
         Err(refusal) => Ok(Text::fixed(error_text(*refusal))),
     }
 }

@@ -1,8 +1,11 @@
 //! Worked cases: the texts of some answers, each the contract of a function without code.
 #![tactic(auto, unfolding(crate::proofs::OnLiterals::replies_on_literals))]
 
-ghost use Rattle.std.specs.Prelude.{◌≡◌, List, [], ◌∷◌, codes, Some, None};
+ghost use Rattle.std.specs.Prelude.{◌≡◌, List, [], ◌∷◌, codes, Some, None, Ok};
 ghost use Rattle.sq_calls.specs.declared.calls.Answer.TheVariants.{Queues, Sources};
+ghost use Rattle.sq_calls.specs.declared.calls.Answered.TheVariants.{Turn};
+ghost use Rattle.sq_calls.specs.declared.turns.Turned.TheVariants as came;
+ghost use Rattle.sq_replies.specs.Replies.{reply_text_of};
 ghost use Rattle.sq_replies.specs.Worked.{text_of, none_asked, all_asked, redrive_asked, q_shown};
 
 /// The URLs of no queue, of two queues, and of one queue that has another one for its dead letters.
@@ -22,4 +25,15 @@ pub fn a_new_queue_is_shown_with_its_defaults()
 pub fn a_policy_is_a_text_within_a_text()
     ensures set { text_of (q_shown redrive_asked (Some (record { target = codes "d"; max_receives = 1000 }))) ≡ codes "{\"Attributes\":{\"RedrivePolicy\":\"{\\\"deadLetterTargetArn\\\":\\\"arn:aws:sqs:local:000000000000:d\\\",\\\"maxReceiveCount\\\":1000}\"}}" }
     ensures unset { text_of (q_shown redrive_asked None) ≡ codes "{\"Attributes\":{}}" }
+{}
+
+/// What came of a turn is one word.
+pub fn a_turn_is_answered_by_one_word()
+    ensures left { reply_text_of (Ok (Turn came.Left)) ≡ codes "{\"Turn\":\"left\"}" }
+    ensures nothing { reply_text_of (Ok (Turn came.Nothing)) ≡ codes "{\"Turn\":\"nothing\"}" }
+    ensures entered { reply_text_of (Ok (Turn came.Entered)) ≡ codes "{\"Turn\":\"entered\"}" }
+    ensures turned { reply_text_of (Ok (Turn came.Turned)) ≡ codes "{\"Turn\":\"turned\"}" }
+    ensures back { reply_text_of (Ok (Turn came.Back)) ≡ codes "{\"Turn\":\"back\"}" }
+    ensures dropped { reply_text_of (Ok (Turn came.Dropped)) ≡ codes "{\"Turn\":\"dropped\"}" }
+    ensures full { reply_text_of (Ok (Turn came.Full)) ≡ codes "{\"Turn\":\"full\"}" }
 {}

@@ -4,4 +4,5 @@ pub mod Attributes
 pub mod Asked
 pub mod Actions
 pub mod Queues
+pub mod Turns
 pub mod Requests

@@ -1,5 +1,5 @@
 -- What a line asks.
-use Rattle.std.specs.Prelude.{◌≡◌, ◌<◌, ℕ, List, Bool, length, if◌then◌else◌, Option, Some, None, Result, Ok, Err, codes, is_some, nat_lt}
+use Rattle.std.specs.Prelude.{◌≡◌, ◌<◌, ℕ, List, Bool, false, length, if◌then◌else◌, Option, Some, None, Result, Ok, Err, codes, is_some, nat_lt}
 use Rattle.std.specs.Str.{bytes_eq, is_utf8}
 use Rattle.serde_json.specs.Data.{Data, Num, unsigned, negative, float}
 use Rattle.serde_json.specs.Find.{get, as_number, as_object}
@@ -10,7 +10,11 @@ use Rattle.sq_policy.specs.Reading.{◌>>=◌}
 use Rattle.sq_requests.specs.Members.{text_at}
 use Rattle.sq_requests.specs.Queues.{create_of, create_asks, set_of, set_asks, get_of, get_url_of, list_of, purge_of, delete_queue_of, list_sources_of}
 use Rattle.sq_requests.specs.Actions.{send_of, receive_of, delete_of, change_of}
+use Rattle.sq_requests.specs.Turns.{dead_turn_of}
+use Rattle.sq_calls.specs.declared.calls.Asked.{Asked}
+use Rattle.sq_calls.specs.declared.calls.Asked.TheVariants as asked
 use Rattle.sq_calls.specs.declared.calls.Call.{Call}
+use Rattle.sq_calls.specs.declared.turns.Turn.TheVariants.{EnterTurn}
 use Rattle.sq_requests.specs.declared.request.Request.{Request}
 
 -- the clock reading of a line, a whole number from 0 upwards
@@ -62,20 +66,34 @@ call_asks action d =
     else if bytes_eq action (codes "SetQueueAttributes") then set_asks d
     else call_of action d >>= λ call. Ok (bytes_eq action (codes "SendMessage"))
 
+-- a turn, or else a call; an EnterTurn asks nothing of its line
+unfoldable pub call_or_turn_of : List ℕ → Data → Result Asked Refusal
+call_or_turn_of action d =
+    if bytes_eq action (codes "DeadTurn") then (dead_turn_of d >>= λ turn. Ok (asked.Turn turn))
+    else if bytes_eq action (codes "EnterTurn") then Ok (asked.Turn EnterTurn)
+    else call_of action d >>= λ call. Ok (asked.Call call)
+
+-- no memory is asked for a turn
+unfoldable pub call_or_turn_asks : List ℕ → Data → Result Bool Refusal
+call_or_turn_asks action d =
+    if bytes_eq action (codes "DeadTurn") then (dead_turn_of d >>= λ turn. Ok false)
+    else if bytes_eq action (codes "EnterTurn") then Ok false
+    else call_asks action d
+
 abbrev pub request_in : Data → Result Request Refusal
 request_in d = do
   action ← text_at (codes "Action") d
   clock ← clock_at d
   actor ← actor_at d
-  call ← call_of action d
-  Ok (record { clock = clock; actor = actor; call = call })
+  asked ← call_or_turn_of action d
+  Ok (record { clock = clock; actor = actor; asked = asked })
 
 abbrev pub request_asks_in : Data → Result Bool Refusal
 request_asks_in d = do
   action ← text_at (codes "Action") d
   clock ← clock_at d
   actor ← actor_at d
-  call_asks action d
+  call_or_turn_asks action d
 
 -- a request is an object
 unfoldable pub request_of : Data → Result Request Refusal

@@ -7,3 +7,4 @@ pub mod attributes;
 pub mod members;
 pub mod queues;
 pub mod request;
+pub mod turns;

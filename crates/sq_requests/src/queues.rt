@@ -96,9 +96,9 @@ pub fn list_of(value: &Value) -> Result<Call, Refusal>
     Ok(Call::ListQueues(prefix_if(text)))
 }
 
-// The queue of a request that asks no more than that.
+/// The queue of a request that asks no more than that. A URL that is no queue's is InvalidAddress.
 #[tactic(auto, unfolding(crate::specs::Queues::named_queue))]
-fn named_queue(value: &Value) -> Result<QueueName, Refusal>
+pub fn named_queue(value: &Value) -> Result<QueueName, Refusal>
     ensures { result ≡ named_queue (view value.now) }
 {
     url_at(value)?.ok_or(Refusal::InvalidAddress)

@@ -2,16 +2,18 @@
 ghost use Rattle.std.specs.Prelude.{◌≡◌};
 ghost use Rattle.serde_json.specs.View.{view};
 ghost use Rattle.sq_requests.specs.Memory.{ReadsAsking};
-ghost use Rattle.sq_requests.specs.Requests.{clock_at, actor_at, call_of, call_asks, request_of, request_asks, line_request, ReadsLine};
+ghost use Rattle.sq_requests.specs.Requests.{clock_at, actor_at, call_of, call_asks, call_or_turn_of, call_or_turn_asks, request_of, request_asks, line_request, ReadsLine};
 
 use crate::actions::{change_of, delete_of, receive_of, send_of};
 use crate::members::text_at;
 use crate::queues::{
     create_of, delete_queue_of, get_of, get_url_of, list_of, list_sources_of, purge_of, set_of,
 };
+use crate::turns::dead_turn_of;
 use serde_json::Value;
 use sq_base::refusal::Refusal;
-use sq_calls::calls::Call;
+use sq_calls::calls::{Asked, Call};
+use sq_calls::turns::Turn;
 use std::alloc::Global;
 
 /// A request, who makes it (0 to 63), and the clock reading of its line in ms, where it has one.
@@ -19,7 +21,7 @@ use std::alloc::Global;
 pub struct Request {
     pub clock: Option<u64>,
     pub actor: u32,
-    pub call: Call,
+    pub asked: Asked,
 }
 
 // The clock reading of a line.
@@ -72,6 +74,19 @@ fn call_of(alloc: Global, value: &Value, action: &str) -> Result<Call, Refusal>
     }
 }
 
+// A turn, or else a call.
+#[tactic(auto, unfolding(crate::specs::Requests::call_or_turn_of, crate::specs::Requests::call_or_turn_asks))]
+fn call_or_turn_of(alloc: Global, value: &Value, action: &str) -> Result<Asked, Refusal>
+    ensures { let d = view value.now in
+        ReadsAsking (call_or_turn_asks action.now d) result (call_or_turn_of action.now d) }
+{
+    match action {
+        "DeadTurn" => Ok(Asked::Turn(dead_turn_of(value)?)),
+        "EnterTurn" => Ok(Asked::Turn(Turn::EnterTurn)),
+        _ => Ok(Asked::Call(call_of(alloc, value, action)?)),
+    }
+}
+
 #[tactic(auto, unfolding(crate::specs::Requests::request_of, crate::specs::Requests::request_asks))]
 fn request_of(alloc: Global, value: &Value) -> Result<Request, Refusal>
     ensures { let d = view value.now in
@@ -83,8 +98,12 @@ fn request_of(alloc: Global, value: &Value) -> Result<Request, Refusal>
     let action = text_at(value, "Action")?;
     let clock = clock_at(value)?;
     let actor = actor_at(value)?;
-    let call = call_of(alloc, value, action)?;
-    Ok(Request { clock, actor, call })
+    let asked = call_or_turn_of(alloc, value, action)?;
+    Ok(Request {
+        clock,
+        actor,
+        asked,
+    })
 }
 
 /// What a line asks, or the first reason in order why it is refused: InvalidRequest (not an object, a member of a

@@ -1,3 +1,4 @@
 pub mod Few
 pub mod LookLaws
 pub mod Lists
+pub mod MoveLaws

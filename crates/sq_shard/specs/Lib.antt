@@ -1,2 +1,3 @@
 pub mod ShardValue
 pub mod Looks
+pub mod Moves

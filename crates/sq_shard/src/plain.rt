@@ -3,6 +3,7 @@ ghost use Rattle.std.specs.Prelude.{◌≡◌, ◌-◌, [], vec_len, vec_capacit
 
 use crate::rows;
 use crate::store::Store;
+use sq_base::ids::Serial;
 use sq_base::ranges::Timeout;
 use sq_base::refusal::Refusal;
 use sq_base::row::Row;
@@ -44,6 +45,10 @@ impl Store for PlainStore {
 
     fn has_live(&self, settings: &Settings, moment: u64) -> bool {
         rows::has_live(&self.rows, settings, moment)
+    }
+
+    fn find_dead(&self, settings: &Settings, moment: u64) -> Option<&Row> {
+        rows::find_dead(&self.rows, settings, moment)
     }
 
     fn has_held(&self, settings: &Settings, moment: u64, receipt: &Receipt) -> bool {
@@ -99,6 +104,10 @@ impl Store for PlainStore {
 
     fn take(&mut self, receipt: &Receipt) {
         rows::take(&mut self.rows, receipt)
+    }
+
+    fn take_out(&mut self, slot: u32, serial: Serial) -> Option<Row> {
+        rows::take_out(&mut self.rows, slot, serial)
     }
 
     fn change(&mut self, receipt: &Receipt, moment: u64, until: u64) {

@@ -1,8 +1,9 @@
 //! Work on a list of rows.
-ghost use Rattle.std.specs.Prelude.{◌≡◌, ◌+◌, ℕ, ◌<◌, ◌≤◌, List, length, count_by, filter, map, not, true, false, IfOk, take, vec_len, vec_capacity, IfErr, ◌==◌, ◌&&◌};
+ghost use Rattle.std.specs.Prelude.{◌≡◌, ◌+◌, ℕ, ◌<◌, ◌≤◌, List, length, count_by, filter, map, not, position, true, false, IfOk, IfSome, IfNone, take, vec_len, vec_capacity, IfErr, ◌==◌, ◌&&◌};
 ghost use Rattle.std.specs.List.{list_any};
 ghost use Rattle.sq_model.specs.Rows as model;
 ghost use Rattle.sq_model.specs.Homes as homes;
+ghost use Rattle.sq_shard.specs.Moves as moves;
 
 use sq_base::body::Body;
 use sq_base::ids::{HomeId, Serial};
@@ -12,6 +13,7 @@ use sq_base::refusal::Refusal;
 use sq_base::row::Row;
 use sq_base::settings::{Redrive, Settings};
 use sq_model::calls::Receipt;
+use sq_model::item::{Item, Reason};
 use sq_model::replies::Counts;
 use sq_model::rows::{Rows, copy_row};
 use std::alloc::Global;
@@ -87,6 +89,61 @@ pub fn sent_row(home: &HomeId, serial: Serial, moment: u64, until: u64, body: Bo
         last_receive: None,
         origin: None,
     }
+}
+
+// A row at a home that it is new to, before it has a slot: visible at once, and never received there. Refused as
+// NoMemory.
+fn moved_row(serial: Serial, moment: u64, row: &Row) -> Result<Row, Refusal>
+    ensures moved { IfOk result (λ moved. moved ≡ homes.moved serial 0 moment row.now) }
+    ensures err { IfErr result (λ e. e ≡ Refusal.NoMemory) }
+{
+    let mut moved = copy_row(row)?;
+    moved.serial = serial;
+    moved.slot = 0;
+    moved.visible_from = moment;
+    moved.receives = 0;
+    moved.last_receive = None;
+    Ok(moved)
+}
+
+/// The row of an item that comes in at its target, before it has a slot: a dead letter stays the same message and
+/// remembers its source, and a task makes a new message of it. Refused as NoMemory.
+pub fn entered_row(home: &HomeId, serial: Serial, moment: u64, item: &Item) -> Result<Row, Refusal>
+    ensures entered { IfOk result (λ row. row ≡ homes.entered_row home.now serial 0 moment item.now) }
+    ensures err { IfErr result (λ e. e ≡ Refusal.NoMemory) }
+{
+    let mut row = moved_row(serial, moment, &item.row)?;
+    match item.reason {
+        Reason::DeadLetter => row.origin = Some(item.source),
+        Reason::Task(_) => {
+            row.id = fresh_id(home, serial);
+            row.enqueued = moment;
+            row.origin = None;
+        }
+    }
+    Ok(row)
+}
+
+/// The row of an item that comes back to its source, before it has a slot. Refused as NoMemory.
+pub fn returned_row(serial: Serial, moment: u64, item: &Item) -> Result<Row, Refusal>
+    ensures returned { IfOk result (λ row. row ≡ homes.returned_row serial 0 moment item.now) }
+    ensures err { IfErr result (λ e. e ≡ Refusal.NoMemory) }
+{
+    moved_row(serial, moment, &item.row)
+}
+
+/// Whether an item may come in at this home.
+pub fn may_enter(home: &HomeId, item: &Item) -> bool
+    ensures { result ≡ homes.may_enter home.now item.now }
+{
+    !item.homeward && item.target == home.queue
+}
+
+/// Whether an item may come back to this home.
+pub fn may_return(home: &HomeId, item: &Item) -> bool
+    ensures { result ≡ homes.may_return home.now item.now }
+{
+    item.homeward && item.source == home.queue
 }
 
 pub fn count_kept(rows: &[Row], settings: &Settings, moment: u64) -> usize
@@ -207,6 +264,51 @@ pub fn has_live(rows: &[Row], settings: &Settings, moment: u64) -> bool
     rows.iter()
         .filter(|row| is_kept(settings, moment, row))
         .any(|row| is_live(settings, moment, row))
+}
+
+// Where the row of a slot and a serial is.
+fn index_at(rows: &[Row], slot: u32, serial: Serial) -> Option<usize>
+    ensures { result ≡ position (moves.is_at slot serial) rows.now }
+{
+    rows.iter().position(|row| is_at(slot, serial, row))
+}
+
+// Where the first dead one of the kept rows is.
+fn first_dead(rows: &[Row], settings: &Settings, moment: u64) -> Option<usize>
+    ensures { result ≡ position (λ row. not (model.is_expired settings.now moment row) && model.is_dead settings.now moment row) rows.now }
+{
+    rows.iter().position(|row| is_kept(settings, moment, row) && is_dead(settings, moment, row))
+}
+
+/// A dead one of the kept rows: the first.
+pub fn find_dead<'a>(rows: &'a [Row], settings: &Settings, moment: u64) -> Option<&'a Row>
+    ensures one { IfSome result (λ row. moves.IsOneOf (model.is_dead settings.now moment) (model.trimmed settings.now moment rows.now) row.now) }
+    ensures none { IfNone result (list_any (model.is_dead settings.now moment) (model.trimmed settings.now moment rows.now) ≡ false) }
+{
+    match first_dead(rows, settings, moment) {
+        Some(at) => Some(&rows[at]),
+        None => None,
+    }
+}
+
+fn is_at(slot: u32, serial: Serial, row: &Row) -> bool
+    ensures { result ≡ moves.is_at slot serial row.now }
+{
+    row.slot == slot && row.serial == serial
+}
+
+/// Takes out the row of a slot and a serial, and hands it over.
+pub fn take_out(rows: &mut Vec<Row>, slot: u32, serial: Serial) -> Option<Row>
+    ensures taken { IfSome result (λ row. (moves.is_at slot serial row ≡ true) × model.Takes row rows.old.items rows.new.items) }
+    ensures none { IfNone result (list_any (moves.is_at slot serial) rows.old.items ≡ false) }
+    ensures kept { IfNone result (rows.new.items ≡ rows.old.items) }
+    ensures len { vec_len rows.new ≤ vec_len rows.old }
+    ensures capacity { vec_capacity rows.new ≡ vec_capacity rows.old }
+{
+    match index_at(rows, slot, serial) {
+        Some(at) => Some(rows.remove(at)),
+        None => None,
+    }
 }
 
 pub fn trim(rows: &mut Vec<Row>, settings: &Settings, moment: u64)

@@ -1,11 +1,13 @@
 //! One home: its status, its settings and its rows.
-ghost use Rattle.std.specs.Prelude.{◌≡◌, ◌⊎◌, ◌↔◌, ◌<◌, ◌+◌, true, Some, None, IfOk, IfErr, OnOk, OnErr, []};
+ghost use Rattle.std.specs.Prelude.{◌≡◌, ◌⊎◌, ◌↔◌, ◌<◌, ◌+◌, true, Option, Some, None, IfOk, IfErr, OnOk, OnErr, []};
 ghost use Rattle.sq_base.specs.Stamps.{stamp_end};
 ghost use Rattle.sq_model.specs.Homes.{HomeStep, home_refusal};
 ghost use Rattle.sq_model.specs.Homes.{Unopened as Never, Closed as Gone};
 ghost use Rattle.sq_model.specs.declared.calls.HomeCall.TheVariants.{Configure, Close, Send, Look, Delete, Change, Purge, Count};
 ghost use Rattle.sq_model.specs.declared.replies.HomeReply.TheVariants.{Done, Sent, Counted};
+ghost use Rattle.sq_base.specs.declared.refusal.Refusal.{Refusal as Refused};
 ghost use Rattle.sq_shard.specs.Looks.{look_reply, look_after, GivesAny, GivesRows};
+ghost use Rattle.sq_shard.specs.Moves.{IsPut, coming_refusal};
 ghost use Rattle.sq_model.specs.Rows.{ms};
 
 use crate::rows;
@@ -14,6 +16,7 @@ use sq_base::body::Body;
 use sq_base::ids::Serial;
 use sq_base::ranges::{Delay, MaxMessages, Timeout};
 use sq_base::refusal::Refusal;
+use sq_base::row::Row;
 use sq_base::settings::Settings;
 use sq_model::calls::Receipt;
 use sq_model::place::Site;
@@ -31,7 +34,7 @@ fn after_seconds(moment: u64, seconds: u32) -> u64
 }
 
 #[derive(Clone, Copy, PartialEq, Eq, Debug)]
-enum Status {
+pub(crate) enum Status {
     Unopened,
     Serving,
     Closed,
@@ -42,12 +45,12 @@ enum Status {
 /// A call that is refused leaves the home as it was, without a trim.
 #[derive(Drop)]
 pub struct Shard<S: Store> {
-    site: Site,
-    status: Status,
-    settings: Settings,
+    pub(crate) site: Site,
+    pub(crate) status: Status,
+    pub(crate) settings: Settings,
     version: u64,
-    next: Serial,
-    store: S,
+    pub(crate) next: Serial,
+    pub(crate) store: S,
 }
 
 impl<S: Store> Model for Shard<S> {
@@ -138,24 +141,50 @@ impl<S: Store> Shard<S> {
         ensures err { OnErr result (self.new ≡ self.old) }
     {
         // What refuses a message is checked before it asks for memory.
-        let Status::Serving = self.status else {
-            return Err(Refusal::QueueDoesNotExist);
-        };
-        let Some(after) = Serial::new(self.next.get() + 1) else {
-            return Err(Refusal::Worn);
-        };
-        if self.store.count_kept(&self.settings, moment) >= self.site.limits.rows as usize {
-            return Err(Refusal::OverLimit);
-        }
-        self.store.reserve()?;
-        self.store.trim(&self.settings, moment);
+        self.check_place(moment)?;
         let delay = delay.unwrap_or(self.settings.delay);
         let until = after_seconds(moment, delay.get());
         let row = rows::sent_row(&self.site.home, self.next, moment, until, body);
         let id = rows::fresh_id(&self.site.home, self.next);
-        let slot = self.store.insert(row);
-        self.next = after;
+        let slot = self.put(moment, row)?;
         Ok(SentMessage { id, slot })
+    }
+
+    // Refused as QueueDoesNotExist (not serving), Worn (no serial is left), OverLimit (full).
+    #[tactic(auto, using(crate::proofs::Few::full_refused, crate::proofs::Few::place_left))]
+    pub(crate) fn check_place(&self, moment: u64) -> Result<(), Refusal>
+        ensures place { OnOk result (coming_refusal self.now.site self.now.home moment None ≡ None) }
+        ensures refused { IfErr result (λ e. (later : Option Refused) → coming_refusal self.now.site self.now.home moment later ≡ Some e) }
+    {
+        let Status::Serving = self.status else {
+            return Err(Refusal::QueueDoesNotExist);
+        };
+        if Serial::new(self.next.get() + 1).is_none() {
+            return Err(Refusal::Worn);
+        }
+        if self.store.count_kept(&self.settings, moment) >= self.site.limits.rows as usize {
+            return Err(Refusal::OverLimit);
+        }
+        Ok(())
+    }
+
+    // Puts a row last, with the next serial, and gives its slot. Refused as NoMemory.
+    pub(crate) fn put(&mut self, moment: u64, row: Row) -> Result<u32, Refusal>
+        requires { coming_refusal self.old.site self.old.home moment None ≡ None }
+        ensures put { IfOk result (λ slot. IsPut self.old.site self.old.home moment row slot self.new.home) }
+        ensures site { self.new.site ≡ self.old.site }
+        ensures refused { IfErr result (λ e. e ≡ Refusal.NoMemory) }
+        ensures err { OnErr result (self.new ≡ self.old) }
+    {
+        self.store.reserve()?;
+        self.store.trim(&self.settings, moment);
+        let mut row = row;
+        row.serial = self.next;
+        let slot = self.store.insert(row);
+        if let Some(after) = Serial::new(self.next.get() + 1) {
+            self.next = after;
+        }
+        Ok(slot)
     }
 
     /// What a look at this moment gives, as it stands after it, and nothing is changed yet: up to `max` messages,

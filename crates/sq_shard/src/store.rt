@@ -1,10 +1,12 @@
 //! What a home keeps its rows in.
-ghost use Rattle.std.specs.Prelude.{◌≡◌, ◌+◌, ◌++◌, ◌∷◌, [], ℕ, ◌<◌, ◌≤◌, ◌&&◌, List, length, count_by, map, true, IfOk, IfErr, OnOk, OnErr};
+ghost use Rattle.std.specs.Prelude.{◌≡◌, ◌+◌, ◌++◌, ◌∷◌, [], ℕ, ◌<◌, ◌≤◌, ◌&&◌, List, length, count_by, map, true, false, IfOk, IfErr, IfSome, IfNone, OnOk, OnErr};
 ghost use Rattle.std.specs.List.{list_any};
 ghost use Rattle.sq_base.specs.declared.row.Row.{Row};
 ghost use Rattle.sq_model.specs.Homes.{counts_of};
-ghost use Rattle.sq_model.specs.Rows.{ms, trimmed, is_flying, is_live, is_held, is_late, changed_if, IsLook, RisesFrom, serials_of, received_if, without, is_free};
+ghost use Rattle.sq_model.specs.Rows.{ms, trimmed, is_flying, is_live, is_dead, is_held, is_late, changed_if, IsLook, RisesFrom, serials_of, received_if, without, is_free, Takes};
+ghost use Rattle.sq_shard.specs.Moves.{IsOneOf, is_at};
 
+use sq_base::ids::Serial;
 use sq_base::ranges::Timeout;
 use sq_base::refusal::Refusal;
 use sq_base::row::Row;
@@ -33,6 +35,11 @@ pub trait Store: Drop {
     /// Whether one of these is live.
     fn has_live(&self, settings: &Settings, moment: u64) -> bool
         ensures { result ≡ list_any (is_live settings.now moment) (trimmed settings.now moment (rows self.now)) };
+
+    /// A dead one of these, any of them.
+    fn find_dead(&self, settings: &Settings, moment: u64) -> Option<&Row>
+        ensures one { IfSome result (λ row. IsOneOf (is_dead settings.now moment) (trimmed settings.now moment (rows self.now)) row.now) }
+        ensures none { IfNone result (list_any (is_dead settings.now moment) (trimmed settings.now moment (rows self.now)) ≡ false) };
 
     /// Whether one of these is the row of a receipt, and in flight.
     fn has_held(&self, settings: &Settings, moment: u64, receipt: &Receipt) -> bool
@@ -95,6 +102,13 @@ pub trait Store: Drop {
     /// Takes out the row on which slot, serial and receive number agree.
     fn take(&mut self, receipt: &Receipt)
         ensures rows { rows self.new ≡ without receipt.now (rows self.old) }
+        ensures reserved { reserved self.old ≤ reserved self.new };
+
+    /// Takes out the row of a slot and a serial, and hands it over.
+    fn take_out(&mut self, slot: u32, serial: Serial) -> Option<Row>
+        ensures taken { IfSome result (λ row. (is_at slot serial row ≡ true) × Takes row (rows self.old) (rows self.new)) }
+        ensures none { IfNone result (list_any (is_at slot serial) (rows self.old) ≡ false) }
+        ensures kept { IfNone result (rows self.new ≡ rows self.old) }
         ensures reserved { reserved self.old ≤ reserved self.new };
 
     /// Hides the row of a receipt until another moment, where it is in flight.

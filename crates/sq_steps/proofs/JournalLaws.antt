@@ -16,6 +16,10 @@ use Rattle.sq_history.specs.Histories.{RecordsStep}
 use Rattle.sq_directory.specs.DirectoryHistory.{DirectoryHistory}
 use Rattle.sq_directory.specs.DirectoryHistories.{DirectoryRecords}
 use Rattle.sq_directory.specs.Makers.{IsSeen}
+use Rattle.sq_model.specs.declared.replies.HomeReply.{HomeReply}
+use Rattle.sq_model.specs.declared.shared.SharedAct.{SharedAct}
+use Rattle.sq_ledger.specs.LedgerHistory.{LedgerHistory}
+use Rattle.sq_steps.specs.SharedSteps.{BothDo}
 use Rattle.sq_steps.specs.Journals.{later, IsJournal, with_record}
 use Rattle.sq_directory.proofs.MakerLaws.{seen_below}
 
@@ -73,6 +77,14 @@ pub home_journal_more : (old new : HistoryValue) (journal : Journal) (now : ℕ)
     → IsJournal journal → RecordsStep old new (actor_of journal) now name call its_record → IsJournal (with_record journal (OfHome its_record) room)
 home_journal_more old new journal now name call its_record room is more =
     journal_more journal (OfHome its_record) room is (ap (λ (n : HomeRecordValue). n.place) more.record_is) (after_above_second old.last journal.seen now its_record.stamp more.stamped)
+
+-- that of a step that the home shares with the ledger
+pub shared_journal_more : (old new : HistoryValue) (ledger after : LedgerHistory) (journal : Journal) (stamp : StampValue) (name : Option (List ℕ)) (act : SharedAct) (reply : HomeReply) (its_record : HomeRecordValue) (room : ℕ)
+    → IsJournal journal → BothDo old new ledger after (actor_of journal) stamp name act (reply, its_record) → IsJournal (with_record journal (OfHome its_record) room)
+shared_journal_more old new ledger after journal stamp name act reply its_record room is both =
+    let at_home = both.at_home in
+    journal_more journal (OfHome its_record) room is (ap (λ (n : HomeRecordValue). n.place) at_home.record_is)
+    (subst (λ (s : StampValue). Below journal.seen s) (sym (ap (λ (n : HomeRecordValue). n.stamp) at_home.record_is)) at_home.above_seen)
 
 -- and so is that of a step of the directory
 pub directory_journal_more : (old new : DirectoryHistory) (journal : Journal) (now : ℕ) (call : DirectoryCall) (its_record : DirectoryRecordValue) (room : ℕ)

@@ -2,3 +2,4 @@ pub mod JournalLaws
 pub mod JournalListLaws
 pub mod DropLaws
 pub mod FilterLaws
+pub mod SharedLaws

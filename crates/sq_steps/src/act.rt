@@ -3,9 +3,34 @@ use sq_base::ids::{HomeId, QueueNo};
 use sq_base::name::QueueName;
 pub use sq_history::act::HomeAct;
 use sq_model::directory::{DirectoryCall, DirectoryReply};
+use sq_model::item::ItemNo;
 use sq_model::listed::Listed;
 use sq_model::replies::HomeReply;
 use sq_model::task::NamedQueue;
+
+/// What a home and the ledger of messages in transit do together.
+#[derive(Clone, Copy, PartialEq, Eq, Debug)]
+pub enum Move {
+    /// A dead message leaves for its dead-letter queue.
+    LeaveDead,
+    /// The message of this item comes in at its target.
+    Enter(ItemNo),
+    /// It is sent back, since its target is closed.
+    TurnBack(ItemNo),
+    /// It comes back to its source.
+    GiveBack(ItemNo),
+    /// It is given up, since its source is closed too.
+    GiveUp(ItemNo),
+}
+
+/// Where the next item in transit goes.
+#[derive(Clone, Copy, PartialEq, Eq, Debug)]
+pub struct NextItem {
+    pub number: ItemNo,
+    pub source: QueueNo,
+    pub target: QueueNo,
+    pub homeward: bool,
+}
 
 /// What an actor does in one step.
 #[derive(Drop)]
@@ -16,6 +41,10 @@ pub enum Act {
     /// Reads the names and numbers of all queues; it is no event.
     Names,
     Home(HomeId, HomeAct),
+    /// A step that this home shares with the ledger.
+    Shared(HomeId, Move),
+    /// Reads which item in transit comes after a number, the first again after the last; it is no event.
+    Peek(u64),
 }
 
 /// Who does what, at a clock reading in ms.
@@ -35,4 +64,8 @@ pub enum Outcome {
     /// All queues, in order of creation.
     Named(Listed<NamedQueue>),
     Home(HomeReply),
+    /// Nothing was there to leave; it is no event.
+    Nothing,
+    /// The next item in transit, where there is any.
+    Peeked(Option<NextItem>),
 }

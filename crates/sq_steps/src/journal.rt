@@ -26,8 +26,8 @@ use std::marker::Model;
 /// later one has the higher number and the higher stamp.
 #[derive(Drop)]
 pub struct Journal {
-    by: Actor,
-    records: Growing<Record>,
+    pub(crate) by: Actor,
+    pub(crate) records: Growing<Record>,
 }
 
 impl Model for Journal {
@@ -112,7 +112,7 @@ fn worn_at(now: u64) -> Refusal
 
 // Gets memory for the record of an actor's next step. Refused where the count of its steps is at its end, and then as
 // NoMemory where there was room for none.
-fn ready(by: &Actor, records: &mut Growing<Record>, now: u64) -> Result<(), Refusal>
+pub(crate) fn ready(by: &Actor, records: &mut Growing<Record>, now: u64) -> Result<(), Refusal>
     ensures items { records.new.items ≡ records.old.items }
     ensures room { records.new.room ≡ records.old.room }
     ensures ready { OnOk result (IsReady records.new.room records.new.reserved) }
@@ -126,7 +126,7 @@ fn ready(by: &Actor, records: &mut Growing<Record>, now: u64) -> Result<(), Refu
 }
 
 // Counts an actor's step that was done, and keeps the record of it.
-fn keep(by: &mut Actor, records: &mut Growing<Record>, kept: Record)
+pub(crate) fn keep(by: &mut Actor, records: &mut Growing<Record>, kept: Record)
     requires more { by.old.place < last_place }
     requires ready { IsReady records.old.room records.old.reserved }
     ensures counted { by.new ≡ record { number = by.old.number; place = by.old.place + 1; seen = stamp_of (value_of_record kept) } }

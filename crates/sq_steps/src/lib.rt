@@ -6,3 +6,4 @@ pub mod capacity;
 pub mod journal;
 pub mod journals;
 pub mod record;
+pub mod shared;

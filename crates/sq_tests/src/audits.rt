@@ -5,7 +5,6 @@ use crate::setup::{hello, home, named, options, receipt};
 use sq_audit::check::AuditFault;
 use sq_audit::merge::merge;
 use sq_audit::parts::Parts;
-use sq_audit::places::places_of;
 use sq_base::ids::{HomeId, HomeNo, QueueNo};
 use sq_base::name::QueueName;
 use sq_base::ranges::{MaxMessages, Retention, Timeout};
@@ -17,19 +16,20 @@ use sq_merge::world::World;
 use sq_model::calls::Receipt;
 use sq_model::directory::{Attributes, DirectoryCall, NamePrefix};
 use sq_model::replies::HomeReply;
+use sq_places::places::places_of;
 use sq_steps::act::{Act, HomeAct, Outcome, Step};
 use sq_steps::journal::{Journal, directory_step};
 use std::alloc::Global;
 use std::process::Abort;
 
-// Each choice follows from the one before.
+/// Each choice follows from the one before.
 #[derive(Drop)]
-struct Choices {
-    state: u64,
+pub struct Choices {
+    pub state: u64,
 }
 
 impl Choices {
-    fn below(&mut self, count: u64) -> u64
+    pub fn below(&mut self, count: u64) -> u64
         requires { 0 < count }
         ensures { result < count }
     {
@@ -89,8 +89,8 @@ impl Choices {
     }
 }
 
-// One of the steps of the directory, or of its reads.
-fn directory_act(name: QueueName, place: u64) -> Result<Act, Refusal> {
+/// One of the steps of the directory, or of its reads.
+pub fn directory_act(name: QueueName, place: u64) -> Result<Act, Refusal> {
     Ok(match place {
         0 => Act::Directory(DirectoryCall::Create(name, Attributes::none())),
         1 => Act::Resolve(name),
@@ -187,7 +187,8 @@ fn a_long_run_is_audited(rt: HostRuntime) {
     assert_eq!(rt; counts, [events, sends, sends]);
 }
 
-fn fault(alloc: Global, parts: &Parts) -> Option<AuditFault> {
+/// What the audit finds wrong.
+pub fn fault(alloc: Global, parts: &Parts) -> Option<AuditFault> {
     merge(alloc, parts).err()
 }
 
@@ -205,7 +206,19 @@ fn recorded(rt: &impl Abort, alloc: Global, steps: u64) -> ([u64; 9], u64, usize
     (counts, held.events as u64, parts.directory.events().len())
 }
 
-// Takes a record out of what so many steps leave, and again: whether it was there, and what the audit says.
+/// Takes a record out, and again: whether it was there, and what the audit says.
+pub fn taken_out(
+    alloc: Global,
+    parts: &mut Parts,
+    actor: u32,
+    place: u64,
+) -> (bool, bool, Option<AuditFault>) {
+    let first = parts.drop_record(actor, place);
+    let second = parts.drop_record(actor, place);
+    (first, second, fault(alloc, parts))
+}
+
+// The same of what so many steps leave.
 fn without(
     rt: &impl Abort,
     alloc: Global,
@@ -216,9 +229,7 @@ fn without(
     requires { steps ≤ 100000 }
 {
     let (mut parts, _) = ran(rt, alloc, steps);
-    let first = parts.drop_record(actor, place);
-    let second = parts.drop_record(actor, place);
-    (first, second, fault(alloc, &parts))
+    taken_out(alloc, &mut parts, actor, place)
 }
 
 // The actors are 0 to 7.

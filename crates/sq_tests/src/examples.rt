@@ -1,19 +1,23 @@
 //! The library in use, from a service without queues to where its messages are.
 use sq_audit::merge::merge;
-use sq_audit::message_pass::place_of;
 use sq_base::handle::Handle;
 use sq_base::message_id::MessageId;
 use sq_base::name::QueueName;
-use sq_base::ranges::{MaxMessages, Receives};
+use sq_base::ranges::{MaxMessages, MaxReceives, Receives, Timeout};
 use sq_base::refusal::Refusal;
 use sq_calls::calls::{
     Answer, AskedAttributes, BodyText, Call, CreateQueue, DeleteMessage, ReceiveMessage,
     SendMessage,
 };
+use sq_calls::turns::{Turn, Turned};
 use sq_merge::options::Options;
 use sq_merge::world::World;
 use sq_model::directory::Attributes;
 use sq_model::place::Place;
+use sq_model::policy::RedrivePolicy;
+use sq_places::message_pass::place_of;
+use std::alloc::Global;
+use std::process::Abort;
 
 #[test]
 fn a_message_is_sent_received_and_deleted(rt: HostRuntime) {
@@ -92,4 +96,132 @@ fn handle_of(answered: &Result<Answer, Refusal>) -> Option<Handle> {
         serial: row.serial,
         receive: Receives::of(1),
     })
+}
+
+// Sends a message, which is received once and visible again at once, and gives its id.
+fn sent_and_received(
+    rt: &impl Abort,
+    alloc: Global,
+    world: &mut World,
+    queue: QueueName,
+) -> MessageId {
+    let body = BodyText::new(alloc, "hello").expect(rt, "memory");
+    let send = SendMessage {
+        queue,
+        body,
+        delay: None,
+    };
+    let sent = world.call(alloc, 1, 1000, &Call::SendMessage(send));
+    let receive = ReceiveMessage {
+        queue,
+        max: MaxMessages::of(1),
+        timeout: Some(Timeout::of(0)),
+        attributes: AskedAttributes {
+            receive_count: false,
+            sent_timestamp: false,
+        },
+    };
+    let received = world.call(alloc, 2, 2000, &Call::ReceiveMessage(receive));
+    assert!(rt; received.is_ok());
+    id_of(&sent).expect(rt, "a message")
+}
+
+// Does turns by actor 9 at 3000 ms, each of which has its word.
+fn take(rt: &impl Abort, alloc: Global, world: &mut World, turns: &[(Turn, Turned)]) {
+    for (turn, word) in turns {
+        assert_eq!(rt; world.turn(alloc, 9, 3000, turn), Ok(*word));
+    }
+}
+
+// Makes a queue of this name. What is received from it once goes to another queue, if there is one.
+fn make(
+    rt: &impl Abort,
+    alloc: Global,
+    world: &mut World,
+    name: QueueName,
+    target: Option<QueueName>,
+) {
+    let mut attributes = Attributes::none();
+    if let Some(target) = target {
+        attributes.redrive = Some(Some(RedrivePolicy {
+            target,
+            max_receives: MaxReceives::of(1),
+        }));
+    }
+    let create = CreateQueue { name, attributes };
+    let made = world.call(alloc, 0, 0, &Call::CreateQueue(create));
+    assert!(rt; made.is_ok());
+}
+
+fn remove(rt: &impl Abort, alloc: Global, world: &mut World, name: QueueName) {
+    let removed = world.call(alloc, 0, 3000, &Call::DeleteQueue(name));
+    assert!(rt; removed.is_ok());
+}
+
+#[test]
+fn dead_letters_are_moved(rt: HostRuntime) {
+    let alloc = rt.alloc();
+    let options = Options {
+        homes: 1,
+        sample: 1,
+        queues: 64,
+        rows: 1000,
+        flights: 100,
+        transit: 1,
+        seed: 0,
+    };
+    let mut world = World::new(alloc, options).expect(&rt, "memory");
+    let orders = QueueName::new(b"orders").expect(&rt, "a name");
+    let failed = QueueName::new(b"failed-orders").expect(&rt, "a name");
+    make(&rt, alloc, &mut world, failed, None);
+    make(&rt, alloc, &mut world, orders, Some(failed));
+
+    // A dead letter leaves, and another one finds no room in transit until the first has come in.
+    let leave = Turn::DeadTurn(orders);
+    let bring = Turn::EnterTurn;
+    let first = sent_and_received(&rt, alloc, &mut world, orders);
+    take(
+        &rt,
+        alloc,
+        &mut world,
+        &[(leave, Turned::Left), (leave, Turned::Nothing)],
+    );
+    let second = sent_and_received(&rt, alloc, &mut world, orders);
+    let turns = [
+        (leave, Turned::Full),
+        (bring, Turned::Entered),
+        (bring, Turned::Nothing),
+        (leave, Turned::Left),
+    ];
+    take(&rt, alloc, &mut world, &turns);
+
+    // Where the dead-letter queue is deleted, the second goes back to its source; where that is deleted too, it is given up.
+    remove(&rt, alloc, &mut world, failed);
+    take(
+        &rt,
+        alloc,
+        &mut world,
+        &[(bring, Turned::Turned), (bring, Turned::Back)],
+    );
+    let third = sent_and_received(&rt, alloc, &mut world, orders);
+    take(&rt, alloc, &mut world, &[(leave, Turned::Left)]);
+    remove(&rt, alloc, &mut world, orders);
+    take(
+        &rt,
+        alloc,
+        &mut world,
+        &[(bring, Turned::Turned), (bring, Turned::Dropped)],
+    );
+
+    let parts = world.parts();
+    let run = merge(alloc, &parts).expect(&rt, "one run");
+    assert_eq!(rt; place_of(&run, &first), Some(Place::ClosedAway));
+    // One of these two was received, and was the dead letter.
+    let places = (place_of(&run, &second), place_of(&run, &third));
+    let closed = Some(Place::ClosedAway);
+    let dropped = Some(Place::Dropped);
+    assert!(rt;
+        places == (closed, dropped) || places == (dropped, closed),
+        "{places:?}"
+    );
 }

@@ -6,9 +6,13 @@ mod audits;
 #[cfg(test)]
 mod calls;
 #[cfg(test)]
+mod chains;
+#[cfg(test)]
 mod examples;
 #[cfg(test)]
 mod homes;
+#[cfg(test)]
+mod moves;
 #[cfg(test)]
 mod places;
 #[cfg(test)]

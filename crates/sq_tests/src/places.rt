@@ -1,11 +1,11 @@
 //! Where messages are after the events of a home, and the texts of that.
 use crate::setup::{Answers, Ask, Line, first_wrong, id, options, stamp};
 use sq_audit::merge::merge;
-use sq_audit::message_pass::place_of;
 use sq_base::settings::Settings;
 use sq_base::stamp::Stamp;
 use sq_merge::world::World;
 use sq_model::place::Place;
+use sq_places::message_pass::place_of;
 use sq_replies::text::Text;
 use sq_wire::audit::{audit_world, place_name, stamp_text};
 use std::alloc::Global;

@@ -11,13 +11,15 @@ use sq_steps::act::Step;
 use std::alloc::Global;
 use std::process::Abort;
 
-// The part of an event, 0 for the list of queues and then one more for each home; its moment and its count.
+// The part of an event, 0 for the list of queues, then one more for each home, and the last number for the ledger alone; its
+// moment and its count.
 type Seen = (u32, u64, u64);
 
 fn seen_of(event: Tagged<'_>) -> Seen {
     let part = match event {
         Tagged::Directory(_) => 0,
         Tagged::Home(place, _) => place.saturating_add(1),
+        Tagged::Ledger(_) => u32::MAX,
     };
     let stamp = event.stamp();
     (part, stamp.moment, stamp.count)

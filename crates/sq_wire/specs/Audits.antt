@@ -9,15 +9,15 @@ use Rattle.sq_model.specs.declared.item.Item.{Item}
 use Rattle.sq_model.specs.declared.place.Place.{Place}
 use Rattle.sq_model.specs.declared.place.Place.TheVariants.{InHome, InTransit, Deleted, Expired, Purged, ClosedAway, Dropped}
 use Rattle.sq_model.specs.Lineages.{Ending}
-use Rattle.sq_model.specs.Matches.{IsMatched}
+use Rattle.sq_model.specs.Matches.{IsMatched, IsPaired}
 use Rattle.sq_model.specs.Merges.{IsMerged}
 use Rattle.sq_model.specs.Places.{run_ends, run_sends}
 use Rattle.sq_model.specs.Systems.{Tag, stamp_of, opening, IsRun, IsOnePlace}
 use Rattle.sq_audit.specs.Actors.{ActorsRise, PartsRise}
-use Rattle.sq_audit.specs.AllPlaces.{ArePlaces}
-use Rattle.sq_audit.specs.SystemNow.{events_of, nothing_moved, system_now}
+use Rattle.sq_audit.specs.SystemNow.{events_of, system_now}
 use Rattle.sq_merge.specs.WorldValue.{WorldValue}
 use Rattle.sq_audit.specs.HomeIds.{histories_of, IsNumbered}
+use Rattle.sq_places.specs.AllPlaces.{ArePlaces}
 use Rattle.sq_replies.specs.Replies.{id_text}
 
 -- the moment in ms and the count, in decimal digits. Own.
@@ -59,22 +59,18 @@ ListsPlaces run text = (listed : List (MessageId × Place)) × (text ≡ compact
 abbrev pub TellsRun : List Tag → List Ending → List Item → List ℕ → Type 0
 TellsRun run ends items text = (listed : List (MessageId × Place)) × ArePlaces (run_sends run) ends items listed × (text ≡ compact_text (audit_data run listed))
 
--- The text tells one run of the whole system. Its events are those of the directory and of all homes and no others, sorted by
--- stamp; each is a step of the sequential system, from its opening to what the world is; those of each actor stand in its
--- order, and so do those of each part. Homes stand by queue and number, each once, so that the law of one place is true of the
--- run. Each event has its record, and each record its event. Each message that was sent is listed once, with where it is. No
--- message moves between queues yet: this holds whatever the limit of the ledger.
-pub record IsAuditWithin (limit : ℕ) (w : WorldValue) (run : List Tag) (text : List ℕ) : Type 0 where
-  pub matched : IsMatched w.directory.events nothing_moved (histories_of w.homes) w.journals
-  pub merged : IsMerged w.directory.events nothing_moved (events_of w.homes) run
-  pub is_run : IsRun w.directory.directory.places limit (map (λ h. h.site) w.homes) run (system_now limit w.directory w.homes)
+-- The text tells one run of the whole system. Its events are those of the directory, of the ledger and of all homes and no others, sorted by
+-- stamp, and what a home shares with the ledger once; each is a step of the sequential system, from its opening to what the world is; those of each actor
+-- stand in its order, and so do those of each part. Homes stand by queue and number, each once, so that the law of one place is true of the
+-- run. Each event has its record, and each record its event. Each message that was sent is listed once, with where it is.
+pub record IsAudit (w : WorldValue) (text : List ℕ) : Type 0 where
+  pub run : List Tag
+  pub matched : IsMatched w.directory.events w.ledger.events (histories_of w.homes) w.journals
+  pub paired : IsPaired w.ledger.events (histories_of w.homes)
+  pub merged : IsMerged w.directory.events w.ledger.events (events_of w.homes) run
+  pub is_run : IsRun w.directory.directory.places w.ledger.ledger.limit (map (λ h. h.site) w.homes) run (system_now w.directory w.ledger w.homes)
   pub actors : ActorsRise run
   pub parts : PartsRise run
   pub numbered : IsNumbered w.per_queue w.homes
   pub one_place : IsOnePlace (map (λ h. h.site) w.homes)
-  pub tells : TellsRun run (run_ends (opening w.directory.directory.places limit (map (λ h. h.site) w.homes)) run (system_now limit w.directory w.homes) is_run.steps) [] text
-
--- the same, of one run for every limit
-pub record IsAudit (w : WorldValue) (text : List ℕ) : Type 0 where
-  pub run : List Tag
-  pub within : (limit : ℕ) → IsAuditWithin limit w run text
+  pub tells : TellsRun run (run_ends (opening w.directory.directory.places w.ledger.ledger.limit (map (λ h. h.site) w.homes)) run (system_now w.directory w.ledger w.homes) is_run.steps) w.ledger.ledger.items text

@@ -7,8 +7,14 @@ use Rattle.sq_requests.specs.Requests.{line_request}
 use Rattle.sq_merge.specs.Acting.{counts_of, ActorStepped}
 use Rattle.sq_merge.specs.Fits.{CallFits}
 use Rattle.sq_merge.specs.Performs.{Performs}
+use Rattle.sq_merge.specs.Turns.{TurnFits}
 use Rattle.sq_replies.specs.Replies.{reply_text_of}
 use Rattle.sq_calls.specs.declared.calls.Answer.{Answer}
+use Rattle.sq_calls.specs.declared.calls.Answered.{Answered}
+use Rattle.sq_calls.specs.declared.calls.Answered.TheVariants as answered
+use Rattle.sq_calls.specs.declared.calls.Asked.{Asked}
+use Rattle.sq_calls.specs.declared.calls.Asked.TheVariants as asked
+use Rattle.sq_calls.specs.declared.turns.Turned.{Turned}
 use Rattle.sq_requests.specs.declared.request.Request.{Request}
 
 -- a world, and the clock reading of the last line that was read as a request
@@ -19,17 +25,31 @@ pub record ScriptValue : Type 0 where
 abbrev pub script_at : WorldValue → ℕ → ScriptValue
 script_at world clock = record { world = world; clock = clock }
 
--- A line that is no request is refused, and one that is has its call done by its actor at its reading, or at the last one. One that has a byte is refused as well where no memory was found to read it.
-abbrev pub LineAnswered : ScriptValue → List ℕ → Result Answer Refusal → ScriptValue → Type 0
+-- what a client gets, or what came of a turn, as the answer to a line
+abbrev pub call_answered : Result Answer Refusal → Result Answered Refusal
+call_answered (Ok answer) = Ok (answered.Call answer)
+call_answered (Err e) = Err e
+
+abbrev pub turn_answered : Result Turned Refusal → Result Answered Refusal
+turn_answered (Ok turned) = Ok (answered.Turn turned)
+turn_answered (Err e) = Err e
+
+-- a call or a turn was done by an actor at a clock reading
+abbrev pub IsDoneAt : ℕ → ℕ → WorldValue → Asked → Result Answered Refusal → WorldValue → Type 0
+IsDoneAt actor now w (asked.Call call) by after = (got : Result Answer Refusal) × (by ≡ call_answered got) × Performs (ActorStepped actor now) (CallFits (counts_of w) call) w got after
+IsDoneAt actor now w (asked.Turn turn) by after = (got : Result Turned Refusal) × (by ≡ turn_answered got) × Performs (ActorStepped actor now) (TurnFits (counts_of w).homes turn) w got after
+
+-- A line that is no request is refused, and one that is has its call or turn done by its actor at its reading, or at the last one. One that has a byte is refused as well where no memory was found to read it.
+abbrev pub LineAnswered : ScriptValue → List ℕ → Result Answered Refusal → ScriptValue → Type 0
 LineAnswered s line answered after =
     ((after ≡ s) × (((answered ≡ Err NoMemory) × (0 < length line)) ⊎ ((e : Refusal) × (line_request line ≡ Err e) × (answered ≡ Err e))))
     ⊎ ((request : Request) × (line_request line ≡ Ok request) × (after.clock ≡ unwrap_or request.clock s.clock)
-    × Performs (ActorStepped request.actor (unwrap_or request.clock s.clock)) (CallFits (counts_of s.world) request.call) s.world answered after.world)
+    × IsDoneAt request.actor (unwrap_or request.clock s.clock) s.world request.asked answered after.world)
 
 -- a line may have this text for its reply, and leave this
 unfoldable pub LineReplies : ScriptValue → List ℕ → List ℕ → ScriptValue → Type 0
-LineReplies s line text after = (answered : Result Answer Refusal) × LineAnswered s line answered after × (text ≡ reply_text_of answered)
+LineReplies s line text after = (answered : Result Answered Refusal) × LineAnswered s line answered after × (text ≡ reply_text_of answered)
 
--- a line's call was done and leaves this, and there was no memory for the text of its answer
+-- a line's call was done and leaves this, and there was no memory for the text of its answer; the word of a turn takes none
 unfoldable pub LineUnanswered : ScriptValue → List ℕ → ScriptValue → Type 0
-LineUnanswered s line after = (answer : Answer) × LineAnswered s line (Ok answer) after
+LineUnanswered s line after = (answer : Answer) × LineAnswered s line (Ok (answered.Call answer)) after

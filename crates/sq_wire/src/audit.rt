@@ -3,7 +3,6 @@ ghost use Rattle.std.specs.Prelude.{◌≡◌, ℕ, List, IfOk, IfErr, string_by
 ghost use Rattle.serde_json.specs.View.{view};
 ghost use Rattle.serde_json.specs.Written.{compact_text};
 ghost use Rattle.sq_audit.specs.Tags.{tags_of};
-ghost use Rattle.sq_model.specs.Merges.{NothingMoves};
 ghost use Rattle.sq_model.specs.Places.{run_ends};
 ghost use Rattle.sq_model.specs.Systems.{System, RunFrom, opening, IsOnePlace};
 ghost use Rattle.sq_model.specs.declared.place.Site.{Site};
@@ -38,7 +37,7 @@ pub fn audit_world(alloc: Global, world: World) -> Result<Text, AuditFault>
 /// The line that tells a run, without its line feed: the stamps of its events in their order, and where each message is
 /// that was sent in it. Refused only where memory is out.
 pub fn audit_text(alloc: Global, run: &Run<'_>) -> Result<Text, Refusal>
-    ensures listed { (places limit : ℕ) (sites : List Site) (after : System) (r : RunFrom (opening places limit sites) run.now after) → IsOnePlace sites → NothingMoves run.now
+    ensures listed { (places limit : ℕ) (sites : List Site) (after : System) (r : RunFrom (opening places limit sites) run.now after) → IsOnePlace sites
         → IfOk result (TellsRun run.now (run_ends (opening places limit sites) run.now after r) after.ledger.items) }
     ensures text { IfOk result (ListsPlaces run.now) }
     ensures memory { IfErr result (λ e. e ≡ Refusal.NoMemory) }

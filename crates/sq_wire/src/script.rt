@@ -1,9 +1,9 @@
 //! A line of a script and its reply.
 ghost use Rattle.std.specs.Prelude.{IfOk, OnErr};
-ghost use Rattle.sq_wire.specs.Scripts.{script_at, LineAnswered, LineReplies, LineUnanswered};
+ghost use Rattle.sq_wire.specs.Scripts.{script_at, IsDoneAt, LineAnswered, LineReplies, LineUnanswered};
 
 use sq_base::refusal::Refusal;
-use sq_calls::calls::Answer;
+use sq_calls::calls::{Answered, Asked};
 use sq_merge::world::World;
 use sq_replies::reply::reply_text;
 use sq_replies::text::Text;
@@ -11,18 +11,40 @@ use sq_requests::request::read_request;
 use std::alloc::{AllocError, Global};
 
 // Does what a line asks; its clock reading stands for the lines after it that have none.
-fn tell(alloc: Global, world: &mut World, clock: &mut u64, line: &[u8]) -> Result<Answer, Refusal>
+fn tell(alloc: Global, world: &mut World, clock: &mut u64, line: &[u8]) -> Result<Answered, Refusal>
     ensures { LineAnswered (script_at world.old clock.old) line.now result (script_at world.new clock.new) }
 {
     let request = read_request(alloc, line)?;
     if let Some(reading) = request.clock {
         *clock = reading;
     }
-    world.call(alloc, request.actor, *clock, &request.call)
+    do_at(alloc, world, request.actor, *clock, &request.asked)
+}
+
+// Does a call or a turn by an actor at a clock reading.
+fn do_at(
+    alloc: Global,
+    world: &mut World,
+    actor: u32,
+    clock: u64,
+    asked: &Asked,
+) -> Result<Answered, Refusal>
+    ensures { IsDoneAt actor clock world.old asked.now result world.new }
+{
+    match asked {
+        Asked::Call(call) => {
+            let answer = world.call(alloc, actor, clock, call)?;
+            Ok(Answered::Call(answer))
+        }
+        Asked::Turn(turn) => {
+            let turned = world.turn(alloc, actor, clock, turn)?;
+            Ok(Answered::Turn(turned))
+        }
+    }
 }
 
 /// Does what a line asks, and gives the text of its reply, without its line feed. Where there is no memory for
-/// the text of an answer, the call is done all the same.
+/// the text of an answer, the call is done all the same; the word of a turn takes none.
 #[tactic(auto, unfolding(crate::specs::Scripts::LineReplies, crate::specs::Scripts::LineUnanswered))]
 pub fn answer(
     alloc: Global,

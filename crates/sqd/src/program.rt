@@ -1,5 +1,6 @@
 //! The program as a function of its words, its input and its outputs.
 ghost use Rattle.std.specs.Prelude.{◌≡◌, ◌≢◌, ℕ, map, codes, length, ◌<◌};
+ghost use Rattle.sq_base.specs.StampValue.{StampValue};
 ghost use Rattle.sqd.specs.Endings.{stream, EndsFor, Ends, EndsWritten, IsHelp, IsAuditLine};
 ghost use Rattle.sqd.specs.Faults.{fault_name, fault_count};
 ghost use Rattle.sqd.specs.declared.flags.Mode.TheVariants.{Script as ByScript};
@@ -106,11 +107,15 @@ fn audit_fault_name(fault: AuditFault) -> &'static str
     ensures memory { fault ≡ AuditFault.NoMemory → result.now ≡ codes "no memory in audit" }
     ensures missing { (actor index : ℕ) → fault ≡ AuditFault.RecordMissing actor index → result.now ≡ codes "audit: RecordMissing" }
     ensures twice { (actor index : ℕ) → fault ≡ AuditFault.RecordTwice actor index → result.now ≡ codes "audit: RecordTwice" }
+    ensures leave { (stamp : StampValue) → fault ≡ AuditFault.LeaveUnmatched stamp → result.now ≡ codes "audit: LeaveUnmatched" }
+    ensures enter { (stamp : StampValue) → fault ≡ AuditFault.EnterUnmatched stamp → result.now ≡ codes "audit: EnterUnmatched" }
 {
     match fault {
         AuditFault::NoMemory => "no memory in audit",
         AuditFault::RecordMissing(_, _) => "audit: RecordMissing",
         AuditFault::RecordTwice(_, _) => "audit: RecordTwice",
+        AuditFault::LeaveUnmatched(_) => "audit: LeaveUnmatched",
+        AuditFault::EnterUnmatched(_) => "audit: EnterUnmatched",
     }
 }
 
@@ -122,9 +127,12 @@ fn report_audit<E: Write>(errors: &mut E, fault: AuditFault) -> u8
     let name = audit_fault_name(fault);
     let _ = writeln!(errors, "sqd: {name}");
     let _ = errors.flush();
-    match fault {
+    match &fault {
         AuditFault::NoMemory => 1,
-        AuditFault::RecordMissing(_, _) | AuditFault::RecordTwice(_, _) => 3,
+        AuditFault::RecordMissing(_, _)
+        | AuditFault::RecordTwice(_, _)
+        | AuditFault::LeaveUnmatched(_)
+        | AuditFault::EnterUnmatched(_) => 3,
     }
 }
 

@@ -9,7 +9,8 @@ loop-index-preserved c =
     let homes = c.args.homes.now in
     let home = c.index-homes-index.result in
     record {
-      tags = rw (c.in_ok-add_home.ensures.tags, c.loop-index.invariant.tags) (sym (by_part_more c.args.directory.now.events homes c.loop-index.index home (omega arith) c.index-homes-index.is));
+      tags = rw (c.in_ok-add_home.ensures.tags, c.loop-index.invariant.tags) (sym (by_part_more c.args.directory.now.events c.args.ledger.now.history.events homes c.loop-index.index home (omega arith) c.index-homes-index.is));
       directory = c.loop-index.invariant.directory;
+      ledger = c.loop-index.invariant.ledger;
       homes = All-more IsKept homes c.loop-index.index home (omega arith) c.loop-index.invariant.homes (rw (← c.index-homes-index.is) c.in_ok-add_home.ensures.kept);
     }

@@ -12,10 +12,11 @@ min_sum a b m = omega arith
 pub loop-home-preserved : goal.loop-home-preserved
 loop-home-preserved c =
     let events = c.args.directory.now.events in
+    let moved = c.args.ledger.now.history.events in
     let homes = c.args.homes.now in
     let at = c.loop-home.home-index in
     let home = c.home-item.result in
-    let before = by_part events (events_of (take at homes)) in
-    let more : length (by_part events (events_of (take (at + 1) homes))) ≡ length before + length home.events =
-    rw (by_part_more events homes at home (omega arith) c.home-item.is) (length-append before (map (λ e. OfHome at e) home.events) ∙ ap (λ n. length before + n) (length-map home.events (λ e. OfHome at e))) in
-    rw (more, c.saturating_add-count.ensures, c.loop-home.invariant, c.events.ensures.items) (min_sum (length before) (length home.events) (2 ^ 64 - 1))
+    let before = by_part events moved (events_of (take at homes)) in
+    let more : length (by_part events moved (events_of (take (at + 1) homes))) ≡ length before + length home.events =
+    rw (by_part_more events moved homes at home (omega arith) c.home-item.is) (length-append before (map (λ e. OfHome at e) home.events) ∙ ap (λ n. length before + n) (length-map home.events (λ e. OfHome at e))) in
+    rw (more, c.saturating_add-count-in-loop-home.ensures, c.loop-home.invariant, c.events-in-loop-home.ensures.items) (min_sum (length before) (length home.events) (2 ^ 64 - 1))

@@ -4,4 +4,4 @@ use Rattle.sq_audit.specs.SystemNow.{by_part, events_of}
 use Rattle.sq_audit.proofs.by_stamp.count.Given as goal
 
 abbrev pub invariant-loop-home : goal.invariant-loop-home
-invariant-loop-home l = l.count ≡ min (length (by_part l.directory.events (events_of (take l.home-index l.homes)))) (2 ^ 64 - 1)
+invariant-loop-home l = l.count ≡ min (length (by_part l.directory.events l.ledger.history.events (events_of (take l.home-index l.homes)))) (2 ^ 64 - 1)

@@ -22,11 +22,11 @@ pub returns-then-is_at-clause-ok : goal.returns-then-is_at-clause-ok
 returns-then-is_at-clause-ok c =
     let pos : position (is_of c.args.by.0) c.evidence.inside.journals.now ≡ Some c.in-Some.at = search rules in
     let within : c.args.by.1 < length c.records-records.result.now = search rules in
-    subst (λ (v : EvidenceValue). IsRecordedAt v.journals c.args.by.0 c.args.by.1 (IsAt c.args.evidence.now.per_queue c.args.home c.args.index)) c.evidence.view_is
-    (record_there c.evidence.inside.journals.now c.args.by.0 c.in-Some.at c.index-journals-at.result c.records-records.result.now c.args.by.1 pos c.in-Some.ensures.within c.index-journals-at.is c.records-records.ensures.records c.index-records-place.result (IsAt c.args.evidence.now.per_queue c.args.home c.args.index) within c.index-records-place.is (c.is_at.ensures.0 c.if-is_at.true))
+    subst (λ (v : EvidenceValue). IsRecordedAt v.journals c.args.by.0 c.args.by.1 (IsAt c.args.evidence.now.per_queue c.args.part c.args.index)) c.evidence.view_is
+    (record_there c.evidence.inside.journals.now c.args.by.0 c.in-Some.at c.index-journals-at.result c.records-records.result.now c.args.by.1 pos c.in-Some.ensures.within c.index-journals-at.is c.records-records.ensures.records c.index-records-place.result (IsAt c.args.evidence.now.per_queue c.args.part c.args.index) within c.index-records-place.is (c.is_at.ensures.0 c.if-is_at.true))
 
 pub returns-else-is_at-clause-fault : goal.returns-else-is_at-clause-fault
 returns-else-is_at-clause-fault c =
     let pos : position (is_of c.args.by.0) c.evidence.inside.journals.now ≡ Some c.in-Some.at = search rules in
     let within : c.args.by.1 < length c.records-records.result.now = search rules in
-    rw (← c.evidence.view_is) (inr (record_there c.evidence.inside.journals.now c.args.by.0 c.in-Some.at c.index-journals-at.result c.records-records.result.now c.args.by.1 pos c.in-Some.ensures.within c.index-journals-at.is c.records-records.ensures.records c.index-records-place.result (λ n. IsAt c.evidence.inside.per_queue c.args.home c.args.index n → ⊥) within c.index-records-place.is (λ h. search rules), refl))
+    rw (← c.evidence.view_is) (inr (record_there c.evidence.inside.journals.now c.args.by.0 c.in-Some.at c.index-journals-at.result c.records-records.result.now c.args.by.1 pos c.in-Some.ensures.within c.index-journals-at.is c.records-records.ensures.records c.index-records-place.result (λ n. IsAt c.evidence.inside.per_queue c.args.part c.args.index n → ⊥) within c.index-records-place.is (λ h. search rules), refl))

@@ -17,8 +17,8 @@ loop-index-preserved g c =
     let events = c.args.events.now in
     let lt : c.loop-index.index < length events = search rules in
     let in_list = read_at events events c.loop-index.index c.index-events-index.result refl lt c.index-events-index.is in
-    below_more (EventFits c.args.evidence.now.per_queue c.args.evidence.now.journals c.args.home events) c.loop-index.index c.loop-index.invariant
-    (λ e same. subst (λ (x : Event _ _). IsRecordedAt c.args.evidence.now.journals x.actor x.place (IsAt c.args.evidence.now.per_queue c.args.home c.loop-index.index)) (some_same (sym in_list ∙ same)) c.in_ok-check_event.ensures.ok)
+    below_more (EventFits c.args.evidence.now.per_queue c.args.evidence.now.journals c.args.part events) c.loop-index.index c.loop-index.invariant
+    (λ e same. subst (λ (x : Event _ _). IsRecordedAt c.args.evidence.now.journals x.actor x.place (IsAt c.args.evidence.now.per_queue c.args.part c.loop-index.index)) (some_same (sym in_list ∙ same)) c.in_ok-check_event.ensures.ok)
 
 pub returns-clause-ok : goal.returns-clause-ok
 returns-clause-ok g c k e in_list = c.loop-index.invariant k (let lt : k < length c.args.events.now = slice_get_within c.args.events.now k e in_list in search rules) e in_list

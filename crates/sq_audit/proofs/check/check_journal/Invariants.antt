@@ -3,4 +3,4 @@ use Rattle.sq_audit.specs.Faults.{RecordFits}
 use Rattle.sq_audit.proofs.check.check_journal.Given as goal
 
 abbrev pub invariant-loop-index : goal.invariant-loop-index
-invariant-loop-index l = (i : ℕ) → i < l.index → RecordFits l.evidence.directory l.evidence.homes l.evidence.journals l.at i
+invariant-loop-index l = (i : ℕ) → i < l.index → RecordFits l.evidence.directory l.evidence.ledger l.evidence.homes l.evidence.journals l.at i

@@ -8,4 +8,4 @@ unfolding LineReplies
 returns-clause-ok c = IfOk-weaker c.reply_text.result _ _ (λ text is. (c.tell-answered.result, c.tell-answered.ensures, is)) c.reply_text.ensures.text
 
 pub returns-clause-err : goal.returns-clause-err
-returns-clause-err c = line_unanswered _ _ c.tell-answered.result _ c.reply_text.result c.tell-answered.ensures c.reply_text.ensures.refused
+returns-clause-err c = line_unanswered _ _ c.tell-answered.result _ c.reply_text.result c.tell-answered.ensures c.reply_text.ensures.refused c.reply_text.ensures.turned

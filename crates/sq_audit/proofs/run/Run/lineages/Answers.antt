@@ -2,7 +2,7 @@ use Rattle.std.proofs.Common.{rules, ◌≡◌, length}
 use Rattle.std.specs.BTreeSet.{IsFromIterResult}
 use Rattle.std.specs.Vec.Iter.{into_iter_len}
 use Rattle.std.proofs.lemmas.Iterator.Adapters.{fact_from_collect, YieldsList-from_vec}
-use Rattle.sq_audit.specs.AllPlaces.{id_cmp}
+use Rattle.sq_audit.specs.RunLineages.{id_cmp}
 use Rattle.sq_audit.proofs.RunLaws.{set_lineages}
 use Rattle.sq_audit.proofs.run.Run.lineages.Goals as goal
 

@@ -9,7 +9,7 @@ use Rattle.sq_merge.proofs.world.World.see_directory.Goals as goal
 
 pub invariant_of-self-2 : goal.invariant_of-self-2
 invariant_of-self-2 c =
-    let old : WorldValue = record { directory = c.self.inside.directory; per_queue = c.self.inside.per_queue; sample = c.self.inside.sample; homes = c.self.inside.homes.items; journals = c.self.inside.journals.items } in
+    let old : WorldValue = record { directory = c.self.inside.directory; ledger = c.self.inside.ledger.history; per_queue = c.self.inside.per_queue; sample = c.self.inside.sample; homes = c.self.inside.homes.items; journals = c.self.inside.journals.items; tried = c.self.inside.tried.items } in
     let own : c.index_mut.result.now ≡ slice_index_or (opened c.args.actor old.journals) (index_in c.args.actor old.journals) c.index_mut.result.now = rw (c.in_ok-at.ensures.opened, c.in_ok-at.ensures.index) at c.index_mut.ensures.value in
     record {
       kept = rw (c.see.ensures, c.last-last.ensures, c.in_ok-at.ensures.opened, c.in_ok-at.ensures.index) (subst IsKeptWorld (sym (read_opened old c.args.actor c.index_mut.result.now own)) (kept_read old c.args.actor c.self.invariant.kept));
@@ -19,6 +19,6 @@ invariant_of-self-2 c =
 
 pub returns-clause-read : goal.returns-clause-read
 returns-clause-read c =
-    let old : WorldValue = record { directory = c.self.inside.directory; per_queue = c.self.inside.per_queue; sample = c.self.inside.sample; homes = c.self.inside.homes.items; journals = c.self.inside.journals.items } in
+    let old : WorldValue = record { directory = c.self.inside.directory; ledger = c.self.inside.ledger.history; per_queue = c.self.inside.per_queue; sample = c.self.inside.sample; homes = c.self.inside.homes.items; journals = c.self.inside.journals.items; tried = c.self.inside.tried.items } in
     let own : c.index_mut.result.now ≡ slice_index_or (opened c.args.actor old.journals) (index_in c.args.actor old.journals) c.index_mut.result.now = rw (c.in_ok-at.ensures.opened, c.in_ok-at.ensures.index) at c.index_mut.ensures.value in
     rw (← c.self.view_is, c.see.ensures, c.last-last.ensures, c.in_ok-at.ensures.opened, c.in_ok-at.ensures.index) (read_opened old c.args.actor c.index_mut.result.now own)

@@ -6,8 +6,13 @@ use Rattle.sq_merge.proofs.world.World.step.Goals as goal
 
 pub returns-in_err-act-in-Home-clause-refusal : goal.returns-in_err-act-in-Home-clause-refusal
 returns-in_err-act-in-Home-clause-refusal c =
-    let old : WorldValue = record { directory = c.self.inside.directory; per_queue = c.self.inside.per_queue; sample = c.self.inside.sample; homes = c.self.inside.homes.items; journals = c.self.inside.journals.items } in
+    let old : WorldValue = record { directory = c.self.inside.directory; ledger = c.self.inside.ledger.history; per_queue = c.self.inside.per_queue; sample = c.self.inside.sample; homes = c.self.inside.homes.items; journals = c.self.inside.journals.items; tried = c.self.inside.tried.items } in
     let place : home_index old.per_queue (length old.homes) c.in-Home.id ≡ Some c.in-Some.field-0 = search rules in
     let refused : c.from_residual-in_err-act-in-Home.result ≡ Err c.in_err-act-in-Home.field-0.0 = search rules in
     rw (refused, c.in-Home.is, ← c.self.view_is)
     (inl (c.in_err-act-in-Home.ensures.refused.0, (c.in_err-act-in-Home.ensures.refused.1, home_there old c.in-Home.id c.in-Some.field-0 c.self.invariant.kept.numbered c.home_index.ensures.queue place)))
+
+pub returns-in_err-reply-in-Shared-clause-refusal : goal.returns-in_err-reply-in-Shared-clause-refusal
+returns-in_err-reply-in-Shared-clause-refusal c =
+    let refused : c.from_residual-in_err-reply-in-Shared.result ≡ Err c.in_err-reply-in-Shared.field-0.0 = search rules in
+    rw (refused, c.in-Shared.is) c.in_err-reply-in-Shared.ensures.refusal

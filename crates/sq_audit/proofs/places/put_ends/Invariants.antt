@@ -1,9 +1,0 @@
-use Rattle.std.proofs.Common.{◌≡◌, take}
-use Rattle.std.specs.List.{fold}
-use Rattle.std.specs.BTreeMap.{get}
-use Rattle.sq_base.specs.declared.message_id.MessageId.{MessageId}
-use Rattle.sq_audit.specs.AllPlaces.{id_cmp, after_end}
-use Rattle.sq_audit.proofs.places.put_ends.Given as goal
-
-abbrev pub invariant-loop-id : goal.invariant-loop-id
-invariant-loop-id l = (x : MessageId) → get id_cmp l.places x ≡ fold (after_end x) (get id_cmp l.initial.places x) (take l.id-index l.ends)

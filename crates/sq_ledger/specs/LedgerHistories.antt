@@ -1,0 +1,51 @@
+-- What a step that the ledger shares with a home does to it, and what is true of the ledger at all times.
+use Rattle.std.specs.Prelude.{◌≡◌, true, [], ◌∷◌, ◌++◌}
+use Rattle.sq_base.specs.StampValue.{StampValue}
+use Rattle.sq_base.specs.Stamps.{start}
+use Rattle.sq_base.specs.declared.ids.HomeId.{HomeId}
+use Rattle.sq_model.specs.declared.calls.HomeCall.{HomeCall}
+use Rattle.sq_model.specs.declared.calls.HomeCall.TheVariants.{Enter, GiveBack}
+use Rattle.sq_model.specs.declared.event.Actor.{Actor}
+use Rattle.sq_model.specs.declared.item.Item.{Item}
+use Rattle.sq_model.specs.declared.ledger.LedgerCall.TheVariants as asks
+use Rattle.sq_model.specs.declared.ledger.LedgerReply.TheVariants as answers
+use Rattle.sq_model.specs.declared.place.Component.TheVariants as part
+use Rattle.sq_model.specs.declared.replies.HomeReply.{HomeReply}
+use Rattle.sq_model.specs.declared.replies.HomeReply.TheVariants.{Entered}
+use Rattle.sq_model.specs.Homes.{may_enter, may_return}
+use Rattle.sq_model.specs.Ledgers.{LedgerEvent, LedgerStep, opening_ledger}
+use Rattle.sq_model.specs.Replays.{Replays, StampsRise}
+use Rattle.sq_model.specs.Systems.{AreLedger}
+use Rattle.sq_history.specs.Logs.{event_by}
+use Rattle.sq_history.specs.Rooms.{IsReady, KeepsRoom}
+use Rattle.sq_ledger.specs.LedgerHistory.{LedgerHistory, LedgerValue}
+
+-- the event of a step of this home, as it stands in the ledger's history
+abbrev pub shared_event : StampValue → Actor → HomeId → HomeCall → HomeReply → LedgerEvent
+shared_event stamp by home call reply = event_by stamp by (part.Home home) (asks.AtHome home call) (answers.AtHome reply)
+
+-- Exactly one event was added: the ledger's half of a step that a home shares with it, at the step's stamp.
+pub record LedgerShares (old new : LedgerHistory) (by : Actor) (stamp : StampValue) (home : HomeId) (call : HomeCall) (reply : HomeReply) : Type 0 where
+  pub step : LedgerStep old.ledger stamp.moment (asks.AtHome home call) (answers.AtHome reply) new.ledger
+  pub last : new.last ≡ stamp
+  pub events : new.events ≡ old.events ++ shared_event stamp by home call reply ∷ []
+  pub room : KeepsRoom old.room new.room
+  pub item_room : KeepsRoom old.item_room new.item_room
+
+-- there is memory for one event more, and for one item
+pub record IsPrepared (v : LedgerValue) : Type 0 where
+  pub for_event : IsReady v.history.room v.reserved
+  pub for_item : IsReady v.history.item_room v.item_reserved
+
+-- an item goes out of the ledger into a home: into its target, or back into its source
+abbrev pub IsEntered : HomeId → HomeCall → HomeReply → Item → Type 0
+IsEntered home (Enter given) (Entered entered) item = (given ≡ item) × (may_enter home item ≡ true)
+IsEntered home (GiveBack given) (Entered entered) item = (given ≡ item) × (may_return home item ≡ true)
+-- no other call takes an item out into a home
+IsEntered home call reply item = ⊥
+
+-- True at all times: the ledger is the replay of its events, whose stamps rise, and each event is its own or one that it shares.
+pub record IsLedgerKept (h : LedgerHistory) : Type 0 where
+  pub replays : Replays LedgerStep (opening_ledger h.ledger.limit) h.events h.ledger
+  pub rising : StampsRise start h.events h.last
+  pub own : AreLedger h.events

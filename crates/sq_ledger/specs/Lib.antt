@@ -1,0 +1,2 @@
+pub mod LedgerHistory
+pub mod LedgerHistories

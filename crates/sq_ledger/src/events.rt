@@ -1,0 +1,93 @@
+//! What the homes share with the ledger.
+ghost use Rattle.std.specs.Prelude.{◌≡◌, ◌↔◌, true};
+ghost use Rattle.sq_model.specs.Matches.{InLedger};
+ghost use Rattle.sq_model.specs.Passages.{is_alone, is_leave};
+ghost use Rattle.sq_model.specs.Systems.{as_ledger};
+
+use crate::ledger::TransitLedger;
+use sq_base::ids::HomeId;
+use sq_history::events::event_at;
+use sq_model::calls::HomeCall;
+use sq_model::event::Event;
+use sq_model::ledger::{LedgerCall, LedgerReply};
+use sq_model::replies::HomeReply;
+use sq_model::same::{is_same_call, is_same_reply};
+
+/// Whether a call is a home's alone; the others are shared with the ledger.
+pub fn is_alone(call: &HomeCall) -> bool
+    ensures { result ≡ is_alone call.now }
+{
+    match call {
+        HomeCall::Configure(_, _)
+        | HomeCall::Close
+        | HomeCall::Send(_, _)
+        | HomeCall::Look(_, _)
+        | HomeCall::Delete(_)
+        | HomeCall::Change(_, _)
+        | HomeCall::Purge
+        | HomeCall::Count => true,
+        HomeCall::LeaveDead
+        | HomeCall::LeaveTask(_)
+        | HomeCall::Enter(_)
+        | HomeCall::TurnBack(_)
+        | HomeCall::GiveBack(_)
+        | HomeCall::GiveUp(_) => false,
+    }
+}
+
+/// Whether a call asks a message to leave its home.
+pub fn is_leave(call: &HomeCall) -> bool
+    ensures { result ≡ is_leave call.now }
+{
+    match call {
+        HomeCall::LeaveDead | HomeCall::LeaveTask(_) => true,
+        HomeCall::Configure(_, _)
+        | HomeCall::Close
+        | HomeCall::Send(_, _)
+        | HomeCall::Look(_, _)
+        | HomeCall::Delete(_)
+        | HomeCall::Change(_, _)
+        | HomeCall::Purge
+        | HomeCall::Count
+        | HomeCall::Enter(_)
+        | HomeCall::TurnBack(_)
+        | HomeCall::GiveBack(_)
+        | HomeCall::GiveUp(_) => false,
+    }
+}
+
+/// Whether an event of the ledger is the one of a home, as it stands in the ledger's history.
+pub fn is_shared_event(
+    kept: &Event<LedgerCall, LedgerReply>,
+    home: &HomeId,
+    event: &Event<HomeCall, HomeReply>,
+) -> bool
+    ensures { result ≡ true ↔ kept.now ≡ as_ledger home.now event.now }
+{
+    match (&kept.call, &kept.reply) {
+        (LedgerCall::AtHome(at, call), LedgerReply::AtHome(reply)) => {
+            at == home
+                && kept.stamp == event.stamp
+                && kept.actor == event.actor
+                && kept.place == event.place
+                && kept.component == event.component
+                && is_same_call(call, &event.call)
+                && is_same_reply(reply, &event.reply)
+        }
+        _ => false,
+    }
+}
+
+/// Whether the ledger's history has an event of this home too.
+pub fn has_shared_event(
+    ledger: &TransitLedger,
+    home: &HomeId,
+    event: &Event<HomeCall, HomeReply>,
+) -> bool
+    ensures { result ≡ true ↔ InLedger ledger.now.history.events home.now event.now }
+{
+    match event_at(ledger.events(), event.stamp) {
+        Some(kept) => is_shared_event(kept, home, event),
+        None => false,
+    }
+}

@@ -1,0 +1,159 @@
+//! The items in transit, in rising number.
+ghost use Rattle.std.specs.Prelude.{◌≡◌, ◌+◌, ◌-◌, ◌<◌, ◌≤◌, ◌++◌, ◌∷◌, [], OnOk, IfErr, find, length, map, nat_le, nat_lt, option_map, slice_get};
+ghost use Rattle.std.specs.List.{position_or_len};
+ghost use Rattle.std.specs.Option.{option_or};
+ghost use Rattle.std.specs.VecDeque.{deque_capacity, deque_len};
+ghost use Rattle.sq_model.specs.Ledgers.{has_number, items_without, turned_if, ItemsRise};
+ghost use Rattle.sq_history.specs.Rooms.{IsReady, KeepsRoom};
+
+use sq_base::refusal::Refusal;
+use sq_model::item::Item;
+use std::alloc::Global;
+use std::collections::VecDeque;
+use std::marker::Model;
+
+/// Items in rising number, found by binary search. Where one is taken out, the shorter side moves up. They show for how
+/// many more there was memory when they last changed; a step that is refused may have got more, and leaves what is shown.
+#[derive(Drop)]
+pub struct Items {
+    items: VecDeque<Item>,
+    room: usize,
+}
+
+impl Model for Items {
+    ghost use Rattle.std.specs.Prelude.{ℕ, ◌-◌, ◌≤◌};
+    ghost use Rattle.std.specs.VecDeque.{deque_capacity, deque_len};
+    ghost use Rattle.sq_model.specs.declared.item.Item.{Item as Moved};
+    ghost use Rattle.sq_model.specs.Ledgers.{ItemsRise};
+    ghost use Rattle.sq_history.specs.Rooms.{GrowingValue};
+
+    ghost Value = { GrowingValue Moved };
+
+    ghost view = { λ i. record { items = i.items.items; room = i.room; reserved = deque_capacity i.items - deque_len i.items } };
+
+    ghost invariant = { λ i. ((next : ℕ) × ItemsRise 1 i.items.items next) × (i.room ≤ deque_capacity i.items - deque_len i.items) };
+}
+
+impl Items {
+    /// No item, and memory for none.
+    pub fn new(alloc: Global) -> Items
+        ensures items { result.items ≡ [] }
+        ensures room { result.room ≡ 0 }
+    {
+        Items {
+            items: VecDeque::new(alloc),
+            room: 0,
+        }
+    }
+
+    /// How many items there are.
+    pub fn len(&self) -> usize
+        ensures { result ≡ length self.now.items }
+    {
+        self.items.len()
+    }
+
+    /// The item of a number.
+    pub fn get(&self, number: u64) -> Option<&Item>
+        ensures { option_map (λ item. item.now) result ≡ find (has_number number) self.now.items }
+    {
+        let item = self.items.get(self.place(number))?;
+        if item.number.get() == number {
+            Some(item)
+        } else {
+            None
+        }
+    }
+
+    /// The first item above a number; where none is, the first of all.
+    pub fn after(&self, number: u64) -> Option<&Item>
+        ensures { option_map (λ item. item.now) result ≡ option_or (find (λ item. nat_lt number item.number) self.now.items) (slice_get self.now.items 0) }
+    {
+        let place = self
+            .items
+            .partition_point(|item| item.number.get() <= number);
+        if place < self.items.len() {
+            self.items.get(place)
+        } else {
+            self.items.front()
+        }
+    }
+
+    /// Gets memory for one item more, and for four at once where they show room for none. Refused as NoMemory where they
+    /// show room for none and have memory for fewer than four.
+    pub fn reserve(&mut self) -> Result<(), Refusal>
+        ensures items { self.new.items ≡ self.old.items }
+        ensures room { self.new.room ≡ self.old.room }
+        ensures kept { self.old.reserved ≤ self.new.reserved }
+        ensures ready { OnOk result (IsReady self.new.room self.new.reserved) }
+        ensures refused { IfErr result (λ e. (e ≡ Refusal.NoMemory) × (self.old.room ≡ 0) × (self.old.reserved < 4)) }
+    {
+        if self.room == 0 {
+            self.items.try_reserve(4)?;
+        }
+        Ok(())
+    }
+
+    /// Puts an item last whose number is above all others, for which there is memory.
+    pub fn push(&mut self, item: Item)
+        requires ready { IsReady self.old.room self.old.reserved }
+        requires above { ItemsRise 1 self.old.items item.number }
+        ensures items { self.new.items ≡ self.old.items ++ item ∷ [] }
+        ensures room { KeepsRoom self.old.room self.new.room }
+        ensures reserved { self.old.reserved ≤ self.new.reserved + 1 }
+    {
+        self.items.push_back_reserved(item);
+        self.room = room_of(&self.items);
+    }
+
+    /// Takes the item of a number out, if it is there.
+    pub fn take(&mut self, number: u64) -> Option<Item>
+        ensures taken { result ≡ find (has_number number) self.old.items }
+        ensures items { self.new.items ≡ items_without number self.old.items }
+        ensures room { self.new.room ≡ self.old.room }
+        ensures reserved { self.old.reserved ≤ self.new.reserved }
+    {
+        self.get(number)?;
+        let place = self.place(number);
+        self.items.remove(place)
+    }
+
+    /// Turns the item of a number homeward, if it is there.
+    pub fn turn(&mut self, number: u64)
+        ensures items { self.new.items ≡ map (turned_if number) self.old.items }
+        ensures room { self.new.room ≡ self.old.room }
+        ensures reserved { self.new.reserved ≡ self.old.reserved }
+    {
+        let place = self.place(number);
+        if let Some(item) = self.items.get_mut(place) {
+            if item.number.get() == number {
+                item.homeward = true;
+            }
+        }
+    }
+
+    /// Shows all the memory that there is.
+    pub fn show_room(&mut self)
+        ensures items { self.new.items ≡ self.old.items }
+        ensures shown { self.new.room ≡ self.old.reserved }
+        ensures more { self.old.room ≤ self.new.room }
+        ensures reserved { self.new.reserved ≡ self.old.reserved }
+    {
+        self.room = room_of(&self.items);
+    }
+
+    // Where the first item stands that is not below a number: how many are below it.
+    fn place(&self, number: u64) -> usize
+        ensures { result ≡ position_or_len (λ item. nat_le number item.number) self.now.items }
+    {
+        self.items
+            .partition_point(|item| item.number.get() < number)
+    }
+}
+
+// For how many items more there is memory.
+fn room_of(items: &VecDeque<Item>) -> usize
+    ensures { result ≡ deque_capacity items.now - deque_len items.now }
+{
+    items.capacity() - items.len()
+}

@@ -1,0 +1,235 @@
+//! The ledger: the messages that left one queue and are not yet in another, and all that was done to them.
+ghost use Rattle.std.specs.Prelude.{◌≡◌, ◌⊎◌, ◌+◌, ◌<◌, ◌≤◌, ◌++◌, ◌∷◌, [], true, Some, None, IfOk, IfErr, OnOk, option_map};
+ghost use Rattle.sq_base.specs.Stamps.{start, Below};
+ghost use Rattle.sq_model.specs.declared.calls.HomeCall.TheVariants.{LeaveDead, TurnBack, GiveUp};
+ghost use Rattle.sq_model.specs.declared.item.Item.{Item as Moved};
+ghost use Rattle.sq_model.specs.declared.item.Reason.TheVariants.{DeadLetter};
+ghost use Rattle.sq_model.specs.declared.replies.HomeReply.TheVariants.{Done, Left};
+ghost use Rattle.sq_model.specs.Homes.{IsFrom, may_enter, may_return};
+ghost use Rattle.sq_model.specs.Ledgers.{HasRoom, item_of, opening_ledger, peek, room_refusal};
+ghost use Rattle.sq_model.specs.Replays.{StampsRise};
+ghost use Rattle.sq_history.specs.Rooms.{IsReady, KeepsRoom};
+ghost use Rattle.sq_ledger.specs.LedgerHistories.{IsEntered, IsLedgerKept, IsPrepared, LedgerShares, shared_event};
+
+use crate::items::Items;
+use sq_base::ids::HomeId;
+use sq_base::refusal::Refusal;
+use sq_base::stamp::Stamp;
+use sq_history::log::Log;
+use sq_model::calls::HomeCall;
+use sq_model::event::{Actor, Event};
+use sq_model::item::{Item, ItemNo};
+use sq_model::ledger::{LedgerCall, LedgerReply};
+use sq_model::place::Component;
+use sq_model::replies::HomeReply;
+use std::alloc::Global;
+use std::marker::Model;
+
+/// The messages between two queues, as items with numbers, and the history of the steps that the ledger shares with the
+/// homes: the ledger is always the replay of it. Moments are in ms. Own.
+///
+/// A step is done at a home and here, at one stamp. It is begun with `prepare`, and with `room` where an item comes in;
+/// what follows takes no memory and is not refused.
+#[derive(Drop)]
+pub struct TransitLedger {
+    items: Items,
+    next: u64,
+    limit: u32,
+    log: Log<LedgerCall, LedgerReply>,
+}
+
+impl Model for TransitLedger {
+    ghost use Rattle.sq_ledger.specs.LedgerHistory.{LedgerValue, history_of};
+    ghost use Rattle.sq_ledger.specs.LedgerHistories.{IsLedgerKept};
+
+    ghost Value = { LedgerValue };
+
+    ghost view = { λ t. record { history = history_of t.items t.next t.limit t.log; reserved = t.log.reserved; item_reserved = t.items.reserved } };
+
+    ghost invariant = { λ t. IsLedgerKept (history_of t.items t.next t.limit t.log) };
+}
+
+impl TransitLedger {
+    /// No item and no event. It is to hold so many items at most.
+    pub fn new(alloc: Global, limit: u32) -> TransitLedger
+        ensures { result.history ≡ record { ledger = opening_ledger limit; last = start; events = []; room = 0; item_room = 0 } }
+    {
+        TransitLedger {
+            items: Items::new(alloc),
+            next: 1,
+            limit,
+            log: Log::new(alloc),
+        }
+    }
+
+    /// All events, the first first. The ledger is always the replay of them.
+    pub fn events(&self) -> &[Event<LedgerCall, LedgerReply>]
+        ensures items { result.now ≡ self.now.history.events }
+        ensures kept { IsLedgerKept self.now.history }
+    {
+        self.log.events()
+    }
+
+    /// The stamp of the last event; the least stamp where there is none.
+    pub fn last(&self) -> Stamp
+        ensures { result ≡ self.now.history.last }
+    {
+        self.log.last()
+    }
+
+    /// The item of a number, while it is in transit.
+    pub fn item(&self, number: ItemNo) -> Option<&Item>
+        ensures { option_map (λ item. item.now) result ≡ item_of number self.now.history.ledger }
+    {
+        self.items.get(number.get())
+    }
+
+    /// The item that comes after a number, in a circle: the first one above it, and where none is, the first of all.
+    pub fn peek(&self, after: u64) -> Option<&Item>
+        ensures { option_map (λ item. item.now) result ≡ peek after self.now.history.ledger }
+    {
+        self.items.after(after)
+    }
+
+    /// The number of the next item, where one more may come in. It takes no memory. Refused as Worn (no number is left),
+    /// and then as OverLimit (as many items are in transit as may be).
+    pub fn room(&self) -> Result<ItemNo, Refusal>
+        ensures number { IfOk result (λ number. number ≡ self.now.history.ledger.next_item) }
+        ensures has_room { OnOk result (HasRoom self.now.history.ledger) }
+        ensures passes { OnOk result (room_refusal self.now.history.ledger ≡ None) }
+        ensures refused { IfErr result (λ e. room_refusal self.now.history.ledger ≡ Some e) }
+    {
+        let Some(number) = ItemNo::new(self.next) else {
+            return Err(Refusal::Worn);
+        };
+        if self.items.len() >= self.limit as usize {
+            return Err(Refusal::OverLimit);
+        }
+        Ok(number)
+    }
+
+    /// Gets memory for one event more and for one item, and for four where it shows room for none. Refused as NoMemory,
+    /// where it shows room for no event or for no item; it may have got some of it then.
+    pub fn prepare(&mut self) -> Result<(), Refusal>
+        ensures history { self.new.history ≡ self.old.history }
+        ensures prepared { OnOk result (IsPrepared self.new) }
+        ensures refused { IfErr result (λ e. e ≡ Refusal.NoMemory) }
+        ensures needed { IfErr result (λ _. (self.old.history.room ≡ 0) ⊎ (self.old.history.item_room ≡ 0)) }
+        ensures reserved { self.old.reserved ≤ self.new.reserved }
+        ensures item_reserved { self.old.item_reserved ≤ self.new.item_reserved }
+    {
+        self.log.reserve()?;
+        self.items.reserve()
+    }
+
+    /// A dead message comes in from this home, as the item with the next number. The call and the reply are those of the
+    /// home's event.
+    pub fn take_in(
+        &mut self,
+        by: &Actor,
+        stamp: Stamp,
+        home: &HomeId,
+        kept: (HomeCall, HomeReply),
+        item: Item,
+    )
+        requires prepared { IsPrepared self.old }
+        requires above { Below self.old.history.last stamp }
+        requires has_room { HasRoom self.old.history.ledger }
+        requires number { item.number ≡ self.old.history.ledger.next_item }
+        requires from { IsFrom home.now DeadLetter item }
+        requires call { kept.0 ≡ LeaveDead }
+        requires reply { kept.1 ≡ Left item }
+        ensures shares { LedgerShares self.old.history self.new.history by.now stamp home.now kept.0 kept.1 }
+        ensures item_reserved { self.old.item_reserved ≤ self.new.item_reserved + 1 }
+    {
+        self.items.push(item);
+        self.next += 1;
+        add_event(&mut self.log, by, stamp, home, kept);
+    }
+
+    /// The item of a number goes out to this home, which it came in at: its target, or its source where it was turned
+    /// back. The call and the reply are those of the home's event.
+    pub fn give_out(
+        &mut self,
+        by: &Actor,
+        stamp: Stamp,
+        home: &HomeId,
+        kept: (HomeCall, HomeReply),
+        number: ItemNo,
+    )
+        requires prepared { IsPrepared self.old }
+        requires above { Below self.old.history.last stamp }
+        requires entered { (item : Moved) × (item_of number self.old.history.ledger ≡ Some item) × IsEntered home.now kept.0 kept.1 item }
+        ensures shares { LedgerShares self.old.history self.new.history by.now stamp home.now kept.0 kept.1 }
+        ensures item_reserved { self.old.item_reserved ≤ self.new.item_reserved }
+    {
+        let _entered = self.items.take(number.get());
+        self.items.show_room();
+        add_event(&mut self.log, by, stamp, home, kept);
+    }
+
+    /// The item of a number is given up at this home of its source, since that was closed too. The call and the reply are
+    /// those of the home's event.
+    pub fn drop_item(
+        &mut self,
+        by: &Actor,
+        stamp: Stamp,
+        home: &HomeId,
+        kept: (HomeCall, HomeReply),
+        number: ItemNo,
+    )
+        requires prepared { IsPrepared self.old }
+        requires above { Below self.old.history.last stamp }
+        requires given_up { (item : Moved) × (item_of number self.old.history.ledger ≡ Some item) × (kept.0 ≡ GiveUp item) × (may_return home.now item ≡ true) }
+        requires reply { kept.1 ≡ Done }
+        ensures shares { LedgerShares self.old.history self.new.history by.now stamp home.now kept.0 kept.1 }
+        ensures item_reserved { self.old.item_reserved ≤ self.new.item_reserved }
+    {
+        let _given_up = self.items.take(number.get());
+        self.items.show_room();
+        add_event(&mut self.log, by, stamp, home, kept);
+    }
+
+    /// The item of a number goes back to its source from now on, since this home of its target was closed. The call and
+    /// the reply are those of the home's event.
+    pub fn turn_back(
+        &mut self,
+        by: &Actor,
+        stamp: Stamp,
+        home: &HomeId,
+        kept: (HomeCall, HomeReply),
+        number: ItemNo,
+    )
+        requires prepared { IsPrepared self.old }
+        requires above { Below self.old.history.last stamp }
+        requires turned { (item : Moved) × (item_of number self.old.history.ledger ≡ Some item) × (kept.0 ≡ TurnBack item) × (may_enter home.now item ≡ true) }
+        requires reply { kept.1 ≡ Done }
+        ensures shares { LedgerShares self.old.history self.new.history by.now stamp home.now kept.0 kept.1 }
+        ensures item_reserved { self.old.item_reserved ≤ self.new.item_reserved }
+    {
+        self.items.turn(number.get());
+        self.items.show_room();
+        add_event(&mut self.log, by, stamp, home, kept);
+    }
+}
+
+// Adds the event of a step of this home.
+fn add_event(
+    log: &mut Log<LedgerCall, LedgerReply>,
+    by: &Actor,
+    stamp: Stamp,
+    home: &HomeId,
+    kept: (HomeCall, HomeReply),
+)
+    requires ready { IsReady log.old.room log.old.reserved }
+    requires above { Below log.old.last stamp }
+    ensures last { log.new.last ≡ stamp }
+    ensures events { log.new.events ≡ log.old.events ++ shared_event stamp by.now home.now kept.0 kept.1 ∷ [] }
+    ensures rising { StampsRise start log.new.events log.new.last }
+    ensures room { KeepsRoom log.old.room log.new.room }
+{
+    let (call, reply) = kept;
+    let call = LedgerCall::AtHome(*home, call);
+    let reply = LedgerReply::AtHome(reply);
+    log.note(stamp, by, Component::Home(*home), (call, reply));
+}

@@ -1,0 +1,241 @@
+-- What decides how the rows of a home leave it, and what an event makes of it.
+use Rattle.std.specs.Prelude.{ℕ, ◌+◌, Bool, true, not, ◌&&◌, ◌==◌, nat_le, nat_lt, List, [], ◌∷◌, ◌++◌, map, filter, if◌then◌else◌, Option, Some, None}
+use Rattle.sq_base.specs.declared.message_id.MessageId.{MessageId}
+use Rattle.sq_base.specs.declared.row.Row.{Row}
+use Rattle.sq_model.specs.declared.calls.Receipt.{Receipt}
+use Rattle.sq_model.specs.declared.calls.HomeCall.{HomeCall}
+use Rattle.sq_model.specs.declared.calls.HomeCall.TheVariants as call
+use Rattle.sq_model.specs.declared.item.Item.{Item}
+use Rattle.sq_model.specs.declared.item.Reason.{Reason}
+use Rattle.sq_model.specs.declared.item.Reason.TheVariants.{DeadLetter, Task}
+use Rattle.sq_model.specs.declared.replies.SentMessage.{SentMessage}
+use Rattle.sq_model.specs.declared.replies.EnteredRow.{EnteredRow}
+use Rattle.sq_model.specs.declared.replies.HomeReply.{HomeReply}
+use Rattle.sq_model.specs.declared.replies.HomeReply.TheVariants as reply
+use Rattle.sq_model.specs.Rows as rows
+use Rattle.sq_model.specs.Homes.{Home}
+use Rattle.sq_model.specs.Lineages.{Cause, Expired, Deleted, Purged, ClosedAway, GivenUp, Ending, rows_of}
+use Rattle.sq_places.specs.declared.state.RowState.{RowState}
+use Rattle.sq_places.specs.declared.state.Policy.{Policy}
+
+abbrev pub state_of : Row → RowState
+state_of row = record { lineage = row.lineage; serial = row.serial; slot = row.slot; enqueued = row.enqueued; receives = row.receives }
+
+abbrev pub states_of : Home → List RowState
+states_of home = map state_of (rows_of home)
+
+-- what was enqueued then is past the retention
+abbrev pub is_due : ℕ → ℕ → ℕ → Bool
+is_due retention m enqueued = nat_le (enqueued + rows.ms retention) m
+
+abbrev pub is_past : ℕ → ℕ → RowState → Bool
+is_past retention m row = is_due retention m row.enqueued
+
+abbrev pub is_named : Receipt → RowState → Bool
+is_named receipt row = (row.slot == receipt.slot) && (row.serial == receipt.serial) && (row.receives == receipt.receive)
+
+abbrev pub sent_state : SentMessage → ℕ → RowState
+sent_state sent m = record { lineage = sent.id; serial = sent.id.serial; slot = sent.slot; enqueued = m; receives = 0 }
+
+-- a row that comes in for a task is a new message; a dead letter keeps its age
+abbrev pub enqueued_as : Reason → ℕ → ℕ → ℕ
+enqueued_as DeadLetter m enqueued = enqueued
+enqueued_as (Task task) m enqueued = m
+
+-- the row of an item that comes in at its target at a moment
+abbrev pub entered_state : ℕ → Item → EnteredRow → RowState
+entered_state m item entered = record { lineage = item.row.lineage; serial = entered.serial; slot = entered.slot; enqueued = enqueued_as item.reason m item.row.enqueued; receives = 0 }
+
+-- the row of an item that comes back to its source
+abbrev pub returned_state : Item → EnteredRow → RowState
+returned_state item entered = record { lineage = item.row.lineage; serial = entered.serial; slot = entered.slot; enqueued = item.row.enqueued; receives = 0 }
+
+-- the row of this slot and serial
+abbrev pub is_of : Row → RowState → Bool
+is_of row state = (state.slot == row.slot) && (state.serial == row.serial)
+
+abbrev pub has_serial : ℕ → List Row → Bool
+has_serial serial picked = rows.has_serial serial picked
+
+-- received once more; the last receive number stays
+abbrev pub received : RowState → RowState
+received row = if nat_lt row.receives 4294967295 then record row { receives = row.receives + 1 } else row
+
+-- after a receive that gave the row of a serial
+abbrev pub raised : ℕ → RowState → RowState
+raised serial row = if row.serial == serial then received row else row
+
+-- after a receive that gave these rows
+abbrev pub looked : List Row → RowState → RowState
+looked picked row = if has_serial row.serial picked then received row else row
+
+abbrev pub is_newer : Option Policy → ℕ → Bool
+is_newer None version = true
+is_newer (Some policy) version = nat_lt policy.version version
+
+abbrev pub next_policy : Option Policy → HomeCall → Option Policy
+next_policy policy (call.Configure settings version) = if is_newer policy version then Some (record { retention = settings.retention; version = version }) else policy
+next_policy policy call.Close = policy
+next_policy policy (call.Send body delay) = policy
+next_policy policy (call.Look max timeout) = policy
+next_policy policy (call.Delete receipt) = policy
+next_policy policy (call.Change receipt timeout) = policy
+next_policy policy call.Purge = policy
+next_policy policy call.Count = policy
+next_policy policy call.LeaveDead = policy
+next_policy policy (call.LeaveTask task) = policy
+next_policy policy (call.Enter item) = policy
+next_policy policy (call.TurnBack item) = policy
+next_policy policy (call.GiveBack item) = policy
+next_policy policy (call.GiveUp item) = policy
+
+-- What an event does to the rows, after the trim. A message leaves the system, or goes into transit as a row; one that comes
+-- in from there is a new row, and one that is given up there leaves the system.
+pub data Effect : Type 0 where
+  Stays : Effect
+  Arrives : SentMessage → Effect
+  Looks : List Row → Effect
+  Leaves : (RowState → Bool) → Cause → Effect
+  Departs : Row → Effect
+  Enters : RowState → Effect
+  Drops : MessageId → Effect
+
+-- a send puts a message in, a look receives messages, a leave takes one out, and an item comes in, as their replies say
+abbrev pub sent_by : HomeReply → Effect
+sent_by reply.Done = Stays
+sent_by (reply.Sent sent) = Arrives sent
+sent_by (reply.Looked picked) = Stays
+sent_by reply.Over = Stays
+sent_by (reply.Counted counts) = Stays
+sent_by (reply.Left item) = Stays
+sent_by reply.NoLiveRow = Stays
+sent_by (reply.NoOrigin serial) = Stays
+sent_by reply.SourceClosed = Stays
+sent_by (reply.Entered entered) = Stays
+
+abbrev pub looked_by : HomeReply → Effect
+looked_by reply.Done = Stays
+looked_by (reply.Sent sent) = Stays
+looked_by (reply.Looked picked) = Looks picked
+looked_by reply.Over = Stays
+looked_by (reply.Counted counts) = Stays
+looked_by (reply.Left item) = Stays
+looked_by reply.NoLiveRow = Stays
+looked_by (reply.NoOrigin serial) = Stays
+looked_by reply.SourceClosed = Stays
+looked_by (reply.Entered entered) = Stays
+
+abbrev pub left_by : HomeReply → Effect
+left_by reply.Done = Stays
+left_by (reply.Sent sent) = Stays
+left_by (reply.Looked picked) = Stays
+left_by reply.Over = Stays
+left_by (reply.Counted counts) = Stays
+left_by (reply.Left item) = Departs item.row
+left_by reply.NoLiveRow = Stays
+left_by (reply.NoOrigin serial) = Stays
+left_by reply.SourceClosed = Stays
+left_by (reply.Entered entered) = Stays
+
+abbrev pub entered_by : ℕ → Item → HomeReply → Effect
+entered_by m item reply.Done = Stays
+entered_by m item (reply.Sent sent) = Stays
+entered_by m item (reply.Looked picked) = Stays
+entered_by m item reply.Over = Stays
+entered_by m item (reply.Counted counts) = Stays
+entered_by m item (reply.Left other) = Stays
+entered_by m item reply.NoLiveRow = Stays
+entered_by m item (reply.NoOrigin serial) = Stays
+entered_by m item reply.SourceClosed = Stays
+entered_by m item (reply.Entered entered) = Enters (entered_state m item entered)
+
+abbrev pub returned_by : Item → HomeReply → Effect
+returned_by item reply.Done = Stays
+returned_by item (reply.Sent sent) = Stays
+returned_by item (reply.Looked picked) = Stays
+returned_by item reply.Over = Stays
+returned_by item (reply.Counted counts) = Stays
+returned_by item (reply.Left other) = Stays
+returned_by item reply.NoLiveRow = Stays
+returned_by item (reply.NoOrigin serial) = Stays
+returned_by item reply.SourceClosed = Stays
+returned_by item (reply.Entered entered) = Enters (returned_state item entered)
+
+abbrev pub effect_of : ℕ → HomeCall → HomeReply → Effect
+effect_of m (call.Configure settings version) reply = Stays
+effect_of m call.Close reply = Leaves (λ row. true) ClosedAway
+effect_of m (call.Send body delay) reply = sent_by reply
+effect_of m (call.Look max timeout) reply = looked_by reply
+effect_of m (call.Delete receipt) reply = Leaves (is_named receipt) Deleted
+effect_of m (call.Change receipt timeout) reply = Stays
+effect_of m call.Purge reply = Leaves (λ row. true) Purged
+effect_of m call.Count reply = Stays
+effect_of m call.LeaveDead reply = left_by reply
+effect_of m (call.LeaveTask task) reply = left_by reply
+effect_of m (call.Enter item) reply = entered_by m item reply
+effect_of m (call.TurnBack item) reply = Stays
+effect_of m (call.GiveBack item) reply = returned_by item reply
+effect_of m (call.GiveUp item) reply = Drops item.row.lineage
+
+-- who is sent
+abbrev pub effect_sends : Effect → List MessageId
+effect_sends Stays = []
+effect_sends (Arrives sent) = sent.id ∷ []
+effect_sends (Looks picked) = []
+effect_sends (Leaves p cause) = []
+effect_sends (Departs row) = []
+effect_sends (Enters row) = []
+effect_sends (Drops line) = []
+
+-- who goes into transit
+abbrev pub effect_outs : Effect → List MessageId
+effect_outs Stays = []
+effect_outs (Arrives sent) = []
+effect_outs (Looks picked) = []
+effect_outs (Leaves p cause) = []
+effect_outs (Departs row) = row.lineage ∷ []
+effect_outs (Enters row) = []
+effect_outs (Drops line) = []
+
+-- who is in transit no more
+abbrev pub effect_ins : Effect → List MessageId
+effect_ins Stays = []
+effect_ins (Arrives sent) = []
+effect_ins (Looks picked) = []
+effect_ins (Leaves p cause) = []
+effect_ins (Departs row) = []
+effect_ins (Enters row) = row.lineage ∷ []
+effect_ins (Drops line) = line ∷ []
+
+abbrev pub kept_states : Option Policy → ℕ → List RowState → List RowState
+kept_states None m rows = rows
+kept_states (Some policy) m rows = filter (λ row. not (is_past policy.retention m row)) rows
+
+abbrev pub past_states : Option Policy → ℕ → List RowState → List RowState
+past_states None m rows = []
+past_states (Some policy) m rows = filter (is_past policy.retention m) rows
+
+abbrev pub states_after : ℕ → Effect → List RowState → List RowState
+states_after m Stays rows = rows
+states_after m (Arrives sent) rows = rows ++ sent_state sent m ∷ []
+states_after m (Looks picked) rows = map (looked picked) rows
+states_after m (Leaves p cause) rows = filter (λ row. not (p row)) rows
+states_after m (Departs row) rows = filter (λ state. not (is_of row state)) rows
+states_after m (Enters row) rows = rows ++ row ∷ []
+states_after m (Drops line) rows = rows
+
+abbrev pub ended_states : Cause → List RowState → List Ending
+ended_states cause rows = map (λ row. record { line = row.lineage; cause = cause }) rows
+
+-- those that leave the system after the trim
+abbrev pub left_states : Effect → List RowState → List Ending
+left_states Stays rows = []
+left_states (Arrives sent) rows = []
+left_states (Looks picked) rows = []
+left_states (Leaves p cause) rows = ended_states cause (filter p rows)
+left_states (Departs row) rows = []
+left_states (Enters row) rows = []
+left_states (Drops line) rows = record { line = line; cause = GivenUp } ∷ []
+
+abbrev pub state_ends : Option Policy → ℕ → Effect → List RowState → List Ending
+state_ends policy m effect rows = ended_states Expired (past_states policy m rows) ++ left_states effect (kept_states policy m rows)

@@ -1,0 +1,183 @@
+//! What decides how the rows of a home leave it, for all rows of the home.
+ghost use Rattle.std.specs.Prelude.{◌≡◌, ◌∷◌, [], ◌++◌, ℕ, not, filter, OnOk, IfErr};
+ghost use Rattle.sq_places.specs.RowStates.{kept_states, past_states, effect_of, sent_by, looked_by, left_by, entered_by, returned_by, is_named};
+ghost use Rattle.sq_model.specs.declared.place.Place.TheVariants as at;
+ghost use Rattle.sq_places.specs.Audits as audits;
+
+use crate::home_rows::HomeRows;
+use crate::state::{Policy, entered, next_policy, returned, sent};
+use sq_base::message_id::MessageId;
+use sq_base::refusal::Refusal;
+use sq_model::calls::{HomeCall, Receipt};
+use sq_model::event::Event;
+use sq_model::item::Item;
+use sq_model::place::Place;
+use sq_model::replies::HomeReply;
+use std::alloc::Global;
+use std::marker::Model;
+
+/// What a home goes by, which is nothing before it is opened, and its rows.
+#[derive(Drop)]
+pub struct HomeStates {
+    policy: Option<Policy>,
+    rows: HomeRows,
+}
+
+impl Model for HomeStates {
+    ghost use Rattle.sq_places.specs.HomeValues.{HomeValue};
+
+    ghost Value = { HomeValue };
+
+    ghost view = { λ h. record { policy = h.policy; rows = h.rows } };
+}
+
+impl HomeStates {
+    pub fn new(alloc: Global) -> HomeStates
+        ensures { result ≡ audits.no_states }
+    {
+        HomeStates {
+            policy: None,
+            rows: HomeRows::new(alloc),
+        }
+    }
+
+    /// Goes on by an event, and puts last who left in it. Refused only where memory is out.
+    pub fn apply(
+        &mut self,
+        event: &Event<HomeCall, HomeReply>,
+        ends: &mut Vec<(MessageId, Place)>,
+    ) -> Result<(), Refusal>
+        ensures home { OnOk result (self.new ≡ audits.home_after event.now self.old) }
+        ensures ends { OnOk result (audits.AreSameEnds ends.new.items (ends.old.items ++ audits.placed_ends event.now self.old)) }
+        ensures err { IfErr result (λ e. e ≡ Refusal.NoMemory) }
+    {
+        let moment = event.stamp.moment;
+        trim(&mut self.rows, &self.policy, moment, ends)?;
+        change(&mut self.rows, moment, &event.call, &event.reply, ends)?;
+        self.policy = next_policy(&self.policy, &event.call);
+        Ok(())
+    }
+}
+
+fn trim(
+    rows: &mut HomeRows,
+    policy: &Option<Policy>,
+    moment: u64,
+    ends: &mut Vec<(MessageId, Place)>,
+) -> Result<(), Refusal>
+    ensures rows { OnOk result (rows.new ≡ kept_states policy.now moment rows.old) }
+    ensures ends { OnOk result (audits.AreSameEnds ends.new.items (ends.old.items ++ audits.placed at.Expired (past_states policy.now moment rows.old))) }
+    ensures err { IfErr result (λ e. e ≡ Refusal.NoMemory) }
+{
+    match policy {
+        Some(policy) => rows.trim(policy.retention, moment, ends),
+        None => Ok(()),
+    }
+}
+
+// What a call and its reply make of the rows, after the trim.
+fn change(
+    rows: &mut HomeRows,
+    moment: u64,
+    call: &HomeCall,
+    reply: &HomeReply,
+    ends: &mut Vec<(MessageId, Place)>,
+) -> Result<(), Refusal>
+    ensures rows { OnOk result (rows.new ≡ audits.rows_after moment (effect_of moment call.now reply.now) rows.old) }
+    ensures ends { OnOk result (ends.new.items ≡ ends.old.items ++ audits.placed_left (effect_of moment call.now reply.now) rows.old) }
+    ensures err { IfErr result (λ e. e ≡ Refusal.NoMemory) }
+{
+    match call {
+        HomeCall::Configure(_, _)
+        | HomeCall::Change(_, _)
+        | HomeCall::Count
+        | HomeCall::TurnBack(_) => Ok(()),
+        HomeCall::Send(_, _) => arrive(rows, moment, reply),
+        HomeCall::Look(_, _) => {
+            receive(rows, reply);
+            Ok(())
+        }
+        HomeCall::Delete(receipt) => delete(rows, receipt, ends),
+        HomeCall::Purge => rows.clear(Place::Purged, ends),
+        HomeCall::Close => rows.clear(Place::ClosedAway, ends),
+        HomeCall::LeaveDead | HomeCall::LeaveTask(_) => {
+            depart(rows, reply);
+            Ok(())
+        }
+        HomeCall::Enter(item) => enter(rows, moment, item.get(), reply),
+        HomeCall::GiveBack(item) => come_back(rows, item.get(), reply),
+        HomeCall::GiveUp(item) => drop_item(item.get(), ends),
+    }
+}
+
+fn arrive(rows: &mut HomeRows, moment: u64, reply: &HomeReply) -> Result<(), Refusal>
+    ensures rows { OnOk result (rows.new ≡ audits.rows_after moment (sent_by reply.now) rows.old) }
+    ensures err { IfErr result (λ e. e ≡ Refusal.NoMemory) }
+{
+    if let HomeReply::Sent(message) = reply {
+        rows.put(sent(message, moment))?;
+    }
+    Ok(())
+}
+
+// The row of an item goes into transit.
+fn depart(rows: &mut HomeRows, reply: &HomeReply)
+    ensures { (moment : ℕ) → rows.new ≡ audits.rows_after moment (left_by reply.now) rows.old }
+{
+    if let HomeReply::Left(item) = reply {
+        rows.take_out(&item.get().row);
+    }
+}
+
+// The row that a receipt names leaves, where it is there, and is put last.
+fn delete(
+    rows: &mut HomeRows,
+    receipt: &Receipt,
+    ends: &mut Vec<(MessageId, Place)>,
+) -> Result<(), Refusal>
+    ensures rows { OnOk result (rows.new ≡ filter (λ row. not (is_named receipt.now row)) rows.old) }
+    ensures ends { OnOk result (ends.new.items ≡ ends.old.items ++ audits.placed at.Deleted (filter (is_named receipt.now) rows.old)) }
+    ensures err { IfErr result (λ e. e ≡ Refusal.NoMemory) }
+{
+    if let Some(row) = rows.take_named(receipt) {
+        ends.push((row.lineage, Place::Deleted))?;
+    }
+    Ok(())
+}
+
+fn enter(rows: &mut HomeRows, moment: u64, item: &Item, reply: &HomeReply) -> Result<(), Refusal>
+    ensures rows { OnOk result (rows.new ≡ audits.rows_after moment (entered_by moment item.now reply.now) rows.old) }
+    ensures err { IfErr result (λ e. e ≡ Refusal.NoMemory) }
+{
+    if let HomeReply::Entered(row) = reply {
+        rows.put(entered(item, row, moment))?;
+    }
+    Ok(())
+}
+
+fn come_back(rows: &mut HomeRows, item: &Item, reply: &HomeReply) -> Result<(), Refusal>
+    ensures rows { OnOk result ((moment : ℕ) → rows.new ≡ audits.rows_after moment (returned_by item.now reply.now) rows.old) }
+    ensures err { IfErr result (λ e. e ≡ Refusal.NoMemory) }
+{
+    if let HomeReply::Entered(row) = reply {
+        rows.put(returned(item, row))?;
+    }
+    Ok(())
+}
+
+// Puts last that an item is given up.
+fn drop_item(item: &Item, ends: &mut Vec<(MessageId, Place)>) -> Result<(), Refusal>
+    ensures ends { OnOk result (ends.new.items ≡ ends.old.items ++ (item.now.row.lineage, at.Dropped) ∷ []) }
+    ensures err { IfErr result (λ e. e ≡ Refusal.NoMemory) }
+{
+    ends.push((item.row.lineage, Place::Dropped))?;
+    Ok(())
+}
+
+fn receive(rows: &mut HomeRows, reply: &HomeReply)
+    ensures { (moment : ℕ) → rows.new ≡ audits.rows_after moment (looked_by reply.now) rows.old }
+{
+    if let HomeReply::Looked(picked) = reply {
+        rows.receive_all(picked.as_slice());
+    }
+}

@@ -1,0 +1,148 @@
+//! What decides how the rows of a home leave it.
+ghost use Rattle.std.specs.Prelude.{◌≡◌};
+ghost use Rattle.sq_places.specs.RowStates as states;
+
+use sq_base::ids::Serial;
+use sq_base::message_id::MessageId;
+use sq_base::ranges::Retention;
+use sq_base::row::Row;
+use sq_model::calls::{HomeCall, Receipt};
+use sq_model::item::{Item, Reason};
+use sq_model::replies::{EnteredRow, SentMessage};
+
+/// What decides how a row leaves its home. The moment is in ms.
+#[derive(Clone, Copy, PartialEq, Eq, Debug)]
+pub struct RowState {
+    pub lineage: MessageId,
+    pub serial: Serial,
+    pub slot: u32,
+    pub enqueued: u64,
+    pub receives: u32,
+}
+
+/// The retention that a home goes by, and the version of its settings.
+#[derive(Clone, Copy, PartialEq, Eq, Debug)]
+pub struct Policy {
+    pub retention: Retention,
+    pub version: u64,
+}
+
+/// Whether a row that was enqueued then is past this retention.
+pub fn is_due(retention: Retention, moment: u64, enqueued: u64) -> bool
+    ensures { result ≡ states.is_due retention moment enqueued }
+{
+    let kept = retention.get() as u64 * 1000;
+    kept <= moment && enqueued <= moment - kept
+}
+
+/// Whether a row is past this retention.
+pub fn is_past(retention: Retention, moment: u64, row: &RowState) -> bool
+    ensures { result ≡ states.is_past retention moment row.now }
+{
+    is_due(retention, moment, row.enqueued)
+}
+
+/// Whether slot, serial and receive number are those of the receipt.
+pub fn is_named(receipt: &Receipt, row: &RowState) -> bool
+    ensures { result ≡ states.is_named receipt.now row.now }
+{
+    row.slot == receipt.slot
+        && row.serial == receipt.serial
+        && row.receives == receipt.receive.get()
+}
+
+/// A row that is sent at a moment.
+pub fn sent(message: &SentMessage, moment: u64) -> RowState
+    ensures { result ≡ states.sent_state message.now moment }
+{
+    new_row(message.id, message.id.serial, message.slot, moment)
+}
+
+/// The row of an item that comes in at its target at a moment. A dead letter keeps its age.
+pub fn entered(item: &Item, entered: &EnteredRow, moment: u64) -> RowState
+    ensures { result ≡ states.entered_state moment item.now entered.now }
+{
+    let enqueued = match item.reason {
+        Reason::DeadLetter => item.row.enqueued,
+        Reason::Task(_) => moment,
+    };
+    new_row(item.row.lineage, entered.serial, entered.slot, enqueued)
+}
+
+/// The row of an item that comes back to its source.
+pub fn returned(item: &Item, entered: &EnteredRow) -> RowState
+    ensures { result ≡ states.returned_state item.now entered.now }
+{
+    new_row(
+        item.row.lineage,
+        entered.serial,
+        entered.slot,
+        item.row.enqueued,
+    )
+}
+
+// A row that was never received at its home.
+fn new_row(lineage: MessageId, serial: Serial, slot: u32, enqueued: u64) -> RowState
+    ensures { result ≡ record { lineage = lineage; serial = serial; slot = slot; enqueued = enqueued; receives = 0 } }
+{
+    RowState {
+        lineage,
+        serial,
+        slot,
+        enqueued,
+        receives: 0,
+    }
+}
+
+/// A row after a receive that gave these rows.
+pub fn looked(picked: &[Row], row: &RowState) -> RowState
+    ensures { result ≡ states.looked picked.now row.now }
+{
+    if has_serial(picked, row.serial) {
+        received(row)
+    } else {
+        *row
+    }
+}
+
+/// A row that is received once more.
+pub fn received(row: &RowState) -> RowState
+    ensures { result ≡ states.received row.now }
+{
+    let receives = if row.receives < u32::MAX {
+        row.receives + 1
+    } else {
+        row.receives
+    };
+    RowState { receives, ..*row }
+}
+
+/// Whether one of these rows has this serial.
+pub fn has_serial(rows: &[Row], serial: Serial) -> bool
+    ensures { result ≡ states.has_serial serial rows.now }
+{
+    rows.iter().any(|row| row.serial == serial)
+}
+
+/// What a home goes by after a call.
+pub fn next_policy(policy: &Option<Policy>, call: &HomeCall) -> Option<Policy>
+    ensures { result ≡ states.next_policy policy.now call.now }
+{
+    match call {
+        HomeCall::Configure(settings, version) if is_newer(policy, *version) => Some(Policy {
+            retention: settings.retention,
+            version: *version,
+        }),
+        _ => *policy,
+    }
+}
+
+// Whether settings of a version are taken.
+fn is_newer(policy: &Option<Policy>, version: u64) -> bool
+    ensures { result ≡ states.is_newer policy.now version }
+{
+    match policy {
+        None => true,
+        Some(policy) => policy.version < version,
+    }
+}

@@ -1,0 +1,18 @@
+//! What the turns of a script ask.
+ghost use Rattle.std.specs.Prelude.{◌≡◌};
+ghost use Rattle.serde_json.specs.View.{view};
+ghost use Rattle.sq_requests.specs.Turns.{dead_turn_of};
+
+use crate::queues::named_queue;
+use serde_json::Value;
+use sq_base::refusal::Refusal;
+use sq_calls::turns::Turn;
+
+/// What a DeadTurn asks. A URL that is no queue's is InvalidAddress.
+#[tactic(auto, unfolding(crate::specs::Turns::dead_turn_of))]
+pub fn dead_turn_of(value: &Value) -> Result<Turn, Refusal>
+    ensures { result ≡ dead_turn_of (view value.now) }
+{
+    let queue = named_queue(value)?;
+    Ok(Turn::DeadTurn(queue))
+}

@@ -1,0 +1,236 @@
+-- Rows that leave a home: which there are, and what stays.
+use Rattle.std.proofs.Common.{◌≡◌, ℕ, zero, suc, ◌+◌, ◌<◌, ◌≤◌, Bool, true, false, not, cond, List, [], ◌∷◌, ◌++◌, length, take, drop, get_or, Option, Some, None, refl, sym, ap, ◌∙◌, subst, arith}
+use Rattle.std.specs.Prelude.{◌&&◌, ◌||◌, ◌==◌, if◌then◌else◌, nat_eq, nat_lt, nat_le, filter, position}
+use Rattle.std.specs.List.{list_any, Contains, position_or_len, slice_index_or}
+use Rattle.std.proofs.lemmas.Bool.{eqb-true}
+use Rattle.std.proofs.lemmas.Grind.{common_steps}
+use Rattle.std.proofs.lemmas.List.Folds.{list_any_none}
+use Rattle.std.proofs.lemmas.List.Quantifiers.{position-Some}
+use Rattle.std.proofs.lemmas.List.Sums.{fails_before_first}
+use Rattle.sq_base.specs.declared.refusal.Refusal.{Refusal}
+use Rattle.sq_base.specs.declared.refusal.Refusal.TheVariants.{Worn, OverLimit}
+use Rattle.sq_base.specs.declared.row.Row.{Row}
+use Rattle.sq_base.specs.declared.settings.Settings.{Settings}
+use Rattle.sq_model.specs.declared.place.Site.{Site}
+use Rattle.sq_model.specs.declared.calls.HomeCall.TheVariants.{Enter, TurnBack, GiveBack, GiveUp}
+use Rattle.sq_base.specs.declared.ids.HomeId.{HomeId}
+use Rattle.sq_model.specs.declared.item.Item.{Item}
+use Rattle.sq_model.specs.declared.item.Reason.{Reason}
+use Rattle.sq_model.specs.declared.item.Reason.TheVariants.{DeadLetter, Task}
+use Rattle.sq_model.specs.declared.replies.HomeReply.TheVariants.{Done, Entered}
+use Rattle.sq_model.specs.Homes.{Home, HomeStep, last_serial, slots, refused_if, may_enter, may_return, entered_row, entered_as, returned_row, returned_as}
+use Rattle.sq_model.specs.Homes.{Unopened as Never, Serving as Serves, Closed as Gone}
+use Rattle.sq_model.specs.Rows.{RisesFrom, Takes, trimmed, is_dead, is_visible}
+use Rattle.sq_model.proofs.RowLaws.{rises_weaker, rises_trimmed}
+use Rattle.sq_shard.specs.declared.shard.Status.{Status}
+use Rattle.sq_shard.specs.declared.shard.Status.TheVariants.{Unopened, Serving, Closed}
+use Rattle.sq_shard.specs.Moves.{IsOneOf, IsNextOf, IsPut, HasRow, GoesWithout, is_at, coming_refusal}
+use Rattle.sq_shard.specs.ShardValue.{home_with}
+
+-- where no place passes, none does
+pub none_passes : {X : Type 0} (p : X → Bool) (xs : List X) → position p xs ≡ None → list_any p xs ≡ false
+none_passes p xs h =
+    elim (nat_lt (position_or_len p xs) (length xs)) as (λ v. nat_lt (position_or_len p xs) (length xs) ≡ v → cond v (Some (position_or_len p xs)) None ≡ None → list_any p xs ≡ false)
+    [ true ↦ (λ e k. absurd cc) | false ↦ (λ e k. list_any_none p xs (λ i d lt. fails_before_first p xs i d (let le : length xs ≤ position_or_len p xs = grind (arith, common_steps, e) in omega (arith, lt, le)))) ] refl h
+
+-- none of those that are kept passes
+pub none_kept : {X : Type 0} (q p : X → Bool) (xs : List X) → list_any (λ x. q x && p x) xs ≡ false → list_any p (filter q xs) ≡ false
+none_kept q p [] h = refl
+none_kept q p (x ∷ xs) h =
+    elim (q x) as (λ v. ((v && p x) || list_any (λ y. q y && p y) xs) ≡ false → list_any p (cond v (x ∷ filter q xs) (filter q xs)) ≡ false) [
+      | true ↦ (elim (p x) as (λ w. (w || list_any (λ y. q y && p y) xs) ≡ false → (w || list_any p (filter q xs)) ≡ false) [ true ↦ (λ k. k) | false ↦ (λ k. none_kept q p xs k) ])
+      | false ↦ (λ k. none_kept q p xs k)
+    ] h
+
+kept_at : {X : Type 0} (q : X → Bool) (xs : List X) (x : X) (k : ℕ) → k < length xs → slice_index_or xs k x ≡ x → q x ≡ true → Contains (filter q xs) x
+kept_at q [] x k lt is passes = absurd (omega (arith, lt))
+kept_at q (y ∷ xs) x zero lt is passes = rw (is, passes) (0, omega arith, refl)
+kept_at q (y ∷ xs) x (suc k) lt is passes =
+    let there = kept_at q xs x k (omega (arith, lt)) is passes in
+    elim (q y) as (λ v. Contains (cond v (y ∷ filter q xs) (filter q xs)) x) [ true ↦ (suc there.0, omega (arith, there.1), there.2) | false ↦ there ]
+
+-- what is there and passes is kept
+pub kept_there : {X : Type 0} (q : X → Bool) (xs : List X) (x : X) → Contains xs x → q x ≡ true → Contains (filter q xs) x
+kept_there q xs x there passes = kept_at q xs x there.0 there.1 there.2 passes
+
+-- one is taken out where it stands
+pub taken_at : (rows : List Row) (i : ℕ) (row : Row) → i < length rows → slice_index_or rows i row ≡ row → Takes row rows (take i rows ++ drop (i + 1) rows)
+taken_at [] i row lt is = absurd (omega (arith, lt))
+taken_at (x ∷ rows) zero row lt is = rw (sym is) (record { before = []; after = rows; at = refl; left = refl })
+taken_at (x ∷ rows) (suc i) row lt is =
+    let rest = taken_at rows i row (omega (arith, lt)) is in
+    let next : suc i + 1 ≡ suc (i + 1) = omega arith in
+    rw next (record { before = x ∷ rest.before; after = rest.after; at = ap (λ ys. x ∷ ys) rest.at; left = ap (λ ys. x ∷ ys) rest.left })
+
+-- a row that is there is found by its slot and serial
+found_at : (rows : List Row) (row : Row) (k : ℕ) → k < length rows → slice_index_or rows k row ≡ row → list_any (is_at row.slot row.serial) rows ≡ true
+found_at [] row k lt is = absurd (omega (arith, lt))
+found_at (x ∷ rows) row zero lt is =
+    let same_slot : nat_eq x.slot row.slot ≡ true = rw is (grind (arith, common_steps)) in
+    let same_serial : nat_eq x.serial row.serial ≡ true = rw is (grind (arith, common_steps)) in
+    rw (same_slot, same_serial) refl
+found_at (x ∷ rows) row (suc k) lt is =
+    elim (is_at row.slot row.serial x) as (λ v. (v || list_any (is_at row.slot row.serial) rows) ≡ true) [ true ↦ refl | false ↦ found_at rows row k (omega (arith, lt)) is ]
+
+pub found_there : (rows : List Row) (row : Row) → Contains rows row → list_any (is_at row.slot row.serial) rows ≡ true
+found_there rows row there = found_at rows row there.0 there.1 there.2
+
+above_low : (low : ℕ) (rows : List Row) (next : ℕ) (row : Row) (k : ℕ) → RisesFrom low rows next → k < length rows → slice_index_or rows k row ≡ row → low ≤ row.serial
+above_low low [] next row k h lt is = absurd (omega (arith, lt))
+above_low low (x ∷ rows) next row zero h lt is = rw (sym is) h.0
+above_low low (x ∷ rows) next row (suc k) h lt is = let rest = above_low (x.serial + 1) rows next row k h.1 (omega (arith, lt)) is in omega (arith, rest, h.0)
+
+same_at : (low : ℕ) (rows : List Row) (next : ℕ) (a b : Row) (i j : ℕ) → RisesFrom low rows next → i < length rows → slice_index_or rows i a ≡ a → j < length rows → slice_index_or rows j b ≡ b → a.serial ≡ b.serial → a ≡ b
+same_at low [] next a b i j h lt is lu it same = absurd (omega (arith, lt))
+same_at low (x ∷ rows) next a b zero zero h lt is lu it same = sym is ∙ it
+same_at low (x ∷ rows) next a b zero (suc j) h lt is lu it same =
+    let above = above_low (x.serial + 1) rows next b j h.1 (omega (arith, lu)) it in
+    let low_one : x.serial ≡ a.serial = ap (λ r. r.serial) is in
+    absurd (omega (arith, above, low_one, same))
+same_at low (x ∷ rows) next a b (suc i) zero h lt is lu it same =
+    let above = above_low (x.serial + 1) rows next a i h.1 (omega (arith, lt)) is in
+    let low_one : x.serial ≡ b.serial = ap (λ r. r.serial) it in
+    absurd (omega (arith, above, low_one, same))
+same_at low (x ∷ rows) next a b (suc i) (suc j) h lt is lu it same = same_at (x.serial + 1) rows next a b i j h.1 (omega (arith, lt)) is (omega (arith, lu)) it same
+
+taken_there : (before after : List Row) (row : Row) → Contains (before ++ row ∷ after) row
+taken_there [] after row = (0, omega arith, refl)
+taken_there (x ∷ before) after row = let rest = taken_there before after row in (suc rest.0, omega (arith, rest.1), rest.2)
+
+-- what is taken out with the serial of a row that is there is that row
+pub taken_same : (rows rest : List Row) (next : ℕ) (row taken : Row) → RisesFrom 0 rows next → Contains rows row → Takes taken rows rest → is_at row.slot row.serial taken ≡ true → taken ≡ row
+taken_same rows rest next row taken rises there takes at =
+    let found : Contains rows taken = rw takes.at (taken_there takes.before takes.after taken) in
+    let same : taken.serial ≡ row.serial =
+    elim (nat_eq taken.slot row.slot) as (λ v. (v && nat_eq taken.serial row.serial) ≡ true → taken.serial ≡ row.serial) [ true ↦ (λ k. eqb-true _ _ k) | false ↦ (λ k. absurd cc) ] at in
+    same_at 0 rows next taken row found.0 there.0 rises found.1 found.2 there.1 there.2 same
+
+rises_left : (low : ℕ) (before after : List Row) (row : Row) (next : ℕ) → RisesFrom low (before ++ row ∷ after) next → RisesFrom low (before ++ after) next
+rises_left low [] after row next h = rises_weaker low (row.serial + 1) after next (omega (arith, h.0)) h.1
+rises_left low (x ∷ before) after row next h = (h.0, rises_left (x.serial + 1) before after row next h.1)
+
+-- those that stay go on rising
+pub rises_rest : (rows rest : List Row) (row : Row) (low next : ℕ) → RisesFrom low rows next → Takes row rows rest → RisesFrom low rest next
+rises_rest rows rest row low next h takes =
+    let whole : RisesFrom low (takes.before ++ row ∷ takes.after) next = subst (λ xs. RisesFrom low xs next) takes.at h in
+    rw takes.left (rises_left low takes.before takes.after row next whole)
+
+fewer_left : (before after : List Row) (row : Row) → length (before ++ after) ≤ length (before ++ row ∷ after)
+fewer_left [] after row = omega arith
+fewer_left (x ∷ before) after row = let rest = fewer_left before after row in omega (arith, rest)
+
+-- and are fewer
+pub few_rest : (rows rest : List Row) (row : Row) (most : ℕ) → Takes row rows rest → length rows ≤ most → length rest ≤ most
+few_rest rows rest row most takes le =
+    let fewer = fewer_left takes.before takes.after row in
+    let whole : length (takes.before ++ row ∷ takes.after) ≤ most = subst (λ xs. length xs ≤ most) takes.at le in
+    rw takes.left (omega (arith, fewer, whole))
+
+both : (a b : Bool) → (a && b) ≡ true → (a ≡ true) × (b ≡ true)
+both true b h = (refl, h)
+both false b h = absurd cc
+
+-- the first place that is kept and passes has one of those that pass
+pub one_kept : (q p : Row → Bool) (rows : List Row) (i : ℕ) (row : Row) → position (λ x. q x && p x) rows ≡ Some i → slice_index_or rows i row ≡ row → IsOneOf p (filter q rows) row
+one_kept q p rows i row first is =
+    let at = position-Some (λ x. q x && p x) rows i row first in
+    let passes = both (q row) (p row) (subst (λ x. (q x && p x) ≡ true) is at.1) in
+    record { passes = passes.1; there = kept_at q rows row i at.0 is passes.0 }
+
+-- and where it is taken out, the others stay
+pub taken_first : (slot serial : ℕ) (rows rest : List Row) (i : ℕ) (row : Row) → position (is_at slot serial) rows ≡ Some i → slice_index_or rows i row ≡ row → rest ≡ take i rows ++ drop (i + 1) rows
+    → (is_at slot serial row ≡ true) × Takes row rows rest
+taken_first slot serial rows rest i row first is left =
+    let at = position-Some (is_at slot serial) rows i row first in
+    (subst (λ x. is_at slot serial x ≡ true) is at.1, rw left (taken_at rows i row at.0 is))
+
+-- a home that takes a row serves, and has a serial, a slot and room for it
+pub record TakesOne (status : Status) (site : Site) (next : ℕ) (rows : List Row) : Type 0 where
+  pub serves : status ≡ Serving
+  pub not_worn : next < last_serial
+  pub slot_left : length rows < slots
+  pub within : length rows < site.limits.rows
+
+over : (a b : ℕ) → a < b → nat_le b a ≡ false
+over a b h = grind (arith, common_steps)
+
+below : (a b : ℕ) → nat_le b a ≡ false → a < b
+below a b h = grind (arith, common_steps, h)
+
+pub takes_one : (status : Status) (site : Site) (s : Settings) (v n m : ℕ) (rows : List Row) → coming_refusal site (home_with status s v n rows) m None ≡ None → TakesOne status site n (trimmed s m rows)
+takes_one Unopened site s v n m rows h = absurd cc
+takes_one Closed site s v n m rows h = absurd cc
+takes_one Serving site s v n m rows h =
+    elim (nat_le last_serial n) as (λ a. nat_le last_serial n ≡ a → (if a || nat_le slots (length (trimmed s m rows)) then Some Worn else refused_if (nat_le site.limits.rows (length (trimmed s m rows))) OverLimit None) ≡ None → TakesOne Serving site n (trimmed s m rows)) [
+      | true ↦ (λ e k. absurd cc)
+      | false ↦ (λ e. elim (nat_le slots (length (trimmed s m rows))) as (λ b. nat_le slots (length (trimmed s m rows)) ≡ b → (if b then Some Worn else refused_if (nat_le site.limits.rows (length (trimmed s m rows))) OverLimit None) ≡ None → TakesOne Serving site n (trimmed s m rows)) [
+        | true ↦ (λ f k. absurd cc)
+        | false ↦ (λ f. elim (nat_le site.limits.rows (length (trimmed s m rows))) as (λ d. nat_le site.limits.rows (length (trimmed s m rows)) ≡ d → (if d then Some OverLimit else None) ≡ None → TakesOne Serving site n (trimmed s m rows)) [
+          | true ↦ (λ i k. absurd cc)
+          | false ↦ (λ i k. record { serves = refl; not_worn = below n last_serial e; slot_left = below (length (trimmed s m rows)) slots f; within = below (length (trimmed s m rows)) site.limits.rows i })
+        ] refl)
+      ] refl)
+    ] refl h
+
+-- where a row has place, what is checked later decides
+pub place_later : (site : Site) (home : Home) (m : ℕ) (later : Option Refusal) → coming_refusal site home m None ≡ None → coming_refusal site home m later ≡ later
+place_later site Never m later h = absurd cc
+place_later site Gone m later h = absurd cc
+place_later site (Serves s v n rows) m later h =
+    let takes = takes_one Serving site s v n m rows h in
+    rw (over n last_serial takes.not_worn, over (length (trimmed s m rows)) slots takes.slot_left, over (length (trimmed s m rows)) site.limits.rows takes.within) refl
+
+in_slot : (reason : Reason) (home : HomeId) (source serial slot m : ℕ) (row : Row) → record (entered_as reason home source serial 0 m row) { serial = serial; slot = slot } ≡ entered_as reason home source serial slot m row
+in_slot DeadLetter home source serial slot m row = refl
+in_slot (Task number) home source serial slot m row = refl
+
+back_in_slot : (reason : Reason) (serial slot m : ℕ) (row : Row) → record (returned_as reason serial 0 m row) { serial = serial; slot = slot } ≡ returned_as reason serial slot m row
+back_in_slot DeadLetter serial slot m row = refl
+back_in_slot (Task number) serial slot m row = refl
+
+-- what a home that puts the row of an item last has done
+pub entered_at : (site : Site) (home : Home) (m serial slot : ℕ) (item : Item) (after : Home) → may_enter site.home item ≡ true → IsNextOf home serial → IsPut site home m (entered_row site.home serial 0 m item) slot after
+    → HomeStep site home m (Enter item) (Entered (record { serial = serial; slot = slot })) after
+unfolding HomeStep
+entered_at site Never m serial slot item after may next put = absurd next
+entered_at site Gone m serial slot item after may next put = absurd next
+entered_at site (Serves s v n rows) m serial slot item after may next put =
+    let left : IsPut site (Serves s v n rows) m (entered_row site.home n 0 m item) slot after = subst (λ (k : ℕ). IsPut site (Serves s v n rows) m (entered_row site.home k 0 m item) slot after) next put in
+    rw next (may, put.0, refl, left.1 ∙ ap (λ (row : Row). Serves s v (n + 1) (trimmed s m rows ++ row ∷ [])) (in_slot item.reason site.home item.source n slot m item.row))
+
+pub returned_at : (site : Site) (home : Home) (m serial slot : ℕ) (item : Item) (after : Home) → may_return site.home item ≡ true → IsNextOf home serial → IsPut site home m (returned_row serial 0 m item) slot after
+    → HomeStep site home m (GiveBack item) (Entered (record { serial = serial; slot = slot })) after
+unfolding HomeStep
+returned_at site Never m serial slot item after may next put = absurd next
+returned_at site Gone m serial slot item after may next put = absurd next
+returned_at site (Serves s v n rows) m serial slot item after may next put =
+    let left : IsPut site (Serves s v n rows) m (returned_row n 0 m item) slot after = subst (λ (k : ℕ). IsPut site (Serves s v n rows) m (returned_row k 0 m item) slot after) next put in
+    rw next (may, put.0, refl, left.1 ∙ ap (λ (row : Row). Serves s v (n + 1) (trimmed s m rows ++ row ∷ [])) (back_in_slot item.reason n slot m item.row))
+
+pub turned_at : (site : Site) (home : Home) (m : ℕ) (item : Item) → home ≡ Gone → may_enter site.home item ≡ true → HomeStep site home m (TurnBack item) Done home
+unfolding HomeStep
+turned_at site home m item gone may = rw gone (may, refl)
+
+pub given_up_at : (site : Site) (home : Home) (m : ℕ) (item : Item) → home ≡ Gone → may_return site.home item ≡ true → HomeStep site home m (GiveUp item) Done home
+unfolding HomeStep
+given_up_at site home m item gone may = rw gone (may, refl)
+
+-- a row that the home has goes out, and it is the one that was found by its slot and serial
+pub record GoneOut (status : Status) (s : Settings) (v n m : ℕ) (rows rest : List Row) (row taken : Row) : Type 0 where
+  pub serves : status ≡ Serving
+  pub same : taken ≡ row
+  pub without : GoesWithout (home_with status s v n rows) m row (home_with status s v n rest)
+
+pub gone_out : (status : Status) (s : Settings) (v n m : ℕ) (rows rest : List Row) (row taken : Row) → RisesFrom 0 rows n → HasRow (home_with status s v n rows) m row → is_at row.slot row.serial taken ≡ true
+    → Takes taken (trimmed s m rows) rest → GoneOut status s v n m rows rest row taken
+gone_out Unopened s v n m rows rest row taken rises has at takes = absurd has
+gone_out Closed s v n m rows rest row taken rises has at takes = absurd has
+gone_out Serving s v n m rows rest row taken rises has at takes =
+    let same = taken_same (trimmed s m rows) rest n row taken (rises_trimmed s m 0 rows n rises) has takes at in
+    record { serves = refl; same = same; without = (rest, subst (λ (x : Row). Takes x (trimmed s m rows) rest) same takes, refl) }
+
+-- and it is found
+pub is_found : (status : Status) (s : Settings) (v n m : ℕ) (rows : List Row) (row : Row) → HasRow (home_with status s v n rows) m row → list_any (is_at row.slot row.serial) (trimmed s m rows) ≡ true
+is_found Unopened s v n m rows row has = absurd has
+is_found Closed s v n m rows row has = absurd has
+is_found Serving s v n m rows row has = found_there (trimmed s m rows) row has

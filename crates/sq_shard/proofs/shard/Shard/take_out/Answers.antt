@@ -1,0 +1,34 @@
+use Rattle.std.proofs.Common.{rules, ◌≡◌, sym, ◌∙◌}
+use Rattle.sq_model.specs.Rows.{trimmed}
+use Rattle.sq_model.proofs.RowLaws.{rises_trimmed}
+use Rattle.sq_shard.specs.declared.shard.Status.TheVariants.{Unopened, Serving, Closed}
+use Rattle.sq_shard.proofs.Few.{few_trimmed}
+use Rattle.sq_shard.proofs.MoveLaws.{GoneOut, gone_out, rises_rest, few_rest}
+use Rattle.sq_shard.specs.Moves.{HasRow}
+use Rattle.sq_shard.specs.ShardValue.{home_with}
+use Rattle.sq_shard.proofs.shard.Shard.take_out.Given as given
+use Rattle.sq_shard.proofs.shard.Shard.take_out.Goals as goal
+
+gone : (g : given.Over) (c : goal.In-Some g) → GoneOut c.self.inside.status c.self.inside.settings c.self.inside.version c.self.inside.next c.args.moment (g.S.Store.rows c.self.inside.store) (g.S.Store.rows c.take_out.new.self) c.args.row.now c.in-Some.row
+gone g c =
+    let rows = g.S.Store.rows c.self.inside.store in
+    let has : HasRow (home_with c.self.inside.status c.self.inside.settings c.self.inside.version c.self.inside.next rows) c.args.moment c.args.row.now = search rules in
+    gone_out c.self.inside.status c.self.inside.settings c.self.inside.version c.self.inside.next c.args.moment rows (g.S.Store.rows c.take_out.new.self) c.args.row.now c.in-Some.row c.self.invariant.rising has (search rules) (search rules)
+
+pub invariant_of-self : goal.invariant_of-self
+invariant_of-self g c =
+    let serves = (gone g c).serves in
+    let rows = g.S.Store.rows c.self.inside.store in
+    let s = c.self.inside.settings in
+    record {
+      rising = rises_rest (trimmed s c.args.moment rows) (g.S.Store.rows c.take_out.new.self) c.in-Some.row 0 c.self.inside.next (rises_trimmed s c.args.moment 0 rows c.self.inside.next c.self.invariant.rising) (search rules);
+      empty = (λ e. let k : Serving ≡ Unopened = sym serves ∙ e in cc);
+      left = (λ e. let k : Serving ≡ Closed = sym serves ∙ e in cc);
+      within = few_rest (trimmed s c.args.moment rows) (g.S.Store.rows c.take_out.new.self) c.in-Some.row c.self.inside.site.limits.rows (search rules) (few_trimmed s c.args.moment rows c.self.inside.site.limits.rows c.self.invariant.within);
+    }
+
+pub returns-clause-row : goal.returns-clause-row
+returns-clause-row g c = (gone g c).same
+
+pub returns-clause-home : goal.returns-clause-home
+returns-clause-home g c = rw (← c.self.view_is) (gone g c).without

@@ -1,0 +1,67 @@
+-- Messages that leave a home or come in, as the home sees it.
+use Rattle.std.specs.Prelude.{◌≡◌, ℕ, ◌+◌, ◌&&◌, ◌==◌, Bool, true, not, List, [], ◌∷◌, ◌++◌, Option, Some, None}
+use Rattle.std.specs.List.{Contains}
+use Rattle.sq_base.specs.declared.refusal.Refusal.{Refusal}
+use Rattle.sq_base.specs.declared.refusal.Refusal.TheVariants.{QueueDoesNotExist, UnsupportedOperation}
+use Rattle.sq_base.specs.declared.row.Row.{Row}
+use Rattle.sq_model.specs.declared.place.Site.{Site}
+use Rattle.sq_model.specs.Homes.{Home, Unopened, Serving, Closed, HasPlace, dead_target, place_refusal, refused_if}
+use Rattle.sq_model.specs.Rows.{trimmed, is_dead, Takes}
+
+-- one of the rows that pass, any of them
+pub record IsOneOf (p : Row → Bool) (rows : List Row) (row : Row) : Type 0 where
+  pub passes : p row ≡ true
+  pub there : Contains rows row
+
+-- the row of a slot and a serial
+abbrev pub is_at : ℕ → ℕ → Row → Bool
+is_at slot serial row = (row.slot == slot) && (row.serial == serial)
+
+-- a dead row of the home at m
+abbrev pub IsDeadAt : Home → ℕ → Row → Type 0
+IsDeadAt (Serving s v n rows) m row = IsOneOf (is_dead s m) (trimmed s m rows) row
+IsDeadAt Unopened m row = ⊥
+IsDeadAt Closed m row = ⊥
+
+-- the queue that a dead row leaves for
+abbrev pub target_at : Home → Option ℕ
+target_at (Serving s v n rows) = dead_target s.redrive
+target_at Unopened = None
+target_at Closed = None
+
+-- the home has this row at m
+abbrev pub HasRow : Home → ℕ → Row → Type 0
+HasRow (Serving s v n rows) m row = Contains (trimmed s m rows) row
+HasRow Unopened m row = ⊥
+HasRow Closed m row = ⊥
+
+-- the row goes out, and the others stay
+abbrev pub GoesWithout : Home → ℕ → Row → Home → Type 0
+GoesWithout (Serving s v n rows) m row after = (rest : List Row) × Takes row (trimmed s m rows) rest × (after ≡ Serving s v n rest)
+GoesWithout Unopened m row after = ⊥
+GoesWithout Closed m row after = ⊥
+
+-- a row is put last, with the next serial and this slot
+abbrev pub IsPut : Site → Home → ℕ → Row → ℕ → Home → Type 0
+IsPut site (Serving s v n rows) m row slot after =
+    HasPlace site.limits n slot (trimmed s m rows) × (after ≡ Serving s v (n + 1) (trimmed s m rows ++ record row { serial = n; slot = slot } ∷ []))
+IsPut site Unopened m row slot after = ⊥
+IsPut site Closed m row slot after = ⊥
+
+-- the next serial of a home
+abbrev pub IsNextOf : Home → ℕ → Type 0
+IsNextOf (Serving s v n rows) serial = serial ≡ n
+IsNextOf Unopened serial = ⊥
+IsNextOf Closed serial = ⊥
+
+-- why a home takes no row at m
+abbrev pub coming_refusal : Site → Home → ℕ → Option Refusal → Option Refusal
+coming_refusal site (Serving s v n rows) m later = place_refusal site.limits n (trimmed s m rows) later
+coming_refusal site Unopened m later = Some QueueDoesNotExist
+coming_refusal site Closed m later = Some QueueDoesNotExist
+
+-- why no item is sent back from a home, or given up there: it is not closed, or the item is not one for that
+abbrev pub closed_refusal : Home → Bool → Option Refusal
+closed_refusal (Serving s v n rows) is_its = Some UnsupportedOperation
+closed_refusal Unopened is_its = Some QueueDoesNotExist
+closed_refusal Closed is_its = refused_if (not is_its) UnsupportedOperation None

@@ -1,0 +1,16 @@
+use Rattle.std.proofs.Common.{rules, ◌≡◌, ℕ, Result, Some, None, subst}
+use Rattle.std.specs.Prelude.{IfErr, OnOk}
+use Rattle.sq_base.specs.declared.refusal.Refusal.{Refusal}
+use Rattle.sq_model.specs.Ledgers.{room_refusal}
+use Rattle.sq_steps.proofs.SharedLaws.{leave_refused}
+use Rattle.sq_steps.proofs.shared.leave_dead.Goals as goal
+
+pub returns-in_err-half-clause-refusal : goal.returns-in_err-half-clause-refusal
+returns-in_err-half-clause-refusal c =
+    let l = c.args.ledger.now.history.ledger in
+    let room = c.room-number.ensures in
+    let refused =
+    leave_refused c.args.home.now l c.args.stamp.moment c.room-number.result c.in_err-half.field-0.0
+    (λ n is. subst (λ (r : Result ℕ Refusal). OnOk r (room_refusal l ≡ None)) is room.passes)
+    (λ e is. subst (λ (r : Result ℕ Refusal). IfErr r (λ x. room_refusal l ≡ Some x)) is room.refused) c.in_err-half.ensures.refusal in
+    search rules

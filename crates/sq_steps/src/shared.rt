@@ -1,0 +1,253 @@
+//! The steps that a home and the ledger do together, each half over what is lent.
+ghost use Rattle.std.specs.Prelude.{◌≡◌, Ok, IfOk, IfErr, IfSome, IfNone, OnErr};
+ghost use Rattle.sq_base.specs.Stamps.{Below};
+ghost use Rattle.sq_model.specs.declared.shared.SharedAct.TheVariants as asks;
+ghost use Rattle.sq_model.specs.Shared.{IsUnrecorded, shared_stamp};
+ghost use Rattle.sq_ledger.specs.LedgerHistories.{IsPrepared};
+ghost use Rattle.sq_steps.specs.SharedSteps.{asked_as, BothDo, SharedMoves, IsUnmoved, IsPairRefused, IsSharedRefused};
+
+use crate::act::Move;
+use crate::journal::{Journal, keep, ready};
+use crate::record::Record;
+use sq_base::name::QueueName;
+use sq_base::refusal::Refusal;
+use sq_base::stamp::Stamp;
+use sq_history::record::HomeRecord;
+use sq_history::recorded::Home;
+use sq_history::shared::HomeHalf;
+use sq_ledger::ledger::TransitLedger;
+use sq_model::event::Actor;
+use sq_model::item::ItemNo;
+use sq_model::replies::HomeReply;
+use std::alloc::Global;
+
+// The stamp of a step of both: above the last one of each, above what the actor saw, and not before the clock reading.
+fn stamp_of_both(home: Stamp, ledger: Stamp, seen: Stamp, now: u64) -> Result<Stamp, Refusal>
+    ensures stamp { result ≡ shared_stamp home ledger seen now }
+    ensures above_home { IfOk result (Below home) }
+    ensures above_ledger { IfOk result (Below ledger) }
+    ensures above_seen { IfOk result (Below seen) }
+{
+    let above_both = Stamp::after(home, ledger, now)?;
+    Stamp::after(above_both, seen, now)
+}
+
+// A dead message leaves the home, and is an item of the ledger; none where none is dead.
+fn leave_dead(
+    alloc: Global,
+    home: &mut Home,
+    ledger: &mut TransitLedger,
+    by: &Actor,
+    stamp: Stamp,
+    name: Option<QueueName>,
+) -> Result<Option<(HomeReply, HomeRecord)>, Refusal>
+    requires prepared { IsPrepared ledger.old }
+    requires above_home { Below home.old.last stamp }
+    requires above_ledger { Below ledger.old.history.last stamp }
+    requires above_seen { Below by.now.seen stamp }
+    ensures does { IfOk result (λ told. IfSome told (BothDo home.old home.new ledger.old.history ledger.new.history by.now stamp name asks.LeaveDead)) }
+    ensures none { IfOk result (λ told. IfNone told (IsUnrecorded home.old.site home.old.home ledger.old.history.ledger stamp.moment asks.LeaveDead)) }
+    ensures none_home { IfOk result (λ told. IfNone told (home.new ≡ home.old)) }
+    ensures none_ledger { IfOk result (λ told. IfNone told (ledger.new.history ≡ ledger.old.history)) }
+    ensures refusal { IfErr result (IsPairRefused home.old ledger.old.history.ledger stamp.moment asks.LeaveDead) }
+    ensures home_err { OnErr result (home.new ≡ home.old) }
+    ensures ledger_err { OnErr result (ledger.new.history ≡ ledger.old.history) }
+{
+    let number = ledger.room();
+    let Some((half, item)) = home.leave_dead(alloc, by, stamp, name, number)? else {
+        return Ok(None);
+    };
+    let HomeHalf {
+        answered,
+        for_ledger,
+        its_record,
+    } = half;
+    ledger.take_in(by, stamp, its_record.home(), for_ledger, item);
+    Ok(Some((answered, its_record)))
+}
+
+// The item comes in at its target.
+fn enter(
+    alloc: Global,
+    home: &mut Home,
+    ledger: &mut TransitLedger,
+    by: &Actor,
+    stamp: Stamp,
+    name: Option<QueueName>,
+    number: ItemNo,
+) -> Result<(HomeReply, HomeRecord), Refusal>
+    requires prepared { IsPrepared ledger.old }
+    requires above_home { Below home.old.last stamp }
+    requires above_ledger { Below ledger.old.history.last stamp }
+    requires above_seen { Below by.now.seen stamp }
+    ensures does { IfOk result (BothDo home.old home.new ledger.old.history ledger.new.history by.now stamp name (asks.Enter number)) }
+    ensures refusal { IfErr result (IsPairRefused home.old ledger.old.history.ledger stamp.moment (asks.Enter number)) }
+    ensures home_err { OnErr result (home.new ≡ home.old) }
+    ensures ledger_err { OnErr result (ledger.new.history ≡ ledger.old.history) }
+{
+    let HomeHalf {
+        answered,
+        for_ledger,
+        its_record,
+    } = home.enter(alloc, by, stamp, name, ledger.item(number))?;
+    ledger.give_out(by, stamp, its_record.home(), for_ledger, number);
+    Ok((answered, its_record))
+}
+
+// The item comes back to its source.
+fn give_back(
+    alloc: Global,
+    home: &mut Home,
+    ledger: &mut TransitLedger,
+    by: &Actor,
+    stamp: Stamp,
+    name: Option<QueueName>,
+    number: ItemNo,
+) -> Result<(HomeReply, HomeRecord), Refusal>
+    requires prepared { IsPrepared ledger.old }
+    requires above_home { Below home.old.last stamp }
+    requires above_ledger { Below ledger.old.history.last stamp }
+    requires above_seen { Below by.now.seen stamp }
+    ensures does { IfOk result (BothDo home.old home.new ledger.old.history ledger.new.history by.now stamp name (asks.GiveBack number)) }
+    ensures refusal { IfErr result (IsPairRefused home.old ledger.old.history.ledger stamp.moment (asks.GiveBack number)) }
+    ensures home_err { OnErr result (home.new ≡ home.old) }
+    ensures ledger_err { OnErr result (ledger.new.history ≡ ledger.old.history) }
+{
+    let HomeHalf {
+        answered,
+        for_ledger,
+        its_record,
+    } = home.give_back(alloc, by, stamp, name, ledger.item(number))?;
+    ledger.give_out(by, stamp, its_record.home(), for_ledger, number);
+    Ok((answered, its_record))
+}
+
+// The item is sent back from its closed target.
+fn turn_back(
+    alloc: Global,
+    home: &mut Home,
+    ledger: &mut TransitLedger,
+    by: &Actor,
+    stamp: Stamp,
+    name: Option<QueueName>,
+    number: ItemNo,
+) -> Result<(HomeReply, HomeRecord), Refusal>
+    requires prepared { IsPrepared ledger.old }
+    requires above_home { Below home.old.last stamp }
+    requires above_ledger { Below ledger.old.history.last stamp }
+    requires above_seen { Below by.now.seen stamp }
+    ensures does { IfOk result (BothDo home.old home.new ledger.old.history ledger.new.history by.now stamp name (asks.TurnBack number)) }
+    ensures refusal { IfErr result (IsPairRefused home.old ledger.old.history.ledger stamp.moment (asks.TurnBack number)) }
+    ensures home_err { OnErr result (home.new ≡ home.old) }
+    ensures ledger_err { OnErr result (ledger.new.history ≡ ledger.old.history) }
+{
+    let HomeHalf {
+        answered,
+        for_ledger,
+        its_record,
+    } = home.turn_back(alloc, by, stamp, name, ledger.item(number))?;
+    ledger.turn_back(by, stamp, its_record.home(), for_ledger, number);
+    Ok((answered, its_record))
+}
+
+// The item is given up at its closed source.
+fn give_up(
+    alloc: Global,
+    home: &mut Home,
+    ledger: &mut TransitLedger,
+    by: &Actor,
+    stamp: Stamp,
+    name: Option<QueueName>,
+    number: ItemNo,
+) -> Result<(HomeReply, HomeRecord), Refusal>
+    requires prepared { IsPrepared ledger.old }
+    requires above_home { Below home.old.last stamp }
+    requires above_ledger { Below ledger.old.history.last stamp }
+    requires above_seen { Below by.now.seen stamp }
+    ensures does { IfOk result (BothDo home.old home.new ledger.old.history ledger.new.history by.now stamp name (asks.GiveUp number)) }
+    ensures refusal { IfErr result (IsPairRefused home.old ledger.old.history.ledger stamp.moment (asks.GiveUp number)) }
+    ensures home_err { OnErr result (home.new ≡ home.old) }
+    ensures ledger_err { OnErr result (ledger.new.history ≡ ledger.old.history) }
+{
+    let HomeHalf {
+        answered,
+        for_ledger,
+        its_record,
+    } = home.give_up(alloc, by, stamp, name, ledger.item(number))?;
+    ledger.drop_item(by, stamp, its_record.home(), for_ledger, number);
+    Ok((answered, its_record))
+}
+
+// Both halves of a step; none where nothing leaves.
+fn both_halves(
+    alloc: Global,
+    home: &mut Home,
+    ledger: &mut TransitLedger,
+    by: &Actor,
+    stamp: Stamp,
+    name: Option<QueueName>,
+    act: Move,
+) -> Result<Option<(HomeReply, HomeRecord)>, Refusal>
+    requires prepared { IsPrepared ledger.old }
+    requires above_home { Below home.old.last stamp }
+    requires above_ledger { Below ledger.old.history.last stamp }
+    requires above_seen { Below by.now.seen stamp }
+    ensures does { IfOk result (λ told. IfSome told (BothDo home.old home.new ledger.old.history ledger.new.history by.now stamp name (asked_as act))) }
+    ensures none { IfOk result (λ told. IfNone told (IsUnrecorded home.old.site home.old.home ledger.old.history.ledger stamp.moment (asked_as act))) }
+    ensures none_home { IfOk result (λ told. IfNone told (home.new ≡ home.old)) }
+    ensures none_ledger { IfOk result (λ told. IfNone told (ledger.new.history ≡ ledger.old.history)) }
+    ensures refusal { IfErr result (IsPairRefused home.old ledger.old.history.ledger stamp.moment (asked_as act)) }
+    ensures home_err { OnErr result (home.new ≡ home.old) }
+    ensures ledger_err { OnErr result (ledger.new.history ≡ ledger.old.history) }
+{
+    match act {
+        Move::LeaveDead => leave_dead(alloc, home, ledger, by, stamp, name),
+        Move::Enter(number) => Ok(Some(enter(alloc, home, ledger, by, stamp, name, number)?)),
+        Move::TurnBack(number) => Ok(Some(turn_back(
+            alloc, home, ledger, by, stamp, name, number,
+        )?)),
+        Move::GiveBack(number) => Ok(Some(give_back(
+            alloc, home, ledger, by, stamp, name, number,
+        )?)),
+        Move::GiveUp(number) => Ok(Some(give_up(alloc, home, ledger, by, stamp, name, number)?)),
+    }
+}
+
+/// A step of a home and the ledger that are lent, by an actor that is lent. All that grows in the ledger and in the
+/// actor's records does so first, and then all that grows in the home; then the message moves, and one event stands in
+/// each history, with one stamp. None where nothing was there to leave, which is no event and changes nothing. A clock
+/// reading is in ms.
+/// Refused as NoMemory (the actor's records, either history or the items have room for none, or a message is copied),
+/// ClockRange, Worn, and then as the home and the ledger: QueueDoesNotExist (not serving; never opened, where an item is
+/// sent back or given up), Worn and OverLimit (a home or the ledger has no number left, or is full), UnsupportedOperation
+/// (no item of this number, not one for this home, or a home that serves where it is to be closed).
+pub fn shared_step(
+    alloc: Global,
+    home: &mut Home,
+    ledger: &mut TransitLedger,
+    journal: &mut Journal,
+    now: u64,
+    name: Option<QueueName>,
+    act: Move,
+) -> Result<Option<HomeReply>, Refusal>
+    ensures step { IfOk result (λ told. IfSome told (SharedMoves home.old home.new ledger.old.history ledger.new.history journal.old journal.new now name (asked_as act))) }
+    ensures none { IfOk result (λ told. IfNone told (IsUnmoved home.old ledger.old.history journal.old now (asked_as act))) }
+    ensures none_home { IfOk result (λ told. IfNone told (home.new ≡ home.old)) }
+    ensures none_ledger { IfOk result (λ told. IfNone told (ledger.new.history ≡ ledger.old.history)) }
+    ensures none_journal { IfOk result (λ told. IfNone told (journal.new ≡ journal.old)) }
+    ensures refusal { IfErr result (IsSharedRefused home.old ledger.old.history journal.old now (asked_as act)) }
+    ensures home_err { OnErr result (home.new ≡ home.old) }
+    ensures ledger_err { OnErr result (ledger.new.history ≡ ledger.old.history) }
+    ensures journal_err { OnErr result (journal.new ≡ journal.old) }
+{
+    ready(&journal.by, &mut journal.records, now)?;
+    ledger.prepare()?;
+    let stamp = stamp_of_both(home.last(), ledger.last(), journal.by.seen, now)?;
+    match both_halves(alloc, home, ledger, &journal.by, stamp, name, act)? {
+        Some((reply, record)) => {
+            keep(&mut journal.by, &mut journal.records, Record::Home(record));
+            Ok(Some(reply))
+        }
+        None => Ok(None),
+    }
+}

@@ -1,0 +1,733 @@
+//! Runs of steps chosen at random over two chains of dead-letter queues, and what the audit says of them.
+ghost use Rattle.std.specs.Prelude.{◌≤◌};
+
+use crate::audits::{Choices, directory_act, fault, taken_out};
+use crate::setup::{hello, home, named, receipt};
+use sq_audit::check::AuditFault;
+use sq_audit::merge::merge;
+use sq_audit::parts::Parts;
+use sq_base::ids::{HomeId, HomeNo, QueueNo};
+use sq_base::message_id::MessageId;
+use sq_base::ranges::{MaxMessages, MaxReceives, Retention, Timeout};
+use sq_base::refusal::Refusal;
+use sq_base::row::Row;
+use sq_base::stamp::Stamp;
+use sq_calls::turns::{Turn, Turned};
+use sq_merge::options::Options;
+use sq_merge::world::World;
+use sq_model::calls::Receipt;
+use sq_model::directory::{Attributes, DirectoryCall, DirectoryReply, QueueSettings};
+use sq_model::item::ItemNo;
+use sq_model::place::Place;
+use sq_model::policy::RedrivePolicy;
+use sq_model::replies::HomeReply;
+use sq_places::places::places_of;
+use sq_steps::act::{Act, HomeAct, Move, NextItem, Outcome, Step};
+use std::alloc::Global;
+use std::mem::swap;
+use std::process::Abort;
+
+// Two chains of four queues each. The dead letters of a queue go to the one before it in its chain.
+fn name_at(place: u64) -> &'static str {
+    match place {
+        0 => "a",
+        1 => "b",
+        2 => "c",
+        3 => "d",
+        4 => "e",
+        5 => "f",
+        6 => "g",
+        _ => "h",
+    }
+}
+
+// What is received once, or at every other queue twice, is dead there. A message is hidden for two seconds, and kept for ten minutes in
+// one chain and for one in the other.
+fn attributes_at(place: u64) -> Result<Attributes, Refusal> {
+    let mut attributes = Attributes::none();
+    attributes.retention = Some(if place < 4 {
+        Retention::of(600)
+    } else {
+        Retention::of(60)
+    });
+    attributes.timeout = Some(Timeout::of(2));
+    if place % 4 != 0 {
+        let max_receives = if place % 2 == 0 {
+            MaxReceives::of(2)
+        } else {
+            MaxReceives::of(1)
+        };
+        attributes.redrive = Some(Some(RedrivePolicy {
+            target: named(name_at(place.saturating_sub(1)))?,
+            max_receives,
+        }));
+    }
+    Ok(attributes)
+}
+
+// What was answered, as far as the next choice or the audit goes by it.
+#[derive(Clone, Copy)]
+struct Seen {
+    events: usize,
+    sends: usize,
+    // How many events each actor has.
+    places: [u64; 8],
+    // How many moves there were of each kind.
+    moves: [u64; 5],
+    // Who did the last event, and what it moved, if anything.
+    actor: u32,
+    moved: Option<Turned>,
+    // Each queue as it was last made or set.
+    queues: [Option<QueueSettings>; 8],
+    // The queue that was deleted last.
+    gone: Option<QueueNo>,
+    // The last message that was received, with its home.
+    home: HomeId,
+    receipt: Receipt,
+    // The last item in transit that was looked at.
+    item: Option<NextItem>,
+}
+
+// The number of a kind of move.
+fn kind(word: Turned) -> usize {
+    match word {
+        Turned::Left => 0,
+        Turned::Entered => 1,
+        Turned::Turned => 2,
+        Turned::Back => 3,
+        _ => 4,
+    }
+}
+
+// What a step at a home moves, if it is done.
+fn moved_by(act: &Act) -> Option<Turned> {
+    match act {
+        Act::Shared(_, Move::LeaveDead) => Some(Turned::Left),
+        Act::Shared(_, Move::Enter(_)) => Some(Turned::Entered),
+        Act::Shared(_, Move::TurnBack(_)) => Some(Turned::Turned),
+        Act::Shared(_, Move::GiveBack(_)) => Some(Turned::Back),
+        Act::Shared(_, Move::GiveUp(_)) => Some(Turned::Dropped),
+        _ => None,
+    }
+}
+
+impl Seen {
+    fn new() -> Seen {
+        Seen {
+            events: 0,
+            sends: 0,
+            places: [0; 8],
+            moves: [0; 5],
+            actor: 0,
+            moved: None,
+            queues: [None; 8],
+            gone: None,
+            home: home(0),
+            receipt: receipt(0, 0, 1),
+            item: None,
+        }
+    }
+
+    fn count(&mut self, actor: u32, moved: Option<Turned>) {
+        self.events = self.events.saturating_add(1);
+        self.actor = actor;
+        self.moved = moved;
+        if let Some(place) = self.places.get_mut(actor as usize) {
+            *place = place.saturating_add(1);
+        }
+        if let Some(word) = moved {
+            if let Some(count) = self.moves.get_mut(kind(word)) {
+                *count = count.saturating_add(1);
+            }
+        }
+    }
+
+    fn keep_turn(&mut self, actor: u32, word: Turned) {
+        match word {
+            Turned::Nothing | Turned::Full => {}
+            _ => self.count(actor, Some(word)),
+        }
+    }
+
+    fn keep_queue(&mut self, place: usize, reply: &DirectoryReply) {
+        match reply {
+            DirectoryReply::Made(queue) | DirectoryReply::Changed(queue) => {
+                if let Some(kept) = self.queues.get_mut(place) {
+                    *kept = Some(*queue);
+                }
+            }
+            DirectoryReply::Removed(number) => self.gone = Some(*number),
+            _ => {}
+        }
+    }
+
+    fn keep_rows(&mut self, act: &Act, rows: &[Row]) {
+        if let Act::Home(home, _) = act {
+            if let Some(row) = rows.first() {
+                self.home = *home;
+                self.receipt = receipt(row.slot, row.serial.get(), row.receives as u64);
+            }
+        }
+    }
+
+    fn keep_reply(&mut self, act: &Act, reply: &HomeReply) {
+        match reply {
+            HomeReply::Sent(_) => self.sends = self.sends.saturating_add(1),
+            HomeReply::Looked(rows) => self.keep_rows(act, rows.as_slice()),
+            _ => {}
+        }
+    }
+
+    fn keep(&mut self, actor: u32, place: usize, act: &Act, outcome: &Outcome) {
+        match outcome {
+            Outcome::Directory(reply) => {
+                self.keep_queue(place, reply);
+                self.count(actor, None);
+            }
+            Outcome::Home(reply) => {
+                self.keep_reply(act, reply);
+                self.count(actor, moved_by(act));
+            }
+            Outcome::Peeked(Some(next)) => self.item = Some(*next),
+            _ => {}
+        }
+    }
+}
+
+fn any_home(choices: &mut Choices, queue: QueueNo) -> HomeId {
+    HomeId {
+        queue,
+        home: HomeNo::of(choices.below(4) as u8),
+    }
+}
+
+// The queue of a name, also where it is deleted.
+fn queue_at(seen: &Seen, place: usize) -> QueueNo {
+    match seen.queues.get(place) {
+        Some(Some(queue)) => queue.queue,
+        _ => QueueNo::following(0),
+    }
+}
+
+// A home where the item goes that was looked at last, or one time in eight where it came from.
+fn home_ahead(choices: &mut Choices, seen: &Seen) -> HomeId {
+    let Some(next) = seen.item else {
+        return seen.home;
+    };
+    let astray = choices.below(8) == 0;
+    let queue = if next.homeward == astray {
+        next.target
+    } else {
+        next.source
+    };
+    any_home(choices, queue)
+}
+
+// Often where a message was received last, or where an item goes.
+fn chosen_home(choices: &mut Choices, seen: &Seen, place: usize) -> HomeId {
+    match choices.below(16) {
+        0..10 => any_home(choices, queue_at(seen, place)),
+        10..15 => seen.home,
+        _ => home_ahead(choices, seen),
+    }
+}
+
+// The item that was looked at last, or one beside it.
+fn near(choices: &mut Choices, seen: &Seen) -> ItemNo {
+    let number = match seen.item {
+        Some(next) => next.number.get(),
+        None => 1,
+    };
+    let number = match choices.below(8) {
+        0 => number.saturating_add(1),
+        1 => number.saturating_sub(1),
+        _ => number,
+    };
+    ItemNo::new(number).unwrap_or(ItemNo::first())
+}
+
+// Mostly what fits the way of the item.
+fn item_move(choices: &mut Choices, seen: &Seen) -> Move {
+    let number = near(choices, seen);
+    let homeward = match seen.item {
+        Some(next) => next.homeward,
+        None => false,
+    };
+    match (choices.below(10), homeward) {
+        (0, _) => Move::Enter(number),
+        (1, _) => Move::TurnBack(number),
+        (2, _) => Move::GiveBack(number),
+        (3, _) => Move::GiveUp(number),
+        (4..8, false) => Move::Enter(number),
+        (4..8, true) => Move::GiveBack(number),
+        (_, false) => Move::TurnBack(number),
+        (_, true) => Move::GiveUp(number),
+    }
+}
+
+fn shared_act(choices: &mut Choices, seen: &Seen, place: usize) -> Act {
+    if choices.below(3) != 0 {
+        return Act::Shared(chosen_home(choices, seen, place), Move::LeaveDead);
+    }
+    let at = home_ahead(choices, seen);
+    Act::Shared(at, item_move(choices, seen))
+}
+
+// Hands on the settings of a queue as it was last made or set.
+fn configuring(seen: &Seen, place: usize, at: HomeNo) -> Act {
+    let Some(Some(queue)) = seen.queues.get(place) else {
+        return Act::Names;
+    };
+    let id = HomeId {
+        queue: queue.queue,
+        home: at,
+    };
+    Act::Home(id, HomeAct::Configure(queue.settings, queue.version))
+}
+
+// Closes a home of the queue that was deleted last.
+fn closing(choices: &mut Choices, seen: &Seen) -> Act {
+    match seen.gone {
+        Some(queue) => Act::Home(any_home(choices, queue), HomeAct::Close),
+        None => Act::Names,
+    }
+}
+
+fn home_act(choices: &mut Choices, alloc: Global, seen: &Seen) -> Result<HomeAct, Refusal> {
+    Ok(match choices.below(200) {
+        0..72 => HomeAct::Send(hello(alloc)?, None),
+        72..120 => HomeAct::Look(MaxMessages::of(3), Some(Timeout::of(0))),
+        120..150 => HomeAct::Look(MaxMessages::of(3), None),
+        150..170 => HomeAct::Delete(seen.receipt),
+        170..182 => HomeAct::Change(seen.receipt, Timeout::of(1)),
+        182 => HomeAct::Purge,
+        _ => HomeAct::Count,
+    })
+}
+
+fn queue_act(choices: &mut Choices, place: u64) -> Result<Act, Refusal> {
+    let name = named(name_at(place))?;
+    let call = match choices.below(60) {
+        0..16 => DirectoryCall::Create(name, attributes_at(place)?),
+        16..32 => DirectoryCall::Set(name, attributes_at(place)?),
+        32..37 => DirectoryCall::Remove(name),
+        other => return directory_act(name, 1 + other % 6),
+    };
+    Ok(Act::Directory(call))
+}
+
+// At first the queues are made, and their homes opened.
+fn first_act(seen: &Seen, number: u64) -> Result<Act, Refusal> {
+    if number < 8 {
+        let name = named(name_at(number))?;
+        let call = DirectoryCall::Create(name, attributes_at(number)?);
+        return Ok(Act::Directory(call));
+    }
+    let at = HomeNo::of((number % 4) as u8);
+    Ok(configuring(seen, place_of_first(number), at))
+}
+
+// The place of the name that one of the first 40 steps is about.
+fn place_of_first(number: u64) -> usize {
+    if number < 8 {
+        number as usize
+    } else {
+        (number.saturating_sub(8) / 4).min(7) as usize
+    }
+}
+
+fn act(choices: &mut Choices, alloc: Global, seen: &Seen, place: u64) -> Result<Act, Refusal> {
+    let at = place.min(7) as usize;
+    match choices.below(100) {
+        0..6 => queue_act(choices, place),
+        6..16 => {
+            let home = any_home(choices, QueueNo::following(0));
+            Ok(configuring(seen, at, home.home))
+        }
+        16..19 => Ok(closing(choices, seen)),
+        19..72 => {
+            let home = chosen_home(choices, seen, at);
+            Ok(Act::Home(home, home_act(choices, alloc, seen)?))
+        }
+        72..94 => Ok(shared_act(choices, seen, at)),
+        _ => Ok(Act::Peek(choices.below(1000))),
+    }
+}
+
+// One tenth of a second a step, up to four seconds back or ahead.
+fn clock(choices: &mut Choices, number: u64) -> u64 {
+    let reading = number.saturating_mul(100);
+    reading
+        .saturating_add(choices.below(8000))
+        .saturating_sub(4000)
+}
+
+// A step of the world.
+fn stepped(
+    rt: &impl Abort,
+    alloc: Global,
+    world: &mut World,
+    choices: &mut Choices,
+    seen: &mut Seen,
+    number: u64,
+) {
+    let actor = choices.below(8) as u32;
+    let clock = clock(choices, number);
+    let (place, act) = if number < 40 {
+        (place_of_first(number), first_act(seen, number))
+    } else {
+        let place = choices.below(8);
+        (place as usize, act(choices, alloc, seen, place))
+    };
+    let step = Step {
+        actor,
+        clock,
+        act: act.expect(rt, "memory"),
+    };
+    if let Ok(outcome) = world.step(alloc, &step) {
+        seen.keep(actor, place, &step.act, &outcome);
+    }
+}
+
+// A turn of an actor.
+fn turned(
+    rt: &impl Abort,
+    alloc: Global,
+    world: &mut World,
+    choices: &mut Choices,
+    seen: &mut Seen,
+    number: u64,
+) {
+    let actor = choices.below(8) as u32;
+    let clock = clock(choices, number);
+    let name = named(name_at(choices.below(8))).expect(rt, "a name");
+    let turn = if choices.below(5) < 3 {
+        Turn::DeadTurn(name)
+    } else {
+        Turn::EnterTurn
+    };
+    if let Ok(word) = world.turn(alloc, actor, clock, &turn) {
+        seen.keep_turn(actor, word);
+    }
+}
+
+// Up to so many queues of four homes each, which give at most 15 messages in flight and keep 12.
+fn chained(queues: u32) -> Options {
+    Options {
+        homes: 4,
+        sample: 2,
+        queues,
+        rows: 12,
+        flights: 60,
+        transit: 12,
+        seed: 3,
+    }
+}
+
+// The next step; one in five is a turn.
+fn go_on(
+    rt: &impl Abort,
+    alloc: Global,
+    world: &mut World,
+    choices: &mut Choices,
+    seen: &mut Seen,
+    number: u64,
+) {
+    seen.moved = None;
+    if 40 <= number && choices.below(5) == 0 {
+        turned(rt, alloc, world, choices, seen, number);
+    } else {
+        stepped(rt, alloc, world, choices, seen, number);
+    }
+}
+
+// The world after so many steps, and what was answered.
+fn ran(rt: &impl Abort, alloc: Global, queues: u32, seed: u64, steps: u64) -> (World, Seen) {
+    let mut world = World::new(alloc, chained(queues)).expect(rt, "memory");
+    let mut choices = Choices { state: seed };
+    let mut seen = Seen::new();
+    for number in 0..steps {
+        go_on(rt, alloc, &mut world, &mut choices, &mut seen, number);
+    }
+    (world, seen)
+}
+
+// How many messages a home has; 0 where it refuses.
+fn rows_at(alloc: Global, world: &mut World, seen: &mut Seen, at: HomeId) -> usize {
+    let step = Step {
+        actor: 0,
+        clock: 0,
+        act: Act::Home(at, HomeAct::Count),
+    };
+    let Ok(Outcome::Home(HomeReply::Counted(counts))) = world.step(alloc, &step) else {
+        return 0;
+    };
+    seen.count(0, None);
+    let rows = counts
+        .visible
+        .saturating_add(counts.flying)
+        .saturating_add(counts.delayed);
+    rows as usize
+}
+
+// How many messages all homes have.
+fn rows_in(alloc: Global, world: &mut World, seen: &mut Seen, queues: u32) -> usize {
+    let mut rows = 0usize;
+    for queue in 0..queues {
+        for number in 0..4u8 {
+            let at = HomeId {
+                queue: QueueNo::following(queue),
+                home: HomeNo::of(number),
+            };
+            rows = rows.saturating_add(rows_at(alloc, world, seen, at));
+        }
+    }
+    rows
+}
+
+// How many items are in transit.
+fn items_in(parts: &Parts) -> usize {
+    let mut last = 0u64;
+    let mut items = 0usize;
+    for _ in 0..100 {
+        match parts.ledger.peek(last) {
+            Some(item) if last < item.number.get() => {
+                last = item.number.get();
+                items = items.saturating_add(1);
+            }
+            _ => return items,
+        }
+    }
+    items
+}
+
+fn count_of(places: &[(MessageId, Place)], wanted: Place) -> usize {
+    let mut count = 0usize;
+    for (_, place) in places {
+        if *place == wanted {
+            count = count.saturating_add(1);
+        }
+    }
+    count
+}
+
+// What the audit says after so many steps, and what it is to say: how many events there are, how many messages are
+// listed, and how many of them are in transit and in a home. And how many moves there were of each kind.
+fn audited(
+    rt: &impl Abort,
+    alloc: Global,
+    queues: u32,
+    seed: u64,
+    steps: u64,
+) -> ([usize; 5], [usize; 5], [u64; 5]) {
+    let (mut world, mut seen) = ran(rt, alloc, queues, seed, steps);
+    let rows = rows_in(alloc, &mut world, &mut seen, queues);
+    let parts = world.parts();
+    let items = items_in(&parts);
+    let run = merge(alloc, &parts).expect(rt, "one run");
+    let sent = run.lineages(alloc).expect(rt, "memory");
+    let places = places_of(alloc, &run).expect(rt, "memory");
+    let in_transit = count_of(&places, Place::InTransit);
+    let in_homes = count_of(&places, Place::InHome);
+    (
+        [run.len(), sent.len(), places.len(), in_transit, in_homes],
+        [seen.events, seen.sends, seen.sends, items, rows],
+        seen.moves,
+    )
+}
+
+#[test]
+fn each_message_is_in_one_place_at_any_length(rt: HostRuntime) {
+    for steps in [0, 8, 40, 100, 300, 30_000] {
+        let (found, wanted, _) = audited(&rt, rt.alloc(), 200, 1, steps);
+        assert_eq!(rt; found, wanted, "after {steps}");
+    }
+}
+
+#[test]
+fn each_message_is_in_one_place_at_each_thousandth_step(rt: HostRuntime) {
+    for thousands in 1..=12u64 {
+        let steps = thousands * 1_000;
+        let (found, wanted, _) = audited(&rt, rt.alloc(), 64, 2, steps);
+        assert_eq!(rt; found, wanted, "after {steps}");
+    }
+}
+
+#[test]
+fn each_message_is_in_one_place(rt: HostRuntime) {
+    for seed in 1..=10 {
+        let (found, wanted, moves) = audited(&rt, rt.alloc(), 64, seed, 10_000);
+        assert_eq!(rt; found, wanted, "seed {seed}");
+        assert!(rt;
+            moves.iter().all(|count| 0 < *count),
+            "seed {seed}: {moves:?}"
+        );
+    }
+}
+
+// A step that moved a message: its number among all, who did it, its number among the actor's, and what it did.
+#[derive(Clone, Copy)]
+struct MoveSeen {
+    number: u64,
+    actor: u32,
+    place: u64,
+    word: Turned,
+}
+
+// The first three moves of each kind in so many steps.
+fn first_moves(rt: &impl Abort, alloc: Global, steps: u64) -> [Option<MoveSeen>; 15] {
+    let mut world = World::new(alloc, chained(64)).expect(rt, "memory");
+    let mut choices = Choices { state: 1 };
+    let mut seen = Seen::new();
+    let mut firsts = [None; 15];
+    for number in 0..steps {
+        go_on(rt, alloc, &mut world, &mut choices, &mut seen, number);
+        note(&mut firsts, &seen, number);
+    }
+    firsts
+}
+
+// Keeps the last step where it is one of the first three moves of its kind.
+fn note(firsts: &mut [Option<MoveSeen>; 15], seen: &Seen, number: u64) {
+    let Some(word) = seen.moved else {
+        return;
+    };
+    let so_far = seen.moves.get(kind(word)).copied().unwrap_or(0);
+    if so_far <= 3 {
+        let at = kind(word).saturating_mul(3).saturating_add(so_far as usize);
+        if let Some(first) = firsts.get_mut(at.saturating_sub(1)) {
+            *first = Some(MoveSeen {
+                number,
+                actor: seen.actor,
+                place: events_of(seen, seen.actor).saturating_sub(1),
+                word,
+            });
+        }
+    }
+}
+
+// How many events an actor has.
+fn events_of(seen: &Seen, actor: u32) -> u64 {
+    seen.places.get(actor as usize).copied().unwrap_or(0)
+}
+
+// The parts that so many steps leave.
+fn parts_of(rt: &impl Abort, alloc: Global, steps: u64) -> Parts {
+    let (world, _) = ran(rt, alloc, 64, 1, steps);
+    world.parts()
+}
+
+// Which parts are those after a step, in place of those before it. The list of queues is the same.
+#[derive(Clone, Copy, PartialEq, Eq, Debug)]
+struct Mix {
+    homes: bool,
+    ledger: bool,
+    records: bool,
+}
+
+// One of the eight.
+fn mix_of(number: u32) -> Mix {
+    Mix {
+        homes: number % 2 == 1,
+        ledger: number / 2 % 2 == 1,
+        records: number / 4 % 2 == 1,
+    }
+}
+
+// The parts before a step, some of them in place of which are those after it: what the audit says.
+fn mixed(rt: &impl Abort, alloc: Global, number: u64, mix: Mix) -> Option<AuditFault> {
+    let mut parts = parts_of(rt, alloc, number);
+    let mut later = parts_of(rt, alloc, number.saturating_add(1));
+    if mix.homes {
+        swap(&mut parts.homes, &mut later.homes);
+    }
+    if mix.ledger {
+        swap(&mut parts.ledger, &mut later.ledger);
+    }
+    if mix.records {
+        swap(&mut parts.records, &mut later.records);
+    }
+    fault(alloc, &parts)
+}
+
+// The stamp of the last step, where it moved a message.
+fn last_of(rt: &impl Abort, alloc: Global, steps: u64) -> Stamp {
+    parts_of(rt, alloc, steps).ledger.last()
+}
+
+// What is wrong where a step stands in one history of two, and its record agrees with the homes.
+fn unmatched(word: Turned, stamp: &Stamp) -> AuditFault {
+    match word {
+        Turned::Left => AuditFault::LeaveUnmatched(*stamp),
+        _ => AuditFault::EnterUnmatched(*stamp),
+    }
+}
+
+// What the audit is to say of a step at this stamp that some parts have.
+fn wrong(seen: MoveSeen, stamp: &Stamp, mix: Mix) -> Option<AuditFault> {
+    if mix.homes == mix.ledger && mix.homes == mix.records {
+        None
+    } else if mix.homes == mix.records {
+        Some(unmatched(seen.word, stamp))
+    } else {
+        Some(AuditFault::RecordMissing(seen.actor, seen.place))
+    }
+}
+
+// Each of the five moves is found three times in these steps.
+#[test]
+fn a_move_that_is_not_everywhere_is_reported(rt: HostRuntime) {
+    for found in first_moves(&rt, rt.alloc(), 10_000) {
+        let seen = found.expect(&rt, "a move");
+        let stamp = last_of(&rt, rt.alloc(), seen.number.saturating_add(1));
+        for number in 0..8u32 {
+            let mix = mix_of(number);
+            let fault = mixed(&rt, rt.alloc(), seen.number, mix);
+            assert_eq!(rt;
+                fault,
+                wrong(seen, &stamp, mix),
+                "{mix:?} at {}",
+                seen.number
+            );
+        }
+    }
+}
+
+// Of so many steps, with the record of one taken out.
+fn without(
+    rt: &impl Abort,
+    alloc: Global,
+    steps: u64,
+    actor: u32,
+    place: u64,
+) -> (bool, bool, Option<AuditFault>) {
+    let mut parts = parts_of(rt, alloc, steps);
+    taken_out(alloc, &mut parts, actor, place)
+}
+
+// Those of the moves, and some of all others.
+#[test]
+fn a_record_that_is_taken_out_among_moves_is_reported(rt: HostRuntime) {
+    for found in first_moves(&rt, rt.alloc(), 10_000) {
+        let seen = found.expect(&rt, "a move");
+        for steps in [1u64, 200] {
+            let steps = seen.number.saturating_add(steps);
+            let answered = without(&rt, rt.alloc(), steps, seen.actor, seen.place);
+            let missing = Some(AuditFault::RecordMissing(seen.actor, seen.place));
+            assert_eq!(rt; answered, (true, false, missing), "{}", seen.number);
+        }
+    }
+    let (_, seen) = ran(&rt, rt.alloc(), 64, 1, 1_000);
+    for actor in 0..8u32 {
+        for tenth in 0..10u64 {
+            let place = tenth * 5;
+            let answered = without(&rt, rt.alloc(), 1_000, actor, place);
+            let wanted = if place < events_of(&seen, actor) {
+                (true, false, Some(AuditFault::RecordMissing(actor, place)))
+            } else {
+                (false, false, None)
+            };
+            assert_eq!(rt; answered, wanted, "{place} of {actor}");
+        }
+    }
+}

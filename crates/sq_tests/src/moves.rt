@@ -1,0 +1,525 @@
+//! Messages that move: what no script shows of them, and what the audit says where a home and the ledger do not agree.
+ghost use Rattle.std.specs.Prelude.{◌<◌};
+ghost use Rattle.sq_base.specs.Stamps.{stamp_end};
+
+use crate::audits::fault;
+use crate::setup::{CLOCK_END, named, options, stamp};
+use sq_audit::check::AuditFault;
+use sq_audit::parts::Parts;
+use sq_base::ids::{HomeId, HomeNo, QueueNo};
+use sq_base::ranges::{MaxMessages, MaxReceives, Timeout};
+use sq_base::refusal::Refusal;
+use sq_calls::calls::{
+    Answer, Asked, AskedAttributes, BodyText, Call, CreateQueue, ReceiveMessage, SendMessage,
+};
+use sq_calls::turns::{Turn, Turned};
+use sq_merge::options::Options;
+use sq_merge::world::World;
+use sq_model::directory::{Attributes, DirectoryCall};
+use sq_model::item::ItemNo;
+use sq_model::policy::RedrivePolicy;
+use sq_steps::act::{Act, Move, Outcome, Step};
+use std::alloc::Global;
+use std::process::Abort;
+
+// What is asked.
+#[derive(Clone, Copy)]
+enum Request {
+    // Makes this queue, with another one for what is received once.
+    Create(&'static str, Option<&'static str>),
+    // Sends this body.
+    Send(&'static str, &'static str),
+    // One message, which stays visible.
+    Receive(&'static str),
+    Remove(&'static str),
+    // A message leaves this queue.
+    Leave(&'static str),
+    // A message in transit comes in.
+    Bring,
+}
+
+// An actor, its clock reading in ms, and what it asks.
+type Line = (u32, u64, Request);
+
+// What a line is answered.
+#[derive(Clone, Copy, PartialEq, Eq, Debug)]
+enum Told {
+    Done,
+    Turned(Turned),
+    Refused(Refusal),
+}
+
+// With another queue for what is received once.
+fn with_target(target: Option<&str>) -> Result<Attributes, Refusal> {
+    let mut attributes = Attributes::none();
+    if let Some(target) = target {
+        attributes.redrive = Some(Some(RedrivePolicy {
+            target: named(target)?,
+            max_receives: MaxReceives::of(1),
+        }));
+    }
+    Ok(attributes)
+}
+
+fn create(name: &str, target: Option<&str>) -> Result<Call, Refusal> {
+    let attributes = with_target(target)?;
+    let name = named(name)?;
+    Ok(Call::CreateQueue(CreateQueue { name, attributes }))
+}
+
+fn send(alloc: Global, name: &str, body: &str) -> Result<Call, Refusal> {
+    let body = BodyText::new(alloc, body)?;
+    let queue = named(name)?;
+    Ok(Call::SendMessage(SendMessage {
+        queue,
+        body,
+        delay: None,
+    }))
+}
+
+fn receive(name: &str) -> Result<Call, Refusal> {
+    let queue = named(name)?;
+    Ok(Call::ReceiveMessage(ReceiveMessage {
+        queue,
+        max: MaxMessages::of(1),
+        timeout: Some(Timeout::of(0)),
+        attributes: AskedAttributes {
+            receive_count: false,
+            sent_timestamp: false,
+        },
+    }))
+}
+
+fn asked(alloc: Global, request: Request) -> Result<Asked, Refusal> {
+    match request {
+        Request::Create(name, target) => create(name, target).map(Asked::Call),
+        Request::Send(name, body) => send(alloc, name, body).map(Asked::Call),
+        Request::Receive(name) => receive(name).map(Asked::Call),
+        Request::Remove(name) => named(name).map(|name| Asked::Call(Call::DeleteQueue(name))),
+        Request::Leave(name) => named(name).map(|name| Asked::Turn(Turn::DeadTurn(name))),
+        Request::Bring => Ok(Asked::Turn(Turn::EnterTurn)),
+    }
+}
+
+fn answered(answer: &Result<Answer, Refusal>) -> Told {
+    match answer {
+        Ok(_) => Told::Done,
+        Err(refusal) => Told::Refused(*refusal),
+    }
+}
+
+fn turned(word: &Result<Turned, Refusal>) -> Told {
+    match word {
+        Ok(word) => Told::Turned(*word),
+        Err(refusal) => Told::Refused(*refusal),
+    }
+}
+
+fn tell(alloc: Global, world: &mut World, line: &Line) -> Told {
+    let (actor, clock, request) = *line;
+    match asked(alloc, request) {
+        Ok(Asked::Call(call)) => answered(&world.call(alloc, actor, clock, &call)),
+        Ok(Asked::Turn(turn)) => turned(&world.turn(alloc, actor, clock, &turn)),
+        Err(refusal) => Told::Refused(refusal),
+    }
+}
+
+// Does these lines, and tells what the last one is answered.
+fn last_told(alloc: Global, world: &mut World, lines: &[Line]) -> Told {
+    let mut last = Told::Done;
+    for line in lines {
+        last = tell(alloc, world, line);
+    }
+    last
+}
+
+// Four queues of one home.
+fn few(rows: u32, transit: u32) -> Options {
+    let mut options = options(1, rows, 10);
+    options.queues = 4;
+    options.transit = transit;
+    options
+}
+
+// Lines, and so many of others that follow.
+type Story<'a> = (&'a [Line], &'a [Line], usize);
+
+// The parts that a story leaves, and what its last line is answered.
+fn lived(rt: &impl Abort, alloc: Global, story: Story<'_>) -> (Parts, Told) {
+    let (begin, then, count) = story;
+    let mut world = World::new(alloc, few(10, 10)).expect(rt, "memory");
+    let mut last = last_told(alloc, &mut world, begin);
+    for line in then.iter().take(count) {
+        last = tell(alloc, &mut world, line);
+    }
+    (world.parts(), last)
+}
+
+// A message of this body is dead at 1000 ms, and found by nobody at 31,000.
+fn dead(body: &'static str) -> [Line; 5] {
+    [
+        (0, 0, Request::Create("d", None)),
+        (0, 0, Request::Create("q", Some("d"))),
+        (0, 1000, Request::Send("q", body)),
+        (0, 1000, Request::Receive("q")),
+        (0, 31_000, Request::Receive("q")),
+    ]
+}
+
+// The same with three queues, of which this one is for dead letters.
+fn dead_for(target: &'static str) -> [Line; 5] {
+    [
+        (0, 0, Request::Create("d", None)),
+        (0, 0, Request::Create("e", None)),
+        (0, 0, Request::Create("q", Some(target))),
+        (0, 1000, Request::Send("q", "hello")),
+        (0, 1000, Request::Receive("q")),
+    ]
+}
+
+// A message leaves q.
+fn leaving(actor: u32, clock: u64) -> Line {
+    (actor, clock, Request::Leave("q"))
+}
+
+// A message in transit comes in.
+fn bringing(actor: u32) -> Line {
+    (actor, 31_000, Request::Bring)
+}
+
+fn removing(name: &'static str) -> Line {
+    (0, 31_000, Request::Remove(name))
+}
+
+// What the audit says of all that a story leaves, but for the ledger, which is another one's.
+fn with_ledger_of(
+    rt: &impl Abort,
+    alloc: Global,
+    kept: Story<'_>,
+    ledger: Story<'_>,
+) -> Option<AuditFault> {
+    let (mut parts, _) = lived(rt, alloc, kept);
+    let (other, _) = lived(rt, alloc, ledger);
+    parts.ledger = other.ledger;
+    fault(alloc, &parts)
+}
+
+fn leave_at(moment: u64, count: u64) -> AuditFault
+    requires { (moment < stamp_end) × (count < stamp_end) }
+{
+    AuditFault::LeaveUnmatched(stamp(moment, count))
+}
+
+fn enter_at(moment: u64, count: u64) -> AuditFault
+    requires { (moment < stamp_end) × (count < stamp_end) }
+{
+    AuditFault::EnterUnmatched(stamp(moment, count))
+}
+
+// What the last of so many lines is answered; and what the audit says where the ledger lacks it, where nothing is
+// wrong, and where all but the ledger lacks it.
+fn cut(
+    rt: &impl Abort,
+    alloc: Global,
+    lines: &[Line],
+    count: usize,
+) -> (Told, [Option<AuditFault>; 3]) {
+    let begin = dead("hello");
+    let short = count.saturating_sub(1);
+    let (parts, last) = lived(rt, alloc, (&begin, lines, count));
+    let faults = [
+        with_ledger_of(rt, alloc, (&begin, lines, count), (&begin, lines, short)),
+        fault(alloc, &parts),
+        with_ledger_of(rt, alloc, (&begin, lines, short), (&begin, lines, count)),
+    ];
+    (last, faults)
+}
+
+// The word of the last line, and the fault where the ledger lacks it, or all but the ledger does.
+fn cut_at(word: Turned, faults: [AuditFault; 2]) -> (Told, [Option<AuditFault>; 3]) {
+    let [lacking, alone] = faults;
+    (Told::Turned(word), [Some(lacking), None, Some(alone)])
+}
+
+// Both faults are this.
+fn both_leave(moment: u64, count: u64) -> [AuditFault; 2]
+    requires { (moment < stamp_end) × (count < stamp_end) }
+{
+    [leave_at(moment, count), leave_at(moment, count)]
+}
+
+fn both_enter(moment: u64, count: u64) -> [AuditFault; 2]
+    requires { (moment < stamp_end) × (count < stamp_end) }
+{
+    [enter_at(moment, count), enter_at(moment, count)]
+}
+
+#[test]
+fn what_stands_in_one_history_alone_is_a_fault(rt: HostRuntime) {
+    let alloc = rt.alloc();
+    let leave = leaving(1, 31_000);
+    let bring = bringing(1);
+    let entered = [leave, bring];
+    let back = [leave, removing("d"), bring, bring];
+    let dropped = [leave, removing("d"), removing("q"), bring, bring];
+    let left = cut_at(Turned::Left, both_leave(31_000, 2));
+    assert_eq!(rt; cut(&rt, alloc, &entered, 1), left);
+    let came_in = cut_at(Turned::Entered, both_enter(31_000, 4));
+    assert_eq!(rt; cut(&rt, alloc, &entered, 2), came_in);
+    let turned = cut_at(Turned::Turned, both_enter(31_000, 4));
+    assert_eq!(rt; cut(&rt, alloc, &back, 3), turned);
+    let came_back = cut_at(Turned::Back, both_enter(31_000, 6));
+    assert_eq!(rt; cut(&rt, alloc, &back, 4), came_back);
+    let given_up = cut_at(Turned::Dropped, both_enter(31_000, 6));
+    assert_eq!(rt; cut(&rt, alloc, &dropped, 5), given_up);
+}
+
+// The ledger's step has the same stamp, and is of another message, actor or target; or it has another stamp.
+#[test]
+fn what_differs_between_two_histories_is_a_fault(rt: HostRuntime) {
+    let alloc = rt.alloc();
+    let (hello, hallo) = (dead("hello"), dead("hallo"));
+    let (for_d, for_e) = (dead_for("d"), dead_for("e"));
+    let moved = [leaving(1, 31_000), bringing(1)];
+    let left_by_another = [leaving(2, 31_000)];
+    let in_by_another = [leaving(1, 31_000), bringing(2)];
+    let left_later = [leaving(1, 32_000)];
+    let stories: [(Story<'_>, Story<'_>, [AuditFault; 2]); 7] = [
+        (
+            (&hello, &moved, 1),
+            (&hallo, &moved, 1),
+            both_leave(31_000, 2),
+        ),
+        (
+            (&hallo, &moved, 1),
+            (&hello, &moved, 1),
+            both_leave(31_000, 2),
+        ),
+        (
+            (&hello, &moved, 2),
+            (&hallo, &moved, 2),
+            [leave_at(31_000, 2), enter_at(31_000, 4)],
+        ),
+        (
+            (&hello, &moved, 1),
+            (&hello, &left_by_another, 1),
+            both_leave(31_000, 2),
+        ),
+        (
+            (&hello, &moved, 2),
+            (&hello, &in_by_another, 2),
+            both_enter(31_000, 4),
+        ),
+        (
+            (&hello, &moved, 1),
+            (&hello, &left_later, 1),
+            [leave_at(31_000, 2), leave_at(32_000, 1)],
+        ),
+        (
+            (&for_d, &moved, 1),
+            (&for_e, &moved, 1),
+            both_leave(31_000, 1),
+        ),
+    ];
+    for (place, (kept, ledger, wants)) in stories.iter().enumerate() {
+        let found = with_ledger_of(&rt, alloc, *kept, *ledger);
+        let is_wanted = is_one_of(&found, wants);
+        assert!(rt; is_wanted, "{place}: {found:?}");
+    }
+}
+
+// Whether the audit found one of these faults.
+fn is_one_of(found: &Option<AuditFault>, wants: &[AuditFault; 2]) -> bool {
+    match found {
+        Some(fault) => wants.contains(fault),
+        None => false,
+    }
+}
+
+fn home_of(queue: u32) -> HomeId {
+    HomeId {
+        queue: QueueNo::following(queue),
+        home: HomeNo::first(),
+    }
+}
+
+fn item(number: u64) -> ItemNo {
+    ItemNo::new(number).unwrap_or(ItemNo::first())
+}
+
+// What a step at the first home of a queue tells, by its place in order of creation.
+fn moved(alloc: Global, world: &mut World, clock: u64, queue: u32, what: Move) -> Told {
+    let step = Step {
+        actor: 5,
+        clock,
+        act: Act::Shared(home_of(queue), what),
+    };
+    match world.step(alloc, &step) {
+        Ok(Outcome::Nothing) => Told::Turned(Turned::Nothing),
+        Ok(_) => Told::Done,
+        Err(refusal) => Told::Refused(refusal),
+    }
+}
+
+// Makes a queue whose homes are not opened.
+fn unopened(alloc: Global, world: &mut World, name: &str) -> Told {
+    let Ok(name) = named(name) else {
+        return Told::Refused(Refusal::InvalidParameterValue);
+    };
+    let step = Step {
+        actor: 0,
+        clock: 0,
+        act: Act::Directory(DirectoryCall::Create(name, Attributes::none())),
+    };
+    match world.step(alloc, &step) {
+        Ok(_) => Told::Done,
+        Err(refusal) => Told::Refused(refusal),
+    }
+}
+
+// The first of these moves that is not answered as it says, with its answer.
+fn first_other(
+    alloc: Global,
+    world: &mut World,
+    lines: &[(u64, u32, Move, Told)],
+) -> Option<(usize, Told)> {
+    for (place, (clock, queue, what, want)) in lines.iter().enumerate() {
+        let told = moved(alloc, world, *clock, *queue, *what);
+        if told != *want {
+            return Some((place, told));
+        }
+    }
+    None
+}
+
+// The queues d, q, c and u, of one row a home: q has a message, another one of it is in transit to d, c is deleted, and u was never
+// opened. There is room for one item in transit, and no fifth queue.
+fn crossing(rt: &impl Abort, alloc: Global) -> World {
+    let mut world = World::new(alloc, few(1, 1)).expect(rt, "memory");
+    let lines = [
+        (0, 0, Request::Create("d", None)),
+        (0, 0, Request::Create("q", Some("d"))),
+        (0, 0, Request::Create("c", None)),
+        (0, 1000, Request::Remove("c")),
+        (0, 1000, Request::Send("q", "hello")),
+        (0, 1000, Request::Receive("q")),
+        (1, 1000, Request::Leave("q")),
+        (0, 1000, Request::Send("q", "hello")),
+    ];
+    let _ = last_told(alloc, &mut world, &lines);
+    let _ = unopened(alloc, &mut world, "u");
+    world
+}
+
+#[test]
+fn moves_are_refused_in_order(rt: HostRuntime) {
+    let alloc = rt.alloc();
+    let no_queue = Told::Refused(Refusal::QueueDoesNotExist);
+    let not_so = Told::Refused(Refusal::UnsupportedOperation);
+    let full = Told::Refused(Refusal::OverLimit);
+    let late = Told::Refused(Refusal::ClockRange);
+    let nothing = Told::Turned(Turned::Nothing);
+    let one = item(1);
+    let mut world = crossing(&rt, alloc);
+    let wrong = first_other(
+        alloc,
+        &mut world,
+        &[
+            (1000, 0, Move::LeaveDead, nothing),
+            (1000, 1, Move::LeaveDead, nothing),
+            (1000, 2, Move::LeaveDead, no_queue),
+            (1000, 3, Move::LeaveDead, no_queue),
+            (1000, 4, Move::LeaveDead, no_queue),
+            (CLOCK_END, 0, Move::LeaveDead, late),
+            (CLOCK_END, 4, Move::LeaveDead, late),
+            (1000, 0, Move::Enter(item(2)), not_so),
+            (1000, 1, Move::Enter(one), full),
+            (1000, 2, Move::Enter(one), no_queue),
+            (1000, 3, Move::Enter(one), no_queue),
+            (1000, 0, Move::GiveBack(one), not_so),
+            (1000, 1, Move::GiveBack(one), full),
+            (1000, 3, Move::GiveBack(one), no_queue),
+            (1000, 0, Move::TurnBack(one), not_so),
+            (1000, 2, Move::TurnBack(one), not_so),
+            (1000, 3, Move::TurnBack(one), no_queue),
+            (1000, 1, Move::GiveUp(one), not_so),
+            (1000, 2, Move::GiveUp(one), not_so),
+            (1000, 3, Move::GiveUp(one), no_queue),
+        ],
+    );
+    assert_eq!(rt; wrong, None);
+    // The message that waits is dead too, and finds no room in transit.
+    assert_eq!(rt;
+        last_told(alloc, &mut world, &[(0, 1000, Request::Receive("q"))]),
+        Told::Done
+    );
+    let wrong = first_other(alloc, &mut world, &[(1000, 1, Move::LeaveDead, full)]);
+    assert_eq!(rt; wrong, None);
+    let _ = last_told(alloc, &mut world, &[(0, 1000, Request::Remove("d"))]);
+    let wrong = first_other(
+        alloc,
+        &mut world,
+        &[
+            (1000, 0, Move::Enter(one), no_queue),
+            (1000, 0, Move::GiveUp(one), not_so),
+            (1000, 0, Move::TurnBack(item(2)), not_so),
+            (1000, 0, Move::TurnBack(one), Told::Done),
+            (1000, 0, Move::TurnBack(one), not_so),
+            (1000, 1, Move::GiveBack(one), full),
+            (1000, 1, Move::GiveUp(one), not_so),
+        ],
+    );
+    assert_eq!(rt; wrong, None);
+    let _ = last_told(alloc, &mut world, &[(0, 1000, Request::Remove("q"))]);
+    let wrong = first_other(
+        alloc,
+        &mut world,
+        &[
+            (1000, 1, Move::GiveBack(one), no_queue),
+            (1000, 1, Move::TurnBack(one), not_so),
+            (1000, 1, Move::GiveUp(one), Told::Done),
+            (1000, 1, Move::GiveUp(one), not_so),
+        ],
+    );
+    assert_eq!(rt; wrong, None);
+    assert_eq!(rt; fault(alloc, &world.parts()), None);
+}
+
+// The words of turns at a dead-letter queue whose home is opened late.
+fn late_words(rt: &impl Abort, alloc: Global) -> [Told; 5] {
+    let mut world = World::new(alloc, few(10, 10)).expect(rt, "memory");
+    let _ = unopened(alloc, &mut world, "d");
+    let lines = [
+        (0, 0, Request::Create("q", Some("d"))),
+        (0, 1000, Request::Send("q", "hello")),
+        (0, 1000, Request::Receive("q")),
+    ];
+    let _ = last_told(alloc, &mut world, &lines);
+    let mut words = [Told::Done; 5];
+    let turns = [
+        (1, 1000, Request::Leave("q")),
+        (1, 1000, Request::Bring),
+        (1, 1000, Request::Leave("d")),
+        (0, 1000, Request::Create("d", None)),
+        (1, 1000, Request::Bring),
+    ];
+    for (word, line) in words.iter_mut().zip(&turns) {
+        *word = tell(alloc, &mut world, line);
+    }
+    words
+}
+
+// No message leaves it, and none comes in, until it is.
+#[test]
+fn a_home_that_was_never_opened_is_as_full(rt: HostRuntime) {
+    assert_eq!(rt;
+        late_words(&rt, rt.alloc()),
+        [
+            Told::Turned(Turned::Left),
+            Told::Turned(Turned::Full),
+            Told::Refused(Refusal::QueueDoesNotExist),
+            Told::Done,
+            Told::Turned(Turned::Entered),
+        ]
+    );
+}
