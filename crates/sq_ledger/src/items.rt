@@ -1,5 +1,5 @@
 //! The items in transit, in rising number.
-ghost use Rattle.std.specs.Prelude.{◌≡◌, ◌+◌, ◌-◌, ◌≤◌, ◌++◌, ◌∷◌, [], OnOk, IfErr, find, length, map, nat_le, nat_lt, option_map, slice_get};
+ghost use Rattle.std.specs.Prelude.{◌≡◌, ◌+◌, ◌-◌, ◌<◌, ◌≤◌, ◌++◌, ◌∷◌, [], OnOk, IfErr, find, length, map, nat_le, nat_lt, option_map, slice_get};
 ghost use Rattle.std.specs.List.{position_or_len};
 ghost use Rattle.std.specs.Option.{option_or};
 ghost use Rattle.std.specs.VecDeque.{deque_capacity, deque_len};
@@ -80,13 +80,13 @@ impl Items {
     }
 
     /// Gets memory for one item more, and for four at once where they show room for none. Refused as NoMemory where they
-    /// show room for none.
+    /// show room for none and have memory for fewer than four.
     pub fn reserve(&mut self) -> Result<(), Refusal>
         ensures items { self.new.items ≡ self.old.items }
         ensures room { self.new.room ≡ self.old.room }
         ensures kept { self.old.reserved ≤ self.new.reserved }
         ensures ready { OnOk result (IsReady self.new.room self.new.reserved) }
-        ensures refused { IfErr result (λ e. (e ≡ Refusal.NoMemory) × (self.old.room ≡ 0)) }
+        ensures refused { IfErr result (λ e. (e ≡ Refusal.NoMemory) × (self.old.room ≡ 0) × (self.old.reserved < 4)) }
     {
         if self.room == 0 {
             self.items.try_reserve(4)?;

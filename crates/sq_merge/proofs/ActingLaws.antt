@@ -173,7 +173,7 @@ given_refused (Err x) seen now e first h = first e h
 pub moving_may : (w : WorldValue) (actor now : ℕ) (name : Option (List ℕ)) (id : HomeId) (what : Move) (e : Refusal) → SharedRefused w actor now id (asked_as what) e → MayRefuse (Moving name id what) e
 moving_may w actor now name id what e h = elim h [
   | inl no_such_home ↦ elim (nat_le stamp_end now) as (λ v. e ≡ (if v then ClockRange else QueueDoesNotExist) → MayRefuse (Moving name id what) e) [ true ↦ (λ k. inl (inr (inl k))) | false ↦ (λ k. inr (inl k)) ] no_such_home.1
-  | inr in_list ↦ elim in_list.5 [
+  | inr in_list ↦ elim in_list.3 [
     | inl unready ↦ inl (not_ready (journal_of actor w.journals) now e unready)
     | inr step ↦ elim step.1 [
       | inl memory ↦ inl (inl memory.0)

@@ -2,6 +2,9 @@
 use Rattle.std.proofs.Common.{◌≡◌, ℕ, zero, suc, ◌+◌, ◌<◌, ◌≤◌, Bool, true, false, cond, List, [], ◌∷◌, ◌++◌, length, map, refl, arith, ap, sym, ◌∙◌, subst, inl, inr, Option, Some, None, slice_get, slice_set, get_or, append_assoc, get_or-set_same, get_or-set_other}
 use Rattle.std.specs.Prelude.{◌⊎◌, nat_lt, if◌then◌else◌}
 use Rattle.std.specs.List.{fold}
+use Rattle.std.specs.Ordering.{nat_cmp, match_ordering}
+use Rattle.std.specs.declared.cmp.Ordering.{Ordering}
+use Rattle.std.specs.declared.cmp.Ordering.TheVariants.{Greater}
 use Rattle.std.proofs.lemmas.Grind.{common_steps}
 use Rattle.std.proofs.lemmas.Bool.Decides.{eqb_tells}
 use Rattle.std.proofs.lemmas.List.{append-nil, map-append}
@@ -14,7 +17,8 @@ use Rattle.sq_model.specs.declared.place.Place.{Place}
 use Rattle.sq_model.specs.declared.place.Place.TheVariants as at
 use Rattle.sq_model.specs.declared.place.Site.{Site}
 use Rattle.sq_model.specs.declared.replies.HomeReply.{HomeReply}
-use Rattle.sq_model.specs.Homes.{Home, Unopened, IsRising}
+use Rattle.sq_model.specs.Rows.{RisesFrom}
+use Rattle.sq_model.specs.Homes.{Home, Unopened, Serving, Closed, IsRising}
 use Rattle.sq_model.specs.Lineages.{Cause, Expired, Ending, given_up, home_ends, home_ins, home_outs, home_sends, items_with, rows_of, rows_with, same_id, ends_with, sends_with}
 use Rattle.sq_model.specs.Places.{homes_with, place_after, place_within, first_end, place_in, run_ends, run_sends}
 use Rattle.sq_model.specs.Ledgers.{Ledger, IsLedger}
@@ -26,10 +30,10 @@ use Rattle.sq_audit.specs.declared.tagged.Tagged.{Tagged}
 use Rattle.sq_audit.specs.Tags.{tag_of, tags_of}
 use Rattle.sq_places.specs.declared.state.RowState.{RowState}
 use Rattle.sq_places.specs.declared.state.Policy.{Policy}
-use Rattle.sq_places.specs.RowStates.{states_of, Effect, Stays, Arrives, Looks, Leaves, Departs, Enters, Drops, effect_of, kept_states, past_states, states_after, ended_states, left_states, state_ends}
+use Rattle.sq_places.specs.RowStates.{state_of, states_of, sent_state, Effect, Stays, Arrives, Looks, Leaves, Departs, Enters, Drops, effect_of, kept_states, past_states, states_after, ended_states, left_states, state_ends}
 use Rattle.sq_places.specs.HomeValues.{HomeValue, AuditValue}
-use Rattle.sq_places.specs.Audits.{no_states, placed, placed_left, placed_rows, placed_moves, home_after, placed_ends, grown, no_audit, audit_step}
-use Rattle.sq_places.specs.AllPlaces.{after_send, after_move, listed_place}
+use Rattle.sq_places.specs.Audits.{no_states, put, rows_after, IsSameAudit, placed, placed_left, placed_rows, placed_moves, home_after, placed_ends, grown, no_audit, audit_step}
+use Rattle.sq_places.specs.AllPlaces.{after_send, after_move, sent_place, listed_place}
 use Rattle.sq_places.proofs.StateLaws.{GoesBy, mirrors}
 use Rattle.sq_places.proofs.MessageStateLaws.{sends_first}
 use Rattle.sq_places.proofs.FollowLaws.{home_one_way, home_transit, ledger_stays, opened, own_step, step_counts}
@@ -59,6 +63,51 @@ ends_placed policy m effect rows =
 -- what the pass keeps of a home is true of it
 abbrev MirroredAt : Home → HomeValue → Type 0
 MirroredAt home v = IsRising home × GoesBy home v.policy × (v.rows ≡ states_of home)
+
+-- ---- rows come in last
+
+-- serials rise from here on
+abbrev Rising : ℕ → List RowState → Type 0
+Rising low [] = Unit {0}
+Rising low (row ∷ rows) = (low ≤ row.serial) × Rising (row.serial + 1) rows
+
+rising_states : (low : ℕ) (rows : List Row) (next : ℕ) → RisesFrom low rows next → Rising low (map state_of rows)
+rising_states low [] next h = tt
+rising_states low (row ∷ rows) next h = (h.0, rising_states (row.serial + 1) rows next h.1)
+
+rising_home : (home : Home) → IsRising home → Rising 0 (states_of home)
+rising_home Unopened h = tt
+rising_home (Serving s v n rows) h = rising_states 0 rows n h
+rising_home Closed h = tt
+
+below_last : (low : ℕ) (rows : List RowState) (row : RowState) → Rising low (rows ++ row ∷ []) → low ≤ row.serial
+below_last low [] row h = h.0
+below_last low (r ∷ rows) row h = omega (arith, h.0, below_last (r.serial + 1) rows row h.1)
+
+greater : (a b : ℕ) → b < a → nat_cmp a b ≡ Greater
+greater a b lt = grind (arith, common_steps, lt)
+
+put_last : (low : ℕ) (rows : List RowState) (row : RowState) → Rising low (rows ++ row ∷ []) → put row rows ≡ rows ++ row ∷ []
+put_last low [] row h = refl
+put_last low (r ∷ rows) row h =
+    let above : r.serial < row.serial = omega (arith, below_last (r.serial + 1) rows row h.1) in
+    ap (λ (o : Ordering). match_ordering o (row ∷ r ∷ rows) (row ∷ rows) (r ∷ put row rows)) (greater row.serial r.serial above)
+    ∙ ap (λ (rs : List RowState). r ∷ rs) (put_last (r.serial + 1) rows row h.1)
+
+-- in a run the row that comes in is the last
+comes_last : (home : Home) (rows : List RowState) (row : RowState) → IsRising home → states_of home ≡ rows ++ row ∷ [] → put row rows ≡ states_of home
+comes_last home rows row rising same = put_last 0 rows row (subst (Rising 0) same (rising_home home rising)) ∙ sym same
+
+after_same : (home : Home) (m : ℕ) (effect : Effect) (rows : List RowState) → IsRising home → states_of home ≡ states_after m effect rows → rows_after m effect rows ≡ states_of home
+after_same home m Stays rows rising same = sym same
+after_same home m (Arrives sent) rows rising same = comes_last home rows (sent_state sent m) rising same
+after_same home m (Looks picked) rows rising same = sym same
+after_same home m (Leaves p cause) rows rising same = sym same
+after_same home m (Departs row) rows rising same = sym same
+after_same home m (Enters row) rows rising same = comes_last home rows row rising same
+after_same home m (Drops line) rows rising same = sym same
+
+-- ---- the homes
 
 abbrev AllMirrored : List HomeAt → List HomeValue → Type 0
 AllMirrored homes values = (i : ℕ) (h : HomeAt) → slice_get homes i ≡ Some h → MirroredAt h.home (get_or values i no_states)
@@ -106,7 +155,8 @@ audit_law before (OfHome i e ∷ ts) after r a all =
     let mirror = mirrors h.old.site h.old.home v.policy m e.call e.reply h.new h.step fit.0 fit.1 in
     let effect = effect_of m e.call e.reply in
     let leaving = home_ends h.old.home m e.call ++ given_up e.call in
-    let rows : states_after m effect (kept_states v.policy m v.rows) ≡ states_of h.new = ap (λ (rs : List RowState). states_after m effect (kept_states v.policy m rs)) fit.2 ∙ sym mirror.states in
+    let kept = kept_states v.policy m (states_of h.old.home) in
+    let rows : rows_after m effect (kept_states v.policy m v.rows) ≡ states_of h.new = ap (λ (rs : List RowState). rows_after m effect (kept_states v.policy m rs)) fit.2 ∙ after_same h.new m effect kept mirror.rising mirror.states in
     let gone : placed_ends e v ≡ map placed_of leaving =
     ap (λ (rs : List RowState). placed at.Expired (past_states v.policy m rs) ++ placed_left effect (kept_states v.policy m rs)) fit.2
     ∙ sym (ends_placed v.policy m effect (states_of h.old.home)) ∙ ap (map placed_of) (sym mirror.ends) in
@@ -299,13 +349,18 @@ nobody_yet x (site ∷ sites) =
 
 -- the pass tells where each message is
 pub audit_places : (x : MessageId) (places limit : ℕ) (sites : List Site) (ts : List Tagged) (run : List Tag) → tags_of ts ≡ run → (after : System) (r : RunFrom (opening places limit sites) run after) (a : AuditValue) → IsOnePlace sites
-    → a ≡ fold (λ (b : AuditValue) (t : Tagged). audit_step b (tag_of t)) no_audit ts → listed_place x a.sends a.moves a.ends ≡ place_in x (run_sends run) (run_ends (opening places limit sites) run after r) after.ledger.items
+    → IsSameAudit a (fold (λ (b : AuditValue) (t : Tagged). audit_step b (tag_of t)) no_audit ts) → listed_place x a.sends a.moves a.ends ≡ place_in x (run_sends run) (run_ends (opening places limit sites) run after r) after.ledger.items
 audit_places x places limit sites ts run same after r a one is =
     let before = opening places limit sites in
     let once = one_place x places limit sites run after r one in
     let found = audit_law before run after r no_audit (λ i h e. rw (opened sites i h e) (tt, refl, refl)) in
     let ends = run_ends before run after r in
     let nobody : homes_with x before.homes ≡ 0 = nobody_yet x sites in
-    rw (is, sym (fold_tags no_audit ts), same, found.all_sends, found.all_moves, found.all_ends) (listed_law x (run_sends run) (run_moves run) ends after.ledger.items (omega (arith, once.0)) once.1
+    let all : AuditValue = fold audit_step no_audit run in
+    let pass : IsSameAudit a all = subst (IsSameAudit a) (sym (fold_tags no_audit ts) ∙ ap (fold audit_step no_audit) same) is in
+    ap (λ (ids : List MessageId). listed_place x ids a.moves a.ends) pass.sends
+    ∙ ap (λ (moves : List (MessageId × Place)). listed_place x all.sends moves a.ends) pass.moves
+    ∙ pass.ends x (fold (after_move x) (sent_place x all.sends) all.moves)
+    ∙ rw (found.all_sends, found.all_moves, found.all_ends) (listed_law x (run_sends run) (run_moves run) ends after.ledger.items (omega (arith, once.0)) once.1
     (λ none. nowhere_law x before run after r None (opens limit) (omega (arith, none, nobody)))
     (λ none. moves_law x before run after r (opens limit) (omega (arith, once.1, nobody)) none))

@@ -1,3 +1,4 @@
+pub mod IndexLaws
 pub mod StateLaws
 pub mod MessageStateLaws
 pub mod FollowLaws

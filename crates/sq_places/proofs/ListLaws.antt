@@ -1,13 +1,9 @@
--- Lists that are changed element by element, and lists of homes that grow.
-use Rattle.std.proofs.Common.{◌≡◌, ◌∙◌, sym, ℕ, zero, suc, ◌+◌, ◌-◌, ◌<◌, ◌≤◌, inl, inr, List, [], ◌∷◌, ◌++◌, length, take, drop, get_or, set, map, refl, ap, arith}
+-- Lists of homes that grow.
+use Rattle.std.proofs.Common.{◌≡◌, ◌∙◌, sym, ℕ, zero, suc, ◌+◌, ◌-◌, ◌<◌, ◌≤◌, inl, inr, List, [], ◌∷◌, ◌++◌, length, get_or, refl, ap, arith}
 use Rattle.std.proofs.lemmas.Bool.{cases_lt}
 use Rattle.std.proofs.lemmas.List.{get_or_default}
-use Rattle.std.proofs.lemmas.List.Edits.{map_over_more}
 use Rattle.sq_places.specs.HomeValues.{HomeValue}
 use Rattle.sq_places.specs.Audits.{no_states, grown}
-
-pub map_at : {X : Type 0} (f : X → X) (xs ys : List X) (i : ℕ) (d : X) → i < length xs → i < length ys → ys ≡ map f (take i xs) ++ drop i xs → set ys i (f (get_or ys i d)) ≡ map f (take (i + 1) xs) ++ drop (i + 1) xs
-map_at f xs ys i d h l same = map_over_more f xs ys i (get_or ys i d) h same (get_or_default ys i d (get_or ys i d) l)
 
 -- a list that is long enough stays
 pub grown_same : (n : ℕ) (homes : List HomeValue) → n ≤ length homes → grown n homes ≡ homes

@@ -100,7 +100,7 @@ last_both true b c h = elim b as (λ v. (v && c) ≡ true → c ≡ true) [ true
 last_both false b c h = absurd cc
 
 look_case : (live has few : Bool) (m until : ℕ) (row : Row) → (has ≡ true → live ≡ true) → (live ≡ true → few ≡ true)
-    → state_of (if live && has then received m until row else row) ≡ (if few && has then record (state_of row) { receives = row.receives + 1 } else state_of row)
+    → state_of (if live && has then received m until row else row) ≡ (if has then if few then record (state_of row) { receives = row.receives + 1 } else state_of row else state_of row)
 look_case true true true m until row h k = refl
 look_case true true false m until row h k = let e : false ≡ true = k refl in absurd cc
 look_case false true few m until row h k = let e : false ≡ true = h refl in absurd cc
@@ -148,7 +148,7 @@ pub filter_all : {X : Type 0} (xs : List X) → filter (λ x. true) xs ≡ xs
 filter_all [] = refl
 filter_all (x ∷ xs) = ap (λ ys. x ∷ ys) (filter_all xs)
 
-filter_none : {X : Type 0} (xs : List X) → filter (λ x. false) xs ≡ []
+pub filter_none : {X : Type 0} (xs : List X) → filter (λ x. false) xs ≡ []
 filter_none [] = refl
 filter_none (x ∷ xs) = filter_none xs
 

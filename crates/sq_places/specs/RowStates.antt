@@ -24,8 +24,12 @@ state_of row = record { lineage = row.lineage; serial = row.serial; slot = row.s
 abbrev pub states_of : Home → List RowState
 states_of home = map state_of (rows_of home)
 
+-- what was enqueued then is past the retention
+abbrev pub is_due : ℕ → ℕ → ℕ → Bool
+is_due retention m enqueued = nat_le (enqueued + rows.ms retention) m
+
 abbrev pub is_past : ℕ → ℕ → RowState → Bool
-is_past retention m row = nat_le (row.enqueued + rows.ms retention) m
+is_past retention m row = is_due retention m row.enqueued
 
 abbrev pub is_named : Receipt → RowState → Bool
 is_named receipt row = (row.slot == receipt.slot) && (row.serial == receipt.serial) && (row.receives == receipt.receive)
@@ -53,9 +57,17 @@ is_of row state = (state.slot == row.slot) && (state.serial == row.serial)
 abbrev pub has_serial : ℕ → List Row → Bool
 has_serial serial picked = rows.has_serial serial picked
 
+-- received once more; the last receive number stays
+abbrev pub received : RowState → RowState
+received row = if nat_lt row.receives 4294967295 then record row { receives = row.receives + 1 } else row
+
+-- after a receive that gave the row of a serial
+abbrev pub raised : ℕ → RowState → RowState
+raised serial row = if row.serial == serial then received row else row
+
 -- after a receive that gave these rows
 abbrev pub looked : List Row → RowState → RowState
-looked picked row = if nat_lt row.receives 4294967295 && has_serial row.serial picked then record row { receives = row.receives + 1 } else row
+looked picked row = if has_serial row.serial picked then received row else row
 
 abbrev pub is_newer : Option Policy → ℕ → Bool
 is_newer None version = true

@@ -1,16 +1,13 @@
 //! What decides how the rows of a home leave it, for all rows of the home.
-ghost use Rattle.std.specs.Prelude.{◌≡◌, ◌+◌, ◌∷◌, [], ◌++◌, ℕ, not, map, filter, OnOk, IfErr};
-ghost use Rattle.sq_places.specs.RowStates.{kept_states, past_states, states_after, effect_of, sent_by, looked_by, left_by, entered_by, returned_by, looked, is_of};
+ghost use Rattle.std.specs.Prelude.{◌≡◌, ◌∷◌, [], ◌++◌, ℕ, not, filter, OnOk, IfErr};
+ghost use Rattle.sq_places.specs.RowStates.{kept_states, past_states, effect_of, sent_by, looked_by, left_by, entered_by, returned_by, is_named};
 ghost use Rattle.sq_model.specs.declared.place.Place.TheVariants as at;
 ghost use Rattle.sq_places.specs.Audits as audits;
 
-use crate::state::{
-    Policy, RowState, entered, is_named, is_of, is_past, looked, next_policy, returned, sent,
-};
+use crate::home_rows::HomeRows;
+use crate::state::{Policy, entered, next_policy, returned, sent};
 use sq_base::message_id::MessageId;
-use sq_base::ranges::Retention;
 use sq_base::refusal::Refusal;
-use sq_base::row::Row;
 use sq_model::calls::{HomeCall, Receipt};
 use sq_model::event::Event;
 use sq_model::item::Item;
@@ -23,7 +20,7 @@ use std::marker::Model;
 #[derive(Drop)]
 pub struct HomeStates {
     policy: Option<Policy>,
-    rows: Vec<RowState>,
+    rows: HomeRows,
 }
 
 impl Model for HomeStates {
@@ -31,16 +28,7 @@ impl Model for HomeStates {
 
     ghost Value = { HomeValue };
 
-    ghost view = { λ h. record { policy = h.policy; rows = h.rows.items } };
-}
-
-/// Which rows leave.
-#[derive(Clone, Copy, PartialEq, Eq, Debug)]
-pub enum Leaving {
-    /// Those past this retention at a moment.
-    Past(Retention, u64),
-    Named(Receipt),
-    All,
+    ghost view = { λ h. record { policy = h.policy; rows = h.rows } };
 }
 
 impl HomeStates {
@@ -49,7 +37,7 @@ impl HomeStates {
     {
         HomeStates {
             policy: None,
-            rows: Vec::new(alloc),
+            rows: HomeRows::new(alloc),
         }
     }
 
@@ -60,7 +48,7 @@ impl HomeStates {
         ends: &mut Vec<(MessageId, Place)>,
     ) -> Result<(), Refusal>
         ensures home { OnOk result (self.new ≡ audits.home_after event.now self.old) }
-        ensures ends { OnOk result (ends.new.items ≡ ends.old.items ++ audits.placed_ends event.now self.old) }
+        ensures ends { OnOk result (audits.AreSameEnds ends.new.items (ends.old.items ++ audits.placed_ends event.now self.old)) }
         ensures err { IfErr result (λ e. e ≡ Refusal.NoMemory) }
     {
         let moment = event.stamp.moment;
@@ -71,79 +59,32 @@ impl HomeStates {
     }
 }
 
-fn passes(who: &Leaving, row: &RowState) -> bool
-    ensures { result ≡ audits.passes who.now row.now }
-{
-    match who {
-        Leaving::Past(retention, moment) => is_past(*retention, *moment, row),
-        Leaving::Named(receipt) => is_named(receipt, row),
-        Leaving::All => true,
-    }
-}
-
-// Puts last those that leave.
-fn add_ends(
-    rows: &[RowState],
-    who: &Leaving,
-    place: Place,
-    ends: &mut Vec<(MessageId, Place)>,
-) -> Result<(), Refusal>
-    ensures ends { OnOk result (ends.new.items ≡ ends.old.items ++ audits.placed place (filter (audits.passes who.now) rows.now)) }
-    ensures err { IfErr result (λ e. e ≡ Refusal.NoMemory) }
-{
-    for row in rows {
-        if passes(who, row) {
-            ends.push((row.lineage, place))?;
-        }
-    }
-    Ok(())
-}
-
-// Some rows leave for a place.
-fn leave(
-    rows: &mut Vec<RowState>,
-    who: &Leaving,
-    place: Place,
-    ends: &mut Vec<(MessageId, Place)>,
-) -> Result<(), Refusal>
-    ensures rows { OnOk result (rows.new.items ≡ filter (λ row. not (audits.passes who.now row)) rows.old.items) }
-    ensures ends { OnOk result (ends.new.items ≡ ends.old.items ++ audits.placed place (filter (audits.passes who.now) rows.old.items)) }
-    ensures err { IfErr result (λ e. e ≡ Refusal.NoMemory) }
-{
-    add_ends(rows, who, place, ends)?;
-    rows.retain(|row| !passes(who, row));
-    Ok(())
-}
-
 fn trim(
-    rows: &mut Vec<RowState>,
+    rows: &mut HomeRows,
     policy: &Option<Policy>,
     moment: u64,
     ends: &mut Vec<(MessageId, Place)>,
 ) -> Result<(), Refusal>
-    ensures rows { OnOk result (rows.new.items ≡ kept_states policy.now moment rows.old.items) }
-    ensures ends { OnOk result (ends.new.items ≡ ends.old.items ++ audits.placed at.Expired (past_states policy.now moment rows.old.items)) }
+    ensures rows { OnOk result (rows.new ≡ kept_states policy.now moment rows.old) }
+    ensures ends { OnOk result (audits.AreSameEnds ends.new.items (ends.old.items ++ audits.placed at.Expired (past_states policy.now moment rows.old))) }
     ensures err { IfErr result (λ e. e ≡ Refusal.NoMemory) }
 {
     match policy {
-        Some(policy) => {
-            let past = Leaving::Past(policy.retention, moment);
-            leave(rows, &past, Place::Expired, ends)
-        }
+        Some(policy) => rows.trim(policy.retention, moment, ends),
         None => Ok(()),
     }
 }
 
 // What a call and its reply make of the rows, after the trim.
 fn change(
-    rows: &mut Vec<RowState>,
+    rows: &mut HomeRows,
     moment: u64,
     call: &HomeCall,
     reply: &HomeReply,
     ends: &mut Vec<(MessageId, Place)>,
 ) -> Result<(), Refusal>
-    ensures rows { OnOk result (rows.new.items ≡ states_after moment (effect_of moment call.now reply.now) rows.old.items) }
-    ensures ends { OnOk result (ends.new.items ≡ ends.old.items ++ audits.placed_left (effect_of moment call.now reply.now) rows.old.items) }
+    ensures rows { OnOk result (rows.new ≡ audits.rows_after moment (effect_of moment call.now reply.now) rows.old) }
+    ensures ends { OnOk result (ends.new.items ≡ ends.old.items ++ audits.placed_left (effect_of moment call.now reply.now) rows.old) }
     ensures err { IfErr result (λ e. e ≡ Refusal.NoMemory) }
 {
     match call {
@@ -156,9 +97,9 @@ fn change(
             receive(rows, reply);
             Ok(())
         }
-        HomeCall::Delete(receipt) => leave(rows, &Leaving::Named(*receipt), Place::Deleted, ends),
-        HomeCall::Purge => leave(rows, &Leaving::All, Place::Purged, ends),
-        HomeCall::Close => leave(rows, &Leaving::All, Place::ClosedAway, ends),
+        HomeCall::Delete(receipt) => delete(rows, receipt, ends),
+        HomeCall::Purge => rows.clear(Place::Purged, ends),
+        HomeCall::Close => rows.clear(Place::ClosedAway, ends),
         HomeCall::LeaveDead | HomeCall::LeaveTask(_) => {
             depart(rows, reply);
             Ok(())
@@ -169,52 +110,57 @@ fn change(
     }
 }
 
-fn arrive(rows: &mut Vec<RowState>, moment: u64, reply: &HomeReply) -> Result<(), Refusal>
-    ensures rows { OnOk result (rows.new.items ≡ states_after moment (sent_by reply.now) rows.old.items) }
+fn arrive(rows: &mut HomeRows, moment: u64, reply: &HomeReply) -> Result<(), Refusal>
+    ensures rows { OnOk result (rows.new ≡ audits.rows_after moment (sent_by reply.now) rows.old) }
     ensures err { IfErr result (λ e. e ≡ Refusal.NoMemory) }
 {
     if let HomeReply::Sent(message) = reply {
-        rows.push(sent(message, moment))?;
+        rows.put(sent(message, moment))?;
     }
     Ok(())
 }
 
 // The row of an item goes into transit.
-fn depart(rows: &mut Vec<RowState>, reply: &HomeReply)
-    ensures { (moment : ℕ) → rows.new.items ≡ states_after moment (left_by reply.now) rows.old.items }
+fn depart(rows: &mut HomeRows, reply: &HomeReply)
+    ensures { (moment : ℕ) → rows.new ≡ audits.rows_after moment (left_by reply.now) rows.old }
 {
     if let HomeReply::Left(item) = reply {
-        take_out(rows, &item.get().row);
+        rows.take_out(&item.get().row);
     }
 }
 
-fn take_out(rows: &mut Vec<RowState>, row: &Row)
-    ensures { rows.new.items ≡ filter (λ state. not (is_of row.now state)) rows.old.items }
-{
-    rows.retain(|state| !is_of(row, state));
-}
-
-fn enter(
-    rows: &mut Vec<RowState>,
-    moment: u64,
-    item: &Item,
-    reply: &HomeReply,
+// The row that a receipt names leaves, where it is there, and is put last.
+fn delete(
+    rows: &mut HomeRows,
+    receipt: &Receipt,
+    ends: &mut Vec<(MessageId, Place)>,
 ) -> Result<(), Refusal>
-    ensures rows { OnOk result (rows.new.items ≡ states_after moment (entered_by moment item.now reply.now) rows.old.items) }
+    ensures rows { OnOk result (rows.new ≡ filter (λ row. not (is_named receipt.now row)) rows.old) }
+    ensures ends { OnOk result (ends.new.items ≡ ends.old.items ++ audits.placed at.Deleted (filter (is_named receipt.now) rows.old)) }
     ensures err { IfErr result (λ e. e ≡ Refusal.NoMemory) }
 {
-    if let HomeReply::Entered(row) = reply {
-        rows.push(entered(item, row, moment))?;
+    if let Some(row) = rows.take_named(receipt) {
+        ends.push((row.lineage, Place::Deleted))?;
     }
     Ok(())
 }
 
-fn come_back(rows: &mut Vec<RowState>, item: &Item, reply: &HomeReply) -> Result<(), Refusal>
-    ensures rows { OnOk result ((moment : ℕ) → rows.new.items ≡ states_after moment (returned_by item.now reply.now) rows.old.items) }
+fn enter(rows: &mut HomeRows, moment: u64, item: &Item, reply: &HomeReply) -> Result<(), Refusal>
+    ensures rows { OnOk result (rows.new ≡ audits.rows_after moment (entered_by moment item.now reply.now) rows.old) }
     ensures err { IfErr result (λ e. e ≡ Refusal.NoMemory) }
 {
     if let HomeReply::Entered(row) = reply {
-        rows.push(returned(item, row))?;
+        rows.put(entered(item, row, moment))?;
+    }
+    Ok(())
+}
+
+fn come_back(rows: &mut HomeRows, item: &Item, reply: &HomeReply) -> Result<(), Refusal>
+    ensures rows { OnOk result ((moment : ℕ) → rows.new ≡ audits.rows_after moment (returned_by item.now reply.now) rows.old) }
+    ensures err { IfErr result (λ e. e ≡ Refusal.NoMemory) }
+{
+    if let HomeReply::Entered(row) = reply {
+        rows.put(returned(item, row))?;
     }
     Ok(())
 }
@@ -228,18 +174,10 @@ fn drop_item(item: &Item, ends: &mut Vec<(MessageId, Place)>) -> Result<(), Refu
     Ok(())
 }
 
-fn receive(rows: &mut [RowState], reply: &HomeReply)
-    ensures { (moment : ℕ) → rows.new ≡ states_after moment (looked_by reply.now) rows.old }
+fn receive(rows: &mut HomeRows, reply: &HomeReply)
+    ensures { (moment : ℕ) → rows.new ≡ audits.rows_after moment (looked_by reply.now) rows.old }
 {
     if let HomeReply::Looked(picked) = reply {
-        receive_all(rows, picked.as_slice());
-    }
-}
-
-fn receive_all(rows: &mut [RowState], picked: &[Row])
-    ensures { rows.new ≡ map (looked picked.now) rows.old }
-{
-    for row in rows.iter_mut() {
-        *row = looked(picked, row);
+        rows.receive_all(picked.as_slice());
     }
 }

@@ -55,7 +55,7 @@ pub fn places_of(alloc: Global, run: &Run<'_>) -> Result<Vec<(MessageId, Place)>
 }
 
 fn collect(alloc: Global, events: &[Tagged<'_>]) -> Result<Audit, Refusal>
-    ensures audit { IfOk result (λ a. a ≡ fold (λ a t. audits.audit_step a (tag_of t)) audits.no_audit events.now) }
+    ensures audit { IfOk result (λ a. audits.IsSameAudit a (fold (λ a t. audits.audit_step a (tag_of t)) audits.no_audit events.now)) }
     ensures err { IfErr result (λ e. e ≡ Refusal.NoMemory) }
 {
     let mut audit = Audit::new(alloc);
@@ -78,7 +78,7 @@ impl Audit {
     }
 
     fn step(&mut self, alloc: Global, tagged: &Tagged<'_>) -> Result<(), Refusal>
-        ensures step { OnOk result (self.new ≡ audits.audit_step self.old (tag_of tagged.now)) }
+        ensures step { OnOk result (audits.IsSameAudit self.new (audits.audit_step self.old (tag_of tagged.now))) }
         ensures err { IfErr result (λ e. e ≡ Refusal.NoMemory) }
     {
         match tagged {
@@ -93,7 +93,7 @@ impl Audit {
         index: u32,
         event: &Event<HomeCall, HomeReply>,
     ) -> Result<(), Refusal>
-        ensures step { OnOk result (self.new ≡ audits.audit_step self.old (OfHome index event.now)) }
+        ensures step { OnOk result (audits.IsSameAudit self.new (audits.audit_step self.old (OfHome index event.now))) }
         ensures err { IfErr result (λ e. e ≡ Refusal.NoMemory) }
     {
         apply_at(alloc, &mut self.homes, index, event, &mut self.ends)?;
@@ -111,7 +111,7 @@ fn apply_at(
     ends: &mut Vec<(MessageId, Place)>,
 ) -> Result<(), Refusal>
     ensures homes { OnOk result (homes.new.items ≡ slice_set (audits.grown (index + 1) homes.old.items) index (audits.home_after event.now (get_or homes.old.items index audits.no_states))) }
-    ensures ends { OnOk result (ends.new.items ≡ ends.old.items ++ audits.placed_ends event.now (get_or homes.old.items index audits.no_states)) }
+    ensures ends { OnOk result (audits.AreSameEnds ends.new.items (ends.old.items ++ audits.placed_ends event.now (get_or homes.old.items index audits.no_states))) }
     ensures err { IfErr result (λ e. e ≡ Refusal.NoMemory) }
 {
     let index = index as usize;

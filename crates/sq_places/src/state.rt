@@ -27,12 +27,19 @@ pub struct Policy {
     pub version: u64,
 }
 
+/// Whether a row that was enqueued then is past this retention.
+pub fn is_due(retention: Retention, moment: u64, enqueued: u64) -> bool
+    ensures { result ≡ states.is_due retention moment enqueued }
+{
+    let kept = retention.get() as u64 * 1000;
+    kept <= moment && enqueued <= moment - kept
+}
+
 /// Whether a row is past this retention.
 pub fn is_past(retention: Retention, moment: u64, row: &RowState) -> bool
     ensures { result ≡ states.is_past retention moment row.now }
 {
-    let kept = retention.get() as u64 * 1000;
-    kept <= moment && row.enqueued <= moment - kept
+    is_due(retention, moment, row.enqueued)
 }
 
 /// Whether slot, serial and receive number are those of the receipt.
@@ -49,13 +56,6 @@ pub fn sent(message: &SentMessage, moment: u64) -> RowState
     ensures { result ≡ states.sent_state message.now moment }
 {
     new_row(message.id, message.id.serial, message.slot, moment)
-}
-
-/// Whether slot and serial are those of this row.
-pub fn is_of(row: &Row, state: &RowState) -> bool
-    ensures { result ≡ states.is_of row.now state.now }
-{
-    state.slot == row.slot && state.serial == row.serial
 }
 
 /// The row of an item that comes in at its target at a moment. A dead letter keeps its age.
@@ -98,7 +98,18 @@ fn new_row(lineage: MessageId, serial: Serial, slot: u32, enqueued: u64) -> RowS
 pub fn looked(picked: &[Row], row: &RowState) -> RowState
     ensures { result ≡ states.looked picked.now row.now }
 {
-    let receives = if row.receives < u32::MAX && has_serial(picked, row.serial) {
+    if has_serial(picked, row.serial) {
+        received(row)
+    } else {
+        *row
+    }
+}
+
+/// A row that is received once more.
+pub fn received(row: &RowState) -> RowState
+    ensures { result ≡ states.received row.now }
+{
+    let receives = if row.receives < u32::MAX {
         row.receives + 1
     } else {
         row.receives
@@ -106,7 +117,8 @@ pub fn looked(picked: &[Row], row: &RowState) -> RowState
     RowState { receives, ..*row }
 }
 
-fn has_serial(rows: &[Row], serial: Serial) -> bool
+/// Whether one of these rows has this serial.
+pub fn has_serial(rows: &[Row], serial: Serial) -> bool
     ensures { result ≡ states.has_serial serial rows.now }
 {
     rows.iter().any(|row| row.serial == serial)

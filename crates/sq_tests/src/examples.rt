@@ -15,9 +15,9 @@ use sq_merge::world::World;
 use sq_model::directory::Attributes;
 use sq_model::place::Place;
 use sq_model::policy::RedrivePolicy;
+use sq_places::message_pass::place_of;
 use std::alloc::Global;
 use std::process::Abort;
-use sq_places::message_pass::place_of;
 
 #[test]
 fn a_message_is_sent_received_and_deleted(rt: HostRuntime) {
@@ -180,7 +180,12 @@ fn dead_letters_are_moved(rt: HostRuntime) {
     let leave = Turn::DeadTurn(orders);
     let bring = Turn::EnterTurn;
     let first = sent_and_received(&rt, alloc, &mut world, orders);
-    take(&rt, alloc, &mut world, &[(leave, Turned::Left), (leave, Turned::Nothing)]);
+    take(
+        &rt,
+        alloc,
+        &mut world,
+        &[(leave, Turned::Left), (leave, Turned::Nothing)],
+    );
     let second = sent_and_received(&rt, alloc, &mut world, orders);
     let turns = [
         (leave, Turned::Full),
@@ -192,11 +197,21 @@ fn dead_letters_are_moved(rt: HostRuntime) {
 
     // Where the dead-letter queue is deleted, the second goes back to its source; where that is deleted too, it is given up.
     remove(&rt, alloc, &mut world, failed);
-    take(&rt, alloc, &mut world, &[(bring, Turned::Turned), (bring, Turned::Back)]);
+    take(
+        &rt,
+        alloc,
+        &mut world,
+        &[(bring, Turned::Turned), (bring, Turned::Back)],
+    );
     let third = sent_and_received(&rt, alloc, &mut world, orders);
     take(&rt, alloc, &mut world, &[(leave, Turned::Left)]);
     remove(&rt, alloc, &mut world, orders);
-    take(&rt, alloc, &mut world, &[(bring, Turned::Turned), (bring, Turned::Dropped)]);
+    take(
+        &rt,
+        alloc,
+        &mut world,
+        &[(bring, Turned::Turned), (bring, Turned::Dropped)],
+    );
 
     let parts = world.parts();
     let run = merge(alloc, &parts).expect(&rt, "one run");
@@ -205,5 +220,8 @@ fn dead_letters_are_moved(rt: HostRuntime) {
     let places = (place_of(&run, &second), place_of(&run, &third));
     let closed = Some(Place::ClosedAway);
     let dropped = Some(Place::Dropped);
-    assert!(rt; places == (closed, dropped) || places == (dropped, closed), "{places:?}");
+    assert!(rt;
+        places == (closed, dropped) || places == (dropped, closed),
+        "{places:?}"
+    );
 }

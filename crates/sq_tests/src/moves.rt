@@ -277,14 +277,29 @@ fn what_differs_between_two_histories_is_a_fault(rt: HostRuntime) {
         ((&hello, &moved, 1), (&hallo, &moved, 1), [leave, leave]),
         ((&hallo, &moved, 1), (&hello, &moved, 1), [leave, leave]),
         ((&hello, &moved, 2), (&hallo, &moved, 2), [leave, enter]),
-        ((&hello, &moved, 1), (&hello, &left_by_another, 1), [leave, leave]),
-        ((&hello, &moved, 2), (&hello, &in_by_another, 2), [enter, enter]),
-        ((&hello, &moved, 1), (&hello, &left_later, 1), [leave, later]),
+        (
+            (&hello, &moved, 1),
+            (&hello, &left_by_another, 1),
+            [leave, leave],
+        ),
+        (
+            (&hello, &moved, 2),
+            (&hello, &in_by_another, 2),
+            [enter, enter],
+        ),
+        (
+            (&hello, &moved, 1),
+            (&hello, &left_later, 1),
+            [leave, later],
+        ),
         ((&for_d, &moved, 1), (&for_e, &moved, 1), [early, early]),
     ];
     for (place, (kept, ledger, wants)) in stories.iter().enumerate() {
         let found = with_ledger_of(&rt, alloc, *kept, *ledger);
-        assert!(rt; matches!(found, Some(fault) if wants.contains(&fault)), "{place}: {found:?}");
+        assert!(rt;
+            matches!(found, Some(fault) if wants.contains(&fault)),
+            "{place}: {found:?}"
+        );
     }
 }
 

@@ -50,10 +50,13 @@ pub ends_stopped : {R W : Type 0} (mode : ScriptMode) (input : Stream R) (output
     → ((fault ≡ NoMemory 0) × (input.after ≡ input.before) × (output.after ≡ output.before) × Other)
     ⊎ IfSome (lines_in input) (λ lines. (clock : ℕ) × StopsAt fault lines (input.bytes input.after.inner) (output.bytes output.before.inner) (output.bytes output.after.inner) (script_at (new_world mode.options) 0) (script_at world clock))
     → IsOfCall fault input.before.failed input.after.failed output.before.failed output.after.failed → Ends (Ok (Script mode)) input output 1
-ends_stopped mode input output fault world Other served err count = (served, elim err [
-  | inl same ↦ inl (same.1, same.2)
-  | inr stops ↦ inr (inl (fault, count, stopped (lines_in input) fault (input.bytes input.after.inner) (output.bytes output.before.inner) (output.bytes output.after.inner) (script_at (new_world mode.options) 0) world stops))
-])
+ends_stopped mode input output fault world Other served err count = (
+  served,
+  elim err [
+    | inl same ↦ inl (same.1, same.2)
+    | inr stops ↦ inr (inl (fault, count, stopped (lines_in input) fault (input.bytes input.after.inner) (output.bytes output.before.inner) (output.bytes output.after.inner) (script_at (new_world mode.options) 0) world stops))
+  ],
+)
 
 -- the status is one of three
 pub status_within : {R W : Type 0} (words : List Text) (input : Stream R) (output : Stream W) (status : ℕ) → EndsFor words input output status → status ≤ 2

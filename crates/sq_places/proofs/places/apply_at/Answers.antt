@@ -1,5 +1,6 @@
-use Rattle.std.proofs.Common.{◌≡◌, ◌+◌, ◌∙◌, get_or, arith, refl}
-use Rattle.sq_places.specs.Audits.{no_states}
+use Rattle.std.proofs.Common.{◌≡◌, ◌+◌, ◌++◌, get_or, arith, refl, subst}
+use Rattle.sq_places.specs.HomeValues.{HomeValue}
+use Rattle.sq_places.specs.Audits.{no_states, placed_ends, AreSameEnds}
 use Rattle.sq_places.proofs.ListLaws.{read_grown}
 use Rattle.sq_places.proofs.places.apply_at.Goals as goal
 
@@ -11,4 +12,4 @@ pub returns-clause-homes : goal.returns-clause-homes
 returns-clause-homes c = rw (c.in_ok-grow.ensures.homes, c.in_ok-apply.ensures.home, was c) refl
 
 pub returns-clause-ends : goal.returns-clause-ends
-returns-clause-ends c = c.in_ok-apply.ensures.ends ∙ rw (was c) refl
+returns-clause-ends c = subst (λ (h : HomeValue). AreSameEnds c.apply.new.ends.items (c.args.ends.now.items ++ placed_ends c.args.event.now h)) (was c) c.in_ok-apply.ensures.ends

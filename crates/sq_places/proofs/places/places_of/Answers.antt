@@ -1,5 +1,10 @@
-use Rattle.std.proofs.Common.{◌∙◌}
+use Rattle.std.proofs.Common.{◌∙◌, sym, subst}
+use Rattle.std.specs.List.{fold}
 use Rattle.std.proofs.lemmas.Result.{IfOk-weaker}
+use Rattle.sq_audit.specs.declared.tagged.Tagged.{Tagged}
+use Rattle.sq_audit.specs.Tags.{tag_of}
+use Rattle.sq_places.specs.HomeValues.{AuditValue}
+use Rattle.sq_places.specs.Audits.{IsSameAudit, audit_step, no_audit}
 use Rattle.sq_places.proofs.AuditLaws.{audit_places}
 use Rattle.sq_places.proofs.places.places_of.Goals as goal
 
@@ -8,5 +13,6 @@ returns-clause-places c = λ places limit sites after r one.
     IfOk-weaker c.listed.result _ _ (λ listed h. record {
       rising = h.rising;
       each = λ x. h.each x ∙ rw (c.deref.ensures.value, c.deref-2.ensures.value, c.deref-3.ensures.value) (audit_places x places limit sites c.events.result.now c.args.run.now c.events.ensures after r
-          (record { homes = c.audit.inside.homes.items; sends = c.audit.inside.sends.items; moves = c.audit.inside.moves.items; ends = c.audit.inside.ends.items }) one (c.audit.view_is ∙ c.in_ok-audit.ensures.audit));
+          (record { homes = c.audit.inside.homes.items; sends = c.audit.inside.sends.items; moves = c.audit.inside.moves.items; ends = c.audit.inside.ends.items }) one
+          (subst (λ (a : AuditValue). IsSameAudit a (fold (λ (b : AuditValue) (t : Tagged). audit_step b (tag_of t)) no_audit c.events.result.now)) (sym c.audit.view_is) c.in_ok-audit.ensures.audit));
     }) c.listed.ensures.listed
