@@ -11,7 +11,7 @@ use Rattle.sq_model.specs.declared.item.Item.{Item}
 use Rattle.sq_model.specs.declared.replies.HomeReply.TheVariants.{Left}
 use Rattle.sq_model.specs.Homes.{Home, Unopened, Serving, Closed, home_refusal}
 use Rattle.sq_model.specs.Rows.{trimmed, is_dead}
-pub use Rattle.sq_shard.specs.Moves.{coming_refusal, closed_refusal}
+pub use Rattle.sq_shard.specs.Moves.{item_refusal}
 use Rattle.sq_history.specs.HistoryValue.{HistoryValue}
 use Rattle.sq_history.specs.Histories.{RecordsShared}
 use Rattle.sq_history.specs.declared.shared.HomeHalf.{HomeHalf}

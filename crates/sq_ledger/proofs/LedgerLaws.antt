@@ -1,13 +1,13 @@
 -- Each step of the ledger is one of the model, and leaves it the replay of its events.
 use Rattle.std.proofs.Common.{◌≡◌, ◌⊎◌, ℕ, ◌+◌, ◌≤◌, true, List, [], ◌∷◌, ◌++◌, Some, refl, sym, subst, arith}
-use Rattle.std.specs.Prelude.{map, nat_le}
+use Rattle.std.specs.Prelude.{nat_le}
 use Rattle.std.proofs.lemmas.Grind.{common_steps}
 use Rattle.sq_base.specs.StampValue.{StampValue}
 use Rattle.sq_base.specs.Stamps.{start}
 use Rattle.sq_base.specs.declared.ids.HomeId.{HomeId}
 use Rattle.sq_base.specs.declared.refusal.Refusal.TheVariants.{Worn}
 use Rattle.sq_model.specs.declared.calls.HomeCall.{HomeCall}
-use Rattle.sq_model.specs.declared.calls.HomeCall.TheVariants.{LeaveDead, Enter, TurnBack, GiveBack, GiveUp}
+use Rattle.sq_model.specs.declared.calls.HomeCall.TheVariants.{LeaveDead}
 use Rattle.sq_model.specs.declared.event.Actor.{Actor}
 use Rattle.sq_model.specs.declared.item.Item.{Item}
 use Rattle.sq_model.specs.declared.item.Reason.{Reason}
@@ -17,19 +17,21 @@ use Rattle.sq_model.specs.declared.ledger.LedgerCall.TheVariants as asks
 use Rattle.sq_model.specs.declared.ledger.LedgerReply.{LedgerReply}
 use Rattle.sq_model.specs.declared.ledger.LedgerReply.TheVariants as answers
 use Rattle.sq_model.specs.declared.replies.HomeReply.{HomeReply}
-use Rattle.sq_model.specs.declared.replies.HomeReply.TheVariants.{Done, Left, Entered}
+use Rattle.sq_model.specs.declared.replies.HomeReply.TheVariants.{Left}
 use Rattle.sq_model.specs.declared.task.Task.{Task}
-use Rattle.sq_model.specs.Homes.{IsFrom, may_enter, may_return}
-use Rattle.sq_model.specs.Ledgers.{LedgerEvent, LedgerStep, HasRoom, changed_for, item_of, items_without, last_number, opening_ledger, room_refusal, turned_if, ItemsRise}
+use Rattle.sq_model.specs.declared.shared.ItemAct.{ItemAct}
+use Rattle.sq_model.specs.declared.shared.ItemAct.TheVariants.{Enter, TurnBack, GiveBack, GiveUp}
+use Rattle.sq_model.specs.Homes.{IsFrom}
+use Rattle.sq_model.specs.Ledgers.{LedgerEvent, LedgerStep, HasRoom, changed_for, item_of, last_number, opening_ledger, room_refusal, ItemsRise}
 use Rattle.sq_model.specs.Replays.{Replays, StampsRise}
 use Rattle.sq_model.specs.Systems.{AreLedger, NamesItsPart}
 use Rattle.sq_model.proofs.ReplayLaws.{replays_push}
 use Rattle.sq_laws.proofs.LedgerLists.{found_number, items_low}
 use Rattle.sq_laws.proofs.LedgerLaws.{ledger_holds}
 use Rattle.sq_history.specs.LogValue.{LogValue}
-use Rattle.sq_history.specs.Rooms.{GrowingValue, IsReady, KeepsRoom}
-use Rattle.sq_ledger.specs.LedgerHistory.{LedgerHistory, history_of, ledger_with}
-use Rattle.sq_ledger.specs.LedgerHistories.{IsEntered, IsLedgerKept, LedgerShares, shared_event}
+use Rattle.sq_history.specs.Rooms.{KeepsRoom}
+use Rattle.sq_ledger.specs.LedgerHistory.{LedgerHistory, history_of, items_after, ledger_with}
+use Rattle.sq_ledger.specs.LedgerHistories.{DoesItem, IsLedgerKept, LedgerShares, shared_event}
 
 -- ---- the steps
 
@@ -47,46 +49,21 @@ pub taken_in : (items : List Item) (next limit m : ℕ) (home : HomeId) (call : 
 unfolding LedgerStep
 taken_in items next limit m home call reply item room number from is_leave is_left = rw (is_leave, is_left) (from, (room, number, refl))
 
-out : (items : List Item) (next limit m : ℕ) (home : HomeId) (call : HomeCall) (reply : HomeReply) (item : Item)
-    → item_of item.number (ledger_with items next limit) ≡ Some item → IsEntered home call reply item
-    → LedgerStep (ledger_with items next limit) m (asks.AtHome home call) (answers.AtHome reply) (ledger_with (items_without item.number items) next limit)
+done_there : (items : List Item) (next limit m : ℕ) (act : ItemAct) (home : HomeId) (call : HomeCall) (reply : HomeReply) (item : Item)
+    → item_of item.number (ledger_with items next limit) ≡ Some item → DoesItem act home call reply item
+    → LedgerStep (ledger_with items next limit) m (asks.AtHome home call) (answers.AtHome reply) (ledger_with (items_after act item.number items) next limit)
 unfolding LedgerStep
-out items next limit m home (Enter given) (Entered entered) item found enters = rw (enters.0, no_task item.reason) (enters.1, (found, refl))
-out items next limit m home (GiveBack given) (Entered entered) item found enters = rw (enters.0, no_task item.reason) (enters.1, (found, refl))
-out items next limit m home call reply item found enters = elim enters [ ]
+done_there items next limit m Enter home call reply item found does = rw (does.is_call, does.replies.1, no_task item.reason) (does.may, (found, refl))
+done_there items next limit m TurnBack home call reply item found does = rw (does.is_call, does.replies, no_task item.reason) (does.may, found, refl)
+done_there items next limit m GiveBack home call reply item found does = rw (does.is_call, does.replies.1, no_task item.reason) (does.may, (found, refl))
+done_there items next limit m GiveUp home call reply item found does = rw (does.is_call, does.replies, no_task item.reason) (does.may, (found, refl))
 
-up : (items : List Item) (next limit m : ℕ) (home : HomeId) (call : HomeCall) (reply : HomeReply) (item : Item)
-    → item_of item.number (ledger_with items next limit) ≡ Some item → call ≡ GiveUp item → reply ≡ Done → may_return home item ≡ true
-    → LedgerStep (ledger_with items next limit) m (asks.AtHome home call) (answers.AtHome reply) (ledger_with (items_without item.number items) next limit)
-unfolding LedgerStep
-up items next limit m home call reply item found is_call is_reply may = rw (is_call, is_reply, no_task item.reason) (may, (found, refl))
-
-back : (items : List Item) (next limit m : ℕ) (home : HomeId) (call : HomeCall) (reply : HomeReply) (item : Item)
-    → item_of item.number (ledger_with items next limit) ≡ Some item → call ≡ TurnBack item → reply ≡ Done → may_enter home item ≡ true
-    → LedgerStep (ledger_with items next limit) m (asks.AtHome home call) (answers.AtHome reply) (ledger_with (map (turned_if item.number) items) next limit)
-unfolding LedgerStep
-back items next limit m home call reply item found is_call is_reply may = rw (is_call, is_reply, no_task item.reason) (may, found, refl)
-
-pub given_out : (items : List Item) (next limit m : ℕ) (home : HomeId) (call : HomeCall) (reply : HomeReply) (number : ℕ) (item : Item)
-    → item_of number (ledger_with items next limit) ≡ Some item → IsEntered home call reply item
-    → LedgerStep (ledger_with items next limit) m (asks.AtHome home call) (answers.AtHome reply) (ledger_with (items_without number items) next limit)
-given_out items next limit m home call reply number item found enters =
-    subst (λ (n : ℕ). item_of n (ledger_with items next limit) ≡ Some item → LedgerStep (ledger_with items next limit) m (asks.AtHome home call) (answers.AtHome reply) (ledger_with (items_without n items) next limit))
-    (number_is number items next limit item found) (λ there. out items next limit m home call reply item there enters) found
-
-pub given_up : (items : List Item) (next limit m : ℕ) (home : HomeId) (call : HomeCall) (reply : HomeReply) (number : ℕ) (item : Item)
-    → item_of number (ledger_with items next limit) ≡ Some item → call ≡ GiveUp item → reply ≡ Done → may_return home item ≡ true
-    → LedgerStep (ledger_with items next limit) m (asks.AtHome home call) (answers.AtHome reply) (ledger_with (items_without number items) next limit)
-given_up items next limit m home call reply number item found is_call is_reply may =
-    subst (λ (n : ℕ). item_of n (ledger_with items next limit) ≡ Some item → LedgerStep (ledger_with items next limit) m (asks.AtHome home call) (answers.AtHome reply) (ledger_with (items_without n items) next limit))
-    (number_is number items next limit item found) (λ there. up items next limit m home call reply item there is_call is_reply may) found
-
-pub turned_back : (items : List Item) (next limit m : ℕ) (home : HomeId) (call : HomeCall) (reply : HomeReply) (number : ℕ) (item : Item)
-    → item_of number (ledger_with items next limit) ≡ Some item → call ≡ TurnBack item → reply ≡ Done → may_enter home item ≡ true
-    → LedgerStep (ledger_with items next limit) m (asks.AtHome home call) (answers.AtHome reply) (ledger_with (map (turned_if number) items) next limit)
-turned_back items next limit m home call reply number item found is_call is_reply may =
-    subst (λ (n : ℕ). item_of n (ledger_with items next limit) ≡ Some item → LedgerStep (ledger_with items next limit) m (asks.AtHome home call) (answers.AtHome reply) (ledger_with (map (turned_if n) items) next limit))
-    (number_is number items next limit item found) (λ there. back items next limit m home call reply item there is_call is_reply may) found
+pub item_done : (items : List Item) (next limit m : ℕ) (act : ItemAct) (home : HomeId) (call : HomeCall) (reply : HomeReply) (number : ℕ) (item : Item)
+    → item_of number (ledger_with items next limit) ≡ Some item → DoesItem act home call reply item
+    → LedgerStep (ledger_with items next limit) m (asks.AtHome home call) (answers.AtHome reply) (ledger_with (items_after act number items) next limit)
+item_done items next limit m act home call reply number item found does =
+    subst (λ (n : ℕ). item_of n (ledger_with items next limit) ≡ Some item → LedgerStep (ledger_with items next limit) m (asks.AtHome home call) (answers.AtHome reply) (ledger_with (items_after act n items) next limit))
+    (number_is number items next limit item found) (λ there. done_there items next limit m act home call reply item there does) found
 
 -- ---- the history
 
@@ -107,15 +84,11 @@ kept_more old new by stamp home call reply kept same rising shares =
     }
 
 -- a step that leaves these items, with its event
-pub one_more : (items left : GrowingValue Item) (next after limit : ℕ) (log new : LogValue LedgerCall LedgerReply) (by : Actor) (stamp : StampValue) (home : HomeId) (call : HomeCall) (reply : HomeReply)
-    → LedgerStep (ledger_with items.items next limit) stamp.moment (asks.AtHome home call) (answers.AtHome reply) (ledger_with left.items after limit)
-    → new.last ≡ stamp → new.events ≡ log.events ++ shared_event stamp by home call reply ∷ [] → KeepsRoom log.room new.room → KeepsRoom items.room left.room
+pub one_more : (items left : List Item) (next after limit : ℕ) (log new : LogValue LedgerCall LedgerReply) (by : Actor) (stamp : StampValue) (home : HomeId) (call : HomeCall) (reply : HomeReply)
+    → LedgerStep (ledger_with items next limit) stamp.moment (asks.AtHome home call) (answers.AtHome reply) (ledger_with left after limit)
+    → new.last ≡ stamp → new.events ≡ log.events ++ shared_event stamp by home call reply ∷ [] → KeepsRoom log.room new.room
     → LedgerShares (history_of items next limit log) (history_of left after limit new) by stamp home call reply
-one_more items left next after limit log new by stamp home call reply step last events room item_room = record { step = step; last = last; events = events; room = room; item_room = item_room }
-
--- items that are ready, and show all their memory once one of them went or turned
-pub shows_all : (old reserved went left shown : ℕ) → IsReady old reserved → went ≡ old → went ≤ shown → reserved ≤ left → shown ≡ left → KeepsRoom old shown
-shows_all old reserved went left shown ready same more kept all = record { used = omega (arith, same, more); got = λ none. omega (arith, ready.got none, kept, all) }
+one_more items left next after limit log new by stamp home call reply step last events room = record { step = step; last = last; events = events; room = room }
 
 -- the items of a ledger stand below its next number
 pub items_stand : (h : LedgerHistory) → IsLedgerKept h → ItemsRise 1 h.ledger.items h.ledger.next_item

@@ -4,15 +4,14 @@ use Rattle.sq_base.specs.StampValue.{StampValue}
 use Rattle.sq_base.specs.Stamps.{start}
 use Rattle.sq_base.specs.declared.ids.HomeId.{HomeId}
 use Rattle.sq_model.specs.declared.calls.HomeCall.{HomeCall}
-use Rattle.sq_model.specs.declared.calls.HomeCall.TheVariants.{Enter, GiveBack}
 use Rattle.sq_model.specs.declared.event.Actor.{Actor}
 use Rattle.sq_model.specs.declared.item.Item.{Item}
 use Rattle.sq_model.specs.declared.ledger.LedgerCall.TheVariants as asks
 use Rattle.sq_model.specs.declared.ledger.LedgerReply.TheVariants as answers
 use Rattle.sq_model.specs.declared.place.Component.TheVariants as part
 use Rattle.sq_model.specs.declared.replies.HomeReply.{HomeReply}
-use Rattle.sq_model.specs.declared.replies.HomeReply.TheVariants.{Entered}
-use Rattle.sq_model.specs.Homes.{may_enter, may_return}
+use Rattle.sq_model.specs.declared.shared.ItemAct.{ItemAct}
+use Rattle.sq_model.specs.ItemActs.{IsItemReply, call_with, may_act}
 use Rattle.sq_model.specs.Ledgers.{LedgerEvent, LedgerStep, opening_ledger}
 use Rattle.sq_model.specs.Replays.{Replays, StampsRise}
 use Rattle.sq_model.specs.Systems.{AreLedger}
@@ -30,19 +29,16 @@ pub record LedgerShares (old new : LedgerHistory) (by : Actor) (stamp : StampVal
   pub last : new.last ≡ stamp
   pub events : new.events ≡ old.events ++ shared_event stamp by home call reply ∷ []
   pub room : KeepsRoom old.room new.room
-  pub item_room : KeepsRoom old.item_room new.item_room
 
--- there is memory for one event more, and for one item
-pub record IsPrepared (v : LedgerValue) : Type 0 where
-  pub for_event : IsReady v.history.room v.reserved
-  pub for_item : IsReady v.history.item_room v.item_reserved
+-- there is memory for one event more
+abbrev pub IsPrepared : LedgerValue → Type 0
+IsPrepared v = IsReady v.history.room v.reserved
 
--- an item goes out of the ledger into a home: into its target, or back into its source
-abbrev pub IsEntered : HomeId → HomeCall → HomeReply → Item → Type 0
-IsEntered home (Enter given) (Entered entered) item = (given ≡ item) × (may_enter home item ≡ true)
-IsEntered home (GiveBack given) (Entered entered) item = (given ≡ item) × (may_return home item ≡ true)
--- no other call takes an item out into a home
-IsEntered home call reply item = ⊥
+-- what a home did with an item
+pub record DoesItem (act : ItemAct) (home : HomeId) (call : HomeCall) (reply : HomeReply) (item : Item) : Type 0 where
+  pub is_call : call ≡ call_with act item
+  pub may : may_act act home item ≡ true
+  pub replies : IsItemReply act reply
 
 -- True at all times: the ledger is the replay of its events, whose stamps rise, and each event is its own or one that it shares.
 pub record IsLedgerKept (h : LedgerHistory) : Type 0 where

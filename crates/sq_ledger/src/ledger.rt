@@ -1,15 +1,15 @@
 //! The ledger: the messages that left one queue and are not yet in another, and all that was done to them.
-ghost use Rattle.std.specs.Prelude.{◌≡◌, ◌⊎◌, ◌+◌, ◌<◌, ◌≤◌, ◌++◌, ◌∷◌, [], true, Some, None, IfOk, IfErr, OnOk, option_map};
+ghost use Rattle.std.specs.Prelude.{◌≡◌, ◌⊎◌, ◌+◌, ◌<◌, ◌≤◌, ◌++◌, ◌∷◌, [], Some, None, IfOk, IfErr, OnOk, option_map};
 ghost use Rattle.sq_base.specs.Stamps.{start, Below};
-ghost use Rattle.sq_model.specs.declared.calls.HomeCall.TheVariants.{LeaveDead, TurnBack, GiveUp};
+ghost use Rattle.sq_model.specs.declared.calls.HomeCall.TheVariants.{LeaveDead};
 ghost use Rattle.sq_model.specs.declared.item.Item.{Item as Moved};
 ghost use Rattle.sq_model.specs.declared.item.Reason.TheVariants.{DeadLetter};
-ghost use Rattle.sq_model.specs.declared.replies.HomeReply.TheVariants.{Done, Left};
-ghost use Rattle.sq_model.specs.Homes.{IsFrom, may_enter, may_return};
+ghost use Rattle.sq_model.specs.declared.replies.HomeReply.TheVariants.{Left};
+ghost use Rattle.sq_model.specs.Homes.{IsFrom};
 ghost use Rattle.sq_model.specs.Ledgers.{HasRoom, item_of, opening_ledger, peek, room_refusal};
 ghost use Rattle.sq_model.specs.Replays.{StampsRise};
 ghost use Rattle.sq_history.specs.Rooms.{IsReady, KeepsRoom};
-ghost use Rattle.sq_ledger.specs.LedgerHistories.{IsEntered, IsLedgerKept, IsPrepared, LedgerShares, shared_event};
+ghost use Rattle.sq_ledger.specs.LedgerHistories.{DoesItem, IsLedgerKept, IsPrepared, LedgerShares, shared_event};
 
 use crate::items::Items;
 use sq_base::ids::HomeId;
@@ -22,14 +22,15 @@ use sq_model::item::{Item, ItemNo};
 use sq_model::ledger::{LedgerCall, LedgerReply};
 use sq_model::place::Component;
 use sq_model::replies::HomeReply;
+use sq_model::shared::ItemAct;
 use std::alloc::Global;
 use std::marker::Model;
 
 /// The messages between two queues, as items with numbers, and the history of the steps that the ledger shares with the
 /// homes: the ledger is always the replay of it. Moments are in ms. Own.
 ///
-/// A step is done at a home and here, at one stamp. It is begun with `prepare`, and with `room` where an item comes in;
-/// what follows takes no memory and is not refused.
+/// A step is done at a home and here, at one stamp. It is begun with `prepare`, and with `room` where an item is to come
+/// in; what follows takes no memory and is not refused.
 #[derive(Drop)]
 pub struct TransitLedger {
     items: Items,
@@ -44,15 +45,15 @@ impl Model for TransitLedger {
 
     ghost Value = { LedgerValue };
 
-    ghost view = { λ t. record { history = history_of t.items t.next t.limit t.log; reserved = t.log.reserved; item_reserved = t.items.reserved } };
+    ghost view = { λ t. record { history = history_of t.items.items t.next t.limit t.log; reserved = t.log.reserved; item_reserved = t.items.reserved } };
 
-    ghost invariant = { λ t. IsLedgerKept (history_of t.items t.next t.limit t.log) };
+    ghost invariant = { λ t. IsLedgerKept (history_of t.items.items t.next t.limit t.log) };
 }
 
 impl TransitLedger {
     /// No item and no event. It is to hold so many items at most.
     pub fn new(alloc: Global, limit: u32) -> TransitLedger
-        ensures { result.history ≡ record { ledger = opening_ledger limit; last = start; events = []; room = 0; item_room = 0 } }
+        ensures { result.history ≡ record { ledger = opening_ledger limit; last = start; events = []; room = 0 } }
     {
         TransitLedger {
             items: Items::new(alloc),
@@ -91,13 +92,16 @@ impl TransitLedger {
         self.items.after(after)
     }
 
-    /// The number of the next item, where one more may come in. It takes no memory. Refused as Worn (no number is left),
-    /// and then as OverLimit (as many items are in transit as may be).
-    pub fn room(&self) -> Result<ItemNo, Refusal>
-        ensures number { IfOk result (λ number. number ≡ self.now.history.ledger.next_item) }
-        ensures has_room { OnOk result (HasRoom self.now.history.ledger) }
-        ensures passes { OnOk result (room_refusal self.now.history.ledger ≡ None) }
-        ensures refused { IfErr result (λ e. room_refusal self.now.history.ledger ≡ Some e) }
+    /// The number of the next item, where one more may come in, for which it then has memory. Refused as Worn (no number is
+    /// left), OverLimit (as many items are in transit as may be), and then as NoMemory.
+    pub fn room(&mut self) -> Result<ItemNo, Refusal>
+        ensures history { self.new.history ≡ self.old.history }
+        ensures reserved { self.new.reserved ≡ self.old.reserved }
+        ensures number { IfOk result (λ number. number ≡ self.old.history.ledger.next_item) }
+        ensures has_room { OnOk result (HasRoom self.old.history.ledger) }
+        ensures passes { OnOk result (room_refusal self.old.history.ledger ≡ None) }
+        ensures ready { OnOk result (0 < self.new.item_reserved) }
+        ensures refused { IfErr result (λ e. (room_refusal self.old.history.ledger ≡ Some e) ⊎ ((room_refusal self.old.history.ledger ≡ None) × (e ≡ Refusal.NoMemory) × (self.old.item_reserved ≡ 0))) }
     {
         let Some(number) = ItemNo::new(self.next) else {
             return Err(Refusal::Worn);
@@ -105,21 +109,20 @@ impl TransitLedger {
         if self.items.len() >= self.limit as usize {
             return Err(Refusal::OverLimit);
         }
+        self.items.reserve()?;
         Ok(number)
     }
 
-    /// Gets memory for one event more and for one item, and for four where it shows room for none. Refused as NoMemory,
-    /// where it shows room for no event or for no item; it may have got some of it then.
+    /// Gets memory for one event more, and for four where it shows room for none. Refused as NoMemory where it shows room
+    /// for none and has memory for fewer than four.
     pub fn prepare(&mut self) -> Result<(), Refusal>
         ensures history { self.new.history ≡ self.old.history }
         ensures prepared { OnOk result (IsPrepared self.new) }
-        ensures refused { IfErr result (λ e. e ≡ Refusal.NoMemory) }
-        ensures needed { IfErr result (λ _. (self.old.history.room ≡ 0) ⊎ (self.old.history.item_room ≡ 0)) }
+        ensures refused { IfErr result (λ e. (e ≡ Refusal.NoMemory) × (self.old.history.room ≡ 0) × (self.old.reserved < 4)) }
         ensures reserved { self.old.reserved ≤ self.new.reserved }
-        ensures item_reserved { self.old.item_reserved ≤ self.new.item_reserved }
+        ensures item_reserved { self.new.item_reserved ≡ self.old.item_reserved }
     {
-        self.log.reserve()?;
-        self.items.reserve()
+        self.log.reserve()
     }
 
     /// A dead message comes in from this home, as the item with the next number. The call and the reply are those of the
@@ -133,6 +136,7 @@ impl TransitLedger {
         item: Item,
     )
         requires prepared { IsPrepared self.old }
+        requires ready { 0 < self.old.item_reserved }
         requires above { Below self.old.history.last stamp }
         requires has_room { HasRoom self.old.history.ledger }
         requires number { item.number ≡ self.old.history.ledger.next_item }
@@ -147,68 +151,24 @@ impl TransitLedger {
         add_event(&mut self.log, by, stamp, home, kept);
     }
 
-    /// The item of a number goes out to this home, which it came in at: its target, or its source where it was turned
-    /// back. The call and the reply are those of the home's event.
-    pub fn give_out(
+    /// This home did this with the item of a number: it goes out, to its target, back to its source or given up there; or it
+    /// goes back to its source from now on. The call and the reply are those of the home's event.
+    pub fn item_step(
         &mut self,
         by: &Actor,
         stamp: Stamp,
         home: &HomeId,
         kept: (HomeCall, HomeReply),
+        act: ItemAct,
         number: ItemNo,
     )
         requires prepared { IsPrepared self.old }
         requires above { Below self.old.history.last stamp }
-        requires entered { (item : Moved) × (item_of number self.old.history.ledger ≡ Some item) × IsEntered home.now kept.0 kept.1 item }
+        requires does { (item : Moved) × (item_of number self.old.history.ledger ≡ Some item) × DoesItem act home.now kept.0 kept.1 item }
         ensures shares { LedgerShares self.old.history self.new.history by.now stamp home.now kept.0 kept.1 }
         ensures item_reserved { self.old.item_reserved ≤ self.new.item_reserved }
     {
-        let _entered = self.items.take(number.get());
-        self.items.show_room();
-        add_event(&mut self.log, by, stamp, home, kept);
-    }
-
-    /// The item of a number is given up at this home of its source, since that was closed too. The call and the reply are
-    /// those of the home's event.
-    pub fn drop_item(
-        &mut self,
-        by: &Actor,
-        stamp: Stamp,
-        home: &HomeId,
-        kept: (HomeCall, HomeReply),
-        number: ItemNo,
-    )
-        requires prepared { IsPrepared self.old }
-        requires above { Below self.old.history.last stamp }
-        requires given_up { (item : Moved) × (item_of number self.old.history.ledger ≡ Some item) × (kept.0 ≡ GiveUp item) × (may_return home.now item ≡ true) }
-        requires reply { kept.1 ≡ Done }
-        ensures shares { LedgerShares self.old.history self.new.history by.now stamp home.now kept.0 kept.1 }
-        ensures item_reserved { self.old.item_reserved ≤ self.new.item_reserved }
-    {
-        let _given_up = self.items.take(number.get());
-        self.items.show_room();
-        add_event(&mut self.log, by, stamp, home, kept);
-    }
-
-    /// The item of a number goes back to its source from now on, since this home of its target was closed. The call and
-    /// the reply are those of the home's event.
-    pub fn turn_back(
-        &mut self,
-        by: &Actor,
-        stamp: Stamp,
-        home: &HomeId,
-        kept: (HomeCall, HomeReply),
-        number: ItemNo,
-    )
-        requires prepared { IsPrepared self.old }
-        requires above { Below self.old.history.last stamp }
-        requires turned { (item : Moved) × (item_of number self.old.history.ledger ≡ Some item) × (kept.0 ≡ TurnBack item) × (may_enter home.now item ≡ true) }
-        requires reply { kept.1 ≡ Done }
-        ensures shares { LedgerShares self.old.history self.new.history by.now stamp home.now kept.0 kept.1 }
-        ensures item_reserved { self.old.item_reserved ≤ self.new.item_reserved }
-    {
-        self.items.turn(number.get());
-        self.items.show_room();
+        self.items.apply(act, number.get());
         add_event(&mut self.log, by, stamp, home, kept);
     }
 }
