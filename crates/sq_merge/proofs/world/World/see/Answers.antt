@@ -1,5 +1,5 @@
-use Rattle.std.proofs.Common.{◌≡◌, subst, sym}
-use Rattle.sq_merge.specs.Worlds.{IsKeptWorld, having_seen_at}
+use Rattle.std.proofs.Common.{subst, sym}
+use Rattle.sq_merge.specs.Worlds.{IsKeptWorld}
 use Rattle.sq_merge.proofs.StepLaws.{as_fields, seen_opened}
 use Rattle.sq_merge.proofs.WorldLaws.{kept_seen}
 use Rattle.sq_merge.proofs.world.World.see.Goals as goal
