@@ -5,7 +5,6 @@ use sq_audit::parts::Parts;
 use sq_audit::run::Run;
 use sq_audit::tagged::Tagged;
 use sq_base::refusal::Refusal;
-use sq_base::settings::Settings;
 use sq_merge::world::World;
 use sq_steps::act::Step;
 use std::alloc::Global;
@@ -59,20 +58,8 @@ fn steps_of_three_actors_have_one_order(rt: HostRuntime) {
         rt.alloc(),
         &[
             (0, 0, 0, Ask::Create, Answers::Made(1)),
-            (
-                0,
-                0,
-                0,
-                Ask::Configure(Settings::standard(), 1),
-                Answers::Done,
-            ),
-            (
-                0,
-                0,
-                1,
-                Ask::Configure(Settings::standard(), 1),
-                Answers::Done,
-            ),
+            (0, 0, 0, Ask::Open, Answers::Done),
+            (0, 0, 1, Ask::Open, Answers::Done),
             (5, 0, 2, Ask::Look(None), no_such_home),
             (5, CLOCK_END, 2, Ask::Look(None), late),
             (5, CLOCK_END, 0, Ask::Look(None), late),
@@ -102,22 +89,10 @@ fn events_are_listed_by_stamp(rt: HostRuntime) {
         rt.alloc(),
         &[
             (0, 1000, 0, Ask::Create, Answers::Made(1)),
-            (
-                1,
-                1000,
-                0,
-                Ask::Configure(Settings::standard(), 1),
-                Answers::Done,
-            ),
+            (1, 1000, 0, Ask::Open, Answers::Done),
             (2, 2000, 0, Ask::Purge, Answers::Done),
             (3, 2000, 0, Ask::Look(None), Answers::GaveAll(0)),
-            (
-                4,
-                1000,
-                1,
-                Ask::Configure(Settings::standard(), 1),
-                Answers::Done,
-            ),
+            (4, 1000, 1, Ask::Open, Answers::Done),
             (5, 1500, 1, Ask::Send(None), Answers::Sent(0, 0)),
             (6, 2000, 1, Ask::Look(None), Answers::Gave(1, 32_000)),
             (7, 3000, 1, Ask::Look(None), Answers::GaveAll(0)),
@@ -171,7 +146,7 @@ fn a_run_goes_on_after_a_refusal(rt: HostRuntime) {
         &rt,
         rt.alloc(),
         &[
-            (1, 0, Ask::Configure(Settings::standard(), 1)),
+            (1, 0, Ask::Open),
             (1, 2, Ask::Purge),
             (2, 0, Ask::Purge),
             (1, 0, Ask::Purge),
