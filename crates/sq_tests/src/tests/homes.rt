@@ -1,5 +1,5 @@
 //! What is asked of homes that no client asks, with values from the rules of the queue; and one home alone.
-use crate::setup::{
+use super::setup::{
     Answers, Ask, CLOCK_END, Line, answer_of, home, home_act, options, played, stamp,
 };
 use sq_base::ids::QueueNo;

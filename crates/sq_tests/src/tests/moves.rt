@@ -2,8 +2,8 @@
 ghost use Rattle.std.specs.Prelude.{◌<◌};
 ghost use Rattle.sq_base.specs.Stamps.{stamp_end};
 
-use crate::audits::fault;
-use crate::setup::{CLOCK_END, create_call, named, options, receive_call, send_call, stamp};
+use super::audits::fault;
+use super::setup::{CLOCK_END, create_call, named, options, receive_call, send_call, stamp};
 use sq_audit::check::AuditFault;
 use sq_audit::parts::Parts;
 use sq_base::ids::{HomeId, HomeNo, QueueNo};

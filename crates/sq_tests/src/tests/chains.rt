@@ -1,8 +1,8 @@
 //! Runs of steps chosen at random over two chains of dead-letter queues, and what the audit says of them.
 ghost use Rattle.std.specs.Prelude.{◌≤◌};
 
-use crate::audits::{Choices, directory_act, fault, taken_out};
-use crate::setup::{hello, home, named, receipt};
+use super::audits::{Choices, directory_act, fault, taken_out};
+use super::setup::{hello, home, named, receipt};
 use sq_audit::check::AuditFault;
 use sq_audit::merge::merge;
 use sq_audit::parts::Parts;

@@ -1,5 +1,5 @@
 //! Where messages are after the events of a home, and the texts of that.
-use crate::setup::{Answers, Ask, Line, first_wrong, id, options, stamp};
+use super::setup::{Answers, Ask, Line, first_wrong, id, options, stamp};
 use sq_audit::merge::merge;
 use sq_base::stamp::Stamp;
 use sq_merge::world::World;

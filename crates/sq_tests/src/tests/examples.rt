@@ -1,5 +1,5 @@
 //! The library in use, from a service without queues to where its messages are.
-use crate::setup::{create_call, named, options, receive_call, send_call};
+use super::setup::{create_call, named, options, receive_call, send_call};
 use sq_audit::merge::merge;
 use sq_base::handle::Handle;
 use sq_base::message_id::MessageId;

@@ -1,5 +1,5 @@
 //! Calls of clients: what no script shows, since it follows from the seed or from a home that is closed.
-use crate::setup::{Answers, Ask, create_call, first_wrong, options, receive_call, send_call};
+use super::setup::{Answers, Ask, create_call, first_wrong, options, receive_call, send_call};
 use sq_audit::merge::merge;
 use sq_base::ranges::MaxMessages;
 use sq_base::refusal::Refusal;

@@ -1,7 +1,7 @@
 //! Runs of steps chosen at random, what the audit says of them, and of each record that is taken out.
 ghost use Rattle.std.specs.Prelude.{◌<◌, ◌≤◌};
 
-use crate::setup::{hello, home, named, options, receipt};
+use super::setup::{hello, home, named, options, receipt};
 use sq_audit::check::AuditFault;
 use sq_audit::merge::merge;
 use sq_audit::parts::Parts;

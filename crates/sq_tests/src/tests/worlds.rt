@@ -1,5 +1,5 @@
 //! Steps of several actors at several homes, and the one order of it all.
-use crate::setup::{Answers, Ask, CLOCK_END, Line, first_wrong, home, options, played, step};
+use super::setup::{Answers, Ask, CLOCK_END, Line, first_wrong, home, options, played, step};
 use sq_audit::merge::merge;
 use sq_audit::parts::Parts;
 use sq_audit::run::Run;
