@@ -31,11 +31,8 @@ fn reading_at(value: &Value, name: &str) -> Result<Option<u64>, Refusal>
     ensures { result ≡ reading (get name.now (view value.now)) }
 {
     match value.get(name) {
+        Some(member) => Ok(Some(member.as_u64().ok_or(Refusal::InvalidRequest)?)),
         None => Ok(None),
-        Some(member) => match member.as_u64() {
-            Some(reading) => Ok(Some(reading)),
-            None => Err(Refusal::InvalidRequest),
-        },
     }
 }
 
