@@ -10,40 +10,36 @@ use sq_steps::act::Step;
 use std::alloc::Global;
 use std::process::Abort;
 
-// The part of an event, 0 for the list of queues, then one more for each home, and the last number for the ledger alone; its
-// moment and its count.
-type Seen = (u32, u64, u64);
-
-fn seen_of(event: Tagged<'_>) -> Seen {
-    let part = match event {
+// The number of the part of an event: 0 for the list of queues, then one more for each home, and the last one for the ledger alone.
+fn part_of(event: &Tagged<'_>) -> u32 {
+    match event {
         Tagged::Directory(_) => 0,
         Tagged::Home(place, _) => place.saturating_add(1),
         Tagged::Ledger(_) => u32::MAX,
-    };
-    let stamp = event.stamp();
-    (part, stamp.moment, stamp.count)
-}
-
-// The first event of a run that is another, with its place.
-fn first_other(run: &Run<'_>, want: &[Seen]) -> Option<(usize, Option<Seen>)> {
-    for at in 0..run.len().max(want.len()) {
-        let seen = run.event(at).map(seen_of);
-        if seen != want.get(at).copied() {
-            return Some((at, seen));
-        }
     }
-    None
 }
 
-// What is otherwise in a script, and in the run that it leaves.
-type Wrong = (Option<(usize, Answers)>, Option<(usize, Option<Seen>)>);
+// The events of a run as a text, each as the number of its part and its stamp.
+fn order_of(rt: &impl Abort, alloc: Global, run: &Run<'_>) -> String {
+    let mut order = String::new(alloc);
+    for at in 0..run.len() {
+        let event = run.event(at).expect(rt, "an event");
+        let (part, stamp) = (part_of(&event), event.stamp());
+        let text = format!(in alloc; " {part}@{}.{}", stamp.moment, stamp.count);
+        order
+            .push_str(text.expect(rt, "memory").as_str())
+            .expect(rt, "memory");
+    }
+    order
+}
 
-fn wrong_of(rt: &impl Abort, alloc: Global, lines: &[Line], events: &[Seen]) -> Wrong {
+// Does the lines of a script, each of which is answered as it says, and leaves events in this order.
+fn leave(rt: &impl Abort, alloc: Global, lines: &[Line], order: &str) {
     let mut world = World::new(alloc, options(2, 10, 16)).expect(rt, "memory");
-    let line = first_wrong(alloc, &mut world, lines);
+    assert_eq!(rt; first_wrong(alloc, &mut world, lines), None);
     let parts = world.parts();
     let run = merge(alloc, &parts).expect(rt, "one run");
-    (line, first_other(&run, events))
+    assert_eq!(rt; order_of(rt, alloc, &run).as_str(), order);
 }
 
 // The list of queues and two homes are opened, and two more actors look at both homes. There is no third home, and the clock has
@@ -53,62 +49,37 @@ fn steps_of_three_actors_have_one_order(rt: HostRuntime) {
     let nothing = Answers::GaveAll(0);
     let no_such_home = Answers::Refused(Refusal::QueueDoesNotExist);
     let late = Answers::Refused(Refusal::ClockRange);
-    let wrong = wrong_of(
-        &rt,
-        rt.alloc(),
-        &[
-            (0, 0, 0, Ask::Create, Answers::Made(1)),
-            (0, 0, 0, Ask::Open, Answers::Done),
-            (0, 0, 1, Ask::Open, Answers::Done),
-            (5, 0, 2, Ask::Look(None), no_such_home),
-            (5, CLOCK_END, 2, Ask::Look(None), late),
-            (5, CLOCK_END, 0, Ask::Look(None), late),
-            (1, 0, 0, Ask::Look(None), nothing),
-            (2, 0, 1, Ask::Look(None), nothing),
-            (1, 0, 1, Ask::Look(None), nothing),
-            (2, 0, 0, Ask::Look(None), nothing),
-        ],
-        &[
-            (0, 0, 1),
-            (1, 0, 2),
-            (1, 0, 3),
-            (2, 0, 3),
-            (2, 0, 4),
-            (1, 0, 5),
-            (2, 0, 5),
-        ],
-    );
-    assert_eq!(rt; wrong, (None, None));
+    let lines = [
+        (0, 0, 0, Ask::Create, Answers::Made(1)),
+        (0, 0, 0, Ask::Open, Answers::Done),
+        (0, 0, 1, Ask::Open, Answers::Done),
+        (5, 0, 2, Ask::Look(None), no_such_home),
+        (5, CLOCK_END, 2, Ask::Look(None), late),
+        (5, CLOCK_END, 0, Ask::Look(None), late),
+        (1, 0, 0, Ask::Look(None), nothing),
+        (2, 0, 1, Ask::Look(None), nothing),
+        (1, 0, 1, Ask::Look(None), nothing),
+        (2, 0, 0, Ask::Look(None), nothing),
+    ];
+    let order = " 0@0.1 1@0.2 1@0.3 2@0.3 2@0.4 1@0.5 2@0.5";
+    leave(&rt, rt.alloc(), &lines, order);
 }
 
 // Each step is of another actor, so that a stamp follows from its part alone. A message is given where it is.
 #[test]
 fn events_are_listed_by_stamp(rt: HostRuntime) {
-    let wrong = wrong_of(
-        &rt,
-        rt.alloc(),
-        &[
-            (0, 1000, 0, Ask::Create, Answers::Made(1)),
-            (1, 1000, 0, Ask::Open, Answers::Done),
-            (2, 2000, 0, Ask::Purge, Answers::Done),
-            (3, 2000, 0, Ask::Look(None), Answers::GaveAll(0)),
-            (4, 1000, 1, Ask::Open, Answers::Done),
-            (5, 1500, 1, Ask::Send(None), Answers::Sent(0, 0)),
-            (6, 2000, 1, Ask::Look(None), Answers::Gave(1, 32_000)),
-            (7, 3000, 1, Ask::Look(None), Answers::GaveAll(0)),
-        ],
-        &[
-            (0, 1000, 0),
-            (1, 1000, 0),
-            (2, 1000, 0),
-            (2, 1500, 0),
-            (1, 2000, 0),
-            (2, 2000, 0),
-            (1, 2000, 1),
-            (2, 3000, 0),
-        ],
-    );
-    assert_eq!(rt; wrong, (None, None));
+    let lines = [
+        (0, 1000, 0, Ask::Create, Answers::Made(1)),
+        (1, 1000, 0, Ask::Open, Answers::Done),
+        (2, 2000, 0, Ask::Purge, Answers::Done),
+        (3, 2000, 0, Ask::Look(None), Answers::GaveAll(0)),
+        (4, 1000, 1, Ask::Open, Answers::Done),
+        (5, 1500, 1, Ask::Send(None), Answers::Sent(0, 0)),
+        (6, 2000, 1, Ask::Look(None), Answers::Gave(1, 32_000)),
+        (7, 3000, 1, Ask::Look(None), Answers::GaveAll(0)),
+    ];
+    let order = " 0@1000.0 1@1000.0 2@1000.0 2@1500.0 1@2000.0 2@2000.0 1@2000.1 2@3000.0";
+    leave(&rt, rt.alloc(), &lines, order);
 }
 
 #[test]
