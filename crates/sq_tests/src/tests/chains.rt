@@ -526,10 +526,11 @@ fn audited(
     let places = places_of(alloc, &run).expect(rt, "memory");
     let in_transit = count_of(&places, Place::InTransit);
     let in_homes = count_of(&places, Place::InHome);
+    let moves = seen.moves;
     (
         [run.len(), sent.len(), places.len(), in_transit, in_homes],
         [seen.events, seen.sends, seen.sends, items, rows],
-        seen.moves,
+        moves,
     )
 }
 

@@ -337,7 +337,7 @@ type Row<'a> = (Move, &'a [(u32, Told)]);
 // The first of these moves, at 1000 ms, that tells something else, by its row and its queue.
 fn first_other(alloc: Global, world: &mut World, rows: &[Row<'_>]) -> Option<(usize, u32, Told)> {
     for (place, (what, wants)) in rows.iter().enumerate() {
-        if let Some((queue, told)) = other_told(alloc, world, *what, wants) {
+        if let Some((queue, told)) = other_told(alloc, world, what, wants) {
             return Some((place, queue, told));
         }
     }
@@ -347,11 +347,11 @@ fn first_other(alloc: Global, world: &mut World, rows: &[Row<'_>]) -> Option<(us
 fn other_told(
     alloc: Global,
     world: &mut World,
-    what: Move,
+    what: &Move,
     wants: &[(u32, Told)],
 ) -> Option<(u32, Told)> {
     for (queue, want) in wants {
-        let told = moved(alloc, world, 1000, *queue, what);
+        let told = moved(alloc, world, 1000, *queue, *what);
         if told != *want {
             return Some((*queue, told));
         }
