@@ -1,15 +1,16 @@
 //! The steps that a home shares with the ledger: the home's half, with its event and its record.
-ghost use Rattle.std.specs.Prelude.{◌≡◌, ◌++◌, ◌∷◌, [], length, false, not, Option, Some, None, Ok, option_map, IfOk, IfErr, IfSome, IfNone, OnErr};
+ghost use Rattle.std.specs.Prelude.{◌≡◌, ◌⊎◌, ◌++◌, ◌∷◌, [], length, false, not, Option, Some, None, Ok, option_map, IfOk, IfErr, IfSome, IfNone, OnErr};
 ghost use Rattle.sq_base.specs.Stamps.{Below, start};
 ghost use Rattle.sq_model.specs.Replays.{StampsRise};
 ghost use Rattle.sq_model.specs.declared.item.Item.{Item as Moved};
 ghost use Rattle.sq_model.specs.declared.item.Reason.TheVariants.{DeadLetter};
-ghost use Rattle.sq_model.specs.declared.calls.HomeCall.TheVariants.{LeaveDead, Enter, TurnBack, GiveBack, GiveUp};
+ghost use Rattle.sq_model.specs.declared.task.Task.{Task as Taking};
+ghost use Rattle.sq_model.specs.declared.calls.HomeCall.TheVariants.{LeaveDead, LeaveTask, Enter, TurnBack, GiveBack, GiveUp};
 ghost use Rattle.sq_model.specs.declared.replies.HomeReply.TheVariants.{Left};
 ghost use Rattle.sq_model.specs.Homes.{IsFrom, IsIdle, refused_if};
 ghost use Rattle.sq_model.specs.Shared.{is_entering, is_returning};
 ghost use Rattle.sq_shard.specs.Moves.{coming_refusal, closed_refusal};
-ghost use Rattle.sq_history.specs.Halves.{DoesHalf, IsLeaveRefused, IsItemRefused};
+ghost use Rattle.sq_history.specs.Halves.{DoesHalf, IsLeaveRefused, IsItemRefused, IsTaker, IsTaskAnswer, IsTaskRefused, IsThrottled};
 ghost use Rattle.sq_history.specs.Histories.{new_event, new_record};
 ghost use Rattle.sq_history.specs.Rooms.{IsReady, KeepsRoom};
 
@@ -17,6 +18,7 @@ use crate::act::Answer;
 use crate::log::Log;
 use crate::record::HomeRecord;
 use crate::recorded::Recorded;
+use crate::task_leave::{TaskAnswer, TaskLeave, leave_for_task};
 use sq_base::ids::{HomeId, QueueNo};
 use sq_base::name::QueueName;
 use sq_base::refusal::Refusal;
@@ -45,10 +47,10 @@ pub struct HomeHalf {
 
 // An item three times: for the event, for its record, and for the ledger.
 #[derive(Drop)]
-struct Copies {
-    kept: BoxedItem,
-    for_record: BoxedItem,
-    for_ledger: BoxedItem,
+pub(crate) struct Copies {
+    pub(crate) kept: BoxedItem,
+    pub(crate) for_record: BoxedItem,
+    pub(crate) for_ledger: BoxedItem,
 }
 
 impl Model for Copies {
@@ -64,7 +66,7 @@ impl Model for Copies {
 
 impl Copies {
     // Refused as NoMemory.
-    fn of(alloc: Global, item: &Item) -> Result<Copies, Refusal>
+    pub(crate) fn of(alloc: Global, item: &Item) -> Result<Copies, Refusal>
         ensures copies { IfOk result (λ copies. copies ≡ item.now) }
         ensures refused { IfErr result (λ e. e ≡ Refusal.NoMemory) }
     {
@@ -189,6 +191,49 @@ impl<S: Store> Recorded<S> {
         let answers = (answer, HomeReply::Left(for_ledger));
         let half = note(&mut self.log, by, stamp, &home, name, calls, answers);
         Ok(Some((half, dead_letter(number, row, home.queue, target))))
+    }
+
+    /// A live message, any of them, leaves for a move task, at a stamp that was drawn: it is told with the item that it
+    /// becomes. Recorded, with no item, is that none is live (NoLiveRow), that the one that was chosen has no queue to go
+    /// to and stays (NoOrigin), or that the home is closed (SourceClosed). None where the task is at its rate, which is no
+    /// event.
+    /// Refused as NoMemory (the history has room for none, or the message that leaves is copied), QueueDoesNotExist
+    /// (never opened), then as the ledger says of the task, and where a message is live as it says of the next item.
+    #[tactic(auto, using(crate::proofs::HistoryLaws::kept_shared))]
+    pub fn leave_task(
+        &mut self,
+        alloc: Global,
+        by: &Actor,
+        stamp: Stamp,
+        name: Option<QueueName>,
+        asked: &TaskLeave,
+    ) -> Result<Option<(HomeHalf, Option<Item>)>, Refusal>
+        requires above_last { Below self.old.last stamp }
+        requires above_seen { Below by.now.seen stamp }
+        ensures recorded { IfOk result (λ told. IfSome told (λ t. DoesHalf self.old self.new by.now stamp name (LeaveTask asked.now.number) t.0)) }
+        ensures answer { IfOk result (λ told. IfSome told (λ t. (task : Taking) × IsTaker asked.now task × IsTaskAnswer asked.now task t.0.its_record.reply t.1)) }
+        ensures throttled { IfOk result (λ told. IfNone told (IsThrottled self.old.home asked.now × (self.new ≡ self.old))) }
+        ensures refusal { IfErr result (λ e. ((e ≡ Refusal.NoMemory) × (self.old.room ≡ 0)) ⊎ IsTaskRefused self.old.site self.old.home stamp.moment asked.now e) }
+        ensures err { OnErr result (self.new ≡ self.old) }
+    {
+        self.log.reserve()?;
+        let Some(told) = leave_for_task(alloc, &mut self.shard, stamp.moment, asked)? else {
+            return Ok(None);
+        };
+        let TaskAnswer {
+            answer,
+            for_ledger,
+            left,
+        } = told;
+        let home = self.shard.site().home;
+        let calls = (
+            HomeCall::LeaveTask(asked.number),
+            HomeCall::LeaveTask(asked.number),
+            HomeCall::LeaveTask(asked.number),
+        );
+        let answers = (answer, for_ledger);
+        let half = note(&mut self.log, by, stamp, &home, name, calls, answers);
+        Ok(Some((half, left)))
     }
 
     /// The item comes in here, at its target, at a stamp that was drawn.

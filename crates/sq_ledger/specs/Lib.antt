@@ -1,2 +1,3 @@
 pub mod LedgerHistory
 pub mod LedgerHistories
+pub mod TaskIndexes

@@ -4,3 +4,4 @@
 pub mod events;
 pub mod items;
 pub mod ledger;
+pub mod tasks;

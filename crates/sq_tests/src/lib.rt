@@ -24,6 +24,8 @@ mod setup;
 #[cfg(test)]
 mod streams;
 #[cfg(test)]
+mod tasks;
+#[cfg(test)]
 mod values;
 #[cfg(test)]
 mod worlds;
