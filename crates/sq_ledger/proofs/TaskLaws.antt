@@ -407,3 +407,20 @@ goes_on source first number place rows row last active listed new kept is le nex
 
 pub pushed_length : (listed new : List Task) (task : Task) (n : ℕ) → length listed ≡ n → new ≡ listed ++ task ∷ [] → length new ≡ n + 1
 pushed_length listed new task n is pushed = ap (λ (l : List Task). length l) pushed ∙ one_longer listed task ∙ ap (λ (k : ℕ). k + 1) is
+
+-- ---- the most recent task of a source
+
+is_none : (o : Option Task) → option_map number_of o ≡ None → o ≡ None
+is_none None h = refl
+is_none (Some t) h = absurd cc
+
+pub last_none : (source : ℕ) (tasks : List Task) → newest source tasks ≡ None → slice_get (tasks_from source tasks) 0 ≡ None
+last_none source tasks none = is_none (slice_get (tasks_from source tasks) 0) none
+
+pub last_found : (source number : ℕ) (tasks : List Task) → TasksCount 1 tasks → newest source tasks ≡ Some number → find (is_task number) tasks ≡ slice_get (tasks_from source tasks) 0
+last_found source number tasks count is =
+    let whole : take (length tasks) tasks ≡ tasks = take_whole (length tasks) tasks (omega arith) in
+    let r = chain source tasks (length tasks) number count (omega arith) (ap (λ (l : List Task). newest source l) whole ∙ is) in
+    let place = r.is in
+    found_at number 1 tasks r.place count (omega (arith, place)) ∙ r.there
+    ∙ sym (ap (λ (l : List Task). slice_get (tasks_from source l) 0) (sym whole) ∙ ap (λ (l : List Task). slice_get l 0) r.rest)

@@ -1,3 +1,4 @@
 pub mod LedgerHistory
 pub mod LedgerHistories
 pub mod TaskIndexes
+pub mod ItemMoves

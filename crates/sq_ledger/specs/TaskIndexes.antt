@@ -1,9 +1,11 @@
 -- What contracts see of the tasks, how the tasks of a source are found, and what is done to one task.
-use Rattle.std.specs.Prelude.{◌≡◌, ℕ, ◌<◌, true, List, map, count_by, filter, reverse, take, Option, Some, None, option_map, slice_get}
+use Rattle.std.specs.Prelude.{◌≡◌, ℕ, ◌<◌, true, List, map, count_by, filter, find, reverse, take, Option, Some, None, option_map, slice_get}
 use Rattle.std.specs.BTreeMap.{BTreeMap, get}
 use Rattle.std.specs.Ordering.{nat_cmp}
+use Rattle.sq_model.specs.declared.item.Reason.{Reason}
+use Rattle.sq_model.specs.declared.item.Reason.TheVariants.{Task as ForTask}
 use Rattle.sq_model.specs.declared.task.Task.{Task}
-use Rattle.sq_model.specs.Ledgers.{finish_refusal, is_of_source, last_number, TasksCount}
+use Rattle.sq_model.specs.Ledgers.{finish_refusal, is_of_source, is_task, last_number, TasksCount}
 use Rattle.sq_model.specs.Tasks.{is_active, is_running, may_leave, cancelled_as, failed_as, finished_as, with_back, with_given_up, with_left, with_moved, with_status}
 use Rattle.sq_task.specs.Counts.{unsettled}
 use Rattle.sq_ledger.specs.declared.tasks.TaskChange.{TaskChange}
@@ -60,3 +62,7 @@ MayChange Dropped task = 0 < unsettled task
 MayChange Cancelled task = is_running task.status ≡ true
 MayChange Finished task = finish_refusal (unsettled task) (Some task) ≡ None
 MayChange (Failed reason) task = Unit {0}
+
+-- where the reason is a task, this may be done to that one
+abbrev pub MayChangeFor : TaskChange → Reason → List Task → Type 0
+MayChangeFor change reason tasks = (number : ℕ) → reason ≡ ForTask number → (task : Task) × (find (is_task number) tasks ≡ Some task) × MayChange change task

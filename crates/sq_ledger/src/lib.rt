@@ -4,4 +4,6 @@
 pub mod events;
 pub mod items;
 pub mod ledger;
+pub mod record;
+pub mod task_calls;
 pub mod tasks;

@@ -1,15 +1,15 @@
 //! The tasks that move messages, in order of their start.
-ghost use Rattle.std.specs.Prelude.{◌≡◌, ◌+◌, ◌-◌, ◌<◌, ◌≤◌, ◌++◌, ◌∷◌, [], OnOk, OnErr, IfOk, IfErr, Some, find, length, not, option_map, take, ◌&&◌};
+ghost use Rattle.std.specs.Prelude.{◌≡◌, ◌+◌, ◌-◌, ◌<◌, ◌≤◌, ◌++◌, ◌∷◌, [], OnOk, OnErr, IfOk, IfErr, Some, find, length, not, option_map, slice_get, take, ◌&&◌};
 ghost use Rattle.sq_model.specs.declared.task.Task.{Task as TaskValue};
-ghost use Rattle.sq_model.specs.Ledgers.{changed_task, is_task, last_number, TasksCount};
+ghost use Rattle.sq_model.specs.Ledgers.{changed_for, changed_task, is_task, TasksCount};
 ghost use Rattle.sq_model.specs.Tasks.{is_active, new_task};
 ghost use Rattle.sq_history.specs.Rooms.{IsReady, KeepsRoom};
-ghost use Rattle.sq_ledger.specs.TaskIndexes.{changed_by, how_many_active, newest, tasks_from, MayChange};
+ghost use Rattle.sq_ledger.specs.TaskIndexes.{changed_by, how_many_active, newest, tasks_from, MayChange, MayChangeFor};
 
 use sq_base::ids::QueueNo;
 use sq_base::ranges::{MaxResults, Rate};
 use sq_base::refusal::Refusal;
-use sq_model::item::TaskNo;
+use sq_model::item::{Reason, TaskNo};
 use sq_model::listed::Listed;
 use sq_model::task::{FailureReason, NamedQueue, Task};
 use sq_task::task::MoveTask;
@@ -101,6 +101,13 @@ impl Tasks {
         Some(&row.task)
     }
 
+    /// The most recent task of a source.
+    pub fn last(&self, source: QueueNo) -> Option<&MoveTask>
+        ensures { option_map (λ task. task.now) result ≡ slice_get (tasks_from source self.now.items) 0 }
+    {
+        self.get(self.last_of(source)?)
+    }
+
     /// The number of the most recent task of a source.
     pub fn last_of(&self, source: QueueNo) -> Option<TaskNo>
         ensures { result ≡ newest source self.now.items }
@@ -172,6 +179,19 @@ impl Tasks {
         self.active += 1;
         self.room = self.rows.capacity() - self.rows.len();
         Ok(())
+    }
+
+    /// Does this to the task that a message is moved for, if it is moved for one.
+    pub fn change_for(&mut self, reason: Reason, change: TaskChange)
+        requires may { MayChangeFor change reason self.old.items }
+        ensures items { self.new.items ≡ changed_for reason (changed_by change) self.old.items }
+        ensures room { self.new.room ≡ self.old.room }
+        ensures reserved { self.new.reserved ≡ self.old.reserved }
+    {
+        match reason {
+            Reason::DeadLetter => {}
+            Reason::Task(number) => self.change(number, change),
+        }
     }
 
     /// Does this to the task of a number, which it may be done to.
