@@ -1,20 +1,24 @@
 -- What the ledger does with tasks by itself: each call is a step of the model, or is refused as it says.
-use Rattle.std.proofs.Common.{◌≡◌, ◌⊎◌, ℕ, zero, ◌+◌, ◌<◌, ◌≤◌, Bool, true, false, not, List, [], ◌∷◌, ◌++◌, length, Option, Some, None, refl, sym, ap, ◌∙◌, subst, arith}
+use Rattle.std.proofs.Common.{◌≡◌, ◌⊎◌, ℕ, zero, ◌+◌, ◌<◌, ◌≤◌, Bool, true, false, not, List, [], ◌∷◌, ◌++◌, length, Option, Some, None, Ok, refl, sym, ap, inr, ◌∙◌, subst, arith}
 use Rattle.std.specs.Prelude.{◌&&◌, ◌||◌, ◌==◌, count_by, find, nat_le, nat_lt, option_map, slice_get, take}
 use Rattle.std.specs.List.{list_any}
 use Rattle.std.proofs.lemmas.Grind.{common_steps}
 use Rattle.sq_base.specs.StampValue.{StampValue}
-use Rattle.sq_base.specs.declared.ids.HomeId.{HomeId}
+use Rattle.sq_base.specs.Stamps.{after}
 use Rattle.sq_base.specs.declared.refusal.Refusal.{Refusal}
 use Rattle.sq_base.specs.declared.refusal.Refusal.TheVariants.{Worn, OverLimit, UnsupportedOperation}
 use Rattle.sq_model.specs.declared.item.Item.{Item}
 use Rattle.sq_model.specs.declared.item.Reason.TheVariants.{Task as ForTask}
+use Rattle.sq_model.specs.declared.event.Actor.{Actor}
+use Rattle.sq_model.specs.declared.ledger.LedgerCall.{LedgerCall}
 use Rattle.sq_model.specs.declared.ledger.LedgerCall.TheVariants as asks
+use Rattle.sq_model.specs.declared.ledger.LedgerReply.{LedgerReply}
 use Rattle.sq_model.specs.declared.ledger.LedgerReply.TheVariants as answers
 use Rattle.sq_model.specs.declared.task.NamedQueue.{NamedQueue}
 use Rattle.sq_model.specs.declared.task.Task.{Task}
 use Rattle.sq_model.specs.Homes.{refused_if}
 use Rattle.sq_model.specs.Ledgers.{Ledger, LedgerStep, IsLedger, IsTask, cancel_refusal, changed_task, finish_refusal, in_transit, is_active_at, is_of_source, is_still_active, is_task, last_number, last_task, ledger_refusal, most_active, task_of, tasks_of}
+use Rattle.sq_model.specs.RecordValues.{LedgerRecordValue, record_of}
 use Rattle.sq_model.specs.Tasks.{cancelled_as, finished_as, is_active, is_running, new_task, with_status}
 use Rattle.sq_model.proofs.SlotLaws.{not_false}
 use Rattle.sq_laws.proofs.LedgerLists.{found_number, found_of_all, one_longer, some_same}
@@ -22,8 +26,10 @@ use Rattle.sq_laws.proofs.LedgerLaws.{last_is_active}
 use Rattle.sq_laws.proofs.Progress.{neither, passed}
 use Rattle.sq_task.specs.Counts.{settled, unsettled}
 use Rattle.sq_ledger.specs.declared.tasks.TaskChange.TheVariants as to
-use Rattle.sq_ledger.specs.LedgerHistory.{LedgerHistory, ledger_with}
-use Rattle.sq_ledger.specs.LedgerHistories.{IsLedgerKept, MayStart, start_refusal}
+use Rattle.sq_history.specs.LogValue.{LogValue}
+use Rattle.sq_history.specs.Rooms.{GrowingValue, KeepsRoom}
+use Rattle.sq_ledger.specs.LedgerHistory.{LedgerHistory, history_of, ledger_with}
+use Rattle.sq_ledger.specs.LedgerHistories.{IsLedgerKept, IsLedgerRefused, KeepsTaskRoom, LedgerRecords, MayStart, own_event, start_refusal}
 use Rattle.sq_ledger.specs.TaskIndexes.{MayChange, changed_by, how_many_active}
 use Rattle.sq_ledger.proofs.LedgerLaws.{for_reason, holds, in_transit_of, next_is}
 
@@ -76,6 +82,24 @@ finished items next tasks limit m number may =
     let f = finishes (in_transit number items) (find (is_task number) tasks) may in
     ((f.0, f.1, f.2), f.3, for_reason items next tasks limit (ForTask number) (with_status finished_as))
 
+-- ---- a step with its event
+
+-- the record of a step that leaves these tasks
+pub recorded_as : (items : GrowingValue Item) (next : ℕ) (tasks changed : GrowingValue Task) (limit : ℕ) (log begun new : LogValue LedgerCall LedgerReply) (by : Actor) (now : ℕ) (stamp : StampValue) (call : LedgerCall) (reply : LedgerReply) (its_record : LedgerRecordValue)
+    → after log.last by.seen now ≡ Ok stamp → LedgerStep (ledger_with items.items next tasks.items limit) stamp.moment call reply (ledger_with items.items next changed.items limit)
+    → begun.events ≡ log.events → begun.room ≡ log.room → new.last ≡ stamp → new.events ≡ begun.events ++ own_event stamp by call reply ∷ [] → KeepsRoom begun.room new.room → KeepsTaskRoom call tasks.room changed.room
+    → its_record ≡ record { place = by.place; stamp = stamp; index = length begun.events; call = call; reply = reply }
+    → LedgerRecords (history_of items next tasks limit log) (history_of items next changed limit new) by now call its_record
+recorded_as items next tasks changed limit log begun new by now stamp call reply its_record stamped step same_events same_room last events room task_room is =
+    let event = own_event stamp by call reply in
+    let did : LedgerRecords (history_of items next tasks limit log) (history_of items next changed limit new) by now call (record_of (length log.events) event)
+    = record { stamped = stamped; step = step; last = last; events = rw same_events at events; room = rw same_room at room; item_room = refl; task_room = task_room; record_is = refl } in
+    subst (λ (r : LedgerRecordValue). LedgerRecords (history_of items next tasks limit log) (history_of items next changed limit new) by now call r) (sym (is ∙ ap (λ (n : ℕ). record_of n event) (ap length same_events))) did
+
+-- it is refused where a check of it fails
+pub refused_as : (h : LedgerHistory) (by : Actor) (now : ℕ) (call : LedgerCall) (stamp : StampValue) (e : Refusal) → after h.last by.seen now ≡ Ok stamp → ledger_refusal h.ledger stamp.moment call ≡ Some e → IsLedgerRefused h by now call e
+refused_as h by now call stamp e stamped refused = inr (inr (stamp, stamped, refused))
+
 -- ---- what may be done to a task
 
 -- of a task that is there as many are in transit as its counts say
@@ -101,6 +125,22 @@ may_be_cancelled tasks number moved may = (may.0, may.1, may.2)
 -- how many of a task are in transit is what is left of those that left
 pub waits : (h : LedgerHistory) → IsLedgerKept h → (number waiting : ℕ) (task : Task) → find (is_task number) h.ledger.tasks ≡ Some task → task.left ≡ settled task + waiting → in_transit number h.ledger.items ≡ waiting
 waits h kept number waiting task found is = let t = transit_is h kept number task found in omega (arith, t, is)
+
+pub ends : (waiting : ℕ) (found : Option Task) (task : Task) → found ≡ Some task → is_active task.status ≡ false → finish_refusal waiting found ≡ Some UnsupportedOperation
+ends waiting found task is over = rw (is, over) refl
+
+or_true : (b : Bool) → (b || true) ≡ true
+or_true true = refl
+or_true false = refl
+
+some_wait : (n : ℕ) → 0 < n → nat_lt 0 n ≡ true
+some_wait n h = grind (arith, common_steps)
+
+pub not_yet : (waiting : ℕ) (found : Option Task) (task : Task) → found ≡ Some task → 0 < waiting → finish_refusal waiting found ≡ Some UnsupportedOperation
+not_yet waiting found task is wait = rw (is, some_wait waiting wait, or_true (not (is_active task.status))) refl
+
+pub may_end : (waiting : ℕ) (found : Option Task) (task : Task) → found ≡ Some task → is_active task.status ≡ true → waiting ≡ 0 → finish_refusal waiting found ≡ None
+may_end waiting found task is active none = rw (is, active, none) refl
 
 -- ---- the next number
 

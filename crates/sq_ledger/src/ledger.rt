@@ -252,9 +252,10 @@ impl TransitLedger {
         ensures shares { LedgerShares self.old.history self.new.history by.now stamp home.now kept.0 kept.1 }
         ensures item_reserved { self.old.item_reserved ≤ self.new.item_reserved }
     {
-        let reason = reason_of(&self.items, number.get());
+        let at = number.get();
+        let reason = reason_of(&self.items, at);
         self.tasks.change_for(reason, change);
-        move_in(&mut self.items, number.get(), change);
+        move_in(&mut self.items, at, change);
         self.items.show_room();
         add_event(&mut self.log, by, stamp, home, kept);
     }

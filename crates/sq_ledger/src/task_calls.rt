@@ -32,6 +32,16 @@ use std::alloc::Global;
 /// How many tasks may be active in all. Own.
 const MOST_ACTIVE: usize = 100;
 
+/// What a task is to move.
+#[derive(Clone, Copy, PartialEq, Eq, Debug)]
+pub struct TaskStart {
+    pub source: NamedQueue,
+    /// Without one each message goes to the queue that it came from.
+    pub destination: Option<NamedQueue>,
+    /// How many messages in a second; without it 500.
+    pub rate: Option<Rate>,
+}
+
 impl TransitLedger {
     /// The task of a number. It takes no memory.
     pub fn read_task(&self, number: TaskNo) -> Option<&Task>
@@ -69,35 +79,32 @@ impl TransitLedger {
         }
     }
 
-    /// Starts a task that moves the messages of a source to a destination, or without one each to the queue that it came from.
+    /// Starts a task, and gives its number.
     /// Refused as NoMemory (there is room for no event or no task, or the source had no task), ClockRange, Worn,
     /// UnsupportedOperation (a task of the source is active), OverLimit (100 tasks are active).
     pub fn start_task(
         &mut self,
         by: &Actor,
         now: u64,
-        source: NamedQueue,
-        destination: Option<NamedQueue>,
-        rate: Option<Rate>,
+        asked: &TaskStart,
     ) -> Result<(TaskNo, LedgerRecord), Refusal>
-        ensures recorded { IfOk result (λ r. LedgerRecords self.old.history self.new.history by.now now (asks.StartTask source destination rate) r.1) }
+        ensures recorded { IfOk result (λ r. LedgerRecords self.old.history self.new.history by.now now (asks.StartTask asked.now.source asked.now.destination asked.now.rate) r.1) }
         ensures answered { IfOk result (λ r. r.1.reply ≡ answers.Started r.0) }
-        ensures refusal { IfErr result (IsLedgerRefused self.old.history by.now now (asks.StartTask source destination rate)) }
+        ensures refusal { IfErr result (IsLedgerRefused self.old.history by.now now (asks.StartTask asked.now.source asked.now.destination asked.now.rate)) }
         ensures err { OnErr result (self.new.history ≡ self.old.history) }
     {
         let stamp = self.log.begin(by, now)?;
-        let number = self.next_task(source.number)?;
+        let number = self.next_task(asked.source.number)?;
         self.tasks.reserve()?;
-        self.tasks
-            .start(number, source, destination, rate, stamp.moment)?;
-        let kept = (
-            LedgerCall::StartTask(source, destination, rate),
-            LedgerReply::Started(number),
-        );
-        let for_record = (
-            LedgerCall::StartTask(source, destination, rate),
-            LedgerReply::Started(number),
-        );
+        self.tasks.start(
+            number,
+            asked.source,
+            asked.destination,
+            asked.rate,
+            stamp.moment,
+        )?;
+        let kept = (start_call(asked), LedgerReply::Started(number));
+        let for_record = (start_call(asked), LedgerReply::Started(number));
         Ok((number, add_own(&mut self.log, by, stamp, kept, for_record)))
     }
 
@@ -260,6 +267,13 @@ impl TransitLedger {
             None => true,
         }
     }
+}
+
+// The call that starts a task.
+fn start_call(asked: &TaskStart) -> LedgerCall
+    ensures { result ≡ asks.StartTask asked.now.source asked.now.destination asked.now.rate }
+{
+    LedgerCall::StartTask(asked.source, asked.destination, asked.rate)
 }
 
 // Adds the event of a step of the ledger alone, with the call and reply that are kept. Gives the actor's record of it, with

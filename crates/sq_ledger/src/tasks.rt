@@ -1,5 +1,5 @@
 //! The tasks that move messages, in order of their start.
-ghost use Rattle.std.specs.Prelude.{◌≡◌, ◌+◌, ◌-◌, ◌<◌, ◌≤◌, ◌++◌, ◌∷◌, [], OnOk, OnErr, IfOk, IfErr, Some, find, length, not, option_map, slice_get, take, ◌&&◌};
+ghost use Rattle.std.specs.Prelude.{◌≡◌, ◌+◌, ◌-◌, ◌<◌, ◌≤◌, ◌++◌, ◌∷◌, [], OnOk, OnErr, IfOk, IfErr, Some, None, find, length, not, option_map, slice_get, take, ◌&&◌};
 ghost use Rattle.sq_model.specs.declared.task.Task.{Task as TaskValue};
 ghost use Rattle.sq_model.specs.Ledgers.{changed_for, changed_task, is_task, TasksCount};
 ghost use Rattle.sq_model.specs.Tasks.{is_active, new_task};
@@ -105,7 +105,8 @@ impl Tasks {
     pub fn last(&self, source: QueueNo) -> Option<&MoveTask>
         ensures { option_map (λ task. task.now) result ≡ slice_get (tasks_from source self.now.items) 0 }
     {
-        self.get(self.last_of(source)?)
+        let number = self.last.get(&source).copied()?;
+        self.get(number)
     }
 
     /// The number of the most recent task of a source.
@@ -170,6 +171,7 @@ impl Tasks {
         ensures items { OnOk result (self.new.items ≡ self.old.items ++ new_task number source destination rate moment ∷ []) }
         ensures room { OnOk result (KeepsRoom self.old.room self.new.room) }
         ensures refused { IfErr result (λ e. e ≡ Refusal.NoMemory) }
+        ensures first { IfErr result (λ _. newest source.number self.old.items ≡ None) }
         ensures kept { OnErr result (self.new ≡ self.old) }
     {
         let before = self.last_of(source.number);
