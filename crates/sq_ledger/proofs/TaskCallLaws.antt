@@ -1,6 +1,6 @@
 -- What the ledger does with tasks by itself: each call is a step of the model, or is refused as it says.
-use Rattle.std.proofs.Common.{◌≡◌, ◌⊎◌, ℕ, zero, ◌+◌, ◌<◌, ◌≤◌, Bool, true, false, not, List, [], ◌∷◌, ◌++◌, length, Option, Some, None, Ok, refl, sym, ap, inr, ◌∙◌, subst, arith}
-use Rattle.std.specs.Prelude.{◌&&◌, ◌||◌, ◌==◌, count_by, find, nat_le, nat_lt, option_map, slice_get, take}
+use Rattle.std.proofs.Common.{◌≡◌, ◌⊎◌, ℕ, ◌+◌, ◌<◌, ◌≤◌, Bool, true, false, not, List, [], ◌∷◌, ◌++◌, length, Option, Some, None, Ok, refl, sym, ap, inr, ◌∙◌, subst, arith}
+use Rattle.std.specs.Prelude.{◌||◌, count_by, find, nat_le, nat_lt, take}
 use Rattle.std.specs.List.{list_any}
 use Rattle.std.proofs.lemmas.Grind.{common_steps}
 use Rattle.sq_base.specs.StampValue.{StampValue}
@@ -16,12 +16,11 @@ use Rattle.sq_model.specs.declared.ledger.LedgerReply.{LedgerReply}
 use Rattle.sq_model.specs.declared.ledger.LedgerReply.TheVariants as answers
 use Rattle.sq_model.specs.declared.task.NamedQueue.{NamedQueue}
 use Rattle.sq_model.specs.declared.task.Task.{Task}
-use Rattle.sq_model.specs.Homes.{refused_if}
-use Rattle.sq_model.specs.Ledgers.{Ledger, LedgerStep, IsLedger, IsTask, cancel_refusal, changed_task, finish_refusal, in_transit, is_active_at, is_of_source, is_still_active, is_task, last_number, last_task, ledger_refusal, most_active, task_of, tasks_of}
+use Rattle.sq_model.specs.Ledgers.{Ledger, LedgerStep, IsTask, cancel_refusal, changed_task, finish_refusal, in_transit, is_active_at, is_still_active, is_task, last_number, last_task, ledger_refusal, most_active, task_of, tasks_of}
 use Rattle.sq_model.specs.RecordValues.{LedgerRecordValue, record_of}
 use Rattle.sq_model.specs.Tasks.{cancelled_as, finished_as, is_active, is_running, new_task, with_status}
 use Rattle.sq_model.proofs.SlotLaws.{not_false}
-use Rattle.sq_laws.proofs.LedgerLists.{found_number, found_of_all, one_longer, some_same}
+use Rattle.sq_laws.proofs.LedgerLists.{found_number, found_of_all, one_longer}
 use Rattle.sq_laws.proofs.LedgerLaws.{last_is_active}
 use Rattle.sq_laws.proofs.Progress.{neither, passed}
 use Rattle.sq_task.specs.Counts.{settled, unsettled}
@@ -30,7 +29,7 @@ use Rattle.sq_history.specs.LogValue.{LogValue}
 use Rattle.sq_history.specs.Rooms.{GrowingValue, KeepsRoom}
 use Rattle.sq_ledger.specs.LedgerHistory.{LedgerHistory, history_of, ledger_with}
 use Rattle.sq_ledger.specs.LedgerHistories.{IsLedgerKept, IsLedgerRefused, KeepsTaskRoom, LedgerRecords, MayStart, own_event, start_refusal}
-use Rattle.sq_ledger.specs.TaskIndexes.{MayChange, changed_by, how_many_active}
+use Rattle.sq_ledger.specs.TaskIndexes.{MayChange, changed_by}
 use Rattle.sq_ledger.proofs.LedgerLaws.{for_reason, holds, in_transit_of, next_is}
 
 -- ---- why a call is refused

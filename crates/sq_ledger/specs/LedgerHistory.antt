@@ -1,5 +1,5 @@
 -- What contracts see of the ledger with its history.
-use Rattle.std.specs.Prelude.{ℕ, ◌+◌, List, [], length}
+use Rattle.std.specs.Prelude.{ℕ, ◌+◌, List, length}
 use Rattle.sq_base.specs.StampValue.{StampValue}
 use Rattle.sq_model.specs.declared.item.Item.{Item}
 use Rattle.sq_model.specs.declared.ledger.LedgerCall.{LedgerCall}

@@ -11,19 +11,20 @@ use Rattle.sq_model.specs.declared.calls.HomeCall.TheVariants as call
 use Rattle.sq_model.specs.declared.event.Actor.{Actor}
 use Rattle.sq_model.specs.RecordValues.{HomeRecordValue}
 use Rattle.sq_model.specs.declared.item.Item.{Item}
+use Rattle.sq_model.specs.declared.item.Reason.TheVariants.{DeadLetter}
 use Rattle.sq_model.specs.declared.place.Site.{Site}
 use Rattle.sq_model.specs.declared.replies.HomeReply.{HomeReply}
 use Rattle.sq_model.specs.declared.replies.HomeReply.TheVariants.{Done, Entered}
 use Rattle.sq_model.specs.declared.shared.SharedAct.{SharedAct}
 use Rattle.sq_model.specs.declared.shared.SharedAct.TheVariants as asks
-use Rattle.sq_model.specs.Homes.{Home, Unopened, Serving, Closed, HomeStep, home_refusal, may_enter, may_return, refused_if}
+use Rattle.sq_model.specs.Homes.{Home, Unopened, Serving, Closed, HomeStep, IsFrom, home_refusal, may_enter, may_return, refused_if}
 use Rattle.sq_model.specs.Ledgers.{Ledger, item_of, room_refusal}
 use Rattle.sq_model.specs.Rows.{trimmed, is_dead}
 use Rattle.sq_model.specs.Shared.{IsUnrecorded, is_entering, is_returning, shared_refusal}
 use Rattle.sq_history.specs.Halves.{coming_refusal, closed_refusal, DoesHalf, HasDead, IsItemRefused, IsLeaveRefused}
 use Rattle.sq_history.specs.declared.shared.HomeHalf.{HomeHalf}
 use Rattle.sq_history.specs.HistoryValue.{HistoryValue}
-use Rattle.sq_ledger.specs.LedgerHistories.{IsEntered}
+use Rattle.sq_ledger.specs.LedgerHistories.{IsEntered, IsLeaving}
 use Rattle.sq_steps.specs.SharedSteps.{IsPairRefused}
 
 -- ---- what the reply of a home says
@@ -182,3 +183,8 @@ leave_refused old l m number e passes refuses (inl (out, inl full)) = inl (out, 
 leave_refused old l m number e passes refuses (inl (out, inr (dead, ok))) = inl (out, inr (leave_passes old.site old.home l m dead ∙ passes ok.0 ok.1, leaves_recorded old.site old.home l m dead))
 leave_refused old l m number e passes refuses (inr (inl h)) = inr (home_first old.site old.home l m e h)
 leave_refused old l m number e passes refuses (inr (inr (dead, is))) = inr (leave_passes old.site old.home l m dead ∙ refuses e is)
+
+-- ---- what the ledger is told of a dead message
+
+pub leaving_dead : (l : Ledger) (m : ℕ) (home : HomeId) (c : HomeCall) (item : Item) → c ≡ call.LeaveDead → IsFrom home DeadLetter item → IsLeaving l m home c item
+leaving_dead l m home c item is from = rw is from

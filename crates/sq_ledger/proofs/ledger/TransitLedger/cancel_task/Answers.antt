@@ -1,4 +1,4 @@
-use Rattle.std.proofs.Common.{rules, ◌≡◌, refl}
+use Rattle.std.proofs.Common.{rules, refl}
 use Rattle.sq_model.specs.declared.ledger.LedgerCall.TheVariants as asks
 use Rattle.sq_ledger.specs.LedgerHistory.{history_of}
 use Rattle.sq_ledger.specs.LedgerHistories.{IsLedgerRefused}

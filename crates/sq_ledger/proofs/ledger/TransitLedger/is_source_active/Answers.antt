@@ -1,4 +1,4 @@
-use Rattle.std.proofs.Common.{◌≡◌, ◌∙◌, sym, ap}
+use Rattle.std.proofs.Common.{◌∙◌, sym, ap}
 use Rattle.sq_model.specs.Ledgers.{is_still_active}
 use Rattle.sq_ledger.proofs.TaskCallLaws.{source_is_active}
 use Rattle.sq_ledger.proofs.ledger.TransitLedger.is_source_active.Goals as goal

@@ -1,4 +1,4 @@
-use Rattle.std.proofs.Common.{◌≡◌, ◌∙◌, sym, arith}
+use Rattle.std.proofs.Common.{sym, arith}
 use Rattle.sq_ledger.proofs.TaskCallLaws.{ends, may_end, not_yet, waits}
 use Rattle.sq_ledger.proofs.ledger.TransitLedger.may_finish.Goals as goal
 use Rattle.sq_ledger.proofs.ledger.TransitLedger.may_finish.Goals.{then-not-is_active-via-then-not-is_active, then-not-is_active-via-else-not-is_active+then-in_transit-gt0}

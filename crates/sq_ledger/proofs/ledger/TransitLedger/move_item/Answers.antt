@@ -1,4 +1,4 @@
-use Rattle.std.proofs.Common.{◌≡◌, refl}
+use Rattle.std.proofs.Common.{refl}
 use Rattle.sq_ledger.proofs.LedgerLaws.{is_moved, kept_more, may_move_for, one_more, shows_all}
 use Rattle.sq_ledger.proofs.ledger.TransitLedger.move_item.Goals as goal
 

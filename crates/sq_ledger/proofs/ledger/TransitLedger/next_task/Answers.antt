@@ -1,4 +1,4 @@
-use Rattle.std.proofs.Common.{◌≡◌, ◌+◌, arith}
+use Rattle.std.proofs.Common.{arith}
 use Rattle.sq_ledger.proofs.TaskCallLaws.{next_in_range}
 use Rattle.sq_ledger.proofs.ledger.TransitLedger.next_task.Goals as goal
 
