@@ -20,26 +20,17 @@ use sq_shard::store::Store;
 use std::alloc::Global;
 use std::marker::Model;
 
-/// What is done at one home. A step that a home shares with another part of the system is none of these.
+/// What is done at one home: of the calls of a home (`HomeCall`, which says what each of them does) those that it shares
+/// with no other part of the system.
 #[derive(Drop)]
 pub enum HomeAct {
-    /// Takes settings of this version, where it is above the home's own, and opens a home that was never opened.
     Configure(Settings, u64),
-    /// Closes the home for good, and lets go of its messages.
     Close,
-    /// Puts a message last; without a delay the home's is taken.
     Send(Body, Option<Delay>),
-    /// Receives up to so many messages; without a timeout the home's is taken. It gives the rows, as they stand after
-    /// it, or none at all where messages are live and too many are in flight.
     Look(MaxMessages, Option<Timeout>),
-    /// Takes out the row on which slot, serial and receive number agree; where there is none it is done too.
     Delete(Receipt),
-    /// Hides a message in flight for so many seconds from the stamp's moment on, and for no longer than 12 hours after
-    /// its last receive; with 0 it is visible at once.
     Change(Receipt, Timeout),
-    /// Takes out all messages, those in flight or delayed among them; serials go on.
     Purge,
-    /// How many messages are visible, in flight and delayed.
     Count,
 }
 

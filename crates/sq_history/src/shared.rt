@@ -1,15 +1,15 @@
 //! The steps that a home shares with the ledger: the home's half, with its event and its record.
-ghost use Rattle.std.specs.Prelude.{◌≡◌, ◌⊎◌, ◌++◌, ◌∷◌, [], length, false, not, Option, Some, None, Ok, option_map, IfOk, IfErr, IfSome, IfNone, OnErr};
+ghost use Rattle.std.specs.Prelude.{◌≡◌, ◌⊎◌, ◌++◌, ◌∷◌, [], length, false, Some, Ok, option_map, IfOk, IfErr, IfSome, IfNone, OnErr};
 ghost use Rattle.sq_base.specs.Stamps.{Below, start};
 ghost use Rattle.sq_model.specs.Replays.{StampsRise};
 ghost use Rattle.sq_model.specs.declared.item.Item.{Item as Moved};
 ghost use Rattle.sq_model.specs.declared.item.Reason.TheVariants.{DeadLetter};
 ghost use Rattle.sq_model.specs.declared.task.Task.{Task as Taking};
-ghost use Rattle.sq_model.specs.declared.calls.HomeCall.TheVariants.{LeaveDead, LeaveTask, Enter, TurnBack, GiveBack, GiveUp};
+ghost use Rattle.sq_model.specs.declared.calls.HomeCall.TheVariants.{LeaveDead, LeaveTask};
 ghost use Rattle.sq_model.specs.declared.replies.HomeReply.TheVariants.{Left};
-ghost use Rattle.sq_model.specs.Homes.{IsFrom, IsIdle, refused_if};
-ghost use Rattle.sq_model.specs.Shared.{is_entering, is_returning};
-ghost use Rattle.sq_shard.specs.Moves.{coming_refusal, closed_refusal};
+ghost use Rattle.sq_model.specs.Homes.{IsFrom, IsIdle};
+ghost use Rattle.sq_model.specs.ItemActs.{call_with, replied_by};
+ghost use Rattle.sq_shard.specs.Moves.{item_refusal};
 ghost use Rattle.sq_history.specs.Halves.{DoesHalf, IsLeaveRefused, IsItemRefused, IsTaker, IsTaskAnswer, IsTaskRefused, IsThrottled};
 ghost use Rattle.sq_history.specs.Histories.{new_event, new_record};
 ghost use Rattle.sq_history.specs.Rooms.{IsReady, KeepsRoom};
@@ -28,8 +28,9 @@ use sq_model::calls::HomeCall;
 use sq_model::event::Actor;
 use sq_model::item::{BoxedItem, Item, ItemNo, Reason};
 use sq_model::place::Component;
-use sq_model::replies::HomeReply;
+use sq_model::replies::{EnteredRow, HomeReply};
 use sq_model::rows::copy_row;
+use sq_model::shared::ItemAct;
 use sq_shard::store::Store;
 use std::alloc::Global;
 use std::marker::Model;
@@ -92,6 +93,26 @@ fn dead_letter(number: ItemNo, row: Row, source: QueueNo, target: QueueNo) -> It
     }
 }
 
+// What is answered where this item leaves, and for the ledger. Refused as NoMemory.
+pub(crate) fn answer_left(alloc: Global, item: &Item) -> Result<(Answer, HomeReply), Refusal>
+    ensures answer { IfOk result (λ r. r.0 ≡ Left item.now) }
+    ensures for_ledger { IfOk result (λ r. r.1 ≡ Left item.now) }
+    ensures refused { IfErr result (λ e. e ≡ Refusal.NoMemory) }
+{
+    let Copies {
+        kept,
+        for_record,
+        for_ledger: answered,
+    } = Copies::of(alloc, item)?;
+    let for_ledger = HomeReply::Left(BoxedItem::copy_of(alloc, item)?);
+    let answer = Answer {
+        kept: HomeReply::Left(kept),
+        for_record: HomeReply::Left(for_record),
+        answered: HomeReply::Left(answered),
+    };
+    Ok((answer, for_ledger))
+}
+
 // Adds the event of a half that was done, and gives what that half gives.
 fn note(
     log: &mut Log<HomeCall, HomeReply>,
@@ -135,6 +156,13 @@ fn note(
 }
 
 impl<S: Store> Recorded<S> {
+    /// The home's id.
+    pub fn id(&self) -> HomeId
+        ensures { result ≡ self.now.site.home }
+    {
+        self.shard.site().home
+    }
+
     /// A dead message, any of them, leaves for its dead-letter queue, at a stamp that was drawn: it is told with the
     /// item that it becomes. None where none is dead, which is no event. The number of the item is what the ledger
     /// gives, or why it takes none in.
@@ -151,7 +179,7 @@ impl<S: Store> Recorded<S> {
     ) -> Result<Option<(HomeHalf, Item)>, Refusal>
         requires above_last { Below self.old.last stamp }
         requires above_seen { Below by.now.seen stamp }
-        ensures left { IfOk result (λ left. IfSome left (λ l. DoesHalf self.old self.new by.now stamp name LeaveDead l.0)) }
+        ensures leaves { IfOk result (λ left. IfSome left (λ l. DoesHalf self.old self.new by.now stamp name LeaveDead l.0)) }
         ensures item { IfOk result (λ left. IfSome left (λ l. l.0.its_record.reply ≡ Left l.1)) }
         ensures from { IfOk result (λ left. IfSome left (λ l. IsFrom self.old.site.home DeadLetter l.1)) }
         ensures number { IfOk result (λ left. IfSome left (λ l. number ≡ Ok l.1.number)) }
@@ -170,25 +198,13 @@ impl<S: Store> Recorded<S> {
         };
         let number = number?;
         let item = dead_letter(number, copy_row(row)?, home.queue, target);
-        let copies = Copies::of(alloc, &item)?;
-        let for_ledger = BoxedItem::copy_of(alloc, &item)?;
+        let answers = answer_left(alloc, &item)?;
         let row = self.shard.take_out(stamp.moment, &item.row);
-        let Copies {
-            kept,
-            for_record,
-            for_ledger: answered,
-        } = copies;
-        let answer = Answer {
-            kept: HomeReply::Left(kept),
-            for_record: HomeReply::Left(for_record),
-            answered: HomeReply::Left(answered),
-        };
         let calls = (
             HomeCall::LeaveDead,
             HomeCall::LeaveDead,
             HomeCall::LeaveDead,
         );
-        let answers = (answer, HomeReply::Left(for_ledger));
         let half = note(&mut self.log, by, stamp, &home, name, calls, answers);
         Ok(Some((half, dead_letter(number, row, home.queue, target))))
     }
@@ -232,32 +248,35 @@ impl<S: Store> Recorded<S> {
             HomeCall::LeaveTask(asked.number),
         );
         let answers = (answer, for_ledger);
-        let half = note(&mut self.log, by, stamp, &home, name, calls, answers);
-        Ok(Some((half, left)))
+        let done = note(&mut self.log, by, stamp, &home, name, calls, answers);
+        Ok(Some((done, left)))
     }
 
-    /// The item comes in here, at its target, at a stamp that was drawn.
-    /// Refused as NoMemory (the history has room for none, or the message is copied), QueueDoesNotExist (not serving),
-    /// Worn (no serial is left), OverLimit (full), UnsupportedOperation (no item, or not one on its way to this queue).
+    /// This is done with the item here, at a stamp that was drawn.
+    /// Refused as NoMemory (the history has room for none, or the message is copied). Where its row comes in, as
+    /// QueueDoesNotExist (not serving), Worn (no serial is left), OverLimit (full). Where it is sent back or given up, as
+    /// QueueDoesNotExist (never opened), UnsupportedOperation (serving). Then as UnsupportedOperation (no item, or not one
+    /// for this home).
     #[tactic(auto, using(crate::proofs::HistoryLaws::kept_shared))]
-    pub fn enter(
+    pub fn item_step(
         &mut self,
         alloc: Global,
         by: &Actor,
         stamp: Stamp,
         name: Option<QueueName>,
+        act: ItemAct,
         item: Option<&Item>,
     ) -> Result<HomeHalf, Refusal>
         requires above_last { Below self.old.last stamp }
         requires above_seen { Below by.now.seen stamp }
-        ensures entered { IfOk result (λ half. (it : Moved) × (option_map (λ i. i.now) item.entry ≡ Some it) × DoesHalf self.old self.new by.now stamp name (Enter it) half) }
-        ensures refusal { IfErr result (IsItemRefused self.old (coming_refusal self.old.site self.old.home stamp.moment (refused_if (not (is_entering self.old.site.home (option_map (λ i. i.now) item.entry))) Refusal.UnsupportedOperation None))) }
+        ensures does { IfOk result (λ half. (it : Moved) × (option_map (λ i. i.now) item.entry ≡ Some it) × DoesHalf self.old self.new by.now stamp name (call_with act it) half) }
+        ensures refusal { IfErr result (IsItemRefused self.old (item_refusal act self.old.site self.old.home stamp.moment (option_map (λ i. i.now) item.entry))) }
         ensures err { OnErr result (self.new ≡ self.old) }
     {
         self.log.reserve()?;
-        let item = self.shard.check_enter(stamp.moment, item)?;
+        let item = self.shard.check_item(act, stamp.moment, item)?;
         let copies = Copies::of(alloc, item)?;
-        let entered = self.shard.enter(stamp.moment, item)?;
+        let entered = self.shard.item_step(act, stamp.moment, item)?;
         let home = self.shard.site().home;
         let Copies {
             kept,
@@ -265,121 +284,37 @@ impl<S: Store> Recorded<S> {
             for_ledger,
         } = copies;
         let calls = (
-            HomeCall::Enter(kept),
-            HomeCall::Enter(for_record),
-            HomeCall::Enter(for_ledger),
+            call_with(act, kept),
+            call_with(act, for_record),
+            call_with(act, for_ledger),
         );
-        let told = entered;
-        let answers = (Answer::entered(entered), HomeReply::Entered(told));
+        let answers = replied_by(entered);
         Ok(note(&mut self.log, by, stamp, &home, name, calls, answers))
     }
+}
 
-    /// The item comes back here, to its source, at a stamp that was drawn.
-    /// Refused as NoMemory (the history has room for none, or the message is copied), QueueDoesNotExist (not serving),
-    /// Worn (no serial is left), OverLimit (full), UnsupportedOperation (no item, or not one on its way back to this
-    /// queue).
-    #[tactic(auto, using(crate::proofs::HistoryLaws::kept_shared))]
-    pub fn give_back(
-        &mut self,
-        alloc: Global,
-        by: &Actor,
-        stamp: Stamp,
-        name: Option<QueueName>,
-        item: Option<&Item>,
-    ) -> Result<HomeHalf, Refusal>
-        requires above_last { Below self.old.last stamp }
-        requires above_seen { Below by.now.seen stamp }
-        ensures returned { IfOk result (λ half. (it : Moved) × (option_map (λ i. i.now) item.entry ≡ Some it) × DoesHalf self.old self.new by.now stamp name (GiveBack it) half) }
-        ensures refusal { IfErr result (IsItemRefused self.old (coming_refusal self.old.site self.old.home stamp.moment (refused_if (not (is_returning self.old.site.home (option_map (λ i. i.now) item.entry))) Refusal.UnsupportedOperation None))) }
-        ensures err { OnErr result (self.new ≡ self.old) }
-    {
-        self.log.reserve()?;
-        let item = self.shard.check_give_back(stamp.moment, item)?;
-        let copies = Copies::of(alloc, item)?;
-        let entered = self.shard.give_back(stamp.moment, item)?;
-        let home = self.shard.site().home;
-        let Copies {
-            kept,
-            for_record,
-            for_ledger,
-        } = copies;
-        let calls = (
-            HomeCall::GiveBack(kept),
-            HomeCall::GiveBack(for_record),
-            HomeCall::GiveBack(for_ledger),
-        );
-        let told = entered;
-        let answers = (Answer::entered(entered), HomeReply::Entered(told));
-        Ok(note(&mut self.log, by, stamp, &home, name, calls, answers))
+// The call that does this with an item.
+fn call_with(act: ItemAct, item: BoxedItem) -> HomeCall
+    ensures { result ≡ call_with act item }
+{
+    match act {
+        ItemAct::Enter => HomeCall::Enter(item),
+        ItemAct::TurnBack => HomeCall::TurnBack(item),
+        ItemAct::GiveBack => HomeCall::GiveBack(item),
+        ItemAct::GiveUp => HomeCall::GiveUp(item),
     }
+}
 
-    /// The item, whose target is this closed home, is sent back, at a stamp that was drawn.
-    /// Refused as NoMemory (the history has room for none, or the message is copied), QueueDoesNotExist (never opened),
-    /// UnsupportedOperation (serving, no item, or not one on its way to this queue).
-    #[tactic(auto, using(crate::proofs::HistoryLaws::kept_shared))]
-    pub fn turn_back(
-        &mut self,
-        alloc: Global,
-        by: &Actor,
-        stamp: Stamp,
-        name: Option<QueueName>,
-        item: Option<&Item>,
-    ) -> Result<HomeHalf, Refusal>
-        requires above_last { Below self.old.last stamp }
-        requires above_seen { Below by.now.seen stamp }
-        ensures turned { IfOk result (λ half. (it : Moved) × (option_map (λ i. i.now) item.entry ≡ Some it) × DoesHalf self.old self.new by.now stamp name (TurnBack it) half) }
-        ensures refusal { IfErr result (IsItemRefused self.old (closed_refusal self.old.home (is_entering self.old.site.home (option_map (λ i. i.now) item.entry)))) }
-        ensures err { OnErr result (self.new ≡ self.old) }
-    {
-        self.log.reserve()?;
-        let item = self.shard.check_turn_back(stamp.moment, item)?;
-        let Copies {
-            kept,
-            for_record,
-            for_ledger,
-        } = Copies::of(alloc, item)?;
-        let home = self.shard.site().home;
-        let calls = (
-            HomeCall::TurnBack(kept),
-            HomeCall::TurnBack(for_record),
-            HomeCall::TurnBack(for_ledger),
-        );
-        let answers = (Answer::done(), HomeReply::Done);
-        Ok(note(&mut self.log, by, stamp, &home, name, calls, answers))
-    }
-
-    /// The item, whose source is this closed home, is given up, at a stamp that was drawn.
-    /// Refused as NoMemory (the history has room for none, or the message is copied), QueueDoesNotExist (never opened),
-    /// UnsupportedOperation (serving, no item, or not one on its way back to this queue).
-    #[tactic(auto, using(crate::proofs::HistoryLaws::kept_shared))]
-    pub fn give_up(
-        &mut self,
-        alloc: Global,
-        by: &Actor,
-        stamp: Stamp,
-        name: Option<QueueName>,
-        item: Option<&Item>,
-    ) -> Result<HomeHalf, Refusal>
-        requires above_last { Below self.old.last stamp }
-        requires above_seen { Below by.now.seen stamp }
-        ensures given_up { IfOk result (λ half. (it : Moved) × (option_map (λ i. i.now) item.entry ≡ Some it) × DoesHalf self.old self.new by.now stamp name (GiveUp it) half) }
-        ensures refusal { IfErr result (IsItemRefused self.old (closed_refusal self.old.home (is_returning self.old.site.home (option_map (λ i. i.now) item.entry)))) }
-        ensures err { OnErr result (self.new ≡ self.old) }
-    {
-        self.log.reserve()?;
-        let item = self.shard.check_give_up(stamp.moment, item)?;
-        let Copies {
-            kept,
-            for_record,
-            for_ledger,
-        } = Copies::of(alloc, item)?;
-        let home = self.shard.site().home;
-        let calls = (
-            HomeCall::GiveUp(kept),
-            HomeCall::GiveUp(for_record),
-            HomeCall::GiveUp(for_ledger),
-        );
-        let answers = (Answer::done(), HomeReply::Done);
-        Ok(note(&mut self.log, by, stamp, &home, name, calls, answers))
+// What is answered, and for the ledger: the row that came in, or that it is done.
+fn replied_by(entered: Option<EnteredRow>) -> (Answer, HomeReply)
+    ensures answer { result.0 ≡ replied_by entered }
+    ensures for_ledger { result.1 ≡ replied_by entered }
+{
+    match entered {
+        Some(entered) => {
+            let told = entered;
+            (Answer::entered(entered), HomeReply::Entered(told))
+        }
+        None => (Answer::done(), HomeReply::Done),
     }
 }

@@ -3,17 +3,16 @@ ghost use Rattle.std.specs.Prelude.{◌≡◌, true, false, None, Some, Ok, IfEr
 ghost use Rattle.sq_model.specs.declared.calls.HomeCall.TheVariants.{LeaveTask};
 ghost use Rattle.sq_model.specs.declared.item.Reason.TheVariants.{Task as ForTask};
 ghost use Rattle.sq_model.specs.declared.task.Task.{Task as Taking};
-ghost use Rattle.sq_model.specs.declared.replies.HomeReply.TheVariants.{Left};
 ghost use Rattle.sq_model.specs.Homes.{HomeStep};
 ghost use Rattle.sq_model.specs.Tasks.{target_of};
 ghost use Rattle.sq_history.specs.Halves.{IsServing, IsTaker, IsTaskAnswer, IsTaskRefused, IsThrottled};
 
 use crate::act::Answer;
-use crate::shared::Copies;
+use crate::shared::answer_left;
 use sq_base::ids::QueueNo;
 use sq_base::refusal::Refusal;
 use sq_base::row::Row;
-use sq_model::item::{BoxedItem, Item, ItemNo, Reason, TaskNo};
+use sq_model::item::{Item, ItemNo, Reason, TaskNo};
 use sq_model::replies::HomeReply;
 use sq_model::rows::copy_row;
 use sq_model::task::Task;
@@ -53,25 +52,6 @@ impl TaskAnswer {
             left: None,
         }
     }
-}
-
-// That this one leaves, for the home and for the ledger. Refused as NoMemory.
-fn answer_left(alloc: Global, item: &Item) -> Result<(Answer, HomeReply), Refusal>
-    ensures left { IfOk result (λ t. t ≡ (Left item.now, Left item.now)) }
-    ensures refused { IfErr result (λ e. e ≡ Refusal.NoMemory) }
-{
-    let Copies {
-        kept,
-        for_record,
-        for_ledger: answered,
-    } = Copies::of(alloc, item)?;
-    let for_ledger = HomeReply::Left(BoxedItem::copy_of(alloc, item)?);
-    let answer = Answer {
-        kept: HomeReply::Left(kept),
-        for_record: HomeReply::Left(for_record),
-        answered: HomeReply::Left(answered),
-    };
-    Ok((answer, for_ledger))
 }
 
 // A message on its way for a task.

@@ -9,7 +9,7 @@ use Rattle.sq_base.specs.Stamps.{start}
 use Rattle.sq_base.specs.declared.ids.HomeId.{HomeId}
 use Rattle.sq_base.specs.declared.refusal.Refusal.TheVariants.{Worn}
 use Rattle.sq_model.specs.declared.calls.HomeCall.{HomeCall}
-use Rattle.sq_model.specs.declared.calls.HomeCall.TheVariants.{LeaveDead, LeaveTask, Enter, TurnBack, GiveBack, GiveUp}
+use Rattle.sq_model.specs.declared.calls.HomeCall.TheVariants.{LeaveDead, LeaveTask}
 use Rattle.sq_model.specs.declared.event.Actor.{Actor}
 use Rattle.sq_model.specs.declared.item.Item.{Item}
 use Rattle.sq_model.specs.declared.item.Reason.{Reason}
@@ -20,10 +20,11 @@ use Rattle.sq_model.specs.declared.ledger.LedgerReply.{LedgerReply}
 use Rattle.sq_model.specs.declared.ledger.LedgerReply.TheVariants as answers
 use Rattle.sq_model.specs.declared.place.Component.TheVariants as part
 use Rattle.sq_model.specs.declared.replies.HomeReply.{HomeReply}
-use Rattle.sq_model.specs.declared.replies.HomeReply.TheVariants.{Done, Left, NoLiveRow, NoOrigin, SourceClosed, Entered}
+use Rattle.sq_model.specs.declared.replies.HomeReply.TheVariants.{Left, NoLiveRow, NoOrigin, SourceClosed}
+use Rattle.sq_model.specs.declared.shared.ItemAct.{ItemAct}
+use Rattle.sq_model.specs.declared.shared.ItemAct.TheVariants.{Enter, TurnBack, GiveBack, GiveUp}
 use Rattle.sq_model.specs.declared.task.FailureReason.TheVariants as because
 use Rattle.sq_model.specs.declared.task.Task.{Task}
-use Rattle.sq_model.specs.Homes.{may_enter, may_return}
 use Rattle.sq_model.specs.Ledgers.{Ledger, LedgerEvent, LedgerStep, HasRoom, HasTask, IsLedger, IsTask, LeftBelow, changed_for, has_number, in_transit, is_for, is_own, is_task, items_without, last_number, opening_ledger, room_refusal, turned_if, ItemsRise}
 use Rattle.sq_model.specs.RecordValues.{LedgerRecordValue}
 use Rattle.sq_model.specs.Replays.{Replays, StampsRise}
@@ -34,12 +35,11 @@ use Rattle.sq_laws.proofs.LedgerLists.{found_number, found_of_all, items_low, ma
 use Rattle.sq_laws.proofs.LedgerLaws.{ledger_holds}
 use Rattle.sq_task.specs.Counts.{unsettled}
 use Rattle.sq_history.specs.LogValue.{LogValue}
-use Rattle.sq_history.specs.Rooms.{GrowingValue, IsReady, KeepsRoom}
-use Rattle.sq_ledger.specs.declared.tasks.TaskChange.{TaskChange}
+use Rattle.sq_history.specs.Rooms.{GrowingValue, KeepsRoom}
 use Rattle.sq_ledger.specs.declared.tasks.TaskChange.TheVariants as to
-use Rattle.sq_ledger.specs.ItemMoves.{IsMoved, change_at, items_after, tasks_without}
-use Rattle.sq_ledger.specs.LedgerHistory.{LedgerHistory, history_of, ledger_with}
-use Rattle.sq_ledger.specs.LedgerHistories.{IsEntered, IsLeaving, IsLedgerKept, IsNoneLeft, LedgerRecords, LedgerShares, own_event, shared_event}
+use Rattle.sq_ledger.specs.ItemMoves.{change_by, tasks_without}
+use Rattle.sq_ledger.specs.LedgerHistory.{LedgerHistory, history_of, items_after, ledger_with}
+use Rattle.sq_ledger.specs.LedgerHistories.{DoesItem, IsLeaving, IsLedgerKept, IsNoneLeft, LedgerRecords, LedgerShares, own_event, shared_event}
 use Rattle.sq_ledger.specs.TaskIndexes.{MayChange, MayChangeFor, changed_by}
 
 -- ---- what is found
@@ -109,40 +109,27 @@ none_of items next tasks limit m home number (LeaveTask asked) (NoOrigin serial)
 none_of items next tasks limit m home number (LeaveTask asked) SourceClosed none = (none.1.0, none.1.1.found)
 none_of items next tasks limit m home number call reply none = elim none [ ]
 
--- an item is moved by its own number
-by_number : (items : List Item) (next : ℕ) (tasks : List Task) (limit m : ℕ) (home : HomeId) (call : HomeCall) (reply : HomeReply) (change : TaskChange) (item : Item)
-    → find (has_number item.number) items ≡ Some item → IsMoved home call reply change item
-    → LedgerStep (ledger_with items next tasks limit) m (asks.AtHome home call) (answers.AtHome reply) (ledger_with (items_after change item.number items) next (changed_for item.reason (changed_by change) tasks) limit)
+-- this is done with an item by its own number
+done_there : (items : List Item) (next : ℕ) (tasks : List Task) (limit m : ℕ) (act : ItemAct) (home : HomeId) (call : HomeCall) (reply : HomeReply) (item : Item)
+    → find (has_number item.number) items ≡ Some item → DoesItem act home call reply item
+    → LedgerStep (ledger_with items next tasks limit) m (asks.AtHome home call) (answers.AtHome reply) (ledger_with (items_after act item.number items) next (changed_for item.reason (changed_by (change_by act)) tasks) limit)
 unfolding LedgerStep
-by_number items next tasks limit m home (Enter given) (Entered entered) to.Entered item found moved =
-    rw moved.0 (moved.1, (found, for_reason (items_without item.number items) next tasks limit item.reason with_moved))
-by_number items next tasks limit m home (GiveBack given) (Entered entered) to.Back item found moved =
-    rw moved.0 (moved.1, (found, for_reason (items_without item.number items) next tasks limit item.reason with_back))
-by_number items next tasks limit m home (TurnBack given) Done (to.Failed because.DestinationClosed) item found moved =
-    rw moved.0 (moved.1, found, for_reason (map (turned_if item.number) items) next tasks limit item.reason (with_status (failed_as because.DestinationClosed)))
-by_number items next tasks limit m home (GiveUp given) Done to.Dropped item found moved =
-    rw moved.0 (moved.1, (found, for_reason (items_without item.number items) next tasks limit item.reason with_given_up))
-by_number items next tasks limit m home call reply change item found moved = elim moved [ ]
+done_there items next tasks limit m Enter home call reply item found does =
+    rw (does.is_call, does.replies.1) (does.may, (found, for_reason (items_without item.number items) next tasks limit item.reason with_moved))
+done_there items next tasks limit m TurnBack home call reply item found does =
+    rw (does.is_call, does.replies) (does.may, found, for_reason (map (turned_if item.number) items) next tasks limit item.reason (with_status (failed_as because.DestinationClosed)))
+done_there items next tasks limit m GiveBack home call reply item found does =
+    rw (does.is_call, does.replies.1) (does.may, (found, for_reason (items_without item.number items) next tasks limit item.reason with_back))
+done_there items next tasks limit m GiveUp home call reply item found does =
+    rw (does.is_call, does.replies) (does.may, (found, for_reason (items_without item.number items) next tasks limit item.reason with_given_up))
 
-pub is_moved : (items : List Item) (next : ℕ) (tasks : List Task) (limit m : ℕ) (home : HomeId) (call : HomeCall) (reply : HomeReply) (change : TaskChange) (number : ℕ) (item : Item)
-    → find (has_number number) items ≡ Some item → IsMoved home call reply change item
-    → LedgerStep (ledger_with items next tasks limit) m (asks.AtHome home call) (answers.AtHome reply) (ledger_with (items_after change number items) next (changed_for item.reason (changed_by change) tasks) limit)
-is_moved items next tasks limit m home call reply change number item found moved =
+pub item_done : (items : List Item) (next : ℕ) (tasks : List Task) (limit m : ℕ) (act : ItemAct) (home : HomeId) (call : HomeCall) (reply : HomeReply) (number : ℕ) (item : Item)
+    → find (has_number number) items ≡ Some item → DoesItem act home call reply item
+    → LedgerStep (ledger_with items next tasks limit) m (asks.AtHome home call) (answers.AtHome reply) (ledger_with (items_after act number items) next (changed_for item.reason (changed_by (change_by act)) tasks) limit)
+item_done items next tasks limit m act home call reply number item found does =
     subst (λ (n : ℕ). find (has_number n) items ≡ Some item
-    → LedgerStep (ledger_with items next tasks limit) m (asks.AtHome home call) (answers.AtHome reply) (ledger_with (items_after change n items) next (changed_for item.reason (changed_by change) tasks) limit))
-    (number_is number items item found) (λ there. by_number items next tasks limit m home call reply change item there moved) found
-
--- what goes out is moved as its call says
-pub goes_out : (home : HomeId) (call : HomeCall) (reply : HomeReply) (item : Item) → IsEntered home call reply item → IsMoved home call reply (change_at call) item
-goes_out home (Enter given) (Entered entered) item enters = enters
-goes_out home (GiveBack given) (Entered entered) item enters = enters
-goes_out home call reply item enters = elim enters [ ]
-
-pub is_turned : (home : HomeId) (call : HomeCall) (reply : HomeReply) (item : Item) → call ≡ TurnBack item → reply ≡ Done → may_enter home item ≡ true → IsMoved home call reply (to.Failed because.DestinationClosed) item
-is_turned home call reply item is_call is_reply may = rw (is_call, is_reply) (refl, may)
-
-pub is_given_up : (home : HomeId) (call : HomeCall) (reply : HomeReply) (item : Item) → call ≡ GiveUp item → reply ≡ Done → may_return home item ≡ true → IsMoved home call reply to.Dropped item
-is_given_up home call reply item is_call is_reply may = rw (is_call, is_reply) (refl, may)
+    → LedgerStep (ledger_with items next tasks limit) m (asks.AtHome home call) (answers.AtHome reply) (ledger_with (items_after act n items) next (changed_for item.reason (changed_by (change_by act)) tasks) limit))
+    (number_is number items item found) (λ there. done_there items next tasks limit m act home call reply item there does) found
 
 -- ---- what may be done to the task of an item
 
@@ -153,21 +140,19 @@ in_transit_of items task is = omega (arith, is.counted)
 same_reason : (number n : ℕ) (reason : Reason) → reason ≡ ForTask number → n ≡ number → is_for n reason ≡ true
 same_reason number n reason is same = rw is (grind (arith, common_steps, same))
 
-may_be : (home : HomeId) (call : HomeCall) (reply : HomeReply) (change : TaskChange) (item : Item) (task : Task) → IsMoved home call reply change item → 0 < unsettled task → MayChange change task
-may_be home (Enter given) (Entered entered) to.Entered item task moved more = more
-may_be home (GiveBack given) (Entered entered) to.Back item task moved more = more
-may_be home (TurnBack given) Done (to.Failed because.DestinationClosed) item task moved more = tt
-may_be home (GiveUp given) Done to.Dropped item task moved more = more
-may_be home call reply change item task moved more = elim moved [ ]
+may_be : (act : ItemAct) (task : Task) → 0 < unsettled task → MayChange (change_by act) task
+may_be Enter task more = more
+may_be TurnBack task more = tt
+may_be GiveBack task more = more
+may_be GiveUp task more = more
 
-moves_of : (l : Ledger) → IsLedger l → (number : ℕ) (item : Item) (home : HomeId) (call : HomeCall) (reply : HomeReply) (change : TaskChange) → find (has_number number) l.items ≡ Some item → IsMoved home call reply change item
-    → MayChangeFor change item.reason l.tasks
-moves_of l h number item home call reply change found moved task reason =
+moves_of : (l : Ledger) → IsLedger l → (number : ℕ) (item : Item) (act : ItemAct) → find (has_number number) l.items ≡ Some item → MayChangeFor (change_by act) item.reason l.tasks
+moves_of l h number item act found task reason =
     let there = found_item (HasTask l) number l.items item h.each_item found task reason in
     let is = found_number (λ (t : Task). t.number) task l.tasks there.0 there.1 in
     let counted = counted_item (λ x. is_for there.0.number x.reason) number l.items item found (same_reason task there.0.number item.reason reason is) in
     let all = in_transit_of l.items there.0 (found_of_all (IsTask l.items) task l.tasks there.0 h.each there.1) in
-    (there.0, there.1, may_be home call reply change item there.0 moved (omega (arith, counted, all)))
+    (there.0, there.1, may_be act there.0 (omega (arith, counted, all)))
 
 no_reason : (reason : Reason) (number : ℕ) → reason ≡ DeadLetter → reason ≡ ForTask number → ⊥
 no_reason reason number dead is = let k : DeadLetter ≡ ForTask number = sym dead ∙ is in absurd cc
@@ -203,11 +188,11 @@ kept_more old new by stamp home call reply kept same rising shares =
     }
 
 -- a step that leaves these items and tasks, with its event
-pub one_more : (items left : GrowingValue Item) (next after : ℕ) (tasks changed : GrowingValue Task) (limit : ℕ) (log new : LogValue LedgerCall LedgerReply) (by : Actor) (stamp : StampValue) (home : HomeId) (call : HomeCall) (reply : HomeReply)
-    → LedgerStep (ledger_with items.items next tasks.items limit) stamp.moment (asks.AtHome home call) (answers.AtHome reply) (ledger_with left.items after changed.items limit)
-    → new.last ≡ stamp → new.events ≡ log.events ++ shared_event stamp by home call reply ∷ [] → KeepsRoom log.room new.room → KeepsRoom items.room left.room → changed.room ≡ tasks.room
+pub one_more : (items left : List Item) (next after : ℕ) (tasks changed : GrowingValue Task) (limit : ℕ) (log new : LogValue LedgerCall LedgerReply) (by : Actor) (stamp : StampValue) (home : HomeId) (call : HomeCall) (reply : HomeReply)
+    → LedgerStep (ledger_with items next tasks.items limit) stamp.moment (asks.AtHome home call) (answers.AtHome reply) (ledger_with left after changed.items limit)
+    → new.last ≡ stamp → new.events ≡ log.events ++ shared_event stamp by home call reply ∷ [] → KeepsRoom log.room new.room → changed.room ≡ tasks.room
     → LedgerShares (history_of items next tasks limit log) (history_of left after changed limit new) by stamp home call reply
-one_more items left next after tasks changed limit log new by stamp home call reply step last events room item_room task_room = record { step = step; last = last; events = events; room = room; item_room = item_room; task_room = task_room }
+one_more items left next after tasks changed limit log new by stamp home call reply step last events room task_room = record { step = step; last = last; events = events; room = room; task_room = task_room }
 
 names_it : (call : LedgerCall) → is_own call ≡ true → NamesItsPart call part.Ledger
 names_it (asks.AtHome home call) own = absurd cc
@@ -229,10 +214,6 @@ own_kept old new by now call its_record kept same own rising did =
       own = rw did.events (ledger_push old.events event kept.own (names_it call own));
     }
 
--- items that are ready, and show all their memory once one of them went or turned
-pub shows_all : (old reserved went left shown : ℕ) → IsReady old reserved → went ≡ old → went ≤ shown → reserved ≤ left → shown ≡ left → KeepsRoom old shown
-shows_all old reserved went left shown ready same more kept all = record { used = omega (arith, same, more); got = λ none. omega (arith, ready.got none, kept, all) }
-
 -- what holds of every ledger
 pub holds : (h : LedgerHistory) → IsLedgerKept h → IsLedger h.ledger
 holds h kept = ledger_holds h.ledger.limit h.events h.ledger kept.replays
@@ -245,9 +226,8 @@ items_stand h kept = (holds h kept).items_rise
 pub may_leave_for : (h : LedgerHistory) → IsLedgerKept h → (m : ℕ) (home : HomeId) (call : HomeCall) (item : Item) → HasRoom h.ledger → IsLeaving h.ledger m home call item → MayChangeFor (to.Left m) item.reason h.ledger.tasks
 may_leave_for h kept m home call item room leaves = leaves_of h.ledger (holds h kept) m home call item room leaves
 
-pub may_move_for : (h : LedgerHistory) → IsLedgerKept h → (number : ℕ) (item : Item) (home : HomeId) (call : HomeCall) (reply : HomeReply) (change : TaskChange) → find (has_number number) h.ledger.items ≡ Some item → IsMoved home call reply change item
-    → MayChangeFor change item.reason h.ledger.tasks
-may_move_for h kept number item home call reply change found moved = moves_of h.ledger (holds h kept) number item home call reply change found moved
+pub may_move_for : (h : LedgerHistory) → IsLedgerKept h → (number : ℕ) (item : Item) (act : ItemAct) → find (has_number number) h.ledger.items ≡ Some item → MayChangeFor (change_by act) item.reason h.ledger.tasks
+may_move_for h kept number item act found = moves_of h.ledger (holds h kept) number item act found
 
 -- ---- room
 

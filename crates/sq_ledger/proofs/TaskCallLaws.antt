@@ -84,15 +84,15 @@ finished items next tasks limit m number may =
 -- ---- a step with its event
 
 -- the record of a step that leaves these tasks
-pub recorded_as : (items : GrowingValue Item) (next : ℕ) (tasks changed : GrowingValue Task) (limit : ℕ) (log begun new : LogValue LedgerCall LedgerReply) (by : Actor) (now : ℕ) (stamp : StampValue) (call : LedgerCall) (reply : LedgerReply) (its_record : LedgerRecordValue)
-    → after log.last by.seen now ≡ Ok stamp → LedgerStep (ledger_with items.items next tasks.items limit) stamp.moment call reply (ledger_with items.items next changed.items limit)
+pub recorded_as : (items : List Item) (next : ℕ) (tasks changed : GrowingValue Task) (limit : ℕ) (log begun new : LogValue LedgerCall LedgerReply) (by : Actor) (now : ℕ) (stamp : StampValue) (call : LedgerCall) (reply : LedgerReply) (its_record : LedgerRecordValue)
+    → after log.last by.seen now ≡ Ok stamp → LedgerStep (ledger_with items next tasks.items limit) stamp.moment call reply (ledger_with items next changed.items limit)
     → begun.events ≡ log.events → begun.room ≡ log.room → new.last ≡ stamp → new.events ≡ begun.events ++ own_event stamp by call reply ∷ [] → KeepsRoom begun.room new.room → KeepsTaskRoom call tasks.room changed.room
     → its_record ≡ record { place = by.place; stamp = stamp; index = length begun.events; call = call; reply = reply }
     → LedgerRecords (history_of items next tasks limit log) (history_of items next changed limit new) by now call its_record
 recorded_as items next tasks changed limit log begun new by now stamp call reply its_record stamped step same_events same_room last events room task_room is =
     let event = own_event stamp by call reply in
     let did : LedgerRecords (history_of items next tasks limit log) (history_of items next changed limit new) by now call (record_of (length log.events) event)
-    = record { stamped = stamped; step = step; last = last; events = rw same_events at events; room = rw same_room at room; item_room = refl; task_room = task_room; record_is = refl } in
+    = record { stamped = stamped; step = step; last = last; events = rw same_events at events; room = rw same_room at room; task_room = task_room; record_is = refl } in
     subst (λ (r : LedgerRecordValue). LedgerRecords (history_of items next tasks limit log) (history_of items next changed limit new) by now call r) (sym (is ∙ ap (λ (n : ℕ). record_of n event) (ap length same_events))) did
 
 -- it is refused where a check of it fails

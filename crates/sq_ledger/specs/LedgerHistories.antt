@@ -7,7 +7,7 @@ use Rattle.sq_base.specs.declared.ids.HomeId.{HomeId}
 use Rattle.sq_base.specs.declared.refusal.Refusal.{Refusal}
 use Rattle.sq_base.specs.declared.refusal.Refusal.TheVariants.{NoMemory, Worn, OverLimit, UnsupportedOperation}
 use Rattle.sq_model.specs.declared.calls.HomeCall.{HomeCall}
-use Rattle.sq_model.specs.declared.calls.HomeCall.TheVariants.{LeaveDead, LeaveTask, Enter, GiveBack}
+use Rattle.sq_model.specs.declared.calls.HomeCall.TheVariants.{LeaveDead, LeaveTask}
 use Rattle.sq_model.specs.declared.event.Actor.{Actor}
 use Rattle.sq_model.specs.declared.item.Item.{Item}
 use Rattle.sq_model.specs.declared.item.Reason.TheVariants.{DeadLetter, Task as ForTask}
@@ -17,9 +17,11 @@ use Rattle.sq_model.specs.declared.ledger.LedgerReply.{LedgerReply}
 use Rattle.sq_model.specs.declared.ledger.LedgerReply.TheVariants as answers
 use Rattle.sq_model.specs.declared.place.Component.TheVariants as part
 use Rattle.sq_model.specs.declared.replies.HomeReply.{HomeReply}
-use Rattle.sq_model.specs.declared.replies.HomeReply.TheVariants.{NoLiveRow, NoOrigin, SourceClosed, Entered}
+use Rattle.sq_model.specs.declared.replies.HomeReply.TheVariants.{NoLiveRow, NoOrigin, SourceClosed}
+use Rattle.sq_model.specs.declared.shared.ItemAct.{ItemAct}
 use Rattle.sq_model.specs.declared.task.Task.{Task}
-use Rattle.sq_model.specs.Homes.{IsFrom, may_enter, may_return, refused_if}
+use Rattle.sq_model.specs.Homes.{IsFrom, refused_if}
+use Rattle.sq_model.specs.ItemActs.{IsItemReply, call_with, may_act}
 use Rattle.sq_model.specs.Ledgers.{HasRoom, Ledger, LedgerEvent, LedgerStep, MayTake, is_active_at, last_number, last_task, ledger_refusal, most_active, opening_ledger}
 use Rattle.sq_model.specs.RecordValues.{LedgerRecordValue, record_of}
 use Rattle.sq_model.specs.Replays.{Replays, StampsRise}
@@ -39,7 +41,6 @@ pub record LedgerShares (old new : LedgerHistory) (by : Actor) (stamp : StampVal
   pub last : new.last ≡ stamp
   pub events : new.events ≡ old.events ++ shared_event stamp by home call reply ∷ []
   pub room : KeepsRoom old.room new.room
-  pub item_room : KeepsRoom old.item_room new.item_room
   pub task_room : new.task_room ≡ old.task_room
 
 -- the event of a step of the ledger alone
@@ -58,7 +59,6 @@ pub record LedgerRecords (old new : LedgerHistory) (by : Actor) (now : ℕ) (cal
   pub last : new.last ≡ its_record.stamp
   pub events : new.events ≡ old.events ++ own_event its_record.stamp by call its_record.reply ∷ []
   pub room : KeepsRoom old.room new.room
-  pub item_room : new.item_room ≡ old.item_room
   pub task_room : KeepsTaskRoom call old.task_room new.task_room
   pub record_is : its_record ≡ record_of (length old.events) (own_event its_record.stamp by call its_record.reply)
 
@@ -88,10 +88,15 @@ start_refusal source l =
     (refused_if (list_any (is_active_at source) l.tasks) UnsupportedOperation
     (refused_if (nat_le most_active (count_by (λ task. is_active task.status) l.tasks)) OverLimit None))
 
--- there is memory for one event more, and for one item
-pub record IsPrepared (v : LedgerValue) : Type 0 where
-  pub for_event : IsReady v.history.room v.reserved
-  pub for_item : IsReady v.history.item_room v.item_reserved
+-- there is memory for one event more
+abbrev pub IsPrepared : LedgerValue → Type 0
+IsPrepared v = IsReady v.history.room v.reserved
+
+-- what a home did with an item
+pub record DoesItem (act : ItemAct) (home : HomeId) (call : HomeCall) (reply : HomeReply) (item : Item) : Type 0 where
+  pub is_call : call ≡ call_with act item
+  pub may : may_act act home item ≡ true
+  pub replies : IsItemReply act reply
 
 -- A message leaves this home as this item: a dead one, or one for a task that takes messages from there and whose rate allows it, to where the task moves it.
 abbrev pub IsLeaving : Ledger → ℕ → HomeId → HomeCall → Item → Type 0
@@ -107,13 +112,6 @@ IsNoneLeft l m home number (LeaveTask asked) (NoOrigin serial) = (asked ≡ numb
 IsNoneLeft l m home number (LeaveTask asked) SourceClosed = (asked ≡ number) × ((task : Task) × MayTake l home.queue number task)
 -- no other answer is without a message
 IsNoneLeft l m home number call reply = ⊥
-
--- an item goes out of the ledger into a home: into its target, or back into its source
-abbrev pub IsEntered : HomeId → HomeCall → HomeReply → Item → Type 0
-IsEntered home (Enter given) (Entered entered) item = (given ≡ item) × (may_enter home item ≡ true)
-IsEntered home (GiveBack given) (Entered entered) item = (given ≡ item) × (may_return home item ≡ true)
--- no other call takes an item out into a home
-IsEntered home call reply item = ⊥
 
 -- True at all times: the ledger is the replay of its events, whose stamps rise, and each event is its own or one that it shares.
 pub record IsLedgerKept (h : LedgerHistory) : Type 0 where

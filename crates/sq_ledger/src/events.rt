@@ -17,43 +17,22 @@ use sq_model::same::{is_same_call, is_same_reply};
 pub fn is_alone(call: &HomeCall) -> bool
     ensures { result ≡ is_alone call.now }
 {
-    match call {
-        HomeCall::Configure(_, _)
-        | HomeCall::Close
-        | HomeCall::Send(_, _)
-        | HomeCall::Look(_, _)
-        | HomeCall::Delete(_)
-        | HomeCall::Change(_, _)
-        | HomeCall::Purge
-        | HomeCall::Count => true,
+    !matches!(
+        call,
         HomeCall::LeaveDead
-        | HomeCall::LeaveTask(_)
-        | HomeCall::Enter(_)
-        | HomeCall::TurnBack(_)
-        | HomeCall::GiveBack(_)
-        | HomeCall::GiveUp(_) => false,
-    }
+            | HomeCall::LeaveTask(_)
+            | HomeCall::Enter(_)
+            | HomeCall::TurnBack(_)
+            | HomeCall::GiveBack(_)
+            | HomeCall::GiveUp(_)
+    )
 }
 
 /// Whether a call asks a message to leave its home.
 pub fn is_leave(call: &HomeCall) -> bool
     ensures { result ≡ is_leave call.now }
 {
-    match call {
-        HomeCall::LeaveDead | HomeCall::LeaveTask(_) => true,
-        HomeCall::Configure(_, _)
-        | HomeCall::Close
-        | HomeCall::Send(_, _)
-        | HomeCall::Look(_, _)
-        | HomeCall::Delete(_)
-        | HomeCall::Change(_, _)
-        | HomeCall::Purge
-        | HomeCall::Count
-        | HomeCall::Enter(_)
-        | HomeCall::TurnBack(_)
-        | HomeCall::GiveBack(_)
-        | HomeCall::GiveUp(_) => false,
-    }
+    matches!(call, HomeCall::LeaveDead | HomeCall::LeaveTask(_))
 }
 
 /// Whether an event of the ledger is the one of a home, as it stands in the ledger's history.

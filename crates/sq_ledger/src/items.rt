@@ -1,48 +1,43 @@
 //! The items in transit, in rising number.
-ghost use Rattle.std.specs.Prelude.{◌≡◌, ◌+◌, ◌-◌, ◌<◌, ◌≤◌, ◌++◌, ◌∷◌, [], OnOk, IfErr, find, length, map, nat_le, nat_lt, option_map, slice_get};
+ghost use Rattle.std.specs.Prelude.{◌≡◌, ◌+◌, ◌<◌, ◌≤◌, ◌++◌, ◌∷◌, [], OnOk, IfErr, find, length, map, nat_le, nat_lt, option_map, slice_get};
 ghost use Rattle.std.specs.List.{position_or_len};
 ghost use Rattle.std.specs.Option.{option_or};
-ghost use Rattle.std.specs.VecDeque.{deque_capacity, deque_len};
 ghost use Rattle.sq_model.specs.Ledgers.{has_number, items_without, turned_if, ItemsRise};
-ghost use Rattle.sq_history.specs.Rooms.{IsReady, KeepsRoom};
+ghost use Rattle.sq_ledger.specs.LedgerHistory.{items_after};
 
 use sq_base::refusal::Refusal;
 use sq_model::item::Item;
+use sq_model::shared::ItemAct;
 use std::alloc::Global;
 use std::collections::VecDeque;
 use std::marker::Model;
 
-/// Items in rising number, found by binary search. Where one is taken out, the shorter side moves up. They show for how
-/// many more there was memory when they last changed; a step that is refused may have got more, and leaves what is shown.
+/// Items in rising number, found by binary search. Where one is taken out, the shorter side moves up.
 #[derive(Drop)]
 pub struct Items {
     items: VecDeque<Item>,
-    room: usize,
 }
 
 impl Model for Items {
-    ghost use Rattle.std.specs.Prelude.{ℕ, ◌-◌, ◌≤◌};
+    ghost use Rattle.std.specs.Prelude.{ℕ, ◌-◌};
     ghost use Rattle.std.specs.VecDeque.{deque_capacity, deque_len};
-    ghost use Rattle.sq_model.specs.declared.item.Item.{Item as Moved};
     ghost use Rattle.sq_model.specs.Ledgers.{ItemsRise};
-    ghost use Rattle.sq_history.specs.Rooms.{GrowingValue};
+    ghost use Rattle.sq_ledger.specs.LedgerHistory.{ItemsValue};
 
-    ghost Value = { GrowingValue Moved };
+    ghost Value = { ItemsValue };
 
-    ghost view = { λ i. record { items = i.items.items; room = i.room; reserved = deque_capacity i.items - deque_len i.items } };
+    ghost view = { λ i. record { items = i.items.items; reserved = deque_capacity i.items - deque_len i.items } };
 
-    ghost invariant = { λ i. ((next : ℕ) × ItemsRise 1 i.items.items next) × (i.room ≤ deque_capacity i.items - deque_len i.items) };
+    ghost invariant = { λ i. (next : ℕ) × ItemsRise 1 i.items.items next };
 }
 
 impl Items {
     /// No item, and memory for none.
     pub fn new(alloc: Global) -> Items
-        ensures items { result.items ≡ [] }
-        ensures room { result.room ≡ 0 }
+        ensures { result.items ≡ [] }
     {
         Items {
             items: VecDeque::new(alloc),
-            room: 0,
         }
     }
 
@@ -79,38 +74,44 @@ impl Items {
         }
     }
 
-    /// Gets memory for one item more, and for four at once where they show room for none. Refused as NoMemory where they
-    /// show room for none and have memory for fewer than four.
+    /// Gets memory for one item more. Refused as NoMemory where there was none.
     pub fn reserve(&mut self) -> Result<(), Refusal>
         ensures items { self.new.items ≡ self.old.items }
-        ensures room { self.new.room ≡ self.old.room }
         ensures kept { self.old.reserved ≤ self.new.reserved }
-        ensures ready { OnOk result (IsReady self.new.room self.new.reserved) }
-        ensures refused { IfErr result (λ e. (e ≡ Refusal.NoMemory) × (self.old.room ≡ 0) × (self.old.reserved < 4)) }
+        ensures ready { OnOk result (0 < self.new.reserved) }
+        ensures refused { IfErr result (λ e. (e ≡ Refusal.NoMemory) × (self.old.reserved ≡ 0)) }
     {
-        if self.room == 0 {
-            self.items.try_reserve(4)?;
-        }
+        self.items.try_reserve(1)?;
         Ok(())
     }
 
     /// Puts an item last whose number is above all others, for which there is memory.
     pub fn push(&mut self, item: Item)
-        requires ready { IsReady self.old.room self.old.reserved }
+        requires ready { 0 < self.old.reserved }
         requires above { ItemsRise 1 self.old.items item.number }
         ensures items { self.new.items ≡ self.old.items ++ item ∷ [] }
-        ensures room { KeepsRoom self.old.room self.new.room }
         ensures reserved { self.old.reserved ≤ self.new.reserved + 1 }
     {
         self.items.push_back_reserved(item);
-        self.room = room_of(&self.items);
     }
 
-    /// Takes the item of a number out, if it is there.
-    pub fn take(&mut self, number: u64) -> Option<Item>
+    /// Does this with the item of a number, if it is there: it is turned homeward, or goes out.
+    pub fn apply(&mut self, act: ItemAct, number: u64)
+        ensures items { self.new.items ≡ items_after act number self.old.items }
+        ensures reserved { self.old.reserved ≤ self.new.reserved }
+    {
+        match act {
+            ItemAct::TurnBack => self.turn(number),
+            ItemAct::Enter | ItemAct::GiveBack | ItemAct::GiveUp => {
+                let _gone = self.take(number);
+            }
+        }
+    }
+
+    // Takes the item of a number out, if it is there.
+    fn take(&mut self, number: u64) -> Option<Item>
         ensures taken { result ≡ find (has_number number) self.old.items }
         ensures items { self.new.items ≡ items_without number self.old.items }
-        ensures room { self.new.room ≡ self.old.room }
         ensures reserved { self.old.reserved ≤ self.new.reserved }
     {
         self.get(number)?;
@@ -118,10 +119,9 @@ impl Items {
         self.items.remove(place)
     }
 
-    /// Turns the item of a number homeward, if it is there.
-    pub fn turn(&mut self, number: u64)
+    // Turns the item of a number homeward, if it is there.
+    fn turn(&mut self, number: u64)
         ensures items { self.new.items ≡ map (turned_if number) self.old.items }
-        ensures room { self.new.room ≡ self.old.room }
         ensures reserved { self.new.reserved ≡ self.old.reserved }
     {
         let place = self.place(number);
@@ -132,16 +132,6 @@ impl Items {
         }
     }
 
-    /// Shows all the memory that there is.
-    pub fn show_room(&mut self)
-        ensures items { self.new.items ≡ self.old.items }
-        ensures shown { self.new.room ≡ self.old.reserved }
-        ensures more { self.old.room ≤ self.new.room }
-        ensures reserved { self.new.reserved ≡ self.old.reserved }
-    {
-        self.room = room_of(&self.items);
-    }
-
     // Where the first item stands that is not below a number: how many are below it.
     fn place(&self, number: u64) -> usize
         ensures { result ≡ position_or_len (λ item. nat_le number item.number) self.now.items }
@@ -149,11 +139,4 @@ impl Items {
         self.items
             .partition_point(|item| item.number.get() < number)
     }
-}
-
-// For how many items more there is memory.
-fn room_of(items: &VecDeque<Item>) -> usize
-    ensures { result ≡ deque_capacity items.now - deque_len items.now }
-{
-    items.capacity() - items.len()
 }

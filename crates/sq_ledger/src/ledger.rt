@@ -1,16 +1,14 @@
 //! The ledger: the messages that left one queue and are not yet in another, and all that was done to them.
-ghost use Rattle.std.specs.Prelude.{◌≡◌, ◌⊎◌, ◌+◌, ◌<◌, ◌≤◌, ◌++◌, ◌∷◌, [], true, Some, None, IfOk, IfErr, OnOk, find, option_map};
+ghost use Rattle.std.specs.Prelude.{◌≡◌, ◌⊎◌, ◌+◌, ◌<◌, ◌≤◌, ◌++◌, ◌∷◌, [], Some, None, IfOk, IfErr, OnOk, find, option_map};
 ghost use Rattle.sq_base.specs.Stamps.{start, Below};
-ghost use Rattle.sq_model.specs.declared.calls.HomeCall.TheVariants.{TurnBack, GiveUp};
 ghost use Rattle.sq_model.specs.declared.item.Item.{Item as Moved};
-ghost use Rattle.sq_model.specs.declared.replies.HomeReply.TheVariants.{Done, Left};
-ghost use Rattle.sq_model.specs.Homes.{may_enter, may_return};
+ghost use Rattle.sq_model.specs.declared.replies.HomeReply.TheVariants.{Left};
 ghost use Rattle.sq_model.specs.declared.task.Task.{Task as Moving};
 ghost use Rattle.sq_model.specs.Ledgers.{HasRoom, has_number, is_task, item_of, opening_ledger, peek, room_refusal};
 ghost use Rattle.sq_model.specs.Replays.{StampsRise};
 ghost use Rattle.sq_history.specs.Rooms.{IsReady, KeepsRoom};
-ghost use Rattle.sq_ledger.specs.LedgerHistories.{IsEntered, IsLeaving, IsLedgerKept, IsNoneLeft, IsPrepared, LedgerShares, shared_event};
-ghost use Rattle.sq_ledger.specs.ItemMoves.{IsMoved, change_at, items_after, tasks_without};
+ghost use Rattle.sq_ledger.specs.LedgerHistories.{DoesItem, IsLeaving, IsLedgerKept, IsNoneLeft, IsPrepared, LedgerShares, shared_event};
+ghost use Rattle.sq_ledger.specs.ItemMoves.{change_by, tasks_without};
 
 use crate::items::Items;
 use crate::tasks::{TaskChange, Tasks};
@@ -24,6 +22,7 @@ use sq_model::item::{Item, ItemNo, Reason, TaskNo};
 use sq_model::ledger::{LedgerCall, LedgerReply};
 use sq_model::place::Component;
 use sq_model::replies::HomeReply;
+use sq_model::shared::ItemAct;
 use sq_model::task::FailureReason;
 use std::alloc::Global;
 use std::marker::Model;
@@ -32,10 +31,10 @@ use std::marker::Model;
 /// that the ledger shares with homes and its own: the ledger is always the replay of it. Moments are in ms. Own.
 ///
 /// A shared step is done at a home and here, at one stamp. It is begun with `prepare`, and with `room` or `task_leave` where
-/// an item may come in; what follows takes no memory and is not refused.
+/// an item is to come in; what follows takes no memory and is not refused.
 #[derive(Drop)]
 pub struct TransitLedger {
-    pub(crate) items: Items,
+    items: Items,
     next: u64,
     pub(crate) tasks: Tasks,
     limit: u32,
@@ -48,15 +47,15 @@ impl Model for TransitLedger {
 
     ghost Value = { LedgerValue };
 
-    ghost view = { λ t. record { history = history_of t.items t.next t.tasks t.limit t.log; reserved = t.log.reserved; item_reserved = t.items.reserved } };
+    ghost view = { λ t. record { history = history_of t.items.items t.next t.tasks t.limit t.log; reserved = t.log.reserved; item_reserved = t.items.reserved } };
 
-    ghost invariant = { λ t. IsLedgerKept (history_of t.items t.next t.tasks t.limit t.log) };
+    ghost invariant = { λ t. IsLedgerKept (history_of t.items.items t.next t.tasks t.limit t.log) };
 }
 
 impl TransitLedger {
     /// No item and no event. It is to hold so many items at most.
     pub fn new(alloc: Global, limit: u32) -> TransitLedger
-        ensures { result.history ≡ record { ledger = opening_ledger limit; last = start; events = []; room = 0; item_room = 0; task_room = 0 } }
+        ensures { result.history ≡ record { ledger = opening_ledger limit; last = start; events = []; room = 0; task_room = 0 } }
     {
         TransitLedger {
             items: Items::new(alloc),
@@ -96,13 +95,16 @@ impl TransitLedger {
         self.items.after(after)
     }
 
-    /// The number of the next item, where one more may come in. It takes no memory. Refused as Worn (no number is left),
-    /// and then as OverLimit (as many items are in transit as may be).
-    pub fn room(&self) -> Result<ItemNo, Refusal>
-        ensures number { IfOk result (λ number. number ≡ self.now.history.ledger.next_item) }
-        ensures has_room { OnOk result (HasRoom self.now.history.ledger) }
-        ensures passes { OnOk result (room_refusal self.now.history.ledger ≡ None) }
-        ensures refused { IfErr result (λ e. room_refusal self.now.history.ledger ≡ Some e) }
+    /// The number of the next item, where one more may come in, for which it then has memory. Refused as Worn (no number is
+    /// left), OverLimit (as many items are in transit as may be), and then as NoMemory.
+    pub fn room(&mut self) -> Result<ItemNo, Refusal>
+        ensures history { self.new.history ≡ self.old.history }
+        ensures reserved { self.new.reserved ≡ self.old.reserved }
+        ensures number { IfOk result (λ number. number ≡ self.old.history.ledger.next_item) }
+        ensures has_room { OnOk result (HasRoom self.old.history.ledger) }
+        ensures passes { OnOk result (room_refusal self.old.history.ledger ≡ None) }
+        ensures ready { OnOk result (0 < self.new.item_reserved) }
+        ensures refused { IfErr result (λ e. (room_refusal self.old.history.ledger ≡ Some e) ⊎ ((room_refusal self.old.history.ledger ≡ None) × (e ≡ Refusal.NoMemory) × (self.old.item_reserved ≡ 0))) }
     {
         let Some(number) = ItemNo::new(self.next) else {
             return Err(Refusal::Worn);
@@ -110,21 +112,20 @@ impl TransitLedger {
         if self.items.len() >= self.limit as usize {
             return Err(Refusal::OverLimit);
         }
+        self.items.reserve()?;
         Ok(number)
     }
 
-    /// Gets memory for one event more and for one item, and for four where it shows room for none. Refused as NoMemory,
-    /// where it shows room for no event or for no item; it may have got some of it then.
+    /// Gets memory for one event more, and for four where it shows room for none. Refused as NoMemory where it shows room
+    /// for none and has memory for fewer than four.
     pub fn prepare(&mut self) -> Result<(), Refusal>
         ensures history { self.new.history ≡ self.old.history }
         ensures prepared { OnOk result (IsPrepared self.new) }
-        ensures refused { IfErr result (λ e. e ≡ Refusal.NoMemory) }
-        ensures needed { IfErr result (λ _. (self.old.history.room ≡ 0) ⊎ (self.old.history.item_room ≡ 0)) }
+        ensures refused { IfErr result (λ e. (e ≡ Refusal.NoMemory) × (self.old.history.room ≡ 0) × (self.old.reserved < 4)) }
         ensures reserved { self.old.reserved ≤ self.new.reserved }
-        ensures item_reserved { self.old.item_reserved ≤ self.new.item_reserved }
+        ensures item_reserved { self.new.item_reserved ≡ self.old.item_reserved }
     {
-        self.log.reserve()?;
-        self.items.reserve()
+        self.log.reserve()
     }
 
     /// A message comes in from this home, as the item with the next number: a dead one, or one for a task, which counts it.
@@ -138,6 +139,7 @@ impl TransitLedger {
         item: Item,
     )
         requires prepared { IsPrepared self.old }
+        requires ready { 0 < self.old.item_reserved }
         requires above { Below self.old.history.last stamp }
         requires has_room { HasRoom self.old.history.ledger }
         requires number { item.number ≡ self.old.history.ledger.next_item }
@@ -168,130 +170,56 @@ impl TransitLedger {
         requires above { Below self.old.history.last stamp }
         requires none { IsNoneLeft self.old.history.ledger stamp.moment home.now number kept.0 kept.1 }
         ensures shares { LedgerShares self.old.history self.new.history by.now stamp home.now kept.0 kept.1 }
-        ensures item_reserved { self.old.item_reserved ≤ self.new.item_reserved }
+        ensures item_reserved { self.new.item_reserved ≡ self.old.item_reserved }
     {
         fail_without(&mut self.tasks, number, &kept.1);
-        self.items.show_room();
         add_event(&mut self.log, by, stamp, home, kept);
     }
 
-    /// The item of a number goes out to this home, which it came in at: its target, or its source where it was turned
-    /// back. The call and the reply are those of the home's event.
-    pub fn give_out(
+    /// This home did this with the item of a number: it goes out, to its target, back to its source or given up there, which
+    /// its task counts; or it goes back to its source from now on, and its task fails. The call and the reply are those of the
+    /// home's event.
+    pub fn item_step(
         &mut self,
         by: &Actor,
         stamp: Stamp,
         home: &HomeId,
         kept: (HomeCall, HomeReply),
+        act: ItemAct,
         number: ItemNo,
     )
         requires prepared { IsPrepared self.old }
         requires above { Below self.old.history.last stamp }
-        requires entered { (item : Moved) × (item_of number self.old.history.ledger ≡ Some item) × IsEntered home.now kept.0 kept.1 item }
+        requires does { (item : Moved) × (item_of number self.old.history.ledger ≡ Some item) × DoesItem act home.now kept.0 kept.1 item }
         ensures shares { LedgerShares self.old.history self.new.history by.now stamp home.now kept.0 kept.1 }
         ensures item_reserved { self.old.item_reserved ≤ self.new.item_reserved }
     {
-        let change = change_at(&kept.0);
-        self.move_item(by, stamp, home, kept, number, change);
-    }
-
-    /// The item of a number is given up at this home of its source, since that was closed too. The call and the reply are
-    /// those of the home's event.
-    pub fn drop_item(
-        &mut self,
-        by: &Actor,
-        stamp: Stamp,
-        home: &HomeId,
-        kept: (HomeCall, HomeReply),
-        number: ItemNo,
-    )
-        requires prepared { IsPrepared self.old }
-        requires above { Below self.old.history.last stamp }
-        requires given_up { (item : Moved) × (item_of number self.old.history.ledger ≡ Some item) × (kept.0 ≡ GiveUp item) × (may_return home.now item ≡ true) }
-        requires reply { kept.1 ≡ Done }
-        ensures shares { LedgerShares self.old.history self.new.history by.now stamp home.now kept.0 kept.1 }
-        ensures item_reserved { self.old.item_reserved ≤ self.new.item_reserved }
-    {
-        self.move_item(by, stamp, home, kept, number, TaskChange::Dropped);
-    }
-
-    /// The item of a number goes back to its source from now on, since this home of its target was closed. The call and
-    /// the reply are those of the home's event.
-    pub fn turn_back(
-        &mut self,
-        by: &Actor,
-        stamp: Stamp,
-        home: &HomeId,
-        kept: (HomeCall, HomeReply),
-        number: ItemNo,
-    )
-        requires prepared { IsPrepared self.old }
-        requires above { Below self.old.history.last stamp }
-        requires turned { (item : Moved) × (item_of number self.old.history.ledger ≡ Some item) × (kept.0 ≡ TurnBack item) × (may_enter home.now item ≡ true) }
-        requires reply { kept.1 ≡ Done }
-        ensures shares { LedgerShares self.old.history self.new.history by.now stamp home.now kept.0 kept.1 }
-        ensures item_reserved { self.old.item_reserved ≤ self.new.item_reserved }
-    {
-        let change = TaskChange::Failed(FailureReason::DestinationClosed);
-        self.move_item(by, stamp, home, kept, number, change);
-    }
-
-    // The item of a number goes out, or back from now on, as its task is changed.
-    fn move_item(
-        &mut self,
-        by: &Actor,
-        stamp: Stamp,
-        home: &HomeId,
-        kept: (HomeCall, HomeReply),
-        number: ItemNo,
-        change: TaskChange,
-    )
-        requires prepared { IsPrepared self.old }
-        requires above { Below self.old.history.last stamp }
-        requires moved { (item : Moved) × (item_of number self.old.history.ledger ≡ Some item) × IsMoved home.now kept.0 kept.1 change item }
-        ensures shares { LedgerShares self.old.history self.new.history by.now stamp home.now kept.0 kept.1 }
-        ensures item_reserved { self.old.item_reserved ≤ self.new.item_reserved }
-    {
-        let at = number.get();
-        let reason = reason_of(&self.items, at);
-        self.tasks.change_for(reason, change);
-        move_in(&mut self.items, at, change);
-        self.items.show_room();
+        let reason = reason_of(&self.items, number);
+        self.tasks.change_for(reason, change_by(act));
+        self.items.apply(act, number.get());
         add_event(&mut self.log, by, stamp, home, kept);
     }
 }
 
 // Why the item of a number was moved.
-fn reason_of(items: &Items, number: u64) -> Reason
+fn reason_of(items: &Items, number: ItemNo) -> Reason
     ensures { (item : Moved) → find (has_number number) items.now.items ≡ Some item → result ≡ item.reason }
 {
-    match items.get(number) {
+    match items.get(number.get()) {
         Some(item) => item.reason,
         None => Reason::DeadLetter,
     }
 }
 
-// What an item that goes out by this call does to its task.
-fn change_at(call: &HomeCall) -> TaskChange
-    ensures { result ≡ change_at call.now }
+// What is done to the task of an item.
+fn change_by(act: ItemAct) -> TaskChange
+    ensures { result ≡ change_by act }
 {
-    match call {
-        HomeCall::GiveBack(_) => TaskChange::Back,
-        _ => TaskChange::Entered,
-    }
-}
-
-// The item of a number goes out, or turns where its task fails.
-fn move_in(items: &mut Items, number: u64, change: TaskChange)
-    ensures items { items.new.items ≡ items_after change number items.old.items }
-    ensures room { items.new.room ≡ items.old.room }
-    ensures reserved { items.old.reserved ≤ items.new.reserved }
-{
-    match change {
-        TaskChange::Failed(_) => items.turn(number),
-        _ => {
-            let _out = items.take(number);
-        }
+    match act {
+        ItemAct::Enter => TaskChange::Entered,
+        ItemAct::TurnBack => TaskChange::Failed(FailureReason::DestinationClosed),
+        ItemAct::GiveBack => TaskChange::Back,
+        ItemAct::GiveUp => TaskChange::Dropped,
     }
 }
 

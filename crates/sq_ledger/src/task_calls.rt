@@ -1,5 +1,5 @@
 //! What the ledger does with tasks by itself: each call is one event of its history, or reads it alone.
-ghost use Rattle.std.specs.Prelude.{◌≡◌, ◌++◌, ◌∷◌, [], true, not, None, Some, IfOk, IfErr, IfSome, OnOk, OnErr, length, option_map};
+ghost use Rattle.std.specs.Prelude.{◌≡◌, ◌⊎◌, ◌<◌, ◌++◌, ◌∷◌, [], true, not, None, Some, IfOk, IfErr, IfSome, OnOk, OnErr, length, option_map};
 ghost use Rattle.std.specs.List.{list_any};
 ghost use Rattle.sq_base.specs.Stamps.{start, Below};
 ghost use Rattle.sq_model.specs.declared.ledger.LedgerCall.TheVariants as asks;
@@ -60,16 +60,20 @@ impl TransitLedger {
     }
 
     /// What the ledger says to a leave for the task of a number at this home, at a moment in ms: the task, where it is RUNNING
-    /// and takes messages of this home's queue; whether its rate allows one; and the number of the next item. It takes no
-    /// memory. The task is refused as ResourceNotFoundException and then as UnsupportedOperation, the item as `room` says.
-    pub fn task_leave(&self, home: &HomeId, number: TaskNo, moment: u64) -> TaskLeave
+    /// and takes messages of this home's queue; whether its rate allows one; and the number of the next item, as `room` says.
+    /// The task is refused as ResourceNotFoundException, and then as UnsupportedOperation.
+    pub fn task_leave(&mut self, home: &HomeId, number: TaskNo, moment: u64) -> TaskLeave
+        ensures history { self.new.history ≡ self.old.history }
+        ensures reserved { self.new.reserved ≡ self.old.reserved }
         ensures number { result.number ≡ number }
-        ensures task { IfOk result.task (λ task. MayTake self.now.history.ledger home.now.queue number task) }
-        ensures no_task { IfErr result.task (λ e. task_refusal home.now (task_of number self.now.history.ledger) None ≡ Some e) }
-        ensures allowed { result.allowed ≡ not (is_throttled moment (task_of number self.now.history.ledger)) }
-        ensures item { IfOk result.item (λ item. item ≡ self.now.history.ledger.next_item) }
-        ensures has_room { OnOk result.item (HasRoom self.now.history.ledger) }
-        ensures no_room { IfErr result.item (λ e. room_refusal self.now.history.ledger ≡ Some e) }
+        ensures task { IfOk result.task (λ task. MayTake self.old.history.ledger home.now.queue number task) }
+        ensures no_task { IfErr result.task (λ e. task_refusal home.now (task_of number self.old.history.ledger) None ≡ Some e) }
+        ensures allowed { result.allowed ≡ not (is_throttled moment (task_of number self.old.history.ledger)) }
+        ensures item { IfOk result.item (λ item. item ≡ self.old.history.ledger.next_item) }
+        ensures has_room { OnOk result.item (HasRoom self.old.history.ledger) }
+        ensures passes { OnOk result.item (room_refusal self.old.history.ledger ≡ None) }
+        ensures ready { OnOk result.item (0 < self.new.item_reserved) }
+        ensures no_room { IfErr result.item (λ e. (room_refusal self.old.history.ledger ≡ Some e) ⊎ ((room_refusal self.old.history.ledger ≡ None) × (e ≡ Refusal.NoMemory) × (self.old.item_reserved ≡ 0))) }
     {
         TaskLeave {
             number,

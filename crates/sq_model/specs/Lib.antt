@@ -9,6 +9,7 @@ pub mod Directories
 pub mod Tasks
 pub mod Ledgers
 pub mod Shared
+pub mod ItemActs
 pub mod Systems
 pub mod Places
 pub mod Merges

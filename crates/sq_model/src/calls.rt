@@ -16,16 +16,23 @@ pub struct Receipt {
 /// The steps of a home, those that it shares with the ledger among them.
 #[derive(Drop)]
 pub enum HomeCall {
-    /// Takes settings of this version.
+    /// Takes settings of this version, where it is above the home's own, and opens a home that was never opened.
     Configure(Settings, u64),
+    /// Closes the home for good, and lets go of its messages.
     Close,
     /// Puts a message last; without a delay the home's is taken.
     Send(Body, Option<Delay>),
-    /// Receives up to so many messages; without a timeout the home's is taken.
+    /// Receives up to so many messages; without a timeout the home's is taken. It gives the rows, as they stand after
+    /// it, or none at all where messages are live and too many are in flight.
     Look(MaxMessages, Option<Timeout>),
+    /// Takes out the row on which slot, serial and receive number agree; where there is none it is done too.
     Delete(Receipt),
+    /// Hides a message in flight for so many seconds from the stamp's moment on, and for no longer than 12 hours after
+    /// its last receive; with 0 it is visible at once.
     Change(Receipt, Timeout),
+    /// Takes out all messages, those in flight or delayed among them; serials go on.
     Purge,
+    /// How many messages are visible, in flight and delayed.
     Count,
     /// A dead message leaves for the dead-letter queue.
     LeaveDead,

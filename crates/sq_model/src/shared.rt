@@ -17,3 +17,16 @@ pub enum SharedAct {
     /// A message that was sent back to a closed source is given up.
     GiveUp(ItemNo),
 }
+
+/// What is done with a message in transit.
+#[derive(Clone, Copy, PartialEq, Eq, Debug)]
+pub enum ItemAct {
+    /// It comes in at its target.
+    Enter,
+    /// It is sent back from its closed target.
+    TurnBack,
+    /// It comes back to its source.
+    GiveBack,
+    /// It is given up at its closed source.
+    GiveUp,
+}

@@ -7,6 +7,10 @@ use Rattle.sq_base.specs.declared.row.Row.{Row}
 use Rattle.sq_model.specs.declared.place.Site.{Site}
 use Rattle.sq_model.specs.Homes.{Home, Unopened, Serving, Closed, HasPlace, dead_target, place_refusal, refused_if}
 use Rattle.sq_model.specs.Rows.{trimmed, is_dead, is_live, Takes}
+use Rattle.sq_model.specs.declared.item.Item.{Item}
+use Rattle.sq_model.specs.declared.shared.ItemAct.{ItemAct}
+use Rattle.sq_model.specs.declared.shared.ItemAct.TheVariants.{Enter, TurnBack, GiveBack, GiveUp}
+use Rattle.sq_model.specs.ItemActs.{is_its}
 
 -- one of the rows that pass, any of them
 pub record IsOneOf (p : Row → Bool) (rows : List Row) (row : Row) : Type 0 where
@@ -89,3 +93,17 @@ abbrev pub closed_refusal : Home → Bool → Option Refusal
 closed_refusal (Serving s v n rows) is_its = Some UnsupportedOperation
 closed_refusal Unopened is_its = Some QueueDoesNotExist
 closed_refusal Closed is_its = refused_if (not is_its) UnsupportedOperation None
+
+-- why an item is not done with at a home: its row comes in, or the home is to be closed
+abbrev pub item_refusal : ItemAct → Site → Home → ℕ → Option Item → Option Refusal
+item_refusal Enter site home m item = coming_refusal site home m (refused_if (not (is_its Enter site.home item)) UnsupportedOperation None)
+item_refusal TurnBack site home m item = closed_refusal home (is_its TurnBack site.home item)
+item_refusal GiveBack site home m item = coming_refusal site home m (refused_if (not (is_its GiveBack site.home item)) UnsupportedOperation None)
+item_refusal GiveUp site home m item = closed_refusal home (is_its GiveUp site.home item)
+
+-- a home can do it with an item that is one for it
+abbrev pub IsFor : ItemAct → Site → Home → ℕ → Type 0
+IsFor Enter site home m = coming_refusal site home m None ≡ None
+IsFor TurnBack site home m = home ≡ Closed
+IsFor GiveBack site home m = coming_refusal site home m None ≡ None
+IsFor GiveUp site home m = home ≡ Closed

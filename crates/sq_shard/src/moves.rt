@@ -2,12 +2,12 @@
 ghost use Rattle.std.specs.Prelude.{◌≡◌, ◌<◌, Bool, true, false, not, Some, None, option_map, IfOk, IfErr, IfSome, IfNone, OnErr, OnOk};
 ghost use Rattle.sq_base.specs.Stamps.{stamp_end};
 ghost use Rattle.sq_model.specs.declared.item.Item.{Item as Moved};
-ghost use Rattle.sq_model.specs.declared.calls.HomeCall.TheVariants.{LeaveDead, Enter, TurnBack, GiveBack, GiveUp};
-ghost use Rattle.sq_model.specs.declared.replies.HomeReply.TheVariants.{Done, Entered};
-ghost use Rattle.sq_model.specs.Homes.{HomeStep, IsIdle, home_refusal, may_enter, may_return, refused_if};
-ghost use Rattle.sq_model.specs.Shared.{is_entering, is_returning};
+ghost use Rattle.sq_model.specs.declared.calls.HomeCall.TheVariants.{LeaveDead, Enter, GiveBack};
+ghost use Rattle.sq_model.specs.declared.replies.HomeReply.TheVariants.{Entered};
+ghost use Rattle.sq_model.specs.Homes.{HomeStep, IsIdle, home_refusal, may_enter, may_return};
+ghost use Rattle.sq_model.specs.ItemActs.{call_with, is_its, may_act, replied_by};
 ghost use Rattle.sq_model.specs.Homes.{Closed as Gone};
-ghost use Rattle.sq_shard.specs.Moves.{IsDeadAt, IsLiveAt, HasRow, GoesWithout, has_live_row, is_opened, target_at, trimmed_home, coming_refusal, closed_refusal};
+ghost use Rattle.sq_shard.specs.Moves.{IsDeadAt, IsLiveAt, HasRow, GoesWithout, IsFor, has_live_row, is_opened, target_at, trimmed_home, coming_refusal, closed_refusal, item_refusal};
 
 use crate::rows;
 use crate::shard::{Shard, Status};
@@ -17,32 +17,16 @@ use sq_base::refusal::Refusal;
 use sq_base::row::Row;
 use sq_model::item::Item;
 use sq_model::replies::EnteredRow;
+use sq_model::shared::ItemAct;
 
-// The item, where it may come in at this home. Refused as UnsupportedOperation.
-fn entering<'a>(home: &HomeId, item: Option<&'a Item>) -> Result<&'a Item, Refusal>
-    ensures item { IfOk result (λ it. (option_map (λ i. i.now) item.entry ≡ Some it.now) × (may_enter home.now it.now ≡ true)) }
-    ensures refused { IfErr result (λ e. (e ≡ Refusal.UnsupportedOperation) × (is_entering home.now (option_map (λ i. i.now) item.entry) ≡ false)) }
+// The item, where it is there and is one for this home. Refused as UnsupportedOperation.
+fn its<'a>(act: ItemAct, home: &HomeId, item: Option<&'a Item>) -> Result<&'a Item, Refusal>
+    ensures item { IfOk result (λ it. (option_map (λ i. i.now) item.entry ≡ Some it.now) × (may_act act home.now it.now ≡ true)) }
+    ensures refused { IfErr result (λ e. (e ≡ Refusal.UnsupportedOperation) × (is_its act home.now (option_map (λ i. i.now) item.entry) ≡ false)) }
 {
     match item {
         Some(item) => {
-            if rows::may_enter(home, item) {
-                Ok(item)
-            } else {
-                Err(Refusal::UnsupportedOperation)
-            }
-        }
-        None => Err(Refusal::UnsupportedOperation),
-    }
-}
-
-// The item, where it may come back to this home. Refused as UnsupportedOperation.
-fn returning<'a>(home: &HomeId, item: Option<&'a Item>) -> Result<&'a Item, Refusal>
-    ensures item { IfOk result (λ it. (option_map (λ i. i.now) item.entry ≡ Some it.now) × (may_return home.now it.now ≡ true)) }
-    ensures refused { IfErr result (λ e. (e ≡ Refusal.UnsupportedOperation) × (is_returning home.now (option_map (λ i. i.now) item.entry) ≡ false)) }
-{
-    match item {
-        Some(item) => {
-            if rows::may_return(home, item) {
+            if rows::may_act(act, home, item) {
                 Ok(item)
             } else {
                 Err(Refusal::UnsupportedOperation)
@@ -122,41 +106,53 @@ impl<S: Store> Shard<S> {
         }
     }
 
-    /// The item, where its row may be put here, which comes in at its target. Refused as QueueDoesNotExist (not
-    /// serving), Worn (no serial is left), OverLimit (full), UnsupportedOperation (no item, or not one on its way to this
-    /// queue).
+    /// The item, where this may be done with it here. Refused where its row comes in as QueueDoesNotExist (not serving),
+    /// Worn (no serial is left), OverLimit (full), and where the home is to be closed as QueueDoesNotExist (never opened),
+    /// UnsupportedOperation (serving); then as UnsupportedOperation (no item, or not one for this home).
     #[tactic(auto, using(crate::proofs::MoveLaws::place_later))]
-    pub fn check_enter<'a>(&self, moment: u64, item: Option<&'a Item>) -> Result<&'a Item, Refusal>
-        ensures item { IfOk result (λ it. option_map (λ i. i.now) item.entry ≡ Some it.now) }
-        ensures may { IfOk result (λ it. may_enter self.now.site.home it.now ≡ true) }
-        ensures place { OnOk result (coming_refusal self.now.site self.now.home moment None ≡ None) }
-        ensures none { OnOk result (coming_refusal self.now.site self.now.home moment (refused_if (not (is_entering self.now.site.home (option_map (λ i. i.now) item.entry))) Refusal.UnsupportedOperation None) ≡ None) }
-        ensures refusal { IfErr result (λ e. coming_refusal self.now.site self.now.home moment (refused_if (not (is_entering self.now.site.home (option_map (λ i. i.now) item.entry))) Refusal.UnsupportedOperation None) ≡ Some e) }
-    {
-        self.check_place(moment)?;
-        entering(&self.site.home, item)
-    }
-
-    /// The item, where its row may be put here, which comes back to its source. Refused as QueueDoesNotExist (not
-    /// serving), Worn (no serial is left), OverLimit (full), UnsupportedOperation (no item, or not one on its way back to
-    /// this queue).
-    #[tactic(auto, using(crate::proofs::MoveLaws::place_later))]
-    pub fn check_give_back<'a>(
+    pub fn check_item<'a>(
         &self,
+        act: ItemAct,
         moment: u64,
         item: Option<&'a Item>,
     ) -> Result<&'a Item, Refusal>
         ensures item { IfOk result (λ it. option_map (λ i. i.now) item.entry ≡ Some it.now) }
-        ensures may { IfOk result (λ it. may_return self.now.site.home it.now ≡ true) }
-        ensures place { OnOk result (coming_refusal self.now.site self.now.home moment None ≡ None) }
-        ensures none { OnOk result (coming_refusal self.now.site self.now.home moment (refused_if (not (is_returning self.now.site.home (option_map (λ i. i.now) item.entry))) Refusal.UnsupportedOperation None) ≡ None) }
-        ensures refusal { IfErr result (λ e. coming_refusal self.now.site self.now.home moment (refused_if (not (is_returning self.now.site.home (option_map (λ i. i.now) item.entry))) Refusal.UnsupportedOperation None) ≡ Some e) }
+        ensures may { IfOk result (λ it. may_act act self.now.site.home it.now ≡ true) }
+        ensures place { OnOk result (IsFor act self.now.site self.now.home moment) }
+        ensures none { OnOk result (item_refusal act self.now.site self.now.home moment (option_map (λ i. i.now) item.entry) ≡ None) }
+        ensures refusal { IfErr result (λ e. item_refusal act self.now.site self.now.home moment (option_map (λ i. i.now) item.entry) ≡ Some e) }
     {
-        self.check_place(moment)?;
-        returning(&self.site.home, item)
+        match act {
+            ItemAct::Enter | ItemAct::GiveBack => self.check_place(moment)?,
+            ItemAct::TurnBack | ItemAct::GiveUp => self.check_closed()?,
+        }
+        its(act, &self.site.home, item)
     }
 
-    /// Puts the row of an item last, which comes in here, as `check_enter` found. Refused only where memory is out.
+    /// Does this with an item, as `check_item` found: with the row that came in, where one did. Refused only where memory
+    /// is out.
+    #[tactic(auto, using(crate::proofs::MoveLaws::turned_at, crate::proofs::MoveLaws::given_up_at))]
+    pub fn item_step(
+        &mut self,
+        act: ItemAct,
+        moment: u64,
+        item: &Item,
+    ) -> Result<Option<EnteredRow>, Refusal>
+        requires may { may_act act self.old.site.home item.now ≡ true }
+        requires place { IsFor act self.old.site self.old.home moment }
+        ensures step { IfOk result (λ entered. HomeStep self.old.site self.old.home moment (call_with act item.now) (replied_by entered) self.new.home) }
+        ensures site { self.new.site ≡ self.old.site }
+        ensures refused { IfErr result (λ e. e ≡ Refusal.NoMemory) }
+        ensures err { OnErr result (self.new ≡ self.old) }
+    {
+        match act {
+            ItemAct::Enter => Ok(Some(self.enter(moment, item)?)),
+            ItemAct::GiveBack => Ok(Some(self.give_back(moment, item)?)),
+            ItemAct::TurnBack | ItemAct::GiveUp => Ok(None),
+        }
+    }
+
+    /// Puts the row of an item last, which comes in here, as `check_item` found. Refused only where memory is out.
     #[tactic(auto, using(crate::proofs::MoveLaws::entered_at))]
     pub fn enter(&mut self, moment: u64, item: &Item) -> Result<EnteredRow, Refusal>
         requires may { may_enter self.old.site.home item.now ≡ true }
@@ -172,7 +168,7 @@ impl<S: Store> Shard<S> {
         Ok(EnteredRow { serial, slot })
     }
 
-    /// Puts the row of an item last, which comes back, as `check_give_back` found. Refused only where memory is out.
+    /// Puts the row of an item last, which comes back, as `check_item` found. Refused only where memory is out.
     #[tactic(auto, using(crate::proofs::MoveLaws::returned_at))]
     pub fn give_back(&mut self, moment: u64, item: &Item) -> Result<EnteredRow, Refusal>
         requires may { may_return self.old.site.home item.now ≡ true }
@@ -186,42 +182,6 @@ impl<S: Store> Shard<S> {
         let row = rows::returned_row(serial, moment, item)?;
         let slot = self.put(moment, row)?;
         Ok(EnteredRow { serial, slot })
-    }
-
-    /// The item, where its target is this home, which is closed: it is sent back, and the home stays as it is.
-    /// Refused as QueueDoesNotExist (never opened), UnsupportedOperation (serving, no item, or not one on its way to this
-    /// queue).
-    #[tactic(auto, using(crate::proofs::MoveLaws::turned_at))]
-    pub fn check_turn_back<'a>(
-        &self,
-        moment: u64,
-        item: Option<&'a Item>,
-    ) -> Result<&'a Item, Refusal>
-        ensures item { IfOk result (λ it. option_map (λ i. i.now) item.entry ≡ Some it.now) }
-        ensures step { IfOk result (λ it. HomeStep self.now.site self.now.home moment (TurnBack it.now) Done self.now.home) }
-        ensures none { OnOk result (closed_refusal self.now.home (is_entering self.now.site.home (option_map (λ i. i.now) item.entry)) ≡ None) }
-        ensures refusal { IfErr result (λ e. closed_refusal self.now.home (is_entering self.now.site.home (option_map (λ i. i.now) item.entry)) ≡ Some e) }
-    {
-        self.check_closed()?;
-        entering(&self.site.home, item)
-    }
-
-    /// The item, where its source is this home, which is closed: it is given up, and the home stays as it is.
-    /// Refused as QueueDoesNotExist (never opened), UnsupportedOperation (serving, no item, or not one on its way back to
-    /// this queue).
-    #[tactic(auto, using(crate::proofs::MoveLaws::given_up_at))]
-    pub fn check_give_up<'a>(
-        &self,
-        moment: u64,
-        item: Option<&'a Item>,
-    ) -> Result<&'a Item, Refusal>
-        ensures item { IfOk result (λ it. option_map (λ i. i.now) item.entry ≡ Some it.now) }
-        ensures step { IfOk result (λ it. HomeStep self.now.site self.now.home moment (GiveUp it.now) Done self.now.home) }
-        ensures none { OnOk result (closed_refusal self.now.home (is_returning self.now.site.home (option_map (λ i. i.now) item.entry)) ≡ None) }
-        ensures refusal { IfErr result (λ e. closed_refusal self.now.home (is_returning self.now.site.home (option_map (λ i. i.now) item.entry)) ≡ Some e) }
-    {
-        self.check_closed()?;
-        returning(&self.site.home, item)
     }
 
     // Refused as QueueDoesNotExist (never opened), UnsupportedOperation (serving).

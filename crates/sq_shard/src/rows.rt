@@ -3,6 +3,7 @@ ghost use Rattle.std.specs.Prelude.{◌≡◌, ◌+◌, ℕ, ◌<◌, ◌≤◌,
 ghost use Rattle.std.specs.List.{list_any};
 ghost use Rattle.sq_model.specs.Rows as model;
 ghost use Rattle.sq_model.specs.Homes as homes;
+ghost use Rattle.sq_model.specs.ItemActs as acts;
 ghost use Rattle.sq_shard.specs.Moves as moves;
 
 use sq_base::body::Body;
@@ -16,6 +17,7 @@ use sq_model::calls::Receipt;
 use sq_model::item::{Item, Reason};
 use sq_model::replies::Counts;
 use sq_model::rows::{Rows, copy_row};
+use sq_model::shared::ItemAct;
 use std::alloc::Global;
 
 pub fn is_kept(settings: &Settings, moment: u64, row: &Row) -> bool
@@ -132,18 +134,14 @@ pub fn returned_row(serial: Serial, moment: u64, item: &Item) -> Result<Row, Ref
     moved_row(serial, moment, &item.row)
 }
 
-/// Whether an item may come in at this home.
-pub fn may_enter(home: &HomeId, item: &Item) -> bool
-    ensures { result ≡ homes.may_enter home.now item.now }
+/// Whether an item is one for this home: on its way to it, or on its way back.
+pub fn may_act(act: ItemAct, home: &HomeId, item: &Item) -> bool
+    ensures { result ≡ acts.may_act act home.now item.now }
 {
-    !item.homeward && item.target == home.queue
-}
-
-/// Whether an item may come back to this home.
-pub fn may_return(home: &HomeId, item: &Item) -> bool
-    ensures { result ≡ homes.may_return home.now item.now }
-{
-    item.homeward && item.source == home.queue
+    match act {
+        ItemAct::Enter | ItemAct::TurnBack => !item.homeward && item.target == home.queue,
+        ItemAct::GiveBack | ItemAct::GiveUp => item.homeward && item.source == home.queue,
+    }
 }
 
 pub fn count_kept(rows: &[Row], settings: &Settings, moment: u64) -> usize

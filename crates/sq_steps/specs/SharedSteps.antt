@@ -43,13 +43,14 @@ pub record SharedMoves (old new : HistoryValue) (ledger after : LedgerHistory) (
   pub recorded_as : recorded_in ≡ with_record journal (OfHome its_record) recorded_in.room
   pub room : KeepsRoom journal.room recorded_in.room
 
--- nothing leaves, which is no step
+-- nothing leaves, which is no step, though one could be counted
 pub record IsUnmoved (old : HistoryValue) (ledger : LedgerHistory) (journal : Journal) (now : ℕ) (act : SharedAct) : Type 0 where
+  pub countable : journal.next ≢ last_place
   pub stamp : StampValue
   pub stamped : shared_stamp old.last ledger.last journal.seen now ≡ Ok stamp
   pub unrecorded : IsUnrecorded old.site old.home ledger.ledger stamp.moment act
 
--- a message is copied: nothing refuses the step, and something is there for it
+-- a message is copied, and where it leaves it becomes an item: nothing refuses the step, and something is there for it
 abbrev pub CopiesMessage : Site → Home → Ledger → ℕ → SharedAct → Type 0
 CopiesMessage site home l m act = (shared_refusal site home l m act ≡ None) × (IsUnrecorded site home l m act → ⊥)
 
@@ -59,11 +60,11 @@ IsPairRefused old l m act e =
     ((e ≡ NoMemory) × ((old.room ≡ 0) ⊎ CopiesMessage old.site old.home l m act))
     ⊎ (shared_refusal old.site old.home l m act ≡ Some e)
 
--- Why an actor's step of both is refused: the actor's own causes, no memory for the ledger's event or for an item, the clock's or the counts' check, or that neither half is done.
+-- Why an actor's step of both is refused: the actor's own causes, no memory for the ledger's event, the clock's or the counts' check, or that neither half is done.
 abbrev pub IsSharedRefused : HistoryValue → LedgerHistory → Journal → ℕ → SharedAct → Refusal → Type 0
 IsSharedRefused old ledger journal now act e =
     IsNotReady journal now e
     ⊎ ((journal.next ≢ last_place)
-    × (((e ≡ NoMemory) × ((ledger.room ≡ 0) ⊎ (ledger.item_room ≡ 0)))
+    × (((e ≡ NoMemory) × (ledger.room ≡ 0))
     ⊎ (shared_stamp old.last ledger.last journal.seen now ≡ Err e)
     ⊎ ((stamp : StampValue) × (shared_stamp old.last ledger.last journal.seen now ≡ Ok stamp) × IsPairRefused old ledger.ledger stamp.moment act e)))

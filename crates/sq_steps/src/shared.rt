@@ -2,6 +2,7 @@
 ghost use Rattle.std.specs.Prelude.{◌≡◌, Ok, IfOk, IfErr, IfSome, IfNone, OnErr};
 ghost use Rattle.sq_base.specs.Stamps.{Below};
 ghost use Rattle.sq_model.specs.declared.shared.SharedAct.TheVariants as asks;
+ghost use Rattle.sq_model.specs.ItemActs.{asked_with};
 ghost use Rattle.sq_model.specs.Shared.{IsUnrecorded, shared_stamp};
 ghost use Rattle.sq_ledger.specs.LedgerHistories.{IsPrepared};
 ghost use Rattle.sq_steps.specs.SharedSteps.{asked_as, BothDo, SharedMoves, IsUnmoved, IsPairRefused, IsSharedRefused};
@@ -19,6 +20,7 @@ use sq_ledger::ledger::TransitLedger;
 use sq_model::event::Actor;
 use sq_model::item::ItemNo;
 use sq_model::replies::HomeReply;
+use sq_model::shared::ItemAct;
 use std::alloc::Global;
 
 // The stamp of a step of both: above the last one of each, above what the actor saw, and not before the clock reading.
@@ -66,22 +68,23 @@ fn leave_dead(
     Ok(Some((answered, its_record)))
 }
 
-// The item comes in at its target.
-fn enter(
+// This is done with the item of a number.
+fn item_step(
     alloc: Global,
     home: &mut Home,
     ledger: &mut TransitLedger,
     by: &Actor,
     stamp: Stamp,
     name: Option<QueueName>,
+    act: ItemAct,
     number: ItemNo,
 ) -> Result<(HomeReply, HomeRecord), Refusal>
     requires prepared { IsPrepared ledger.old }
     requires above_home { Below home.old.last stamp }
     requires above_ledger { Below ledger.old.history.last stamp }
     requires above_seen { Below by.now.seen stamp }
-    ensures does { IfOk result (BothDo home.old home.new ledger.old.history ledger.new.history by.now stamp name (asks.Enter number)) }
-    ensures refusal { IfErr result (IsPairRefused home.old ledger.old.history.ledger stamp.moment (asks.Enter number)) }
+    ensures does { IfOk result (BothDo home.old home.new ledger.old.history ledger.new.history by.now stamp name (asked_with act number)) }
+    ensures refusal { IfErr result (IsPairRefused home.old ledger.old.history.ledger stamp.moment (asked_with act number)) }
     ensures home_err { OnErr result (home.new ≡ home.old) }
     ensures ledger_err { OnErr result (ledger.new.history ≡ ledger.old.history) }
 {
@@ -89,92 +92,8 @@ fn enter(
         answered,
         for_ledger,
         its_record,
-    } = home.enter(alloc, by, stamp, name, ledger.item(number))?;
-    ledger.give_out(by, stamp, its_record.home(), for_ledger, number);
-    Ok((answered, its_record))
-}
-
-// The item comes back to its source.
-fn give_back(
-    alloc: Global,
-    home: &mut Home,
-    ledger: &mut TransitLedger,
-    by: &Actor,
-    stamp: Stamp,
-    name: Option<QueueName>,
-    number: ItemNo,
-) -> Result<(HomeReply, HomeRecord), Refusal>
-    requires prepared { IsPrepared ledger.old }
-    requires above_home { Below home.old.last stamp }
-    requires above_ledger { Below ledger.old.history.last stamp }
-    requires above_seen { Below by.now.seen stamp }
-    ensures does { IfOk result (BothDo home.old home.new ledger.old.history ledger.new.history by.now stamp name (asks.GiveBack number)) }
-    ensures refusal { IfErr result (IsPairRefused home.old ledger.old.history.ledger stamp.moment (asks.GiveBack number)) }
-    ensures home_err { OnErr result (home.new ≡ home.old) }
-    ensures ledger_err { OnErr result (ledger.new.history ≡ ledger.old.history) }
-{
-    let HomeHalf {
-        answered,
-        for_ledger,
-        its_record,
-    } = home.give_back(alloc, by, stamp, name, ledger.item(number))?;
-    ledger.give_out(by, stamp, its_record.home(), for_ledger, number);
-    Ok((answered, its_record))
-}
-
-// The item is sent back from its closed target.
-fn turn_back(
-    alloc: Global,
-    home: &mut Home,
-    ledger: &mut TransitLedger,
-    by: &Actor,
-    stamp: Stamp,
-    name: Option<QueueName>,
-    number: ItemNo,
-) -> Result<(HomeReply, HomeRecord), Refusal>
-    requires prepared { IsPrepared ledger.old }
-    requires above_home { Below home.old.last stamp }
-    requires above_ledger { Below ledger.old.history.last stamp }
-    requires above_seen { Below by.now.seen stamp }
-    ensures does { IfOk result (BothDo home.old home.new ledger.old.history ledger.new.history by.now stamp name (asks.TurnBack number)) }
-    ensures refusal { IfErr result (IsPairRefused home.old ledger.old.history.ledger stamp.moment (asks.TurnBack number)) }
-    ensures home_err { OnErr result (home.new ≡ home.old) }
-    ensures ledger_err { OnErr result (ledger.new.history ≡ ledger.old.history) }
-{
-    let HomeHalf {
-        answered,
-        for_ledger,
-        its_record,
-    } = home.turn_back(alloc, by, stamp, name, ledger.item(number))?;
-    ledger.turn_back(by, stamp, its_record.home(), for_ledger, number);
-    Ok((answered, its_record))
-}
-
-// The item is given up at its closed source.
-fn give_up(
-    alloc: Global,
-    home: &mut Home,
-    ledger: &mut TransitLedger,
-    by: &Actor,
-    stamp: Stamp,
-    name: Option<QueueName>,
-    number: ItemNo,
-) -> Result<(HomeReply, HomeRecord), Refusal>
-    requires prepared { IsPrepared ledger.old }
-    requires above_home { Below home.old.last stamp }
-    requires above_ledger { Below ledger.old.history.last stamp }
-    requires above_seen { Below by.now.seen stamp }
-    ensures does { IfOk result (BothDo home.old home.new ledger.old.history ledger.new.history by.now stamp name (asks.GiveUp number)) }
-    ensures refusal { IfErr result (IsPairRefused home.old ledger.old.history.ledger stamp.moment (asks.GiveUp number)) }
-    ensures home_err { OnErr result (home.new ≡ home.old) }
-    ensures ledger_err { OnErr result (ledger.new.history ≡ ledger.old.history) }
-{
-    let HomeHalf {
-        answered,
-        for_ledger,
-        its_record,
-    } = home.give_up(alloc, by, stamp, name, ledger.item(number))?;
-    ledger.drop_item(by, stamp, its_record.home(), for_ledger, number);
+    } = home.item_step(alloc, by, stamp, name, act, ledger.item(number))?;
+    ledger.item_step(by, stamp, its_record.home(), for_ledger, act, number);
     Ok((answered, its_record))
 }
 
@@ -200,25 +119,21 @@ fn both_halves(
     ensures home_err { OnErr result (home.new ≡ home.old) }
     ensures ledger_err { OnErr result (ledger.new.history ≡ ledger.old.history) }
 {
-    match act {
-        Move::LeaveDead => leave_dead(alloc, home, ledger, by, stamp, name),
-        Move::Enter(number) => Ok(Some(enter(alloc, home, ledger, by, stamp, name, number)?)),
-        Move::TurnBack(number) => Ok(Some(turn_back(
-            alloc, home, ledger, by, stamp, name, number,
-        )?)),
-        Move::GiveBack(number) => Ok(Some(give_back(
-            alloc, home, ledger, by, stamp, name, number,
-        )?)),
-        Move::GiveUp(number) => Ok(Some(give_up(alloc, home, ledger, by, stamp, name, number)?)),
-    }
+    let (act, number) = match act {
+        Move::LeaveDead => return leave_dead(alloc, home, ledger, by, stamp, name),
+        Move::Enter(number) => (ItemAct::Enter, number),
+        Move::TurnBack(number) => (ItemAct::TurnBack, number),
+        Move::GiveBack(number) => (ItemAct::GiveBack, number),
+        Move::GiveUp(number) => (ItemAct::GiveUp, number),
+    };
+    Ok(Some(item_step(alloc, home, ledger, by, stamp, name, act, number)?))
 }
 
 /// A step of a home and the ledger that are lent, by an actor that is lent. All that grows in the ledger and in the
 /// actor's records does so first, and then all that grows in the home; then the message moves, and one event stands in
 /// each history, with one stamp. None where nothing was there to leave, which is no event and changes nothing. A clock
 /// reading is in ms.
-/// Refused as NoMemory (the actor's records, either history or the items have room for none, or a message is copied),
-/// ClockRange, Worn, and then as the home and the ledger: QueueDoesNotExist (not serving; never opened, where an item is
+/// Refused as NoMemory (the actor's records or either history have room for none, or a message is copied), ClockRange, Worn, and then as the home and the ledger: QueueDoesNotExist (not serving; never opened, where an item is
 /// sent back or given up), Worn and OverLimit (a home or the ledger has no number left, or is full), UnsupportedOperation
 /// (no item of this number, not one for this home, or a home that serves where it is to be closed).
 pub fn shared_step(

@@ -1,6 +1,7 @@
-use Rattle.std.proofs.Common.{rules, ◌≡◌, ℕ, Result, Some, None, subst}
+use Rattle.std.proofs.Common.{rules, ◌≡◌, ◌⊎◌, ℕ, Result, Some, None, subst}
 use Rattle.std.specs.Prelude.{IfErr, OnOk}
 use Rattle.sq_base.specs.declared.refusal.Refusal.{Refusal}
+use Rattle.sq_base.specs.declared.refusal.Refusal.TheVariants.{NoMemory}
 use Rattle.sq_model.specs.Ledgers.{room_refusal}
 use Rattle.sq_steps.proofs.SharedLaws.{leave_refused, leaving_dead}
 use Rattle.sq_steps.proofs.shared.leave_dead.Goals as goal
@@ -10,9 +11,9 @@ returns-in_err-half-clause-refusal c =
     let l = c.args.ledger.now.history.ledger in
     let room = c.room-number.ensures in
     let refused =
-    leave_refused c.args.home.now l c.args.stamp.moment c.room-number.result c.in_err-half.field-0.0
+    leave_refused c.args.home.now l c.args.stamp.moment c.args.ledger.now.item_reserved c.room-number.result c.in_err-half.field-0.0
     (λ n is. subst (λ (r : Result ℕ Refusal). OnOk r (room_refusal l ≡ None)) is room.passes)
-    (λ e is. subst (λ (r : Result ℕ Refusal). IfErr r (λ x. room_refusal l ≡ Some x)) is room.refused) c.in_err-half.ensures.refusal in
+    (λ e is. subst (λ (r : Result ℕ Refusal). IfErr r (λ x. (room_refusal l ≡ Some x) ⊎ ((room_refusal l ≡ None) × (x ≡ NoMemory) × (c.args.ledger.now.item_reserved ≡ 0)))) is room.refused) c.in_err-half.ensures.refusal in
     search rules
 
 pub take_in-requires-clause-leaves : goal.take_in-requires-clause-leaves

@@ -9,7 +9,7 @@ pub returns-then-place-len : goal.returns-then-place-len
 returns-then-place-len c =
     let items = c.self.inside.items.items in
     let place = c.partition_point-place.result in
-    let parted = IsPartitionedBy-leb number_of items c.args.number (do_not_fall 1 items c.self.invariant.0.0 c.self.invariant.0.1) in
+    let parted = IsPartitionedBy-leb number_of items c.args.number (do_not_fall 1 items c.self.invariant.0 c.self.invariant.1) in
     let point = IsPartitionPoint-from_clause (λ item. nat_le item.number c.args.number) _ _ c.partition_point-place.ensures.partitioned parted (λ a r q k. search rules) in
     let above = above_is c.args.number items place (omega arith) point in
     rw (← c.self.view_is) (read_is (λ (x : Bor Item). x.now) items place c.get.result c.get.ensures.item ∙ first_above c.args.number items place above (omega arith))
@@ -18,7 +18,7 @@ pub returns-else-place-len : goal.returns-else-place-len
 returns-else-place-len c =
     let items = c.self.inside.items.items in
     let place = c.partition_point-place.result in
-    let parted = IsPartitionedBy-leb number_of items c.args.number (do_not_fall 1 items c.self.invariant.0.0 c.self.invariant.0.1) in
+    let parted = IsPartitionedBy-leb number_of items c.args.number (do_not_fall 1 items c.self.invariant.0 c.self.invariant.1) in
     let point = IsPartitionPoint-from_clause (λ item. nat_le item.number c.args.number) _ _ c.partition_point-place.ensures.partitioned parted (λ a r q k. search rules) in
     let above = above_is c.args.number items place (omega arith) point in
     rw (← c.self.view_is) (read_is (λ (x : Bor Item). x.now) items 0 c.front.result c.front.ensures.item ∙ first_again c.args.number items place above (omega arith))

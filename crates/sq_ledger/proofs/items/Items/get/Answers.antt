@@ -6,21 +6,21 @@ use Rattle.sq_ledger.proofs.items.Items.get.Goals as goal
 
 pub returns-in_err-item : goal.returns-in_err-item
 returns-in_err-item c =
-    let found = found_by (λ (x : Bor Item). x.now) c.args.number c.self.inside.items.items c.self.invariant.0.0 c.place.result c.get.result c.self.invariant.0.1 (rw (← c.self.view_is) at c.place.ensures) c.get.ensures.item in
+    let found = found_by (λ (x : Bor Item). x.now) c.args.number c.self.inside.items.items c.self.invariant.0 c.place.result c.get.result c.self.invariant.1 (rw (← c.self.view_is) at c.place.ensures) c.get.ensures.item in
     let none : c.get.result ≡ None = search rules in
     let out : c.from_residual.result ≡ None = search rules in
     rw (← c.self.view_is, found, none, out) refl
 
 pub returns-then-get-number : goal.returns-then-get-number
 returns-then-get-number c =
-    let found = found_by (λ (x : Bor Item). x.now) c.args.number c.self.inside.items.items c.self.invariant.0.0 c.place.result c.get.result c.self.invariant.0.1 (rw (← c.self.view_is) at c.place.ensures) c.get.ensures.item in
+    let found = found_by (λ (x : Bor Item). x.now) c.args.number c.self.inside.items.items c.self.invariant.0 c.place.result c.get.result c.self.invariant.1 (rw (← c.self.view_is) at c.place.ensures) c.get.ensures.item in
     let there : c.get.result ≡ Some c.in_ok-item.item = search rules in
     let passes : has_number c.args.number c.in_ok-item.item.now ≡ true = search rules in
     rw (← c.self.view_is, found, there, passes) refl
 
 pub returns-else-get-number : goal.returns-else-get-number
 returns-else-get-number c =
-    let found = found_by (λ (x : Bor Item). x.now) c.args.number c.self.inside.items.items c.self.invariant.0.0 c.place.result c.get.result c.self.invariant.0.1 (rw (← c.self.view_is) at c.place.ensures) c.get.ensures.item in
+    let found = found_by (λ (x : Bor Item). x.now) c.args.number c.self.inside.items.items c.self.invariant.0 c.place.result c.get.result c.self.invariant.1 (rw (← c.self.view_is) at c.place.ensures) c.get.ensures.item in
     let there : c.get.result ≡ Some c.in_ok-item.item = search rules in
     let fails : has_number c.args.number c.in_ok-item.item.now ≡ false = search rules in
     rw (← c.self.view_is, found, there, fails) refl

@@ -14,7 +14,7 @@ pub returns-clause-taken : goal.returns-clause-taken
 returns-clause-taken c =
     let items = c.self.inside.items.items in
     let found : find (has_number c.args.number) c.args.self.now.items ≡ Some c.in_ok-get.field-0.now = search rules in
-    let taken = taken_out c.args.number items c.remove.new.self.items c.self.invariant.0.0 c.place-place.result c.remove.result c.in_ok-get.field-0.now c.self.invariant.0.1
+    let taken = taken_out c.args.number items c.remove.new.self.items c.self.invariant.0 c.place-place.result c.remove.result c.in_ok-get.field-0.now c.self.invariant.1
     (rw (← c.self.view_is) at c.place-place.ensures) (rw (← c.self.view_is) at found) (λ d lt. c.remove.ensures.succeeds d (omega (arith, lt))) c.remove.ensures.items in
     rw (← c.self.view_is) taken.0
 
@@ -22,11 +22,11 @@ pub returns-clause-items : goal.returns-clause-items
 returns-clause-items c =
     let items = c.self.inside.items.items in
     let found : find (has_number c.args.number) c.args.self.now.items ≡ Some c.in_ok-get.field-0.now = search rules in
-    let taken = taken_out c.args.number items c.remove.new.self.items c.self.invariant.0.0 c.place-place.result c.remove.result c.in_ok-get.field-0.now c.self.invariant.0.1
+    let taken = taken_out c.args.number items c.remove.new.self.items c.self.invariant.0 c.place-place.result c.remove.result c.in_ok-get.field-0.now c.self.invariant.1
     (rw (← c.self.view_is) at c.place-place.ensures) (rw (← c.self.view_is) at found) (λ d lt. c.remove.ensures.succeeds d (omega (arith, lt))) c.remove.ensures.items in
     rw (← c.self.view_is) taken.1
 
 pub invariant_of-self : goal.invariant_of-self
 invariant_of-self c =
     let left = rw (← c.self.view_is) at (returns-clause-items c) in
-    ((c.self.invariant.0.0, rw left (rise_without c.args.number 1 c.self.inside.items.items c.self.invariant.0.0 c.self.invariant.0.1)), search rules)
+    (c.self.invariant.0, rw left (rise_without c.args.number 1 c.self.inside.items.items c.self.invariant.0 c.self.invariant.1))

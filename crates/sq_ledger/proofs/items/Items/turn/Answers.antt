@@ -13,12 +13,12 @@ returns-clause-items c =
     let items = c.self.inside.items.items in
     let place = rw (← c.self.view_is) at c.place-place.ensures in
     let read = read_is (λ (x : MutBor Item). x.now) items c.place-place.result c.get_mut.result c.get_mut.ensures.item in
-    let found = found_by (λ (x : MutBor Item). x.now) number items c.self.invariant.0.0 c.place-place.result c.get_mut.result c.self.invariant.0.1 place c.get_mut.ensures.item in
+    let found = found_by (λ (x : MutBor Item). x.now) number items c.self.invariant.0 c.place-place.result c.get_mut.result c.self.invariant.1 place c.get_mut.ensures.item in
     elim c.match-get_mut.branch [
       | in-Some+then-get-number w ↦
           let passes : has_number number w.in-Some.item.now ≡ true = search rules in
           let there : find (has_number number) items ≡ Some w.in-Some.item.now = found ∙ rw (w.in-Some.is, passes) refl in
-          rw (← c.self.view_is, w.self-inside-is) (sym (turned_at number items c.self.invariant.0.0 c.place-place.result w.in-Some.item.now c.self.invariant.0.1 place there))
+          rw (← c.self.view_is, w.self-inside-is) (sym (turned_at number items c.self.invariant.0 c.place-place.result w.in-Some.item.now c.self.invariant.1 place there))
       | in-Some+else-get-number w ↦
           let fails : has_number number w.in-Some.item.now ≡ false = search rules in
           let none : find (has_number number) items ≡ None = found ∙ rw (w.in-Some.is, fails) refl in
@@ -33,4 +33,4 @@ pub invariant_of-self : goal.invariant_of-self
 invariant_of-self c =
     let items = c.self.inside.items.items in
     let left : c.match-get_mut.self-inside.items.items ≡ map (turned_if c.args.number) items = rw (← c.self.view_is) at (returns-clause-items c) in
-    ((c.self.invariant.0.0, rw left (rise_turned c.args.number 1 items c.self.invariant.0.0 c.self.invariant.0.1)), search rules)
+    (c.self.invariant.0, rw left (rise_turned c.args.number 1 items c.self.invariant.0 c.self.invariant.1))

@@ -12,7 +12,7 @@ pub returns-clause-shares : goal.returns-clause-shares
 returns-clause-shares c =
     let t = c.self.inside in
     let step = taken_in t.items.items t.next t.tasks.items t.limit c.args.stamp.moment c.args.home.now c.args.kept.0 c.args.kept.1 c.args.item (rw (← c.self.view_is) at c.requires.has_room) (rw (← c.self.view_is) at c.requires.number) (rw (← c.self.view_is) at c.requires.leaves) c.requires.reply in
-    rw (← c.self.view_is) (one_more t.items c.push.new.self t.next (t.next + 1) t.tasks c.change_for.new.self t.limit t.log c.add_event.new.log c.args.by.now c.args.stamp c.args.home.now c.args.kept.0 c.args.kept.1 (rw (c.push.ensures.items, c.change_for.ensures.items, ap (λ (s : StampValue). s.moment) c.stamp.view_is) step) c.add_event.ensures.last c.add_event.ensures.events c.add_event.ensures.room c.push.ensures.room c.change_for.ensures.room)
+    rw (← c.self.view_is) (one_more t.items.items c.push.new.self.items t.next (t.next + 1) t.tasks c.change_for.new.self t.limit t.log c.add_event.new.log c.args.by.now c.args.stamp c.args.home.now c.args.kept.0 c.args.kept.1 (rw (c.push.ensures.items, c.change_for.ensures.items, ap (λ (s : StampValue). s.moment) c.stamp.view_is) step) c.add_event.ensures.last c.add_event.ensures.events c.add_event.ensures.room c.change_for.ensures.room)
 
 pub invariant_of-self : goal.invariant_of-self
 invariant_of-self c =

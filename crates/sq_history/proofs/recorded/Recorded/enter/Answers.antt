@@ -1,8 +1,0 @@
-use Rattle.std.proofs.Common.{rules}
-use Rattle.sq_model.specs.declared.calls.HomeCall.TheVariants.{Enter}
-use Rattle.sq_history.proofs.HistoryLaws.{kept_shared}
-use Rattle.sq_history.proofs.recorded.Recorded.enter.Goals as goal
-
-pub invariant_of-self-2 : goal.invariant_of-self-2
-invariant_of-self-2 g c =
-    kept_shared _ _ c.args.by.now c.args.stamp c.args.name (Enter c.in_ok-item.item.now) c.note.result.its_record c.self.invariant c.note.ensures.rising (search rules)
