@@ -16,8 +16,7 @@ use Rattle.sq_model.specs.declared.task.Task.{Task}
 use Rattle.sq_model.specs.Homes.{Home, Unopened, Serving, Closed, home_refusal}
 use Rattle.sq_model.specs.Rows.{trimmed, is_dead}
 use Rattle.sq_model.specs.Tasks.{target_of}
-pub use Rattle.sq_shard.specs.Moves.{item_refusal}
-use Rattle.sq_shard.specs.Moves.{IsLiveAt, has_live_row}
+pub use Rattle.sq_shard.specs.Moves.{IsLiveAt, has_live_row, item_refusal}
 use Rattle.sq_history.specs.HistoryValue.{HistoryValue}
 use Rattle.sq_history.specs.Histories.{RecordsShared}
 use Rattle.sq_history.specs.declared.shared.HomeHalf.{HomeHalf}

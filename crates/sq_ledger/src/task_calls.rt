@@ -180,6 +180,7 @@ impl TransitLedger {
         number: TaskNo,
     ) -> Result<LedgerRecord, Refusal>
         ensures recorded { IfOk result (LedgerRecords self.old.history self.new.history by.now now (asks.FinishTask number)) }
+        ensures answered { IfOk result (λ r. r.reply ≡ answers.Finished) }
         ensures refusal { IfErr result (IsLedgerRefused self.old.history by.now now (asks.FinishTask number)) }
         ensures err { OnErr result (self.new.history ≡ self.old.history) }
     {

@@ -1,6 +1,5 @@
 -- The halves of a step that a home and the ledger do together, and why neither is done.
 use Rattle.std.proofs.Common.{◌≡◌, ◌⊎◌, ℕ, true, false, List, Option, Some, None, Result, Ok, Err, refl, sym, ◌∙◌, ap, subst, inl, inr}
-use Rattle.std.specs.List.{list_any}
 use Rattle.sq_base.specs.declared.refusal.Refusal.{Refusal}
 use Rattle.sq_base.specs.declared.refusal.Refusal.TheVariants.{NoMemory}
 use Rattle.sq_base.specs.StampValue.{StampValue}
@@ -20,7 +19,6 @@ use Rattle.sq_model.specs.Homes.{Home, Unopened, Serving, Closed, HomeStep, IsFr
 use Rattle.sq_model.specs.ItemActs.{asked_with, call_with}
 use Rattle.sq_model.specs.Ledgers.{Ledger, item_of, room_refusal}
 use Rattle.sq_model.specs.RecordValues.{HomeRecordValue}
-use Rattle.sq_model.specs.Rows.{trimmed, is_dead}
 use Rattle.sq_model.specs.Shared.{IsUnrecorded, shared_refusal}
 use Rattle.sq_history.specs.Halves.{item_refusal, DoesHalf, HasDead, IsItemRefused, IsLeaveRefused}
 use Rattle.sq_history.specs.declared.shared.HomeHalf.{HomeHalf}

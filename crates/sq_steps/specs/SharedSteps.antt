@@ -3,30 +3,40 @@ use Rattle.std.specs.Prelude.{◌≡◌, ◌≢◌, ◌⊎◌, ℕ, List, Option
 use Rattle.sq_base.specs.StampValue.{StampValue}
 use Rattle.sq_base.specs.declared.refusal.Refusal.{Refusal}
 use Rattle.sq_base.specs.declared.refusal.Refusal.TheVariants.{NoMemory}
+use Rattle.sq_base.specs.declared.ids.HomeId.{HomeId}
+use Rattle.sq_model.specs.declared.calls.HomeCall.{HomeCall}
 use Rattle.sq_model.specs.declared.event.Actor.{Actor}
+use Rattle.sq_model.specs.declared.item.Item.{Item}
 use Rattle.sq_model.specs.declared.place.Site.{Site}
 use Rattle.sq_model.specs.declared.replies.HomeReply.{HomeReply}
+use Rattle.sq_model.specs.declared.replies.HomeReply.TheVariants.{Left}
 use Rattle.sq_model.specs.declared.shared.SharedAct.{SharedAct}
 use Rattle.sq_model.specs.declared.shared.SharedAct.TheVariants as asks
 use Rattle.sq_model.specs.Homes.{Home}
-use Rattle.sq_model.specs.Ledgers.{Ledger}
+use Rattle.sq_model.specs.Ledgers.{HasRoom, Ledger}
 use Rattle.sq_model.specs.RecordValues.{HomeRecordValue, OfHome, Journal, actor_of}
 use Rattle.sq_model.specs.Shared.{IsCallOf, IsUnrecorded, shared_refusal, shared_stamp}
 use Rattle.sq_history.specs.Rooms.{KeepsRoom}
 use Rattle.sq_history.specs.HistoryValue.{HistoryValue}
 use Rattle.sq_history.specs.Histories.{RecordsShared}
 use Rattle.sq_ledger.specs.LedgerHistory.{LedgerHistory}
-use Rattle.sq_ledger.specs.LedgerHistories.{LedgerShares}
+use Rattle.sq_ledger.specs.LedgerHistories.{IsLeaving, IsNoneLeft, LedgerShares}
 use Rattle.sq_steps.specs.Journals.{IsNotReady, last_place, with_record}
 use Rattle.sq_steps.specs.declared.act.Move.{Move}
-use Rattle.sq_steps.specs.declared.act.Move.TheVariants.{LeaveDead, Enter, TurnBack, GiveBack, GiveUp}
+use Rattle.sq_steps.specs.declared.act.Move.TheVariants.{LeaveDead, LeaveTask, Enter, TurnBack, GiveBack, GiveUp}
 
 abbrev pub asked_as : Move → SharedAct
 asked_as LeaveDead = asks.LeaveDead
+asked_as (LeaveTask number) = asks.LeaveTask number
 asked_as (Enter number) = asks.Enter number
 asked_as (TurnBack number) = asks.TurnBack number
 asked_as (GiveBack number) = asks.GiveBack number
 asked_as (GiveUp number) = asks.GiveUp number
+
+-- what the ledger is told of a leave for a task: the item that left, or that none did
+abbrev pub IsToldLeft : Ledger → ℕ → HomeId → ℕ → HomeCall → HomeReply → Option Item → Type 0
+IsToldLeft l m home number call reply (Some item) = HasRoom l × (item.number ≡ l.next_item) × IsLeaving l m home call item × (reply ≡ Left item)
+IsToldLeft l m home number call reply None = IsNoneLeft l m home number call reply
 
 -- Each half added one event, both with this stamp, call and reply. The record is one for both, and what is answered is what it says.
 pub record BothDo (old new : HistoryValue) (ledger after : LedgerHistory) (by : Actor) (stamp : StampValue) (name : Option (List ℕ)) (act : SharedAct) (told : HomeReply × HomeRecordValue) : Type 0 where

@@ -1,9 +1,11 @@
 //! What an actor does in one step, and its outcome.
 use sq_base::ids::{HomeId, QueueNo};
 use sq_base::name::QueueName;
+use sq_base::ranges::MaxResults;
 pub use sq_history::act::HomeAct;
+pub use sq_ledger::task_calls::TaskStart;
 use sq_model::directory::{DirectoryCall, DirectoryReply};
-use sq_model::item::ItemNo;
+use sq_model::item::{ItemNo, TaskNo};
 use sq_model::listed::Listed;
 use sq_model::replies::HomeReply;
 use sq_model::task::NamedQueue;
@@ -13,6 +15,8 @@ use sq_model::task::NamedQueue;
 pub enum Move {
     /// A dead message leaves for its dead-letter queue.
     LeaveDead,
+    /// A live message leaves for the task of this number.
+    LeaveTask(TaskNo),
     /// The message of this item comes in at its target.
     Enter(ItemNo),
     /// It is sent back, since its target is closed.
@@ -21,6 +25,16 @@ pub enum Move {
     GiveBack(ItemNo),
     /// It is given up, since its source is closed too.
     GiveUp(ItemNo),
+}
+
+/// What the ledger does with tasks by itself.
+#[derive(Clone, Copy, PartialEq, Eq, Debug)]
+pub enum TaskAct {
+    Start(TaskStart),
+    Cancel(TaskNo),
+    /// Lists the tasks of a source, so many at most.
+    List(QueueNo, MaxResults),
+    Finish(TaskNo),
 }
 
 /// Where the next item in transit goes.
