@@ -242,7 +242,8 @@ impl TransitLedger {
         let Some(task) = self.tasks.get(number) else {
             return Err(Refusal::ResourceNotFoundException);
         };
-        if !task.is_active() || task.in_transit() > 0 {
+        let waiting = task.in_transit();
+        if !task.is_active() || waiting > 0 {
             return Err(Refusal::UnsupportedOperation);
         }
         Ok(())
