@@ -1,11 +1,12 @@
 -- The parts of a list of events, and the list that has one part after another.
 use Rattle.std.specs.Prelude.{◌≡◌, ℕ, ◌+◌, ◌<◌, ◌≤◌, Bool, true, false, ◌==◌, cond, List, [], ◌∷◌, ◌++◌, length, map, filter, take, nat_eq, refl}
-use Rattle.std.specs.List.{AllByRecursion}
+use Rattle.std.specs.List.{AllByRecursion, flat_map}
 use Rattle.std.specs.Ordering.{nat_cmp, is_lt}
 use Rattle.std.proofs.Common.{zero, suc, arith, sym, ap, ◌∙◌, subst, inl, inr, append_assoc, get_or}
 use Rattle.std.proofs.lemmas.Grind.{common_steps}
 use Rattle.std.proofs.lemmas.Bool.Decides.{eqb_tells}
 use Rattle.std.proofs.lemmas.List.{append-nil, take_more, length-take-le, length-map, map-append}
+use Rattle.std.proofs.lemmas.List.Concat.{flat_map-append}
 use Rattle.sq_model.specs.Replays.{HomeEvent}
 use Rattle.sq_model.specs.Ledgers.{LedgerEvent}
 use Rattle.sq_model.specs.Systems.{DirectoryEvent, Tag, OfDirectory, OfLedger, OfHome}
@@ -24,11 +25,13 @@ is_ledger (OfLedger e) = true
 is_ledger (OfHome i e) = false
 
 -- the events of the ledger alone
+abbrev pub own_has : Tag → List LedgerEvent
+own_has (OfDirectory e) = []
+own_has (OfLedger e) = e ∷ []
+own_has (OfHome i e) = []
+
 abbrev pub of_own : List Tag → List LedgerEvent
-of_own [] = []
-of_own (OfDirectory e ∷ ts) = of_own ts
-of_own (OfLedger e ∷ ts) = e ∷ of_own ts
-of_own (OfHome i e ∷ ts) = of_own ts
+of_own ts = flat_map own_has ts
 
 abbrev pub is_home : ℕ → Tag → Bool
 is_home j (OfDirectory e) = false
@@ -91,101 +94,82 @@ above a b h = grind (arith, common_steps)
 below : (a b : ℕ) → a < b → nat_eq a b ≡ false
 below a b h = grind (arith, common_steps)
 
-directory_append : (xs ys : List Tag) → of_directory (xs ++ ys) ≡ of_directory xs ++ of_directory ys
-directory_append [] ys = refl
-directory_append (OfDirectory e ∷ xs) ys = ap (λ es. e ∷ es) (directory_append xs ys)
-directory_append (OfLedger e ∷ xs) ys = directory_append xs ys
-directory_append (OfHome i e ∷ xs) ys = directory_append xs ys
+-- what a part has of one event of the system
+abbrev directory_has : Tag → List DirectoryEvent
+directory_has (OfDirectory e) = e ∷ []
+directory_has (OfLedger e) = []
+directory_has (OfHome i e) = []
 
-own_append : (xs ys : List Tag) → of_own (xs ++ ys) ≡ of_own xs ++ of_own ys
-own_append [] ys = refl
-own_append (OfDirectory e ∷ xs) ys = own_append xs ys
-own_append (OfLedger e ∷ xs) ys = ap (λ es. e ∷ es) (own_append xs ys)
-own_append (OfHome i e ∷ xs) ys = own_append xs ys
+abbrev home_has : ℕ → Tag → List HomeEvent
+home_has j (OfDirectory e) = []
+home_has j (OfLedger e) = []
+home_has j (OfHome i e) = cond (i == j) (e ∷ []) []
 
-home_append : (j : ℕ) (xs ys : List Tag) → of_home j (xs ++ ys) ≡ of_home j xs ++ of_home j ys
-home_append j [] ys = refl
-home_append j (OfDirectory e ∷ xs) ys = home_append j xs ys
-home_append j (OfLedger e ∷ xs) ys = home_append j xs ys
-home_append j (OfHome i e ∷ xs) ys = let rest = home_append j xs ys in elim (i == j) as (λ v. cond v (e ∷ of_home j (xs ++ ys)) (of_home j (xs ++ ys)) ≡ cond v (e ∷ of_home j xs) (of_home j xs) ++ of_home j ys) [ true ↦ ap (λ es. e ∷ es) rest | false ↦ rest ]
+directory_picked : (ts : List Tag) → of_directory ts ≡ flat_map directory_has ts
+directory_picked [] = refl
+directory_picked (OfDirectory e ∷ ts) = ap (λ es. e ∷ es) (directory_picked ts)
+directory_picked (OfLedger e ∷ ts) = directory_picked ts
+directory_picked (OfHome i e ∷ ts) = directory_picked ts
 
-directory_mine : (es : List DirectoryEvent) → of_directory (map OfDirectory es) ≡ es
-directory_mine [] = refl
-directory_mine (e ∷ es) = ap (λ rest. e ∷ rest) (directory_mine es)
+home_picked : (j : ℕ) (ts : List Tag) → of_home j ts ≡ flat_map (home_has j) ts
+home_picked j [] = refl
+home_picked j (OfDirectory e ∷ ts) = home_picked j ts
+home_picked j (OfLedger e ∷ ts) = home_picked j ts
+home_picked j (OfHome i e ∷ ts) = let rest = home_picked j ts in elim (i == j) as (λ v. cond v (e ∷ of_home j ts) (of_home j ts) ≡ cond v (e ∷ []) [] ++ flat_map (home_has j) ts) [ true ↦ ap (λ es. e ∷ es) rest | false ↦ rest ]
 
-directory_none : (i : ℕ) (es : List HomeEvent) → of_directory (map (λ e. OfHome i e) es) ≡ []
-directory_none i [] = refl
-directory_none i (e ∷ es) = directory_none i es
+-- a part has none of the events of another part, and all of its own
+none_picked : {X Y : Type 0} (has : Tag → List Y) (tag : X → Tag) → ((x : X) → has (tag x) ≡ []) → (xs : List X) → flat_map has (map tag xs) ≡ []
+none_picked has tag none [] = refl
+none_picked has tag none (x ∷ xs) = rw (none x) (none_picked has tag none xs)
 
-directory_of_homes : (c : ℕ) (homes : List (List HomeEvent)) → of_directory (home_tags c homes) ≡ []
-directory_of_homes c [] = refl
-directory_of_homes c (es ∷ rest) = rw (directory_append (map (λ e. OfHome c e) es) (home_tags (c + 1) rest), directory_none c es) (directory_of_homes (c + 1) rest)
+each_picked : {X : Type 0} (has : Tag → List X) (tag : X → Tag) → ((x : X) → has (tag x) ≡ x ∷ []) → (xs : List X) → flat_map has (map tag xs) ≡ xs
+each_picked has tag each [] = refl
+each_picked has tag each (x ∷ xs) = rw (each x) (ap (λ rest. x ∷ rest) (each_picked has tag each xs))
 
-directory_of_ledger : (es : List LedgerEvent) → of_directory (map OfLedger es) ≡ []
-directory_of_ledger [] = refl
-directory_of_ledger (e ∷ es) = directory_of_ledger es
+none_of_homes : {Y : Type 0} (has : Tag → List Y) (c : ℕ) (homes : List (List HomeEvent)) → ((i : ℕ) (e : HomeEvent) → c ≤ i → has (OfHome i e) ≡ []) → flat_map has (home_tags c homes) ≡ []
+none_of_homes has c [] none = refl
+none_of_homes has c (es ∷ rest) none =
+    rw (flat_map-append has (map (λ e. OfHome c e) es) (home_tags (c + 1) rest), none_picked has (λ e. OfHome c e) (λ e. none c e (omega arith)) es)
+    (none_of_homes has (c + 1) rest (λ i e le. none i e (omega (arith, le))))
+
+-- what a part has of all events, one part after another
+by_part_picked : {Y : Type 0} (has : Tag → List Y) (directory : List DirectoryEvent) (ledger : List LedgerEvent) (homes : List (List HomeEvent))
+    → flat_map has (by_part directory ledger homes) ≡ (flat_map has (map OfDirectory directory) ++ flat_map has (map OfLedger (own_events ledger))) ++ flat_map has (home_tags 0 homes)
+by_part_picked has directory ledger homes =
+    let own = own_events ledger in
+    flat_map-append has (map OfDirectory directory ++ map OfLedger own) (home_tags 0 homes) ∙ ap (λ ys. ys ++ flat_map has (home_tags 0 homes)) (flat_map-append has (map OfDirectory directory) (map OfLedger own))
 
 pub directory_of_all : (directory : List DirectoryEvent) (ledger : List LedgerEvent) (homes : List (List HomeEvent)) → of_directory (by_part directory ledger homes) ≡ directory
 directory_of_all directory ledger homes =
-    let own = own_events ledger in
-    rw (directory_append (map OfDirectory directory ++ map OfLedger own) (home_tags 0 homes), directory_append (map OfDirectory directory) (map OfLedger own), directory_mine directory, directory_of_ledger own, directory_of_homes 0 homes) (append-nil (directory ++ []) ∙ append-nil directory)
-
-own_of_directory : (es : List DirectoryEvent) → of_own (map OfDirectory es) ≡ []
-own_of_directory [] = refl
-own_of_directory (e ∷ es) = own_of_directory es
-
-own_mine : (es : List LedgerEvent) → of_own (map OfLedger es) ≡ es
-own_mine [] = refl
-own_mine (e ∷ es) = ap (λ rest. e ∷ rest) (own_mine es)
-
-own_of_home : (i : ℕ) (es : List HomeEvent) → of_own (map (λ e. OfHome i e) es) ≡ []
-own_of_home i [] = refl
-own_of_home i (e ∷ es) = own_of_home i es
-
-own_of_homes : (c : ℕ) (homes : List (List HomeEvent)) → of_own (home_tags c homes) ≡ []
-own_of_homes c [] = refl
-own_of_homes c (es ∷ rest) = rw (own_append (map (λ e. OfHome c e) es) (home_tags (c + 1) rest), own_of_home c es) (own_of_homes (c + 1) rest)
+    rw (directory_picked (by_part directory ledger homes), by_part_picked directory_has directory ledger homes, each_picked directory_has OfDirectory (λ e. refl) directory, none_picked directory_has OfLedger (λ e. refl) (own_events ledger), none_of_homes directory_has 0 homes (λ i e le. refl))
+    (append-nil (directory ++ []) ∙ append-nil directory)
 
 pub own_of_all : (directory : List DirectoryEvent) (ledger : List LedgerEvent) (homes : List (List HomeEvent)) → of_own (by_part directory ledger homes) ≡ own_events ledger
 own_of_all directory ledger homes =
-    let own = own_events ledger in
-    rw (own_append (map OfDirectory directory ++ map OfLedger own) (home_tags 0 homes), own_append (map OfDirectory directory) (map OfLedger own), own_of_directory directory, own_mine own, own_of_homes 0 homes) (append-nil own)
+    by_part_picked own_has directory ledger homes
+    ∙ rw (none_picked own_has OfDirectory (λ e. refl) directory, each_picked own_has OfLedger (λ e. refl) (own_events ledger), none_of_homes own_has 0 homes (λ i e le. refl)) (append-nil (own_events ledger))
 
-home_none : (j : ℕ) (es : List DirectoryEvent) → of_home j (map OfDirectory es) ≡ []
-home_none j [] = refl
-home_none j (e ∷ es) = home_none j es
+home_mine : (i : ℕ) (e : HomeEvent) → home_has i (OfHome i e) ≡ e ∷ []
+home_mine i e = rw (same_number i) refl
 
-home_of_ledger : (j : ℕ) (es : List LedgerEvent) → of_home j (map OfLedger es) ≡ []
-home_of_ledger j [] = refl
-home_of_ledger j (e ∷ es) = home_of_ledger j es
+home_other : (j c : ℕ) (e : HomeEvent) → nat_eq c j ≡ false → home_has j (OfHome c e) ≡ []
+home_other j c e h = rw h refl
 
-home_mine : (i : ℕ) (es : List HomeEvent) → of_home i (map (λ e. OfHome i e) es) ≡ es
-home_mine i [] = refl
-home_mine i (e ∷ es) = rw (same_number i) (ap (λ rest. e ∷ rest) (home_mine i es))
-
-home_other : (j c : ℕ) (es : List HomeEvent) → nat_eq c j ≡ false → of_home j (map (λ e. OfHome c e) es) ≡ []
-home_other j c [] h = refl
-home_other j c (e ∷ es) h = rw h (home_other j c es h)
-
-home_before : (j c : ℕ) (homes : List (List HomeEvent)) → j < c → of_home j (home_tags c homes) ≡ []
-home_before j c [] h = refl
-home_before j c (es ∷ rest) h = rw (home_append j (map (λ e. OfHome c e) es) (home_tags (c + 1) rest), home_other j c es (above j c h)) (home_before j (c + 1) rest (omega arith))
-
-home_of_homes : (i c : ℕ) (homes : List (List HomeEvent)) → of_home (c + i) (home_tags c homes) ≡ history_at homes i
+home_of_homes : (i c : ℕ) (homes : List (List HomeEvent)) → flat_map (home_has (c + i)) (home_tags c homes) ≡ history_at homes i
 home_of_homes i c [] = refl
 home_of_homes zero c (es ∷ rest) =
     let e : c + 0 ≡ c = omega arith in
-    rw (e, home_append c (map (λ e. OfHome c e) es) (home_tags (c + 1) rest), home_mine c es, home_before c (c + 1) rest (omega arith)) (append-nil es)
+    rw (e, flat_map-append (home_has c) (map (λ e. OfHome c e) es) (home_tags (c + 1) rest), each_picked (home_has c) (λ e. OfHome c e) (home_mine c) es, none_of_homes (home_has c) (c + 1) rest (λ i e le. home_other c i e (above c i (omega (arith, le))))) (append-nil es)
 home_of_homes (suc i) c (es ∷ rest) =
     let e : (c + 1) + i ≡ c + suc i = omega arith in
-    rw (home_append (c + suc i) (map (λ e. OfHome c e) es) (home_tags (c + 1) rest), home_other (c + suc i) c es (below c (c + suc i) (omega arith)))
-    (subst (λ (k : ℕ). of_home k (home_tags (c + 1) rest) ≡ history_at rest i) e (home_of_homes i (c + 1) rest))
+    rw (flat_map-append (home_has (c + suc i)) (map (λ e. OfHome c e) es) (home_tags (c + 1) rest), none_picked (home_has (c + suc i)) (λ e. OfHome c e) (λ e. home_other (c + suc i) c e (below c (c + suc i) (omega arith))) es)
+    (subst (λ (k : ℕ). flat_map (home_has k) (home_tags (c + 1) rest) ≡ history_at rest i) e (home_of_homes i (c + 1) rest))
 
 pub home_of_all : (directory : List DirectoryEvent) (ledger : List LedgerEvent) (homes : List (List HomeEvent)) (i : ℕ) → of_home i (by_part directory ledger homes) ≡ history_at homes i
 home_of_all directory ledger homes i =
-    let own = own_events ledger in
     let e : 0 + i ≡ i = omega arith in
-    rw (home_append i (map OfDirectory directory ++ map OfLedger own) (home_tags 0 homes), home_append i (map OfDirectory directory) (map OfLedger own), home_none i directory, home_of_ledger i own) (subst (λ (k : ℕ). of_home k (home_tags 0 homes) ≡ history_at homes i) e (home_of_homes i 0 homes))
+    rw (home_picked i (by_part directory ledger homes), by_part_picked (home_has i) directory ledger homes, none_picked (home_has i) OfDirectory (λ e. refl) directory, none_picked (home_has i) OfLedger (λ e. refl) (own_events ledger))
+    (subst (λ (k : ℕ). flat_map (home_has k) (home_tags 0 homes) ≡ history_at homes i) e (home_of_homes i 0 homes))
 
 -- the events of one more home
 pub home_tags_append : (c : ℕ) (xs ys : List (List HomeEvent)) → home_tags c (xs ++ ys) ≡ home_tags c xs ++ home_tags (c + length xs) ys

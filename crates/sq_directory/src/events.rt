@@ -12,10 +12,7 @@ pub fn has_directory_event(directory: &Directory, actor: u32, kept: &DirectoryRe
     ensures { result ≡ true ↔ HasDirectoryEvent directory.now.events actor kept.now }
 {
     let step = kept.step();
-    match event_of(directory.events(), actor, step) {
-        Some(event) => {
-            is_same_call(&event.call, &step.call) && is_same_reply(&event.reply, &step.reply)
-        }
-        None => false,
-    }
+    event_of(directory.events(), actor, step).is_some_and(|event| {
+        is_same_call(&event.call, &step.call) && is_same_reply(&event.reply, &step.reply)
+    })
 }

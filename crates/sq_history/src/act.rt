@@ -57,16 +57,22 @@ impl HomeAct {
         ensures call { IfOk result (λ call. call ≡ call_of self.now) }
         ensures refused { IfErr result (λ e. (e ≡ Refusal.NoMemory) × HasBytes self.now) }
     {
-        Ok(match self {
-            HomeAct::Configure(settings, version) => HomeCall::Configure(*settings, *version),
+        Ok(self.copy()?.into_call())
+    }
+
+    fn into_call(self) -> HomeCall
+        ensures { result ≡ call_of self }
+    {
+        match self {
+            HomeAct::Configure(settings, version) => HomeCall::Configure(settings, version),
             HomeAct::Close => HomeCall::Close,
-            HomeAct::Send(body, delay) => HomeCall::Send(body.copy()?, *delay),
-            HomeAct::Look(max, timeout) => HomeCall::Look(*max, *timeout),
-            HomeAct::Delete(receipt) => HomeCall::Delete(*receipt),
-            HomeAct::Change(receipt, timeout) => HomeCall::Change(*receipt, *timeout),
+            HomeAct::Send(body, delay) => HomeCall::Send(body, delay),
+            HomeAct::Look(max, timeout) => HomeCall::Look(max, timeout),
+            HomeAct::Delete(receipt) => HomeCall::Delete(receipt),
+            HomeAct::Change(receipt, timeout) => HomeCall::Change(receipt, timeout),
             HomeAct::Purge => HomeCall::Purge,
             HomeAct::Count => HomeCall::Count,
-        })
+        }
     }
 
     // Asks it of a home's rows at a moment in ms. Refused as NoMemory (of a send, and of a look that gives messages),

@@ -33,7 +33,6 @@ use sq_model::rows::copy_row;
 use sq_model::shared::ItemAct;
 use sq_shard::store::Store;
 use std::alloc::Global;
-use std::marker::Model;
 
 /// What a home's half of a step gives.
 #[derive(Drop)]
@@ -44,39 +43,6 @@ pub struct HomeHalf {
     pub for_ledger: (HomeCall, HomeReply),
     /// The actor's record, one for both halves.
     pub its_record: HomeRecord,
-}
-
-// An item three times: for the event, for its record, and for the ledger.
-#[derive(Drop)]
-pub(crate) struct Copies {
-    pub(crate) kept: BoxedItem,
-    pub(crate) for_record: BoxedItem,
-    pub(crate) for_ledger: BoxedItem,
-}
-
-impl Model for Copies {
-    ghost use Rattle.std.specs.Prelude.{◌≡◌};
-    ghost use Rattle.sq_model.specs.declared.item.Item.{Item};
-
-    ghost Value = { Item };
-
-    ghost view = { λ c. c.for_ledger };
-
-    ghost invariant = { λ c. (c.kept ≡ c.for_ledger) × (c.for_record ≡ c.for_ledger) };
-}
-
-impl Copies {
-    // Refused as NoMemory.
-    pub(crate) fn of(alloc: Global, item: &Item) -> Result<Copies, Refusal>
-        ensures copies { IfOk result (λ copies. copies ≡ item.now) }
-        ensures refused { IfErr result (λ e. e ≡ Refusal.NoMemory) }
-    {
-        Ok(Copies {
-            kept: BoxedItem::copy_of(alloc, item)?,
-            for_record: BoxedItem::copy_of(alloc, item)?,
-            for_ledger: BoxedItem::copy_of(alloc, item)?,
-        })
-    }
 }
 
 // A dead letter on its way.
@@ -99,17 +65,12 @@ pub(crate) fn answer_left(alloc: Global, item: &Item) -> Result<(Answer, HomeRep
     ensures for_ledger { IfOk result (λ r. r.1 ≡ Left item.now) }
     ensures refused { IfErr result (λ e. e ≡ Refusal.NoMemory) }
 {
-    let Copies {
-        kept,
-        for_record,
-        for_ledger: answered,
-    } = Copies::of(alloc, item)?;
-    let for_ledger = HomeReply::Left(BoxedItem::copy_of(alloc, item)?);
     let answer = Answer {
-        kept: HomeReply::Left(kept),
-        for_record: HomeReply::Left(for_record),
-        answered: HomeReply::Left(answered),
+        kept: HomeReply::Left(BoxedItem::copy_of(alloc, item)?),
+        for_record: HomeReply::Left(BoxedItem::copy_of(alloc, item)?),
+        answered: HomeReply::Left(BoxedItem::copy_of(alloc, item)?),
     };
+    let for_ledger = HomeReply::Left(BoxedItem::copy_of(alloc, item)?);
     Ok((answer, for_ledger))
 }
 
@@ -275,22 +236,33 @@ impl<S: Store> Recorded<S> {
     {
         self.log.reserve()?;
         let item = self.shard.check_item(act, stamp.moment, item)?;
-        let copies = Copies::of(alloc, item)?;
+        let calls = calls_with(alloc, act, item)?;
         let entered = self.shard.item_step(act, stamp.moment, item)?;
         let home = self.shard.site().home;
-        let Copies {
-            kept,
-            for_record,
-            for_ledger,
-        } = copies;
-        let calls = (
-            call_with(act, kept),
-            call_with(act, for_record),
-            call_with(act, for_ledger),
-        );
         let answers = replied_by(entered);
         Ok(note(&mut self.log, by, stamp, &home, name, calls, answers))
     }
+}
+
+// The calls that do this with an item: for the event, for its record, and for the ledger. Refused as NoMemory.
+fn calls_with(
+    alloc: Global,
+    act: ItemAct,
+    item: &Item,
+) -> Result<(HomeCall, HomeCall, HomeCall), Refusal>
+    ensures kept { IfOk result (λ calls. calls.0 ≡ call_with act item.now) }
+    ensures for_record { IfOk result (λ calls. calls.1 ≡ call_with act item.now) }
+    ensures for_ledger { IfOk result (λ calls. calls.2 ≡ call_with act item.now) }
+    ensures refused { IfErr result (λ e. e ≡ Refusal.NoMemory) }
+{
+    let kept = BoxedItem::copy_of(alloc, item)?;
+    let for_record = BoxedItem::copy_of(alloc, item)?;
+    let for_ledger = BoxedItem::copy_of(alloc, item)?;
+    Ok((
+        call_with(act, kept),
+        call_with(act, for_record),
+        call_with(act, for_ledger),
+    ))
 }
 
 // The call that does this with an item.

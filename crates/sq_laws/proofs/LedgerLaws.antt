@@ -3,6 +3,7 @@ use Rattle.std.proofs.Common.{◌≡◌, ℕ, ◌+◌, true, false, not, List, [
 use Rattle.std.specs.Prelude.{nat_lt, ◌||◌, ◌&&◌, take, find, filter, reverse, slice_get}
 use Rattle.std.specs.List.{AllByRecursion, Contains, list_any}
 use Rattle.std.specs.Option.{option_or}
+use Rattle.std.proofs.Math.Bool.{and-false, and-true, or-false}
 use Rattle.std.proofs.lemmas.Bool.{eqb-true}
 use Rattle.std.proofs.lemmas.List.{reverse-append}
 use Rattle.std.proofs.lemmas.List.Elements.{Contains-append_right}
@@ -260,26 +261,14 @@ pub last_of_source : (source : ℕ) (l : Ledger) → IsLedger l → IsLastTask s
 last_of_source source l h = elim (last_task source l) as (λ p. last_task source l ≡ p → IsLastTask source l.tasks p) [ None ↦ (λ e. last_is_none source l e) | Some task ↦ (λ e. last_is_latest source l task h e) ] refl
 
 -- a task is active for a source only where its last one is
-or_false : (a : Bool) → (a || false) ≡ a
-or_false true = refl
-or_false false = refl
-
-and_false : (a : Bool) → (a && false) ≡ false
-and_false true = refl
-and_false false = refl
-
-and_true : (a : Bool) → (a && true) ≡ a
-and_true true = refl
-and_true false = refl
-
 -- x is before the others, and is active or not, and of the source or not
 active_by : (source : ℕ) (x : Task) (tasks : List Task) (active own : Bool) (found : Option Task) → is_active x.status ≡ active → is_of_source source x ≡ own → last_of (is_of_source source) tasks ≡ found
     → (active ≡ true → own ≡ true → found ≡ None) → list_any (is_active_at source) tasks ≡ is_still_active found
     → ((active && own) || list_any (is_active_at source) tasks) ≡ is_still_active (cond own (option_or found (Some x)) found)
-active_by source x tasks active false found a o f only rest = ap (λ (b : Bool). b || list_any (is_active_at source) tasks) (and_false active) ∙ rest
+active_by source x tasks active false found a o f only rest = ap (λ (b : Bool). b || list_any (is_active_at source) tasks) (and-false active) ∙ rest
 active_by source x tasks true true (Some later) a o f only rest = let none : Some later ≡ None = only refl refl in absurd cc
 active_by source x tasks false true (Some later) a o f only rest = rest
-active_by source x tasks active true None a o f only rest = ap (λ (b : Bool). (active && true) || b) rest ∙ (or_false (active && true) ∙ (and_true active ∙ sym a))
+active_by source x tasks active true None a o f only rest = ap (λ (b : Bool). (active && true) || b) rest ∙ (or-false (active && true) ∙ (and-true active ∙ sym a))
 
 none_after : (source : ℕ) (x : Task) (tasks : List Task) → (is_active x.status ≡ true → AllByRecursion (λ other. is_of_source x.source.number other ≡ false) tasks) → is_active x.status ≡ true → is_of_source source x ≡ true
     → last_of (is_of_source source) tasks ≡ None

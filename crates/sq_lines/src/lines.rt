@@ -29,17 +29,6 @@ pub enum LineFault {
     TooLong,
 }
 
-impl From<AllocError> for LineFault {
-    ghost use Rattle.std.specs.Prelude.{◌≡◌};
-    ghost use Rattle.sq_lines.specs.declared.lines.LineFault.TheVariants.{NoMemory};
-
-    ghost from_gives = { λ _ e. e ≡ NoMemory };
-
-    fn from(_: AllocError) -> LineFault {
-        LineFault::NoMemory
-    }
-}
-
 /// What was read and not yet given out: the front of a line, and what was read behind it.
 #[derive(Drop)]
 pub struct Lines {
@@ -83,7 +72,9 @@ fn end_line(
     if at > LIMIT - begun.len() {
         return Err(LineFault::TooLong);
     }
-    begun.extend_from_slice(&ahead.bytes()[..at])?;
+    let Ok(()) = begun.extend_from_slice(&ahead.bytes()[..at]) else {
+        return Err(LineFault::NoMemory);
+    };
     ahead.consume(at + 1);
     Ok(mem::replace(begun, Vec::new(alloc)))
 }
@@ -106,7 +97,9 @@ fn add_ahead(begun: &mut Vec<u8>, ahead: &mut Buffer) -> Result<(), LineFault>
     if count > LIMIT - begun.len() {
         return Err(LineFault::TooLong);
     }
-    begun.extend_from_slice(ahead.bytes())?;
+    let Ok(()) = begun.extend_from_slice(ahead.bytes()) else {
+        return Err(LineFault::NoMemory);
+    };
     ahead.consume(count);
     Ok(())
 }

@@ -1,11 +1,11 @@
 -- What the steps of a call get for a reply, why they are refused, and what their actor knows after them.
-use Rattle.std.proofs.Common.{◌≡◌, ◌⊎◌, ℕ, ◌+◌, Bool, true, false, not, ◌&&◌, ◌||◌, List, length, Option, Some, None, Result, Ok, Err, IfOk, IfErr, OnErr, sym, subst, inl, inr}
+use Rattle.std.proofs.Common.{◌≡◌, ◌≢◌, ◌⊎◌, ℕ, ◌+◌, Bool, true, false, not, ◌&&◌, ◌||◌, List, length, Option, Some, None, Result, Ok, Err, IfOk, IfErr, OnErr, sym, subst, inl, inr}
 use Rattle.std.specs.Prelude.{max, nat_le, if◌then◌else◌}
 use Rattle.sq_base.specs.Stamps.{stamp_end, next_at, after, stamped}
 use Rattle.sq_base.specs.StampValue.{StampValue}
 use Rattle.sq_base.specs.declared.ids.HomeId.{HomeId}
 use Rattle.sq_base.specs.declared.refusal.Refusal.{Refusal}
-use Rattle.sq_base.specs.declared.refusal.Refusal.TheVariants.{ClockRange, Worn, InvalidAttributeValue, InvalidParameterValue, PurgeQueueInProgress, QueueDoesNotExist, OverLimit, ReceiptHandleIsInvalid, MessageNotInflight, UnsupportedOperation}
+use Rattle.sq_base.specs.declared.refusal.Refusal.TheVariants.{NoMemory, ClockRange, Worn, InvalidAttributeValue, InvalidParameterValue, PurgeQueueInProgress, QueueDoesNotExist, OverLimit, ReceiptHandleIsInvalid, MessageNotInflight, UnsupportedOperation}
 use Rattle.std.specs.List.{list_any}
 use Rattle.sq_base.specs.declared.row.Row.{Row}
 use Rattle.sq_model.specs.Directories.{Directory, DirectoryStep, agrees, create_refusal, deleted_recently, directory_refusal, last_version, may_have, purged_recently, queue_of, refused_at}
@@ -21,21 +21,23 @@ use Rattle.sq_model.specs.Shared.{after_given, is_entering, is_returning, shared
 use Rattle.sq_steps.specs.SharedSteps.{asked_as}
 use Rattle.sq_steps.specs.declared.act.Move.{Move}
 use Rattle.sq_steps.specs.declared.act.Move.TheVariants as move
-use Rattle.sq_model.specs.Homes.{Home, Unopened, Serving, Closed, last_serial, slots, HomeStep, home_refusal, refused_if}
+use Rattle.sq_model.specs.Homes.{Home, Unopened, Serving, Closed, last_serial, slots, HomeStep, home_refusal, place_refusal, refused_if}
 use Rattle.sq_model.specs.declared.place.Site.{Site}
 use Rattle.sq_model.specs.declared.replies.HomeReply.{HomeReply}
 use Rattle.sq_model.specs.declared.replies.HomeReply.TheVariants as reply
 use Rattle.sq_history.specs.declared.act.HomeAct.{HomeAct}
 use Rattle.sq_history.specs.declared.act.HomeAct.TheVariants as act
 use Rattle.sq_history.specs.Acts.{call_of}
+use Rattle.sq_history.specs.HistoryValue.{HistoryValue}
 use Rattle.sq_merge.specs.Asks.{Resolve, Directed, AtHome, Moving, IsAnswerTo, IsReplyTo, IsOfAnyStep, IsOfAct, IsOfMove, IsOfDirectory, MayRefuse}
-use Rattle.sq_steps.specs.Journals.{journal_of, worn_at, IsNotReady}
+use Rattle.sq_steps.specs.Journals.{journal_of, worn_at, last_place, IsNotReady}
 use Rattle.sq_model.specs.RecordValues.{Journal}
 use Rattle.sq_merge.specs.WorldValue.{WorldValue}
 use Rattle.sq_merge.specs.Worlds.{HomeStepped, HomeRefused, DirectoryStepped, DirectoryRefused, NameRefused, SharedRefused, IsKnown}
 use Rattle.sq_directory.specs.Makers.{IsAnsweredByName, name_asked, queue_answered}
 use Rattle.sq_merge.proofs.ReceivedLaws.{step_received}
 use Rattle.sq_merge.proofs.KnownLaws.{known_directed, known_stepped}
+use Rattle.sq_merge.proofs.StepLaws.{IsRefusedAt}
 
 -- what a home replies to an act
 reply_is : (site : Site) (home : Home) (m : ℕ) (a : HomeAct) (by : HomeReply) (after : Home) → HomeStep site home m (call_of a) by after → IsReplyTo a by
@@ -142,27 +144,23 @@ dead_cases : (l : Ledger) (test : Bool) (e : Refusal) → (if test then room_ref
 dead_cases l true e h = room_cases l e h
 dead_cases l false e h = absurd (no_refusal e h)
 
-place_cases : (a b c : Bool) (e : Refusal) → refused_if a Worn (refused_if b OverLimit (refused_if c UnsupportedOperation None)) ≡ Some e → IsOfAnyStep e ⊎ (e ≡ OverLimit) ⊎ (e ≡ UnsupportedOperation)
-place_cases a b c e h = elim (three_cases a b c Worn OverLimit UnsupportedOperation e h) [ inl worn ↦ inl (inr (inr worn)) | inr rest ↦ inr rest ]
+-- why an item does not come in at a home that serves, where it is not for this home or else
+arrival_is : (site : Site) (n : ℕ) (rows : List Row) (other : Bool) (e : Refusal) → place_refusal site.limits n rows (refused_if other UnsupportedOperation None) ≡ Some e → IsOfAnyStep e ⊎ (e ≡ QueueDoesNotExist) ⊎ (e ≡ OverLimit) ⊎ (e ≡ UnsupportedOperation)
+arrival_is site n rows other e h =
+    elim (three_cases (nat_le last_serial n || nat_le slots (length rows)) (nat_le site.limits.rows (length rows)) other Worn OverLimit UnsupportedOperation e h) [ inl worn ↦ inl (inr (inr worn)) | inr rest ↦ inr (inr rest) ]
 
 shared_is : (site : Site) (home : Home) (l : Ledger) (m : ℕ) (what : Move) (e : Refusal) → shared_refusal site home l m (asked_as what) ≡ Some e → IsOfAnyStep e ⊎ (e ≡ QueueDoesNotExist) ⊎ IsOfMove what e
 unfolding shared_refusal
-shared_is site Unopened l m move.LeaveDead e h = inr (inl cc)
+shared_is site Unopened l m what e h = inr (inl cc)
 shared_is site (Serving s v n rows) l m move.LeaveDead e h = elim (dead_cases l (list_any (is_dead s m) (trimmed s m rows)) e h) [ inl any ↦ inl any | inr over ↦ inr (inr over) ]
-shared_is site Closed l m move.LeaveDead e h = inr (inl cc)
-shared_is site Unopened l m (move.Enter number) e h = inr (inl cc)
-shared_is site (Serving s v n rows) l m (move.Enter number) e h =
-    elim (place_cases (nat_le last_serial n || nat_le slots (length (trimmed s m rows))) (nat_le site.limits.rows (length (trimmed s m rows))) (not (is_entering site.home (item_of number l))) e h) [ inl any ↦ inl any | inr own ↦ inr (inr own) ]
-shared_is site Closed l m (move.Enter number) e h = inr (inl cc)
-shared_is site Unopened l m (move.TurnBack number) e h = inr (inl cc)
+shared_is site (Serving s v n rows) l m (move.Enter number) e h = arrival_is site n (trimmed s m rows) (not (is_entering site.home (item_of number l))) e h
 shared_is site (Serving s v n rows) l m (move.TurnBack number) e h = inr (inr cc)
-shared_is site Closed l m (move.TurnBack number) e h = inr (inr (one_case (not (is_entering site.home (item_of number l))) UnsupportedOperation e h))
-shared_is site Unopened l m (move.GiveBack number) e h = inr (inl cc)
-shared_is site (Serving s v n rows) l m (move.GiveBack number) e h =
-    elim (place_cases (nat_le last_serial n || nat_le slots (length (trimmed s m rows))) (nat_le site.limits.rows (length (trimmed s m rows))) (not (is_returning site.home (item_of number l))) e h) [ inl any ↦ inl any | inr own ↦ inr (inr own) ]
-shared_is site Closed l m (move.GiveBack number) e h = inr (inl cc)
-shared_is site Unopened l m (move.GiveUp number) e h = inr (inl cc)
+shared_is site (Serving s v n rows) l m (move.GiveBack number) e h = arrival_is site n (trimmed s m rows) (not (is_returning site.home (item_of number l))) e h
 shared_is site (Serving s v n rows) l m (move.GiveUp number) e h = inr (inr cc)
+shared_is site Closed l m move.LeaveDead e h = inr (inl cc)
+shared_is site Closed l m (move.Enter number) e h = inr (inl cc)
+shared_is site Closed l m (move.TurnBack number) e h = inr (inr (one_case (not (is_entering site.home (item_of number l))) UnsupportedOperation e h))
+shared_is site Closed l m (move.GiveBack number) e h = inr (inl cc)
 shared_is site Closed l m (move.GiveUp number) e h = inr (inr (one_case (not (is_returning site.home (item_of number l))) UnsupportedOperation e h))
 
 -- why no stamp of both is given
@@ -170,20 +168,22 @@ given_refused : (given : Result StampValue Refusal) (seen : StampValue) (now : �
 given_refused (Ok stamp) seen now e first h = after_refused stamp seen now e h
 given_refused (Err x) seen now e first h = first e h
 
-pub moving_may : (w : WorldValue) (actor now : ℕ) (name : Option (List ℕ)) (id : HomeId) (what : Move) (e : Refusal) → SharedRefused w actor now id (asked_as what) e → MayRefuse (Moving name id what) e
-moving_may w actor now name id what e h = elim h [
-  | inl no_such_home ↦ elim (nat_le stamp_end now) as (λ v. e ≡ (if v then ClockRange else QueueDoesNotExist) → MayRefuse (Moving name id what) e) [ true ↦ (λ k. inl (inr (inl k))) | false ↦ (λ k. inr (inl k)) ] no_such_home.1
-  | inr in_list ↦ elim in_list.3 [
-    | inl unready ↦ inl (not_ready (journal_of actor w.journals) now e unready)
-    | inr step ↦ elim step.1 [
-      | inl memory ↦ inl (inl memory.0)
-      | inr rest ↦ elim rest [
-        | inl clock ↦ inl (given_refused _ _ now e (λ x given. after_refused _ _ now x given) clock)
-        | inr own ↦ elim own.2 [ inl copied ↦ inl (inl copied.0) | inr refused ↦ shared_is _ _ _ _ what e refused ]
-      ]
-    ]
-  ]
+-- why a step is refused whose actor is ready: no memory, no stamp, or what else is said of it
+step_may : {A C G P : Type 0} (e : Refusal) → ((e ≡ NoMemory) × A) ⊎ C ⊎ G → (C → IsOfAnyStep e) → (G → IsOfAnyStep e ⊎ P) → IsOfAnyStep e ⊎ P
+step_may e h clock own = elim h [ inl memory ↦ inl (inl memory.0) | inr rest ↦ elim rest [ inl c ↦ inl (clock c) | inr g ↦ own g ] ]
+
+-- why a step at a home is refused: the home is not there, the actor is not ready, or what is said of this step
+at_home_may : {P : Type 0} (w : WorldValue) (actor now : ℕ) (id : HomeId) (e : Refusal) (Own : HistoryValue → Type 0) → IsRefusedAt w actor now id e (λ h b. IsNotReady b now e ⊎ ((b.next ≢ last_place) × Own h))
+    → ((h : HistoryValue) → Own h → IsOfAnyStep e ⊎ (e ≡ QueueDoesNotExist) ⊎ P) → IsOfAnyStep e ⊎ (e ≡ QueueDoesNotExist) ⊎ P
+at_home_may {P} w actor now id e Own h own = elim h [
+  | inl no_such_home ↦ elim (nat_le stamp_end now) as (λ v. e ≡ (if v then ClockRange else QueueDoesNotExist) → IsOfAnyStep e ⊎ (e ≡ QueueDoesNotExist) ⊎ P) [ true ↦ (λ k. inl (inr (inl k))) | false ↦ (λ k. inr (inl k)) ] no_such_home.1
+  | inr in_list ↦ elim in_list.3 [ inl unready ↦ inl (not_ready (journal_of actor w.journals) now e unready) | inr step ↦ own in_list.1 step.1 ]
 ]
+
+pub moving_may : (w : WorldValue) (actor now : ℕ) (name : Option (List ℕ)) (id : HomeId) (what : Move) (e : Refusal) → SharedRefused w actor now id (asked_as what) e → MayRefuse (Moving name id what) e
+moving_may w actor now name id what e h =
+    at_home_may {P = IsOfMove what e} w actor now id e _ h
+    (λ b step. step_may e step (λ clock. given_refused _ _ now e (λ x given. after_refused _ _ now x given) clock) (λ own. elim own.2 [ inl copied ↦ inl (inl copied.0) | inr refused ↦ shared_is _ _ _ _ what e refused ]))
 
 -- the same of an answer
 pub answered_moving : (w : WorldValue) (actor now : ℕ) (name : Option (List ℕ)) (id : HomeId) (what : Move) (answered : Result (Option HomeReply) Refusal) → IfErr answered (SharedRefused w actor now id (asked_as what)) → IfErr answered (MayRefuse (Moving name id what))
@@ -192,19 +192,9 @@ answered_moving w actor now name id what (Err e) h = moving_may w actor now name
 
 -- why a step of a home is refused
 pub home_may : (w : WorldValue) (actor now : ℕ) (name : List ℕ) (id : HomeId) (a : HomeAct) (e : Refusal) → HomeRefused w actor now id (call_of a) e → MayRefuse (AtHome name id a) e
-home_may w actor now name id a e h = elim h [
-  | inl no_such_home ↦ elim (nat_le stamp_end now) as (λ v. e ≡ (if v then ClockRange else QueueDoesNotExist) → MayRefuse (AtHome name id a) e) [ true ↦ (λ k. inl (inr (inl k))) | false ↦ (λ k. inr (inl k)) ] no_such_home.1
-  | inr in_list ↦ elim in_list.3 [
-    | inl unready ↦ inl (not_ready (journal_of actor w.journals) now e unready)
-    | inr step ↦ elim step.1 [
-      | inl memory ↦ inl (inl memory.0)
-      | inr rest ↦ elim rest [
-        | inl clock ↦ inl (after_refused _ _ now e clock)
-        | inr own ↦ elim own.2 [ inl copied ↦ inl (inl copied.0) | inr refused ↦ refusal_is _ _ _ a e refused ]
-      ]
-    ]
-  ]
-]
+home_may w actor now name id a e h =
+    at_home_may {P = IsOfAct a e} w actor now id e _ h
+    (λ b step. step_may e step (λ clock. after_refused _ _ now e clock) (λ own. elim own.2 [ inl copied ↦ inl (inl copied.0) | inr refused ↦ refusal_is _ _ _ a e refused ]))
 
 create_cases : (d : Directory) (m : ℕ) (name : List ℕ) (given : Attributes) (found : Option Queue) (e : Refusal) → create_refusal d m name given found ≡ Some e → IsOfDirectory (asks.Create name given) e
 create_cases d m name given None e h = inr (three_cases (deleted_recently m name d.deleted) (not (may_have d.queues name given.redrive)) (nat_le d.places d.made) _ _ _ e h)
@@ -244,13 +234,7 @@ directory_cases d m (asks.Read name) e h = inr (not_there (queue_of name d.queue
 pub directory_may : (w : WorldValue) (actor now : ℕ) (call : DirectoryCall) (e : Refusal) → DirectoryRefused w actor now call e → MayRefuse (Directed call) e
 directory_may w actor now call e h = elim h [
   | inl unready ↦ inl (not_ready (journal_of actor w.journals) now e unready)
-  | inr step ↦ elim step.1 [
-    | inl memory ↦ inl (inl memory.0)
-    | inr rest ↦ elim rest [
-      | inl clock ↦ inl (after_refused _ _ now e clock)
-      | inr own ↦ directory_cases _ _ call e own.2
-    ]
-  ]
+  | inr step ↦ step_may e step.1 (λ clock. after_refused _ _ now e clock) (λ own. directory_cases _ _ call e own.2)
 ]
 
 -- what the directory answers to a call

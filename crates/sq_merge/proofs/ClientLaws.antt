@@ -22,7 +22,6 @@ use Rattle.sq_model.specs.declared.replies.SentMessage.{SentMessage}
 use Rattle.sq_history.specs.declared.act.HomeAct.{HomeAct}
 use Rattle.sq_history.specs.declared.act.HomeAct.TheVariants as act
 use Rattle.sq_calls.specs.declared.calls.Answer.{Answer}
-use Rattle.sq_calls.specs.declared.calls.Answer.TheVariants as answer
 use Rattle.sq_calls.specs.declared.calls.GetQueueAttributes.{GetQueueAttributes}
 use Rattle.sq_calls.specs.declared.calls.QueueCounts.{QueueCounts}
 use Rattle.sq_model.specs.declared.task.NamedQueue.{NamedQueue}

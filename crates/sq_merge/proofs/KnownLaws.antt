@@ -1,20 +1,18 @@
 -- Which queues an actor knows by their names.
-use Rattle.std.proofs.Common.{◌≡◌, ℕ, List, length, refl, ap, sym, ◌∙◌, inl, inr, Option, Some}
+use Rattle.std.proofs.Common.{◌≡◌, ℕ, List, ap, sym, ◌∙◌, inr, Option, Some}
 use Rattle.sq_base.proofs.StampLaws.{after_above_second}
 use Rattle.sq_model.specs.declared.calls.HomeCall.{HomeCall}
 use Rattle.sq_model.specs.declared.replies.HomeReply.{HomeReply}
 use Rattle.sq_model.specs.declared.directory.DirectoryCall.{DirectoryCall}
 use Rattle.sq_model.specs.declared.directory.DirectoryReply.{DirectoryReply}
-use Rattle.sq_model.specs.RecordValues.{Journal, actor_of}
+use Rattle.sq_model.specs.RecordValues.{Journal}
 use Rattle.sq_base.specs.declared.ids.HomeId.{HomeId}
-use Rattle.sq_directory.specs.DirectoryHistories.{directory_event}
 use Rattle.sq_directory.specs.Makers.{IsSeen, IsMadeBy}
 use Rattle.sq_steps.specs.Journals.{journal_of, having_seen}
 use Rattle.sq_merge.specs.WorldValue.{WorldValue}
 use Rattle.sq_merge.specs.Worlds.{HomeStepped, DirectoryStepped, having_read, IsKnown}
 use Rattle.sq_steps.proofs.JournalListLaws.{journal_own, journal_put}
 use Rattle.sq_steps.proofs.JournalLaws.{later_second}
-use Rattle.sq_directory.proofs.ElementLaws.{get_new}
 use Rattle.sq_directory.proofs.MakerLaws.{made_later}
 
 -- an actor that read the directory knows the queue that it found

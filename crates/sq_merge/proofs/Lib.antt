@@ -7,3 +7,4 @@ pub mod PathLaws
 pub mod ClientLaws
 pub mod ActingLaws
 pub mod TurnLaws
+pub mod BorrowedLaws

@@ -1,17 +1,16 @@
 -- What the steps of a turn come to.
-use Rattle.std.proofs.Common.{◌≡◌, ◌⊎◌, ◌∙◌, ℕ, ◌<◌, List, [], ◌∷◌, refl, ap, subst, sym, inl, inr, Option, None, Some, Result, Ok, Err}
+use Rattle.std.proofs.Common.{◌≡◌, ◌⊎◌, ℕ, ◌<◌, List, [], ◌∷◌, refl, subst, inl, inr, None, Some, Result, Ok, Err}
 use Rattle.sq_base.specs.declared.ids.HomeId.{HomeId}
 use Rattle.sq_base.specs.declared.refusal.Refusal.{Refusal}
 use Rattle.sq_base.specs.declared.refusal.Refusal.TheVariants.{QueueDoesNotExist}
 use Rattle.sq_calls.specs.declared.turns.Turned.{Turned}
 use Rattle.sq_calls.specs.declared.turns.Turned.TheVariants as word
-use Rattle.sq_steps.specs.declared.act.Move.{Move}
 use Rattle.sq_steps.specs.declared.act.Move.TheVariants.{LeaveDead}
 use Rattle.sq_steps.specs.declared.act.NextItem.{NextItem}
-use Rattle.sq_merge.specs.Asks.{Ask, Resolve, Moving, Next, Gave, Found, Peeked, Done, HomeCounts, IsOfAnyStep, MayRefuse}
+use Rattle.sq_merge.specs.Asks.{Ask, Resolve, Moving, Next, Gave, Found, Peeked, HomeCounts}
 use Rattle.sq_merge.specs.Calls.{home_numbered}
 use Rattle.sq_merge.specs.Fits.{named}
-use Rattle.sq_merge.specs.Performs.{Path, Performs}
+use Rattle.sq_merge.specs.Performs.{Performs}
 use Rattle.sq_merge.specs.Turns.{moving, trying, WordFor, LeaveFits, home_ahead, comes_in, goes_back, Brings, BringFits}
 use Rattle.sq_merge.proofs.PathLaws.{answered_one, answered_more}
 

@@ -29,7 +29,7 @@ use Rattle.sq_steps.specs.Journals.{new_journal, journal_of, put_journal, with_r
 use Rattle.sq_merge.specs.WorldValue.{WorldValue}
 use Rattle.sq_merge.specs.declared.tried.TriedItem.{TriedItem}
 use Rattle.sq_audit.specs.HomeIds.{history_of, histories_of, home_id}
-use Rattle.sq_merge.specs.Worlds.{IsKnown, IsKeptWorld, HomeStepped, SharedStepped, DirectoryStepped, having_read, having_peeked}
+use Rattle.sq_merge.specs.Worlds.{IsKnown, IsKeptWorld, HomeStepped, SharedStepped, DirectoryStepped, having_seen_at}
 use Rattle.sq_directory.proofs.MakerLaws.{seen_below}
 use Rattle.sq_directory.proofs.ElementLaws.{get_old, get_new, get_cases, get_map, get_mapped, get_same, set_cases, set_kept}
 use Rattle.sq_steps.proofs.JournalListLaws.{journal_there, journal_own, put_cases, put_there, put_kept, put_distinct}
@@ -398,7 +398,7 @@ read_was journals actor stamp b i x m h = elim (put_cases (having_seen (journal_
 ]
 
 -- an actor that has seen a stamp
-kept_seen : (w : WorldValue) (actor : ℕ) (stamp : StampValue) → IsKeptWorld w → IsKeptWorld (record w { journals = put_journal (having_seen (journal_of actor w.journals) stamp) w.journals })
+pub kept_seen : (w : WorldValue) (actor : ℕ) (stamp : StampValue) → IsKeptWorld w → IsKeptWorld (having_seen_at w actor stamp)
 kept_seen w actor stamp kept =
     let recorded_in = having_seen (journal_of actor w.journals) stamp in
     let stays = λ (a : ℕ) (P : RecordValue → Type 0) (h : IsRecorded w.journals a P). recorded_kept w.journals actor recorded_in a P (journal_own actor w.journals) (λ i m g. g) h in
@@ -413,12 +413,6 @@ kept_seen w actor stamp kept =
       distinct = put_distinct recorded_in w.journals kept.distinct;
       paired = kept.paired;
     }
-
-pub kept_read : (w : WorldValue) (actor : ℕ) → IsKeptWorld w → IsKeptWorld (having_read w actor)
-kept_read w actor kept = kept_seen w actor w.directory.last kept
-
-pub kept_peeked : (w : WorldValue) (actor : ℕ) → IsKeptWorld w → IsKeptWorld (having_peeked w actor)
-kept_peeked w actor kept = kept_seen w actor w.ledger.last kept
 
 -- which item an actor tried last is no record and no event
 pub kept_tried : (w : WorldValue) (tried : List TriedItem) → IsKeptWorld w → IsKeptWorld (record w { tried = tried })

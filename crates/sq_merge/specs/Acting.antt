@@ -1,15 +1,20 @@
 -- What the steps of a call do to a world.
-use Rattle.std.specs.Prelude.{◌≡◌, ℕ, Some, Result, Ok, Err}
+use Rattle.std.specs.Prelude.{◌≡◌, ℕ, List, Option, Some, Result, Ok, Err}
 use Rattle.sq_base.specs.declared.refusal.Refusal.{Refusal}
 use Rattle.sq_model.specs.Directories.{number_named}
 use Rattle.sq_history.specs.Acts.{call_of}
+use Rattle.sq_steps.specs.Journals.{journal_of}
 use Rattle.sq_steps.specs.SharedSteps.{asked_as}
 use Rattle.sq_merge.specs.Asks.{Ask, Resolve, Directed, AtHome, Moving, Next, Gave, Found, Answered, Replied, Nothing, Peeked, HomeCounts}
 use Rattle.sq_merge.specs.WorldValue.{WorldValue}
-use Rattle.sq_merge.specs.Worlds.{HomeStepped, HomeRefused, DirectoryStepped, DirectoryRefused, NameRefused, having_read, SharedStepped, NothingLeaves, SharedRefused, having_tried, next_tried, NextRefused}
+use Rattle.sq_merge.specs.Worlds.{IsKnown, HomeStepped, HomeRefused, DirectoryStepped, DirectoryRefused, NameRefused, having_read, SharedStepped, NothingLeaves, SharedRefused, having_tried, next_tried, NextRefused}
 
 abbrev pub counts_of : WorldValue → HomeCounts
 counts_of w = record { homes = w.per_queue; sample = w.sample }
+
+-- an actor knows a queue of a world by a name
+abbrev pub IsKnownTo : ℕ → WorldValue → Option (List ℕ) → ℕ → Type 0
+IsKnownTo actor w name queue = IsKnown w.directory.events (journal_of actor w.journals) name queue
 
 -- one step of a call by an actor at a clock reading, with this answer
 abbrev pub ActorDoes : ℕ → ℕ → WorldValue → Ask → Gave → WorldValue → Type 0

@@ -155,15 +155,6 @@ pub record IsDirectoryRecord (call : DirectoryCall) (answered : DirectoryReply) 
   pub asked : its_record.call ≡ call
   pub replied : its_record.reply ≡ answered
 
--- a record of a step of a home, by the name that was used
-pub record IsHomeRecord (name : List ℕ) (home : HomeId) (act : HomeAct) (answered : HomeReply) (n : RecordValue) : Type 0 where
-  pub its_record : HomeRecordValue
-  pub value : n ≡ OfHome its_record
-  pub at : its_record.home ≡ home
-  pub asked : its_record.call ≡ call_of act
-  pub replied : its_record.reply ≡ answered
-  pub by_name : its_record.name ≡ Some name
-
 -- the call of a step of a home and the ledger: with the item of this number
 abbrev pub IsCallFor : Move → HomeCall → Type 0
 IsCallFor move.LeaveDead call = call ≡ at_home.LeaveDead
@@ -172,14 +163,22 @@ IsCallFor (move.TurnBack number) call = (item : Item) × (item.number ≡ number
 IsCallFor (move.GiveBack number) call = (item : Item) × (item.number ≡ number) × (call ≡ at_home.GiveBack item)
 IsCallFor (move.GiveUp number) call = (item : Item) × (item.number ≡ number) × (call ≡ at_home.GiveUp item)
 
--- a record of a step of a home and the ledger, by the name that was used; it is the home's
-pub record IsMoveRecord (name : Option (List ℕ)) (home : HomeId) (what : Move) (answered : HomeReply) (n : RecordValue) : Type 0 where
+-- a record of a step at a home, by the name that was used, of a call that was asked
+pub record IsStepRecord (name : Option (List ℕ)) (home : HomeId) (IsAsked : HomeCall → Type 0) (answered : HomeReply) (n : RecordValue) : Type 0 where
   pub its_record : HomeRecordValue
   pub value : n ≡ OfHome its_record
   pub at : its_record.home ≡ home
-  pub asked : IsCallFor what its_record.call
+  pub asked : IsAsked its_record.call
   pub replied : its_record.reply ≡ answered
   pub by_name : its_record.name ≡ name
+
+-- a record of a step of a home alone
+abbrev pub IsHomeRecord : List ℕ → HomeId → HomeAct → HomeReply → RecordValue → Type 0
+IsHomeRecord name home what answered n = IsStepRecord (Some name) home (λ call. call ≡ call_of what) answered n
+
+-- a record of a step of a home and the ledger; it is the home's
+abbrev pub IsMoveRecord : Option (List ℕ) → HomeId → Move → HomeReply → RecordValue → Type 0
+IsMoveRecord name home what answered n = IsStepRecord name home (IsCallFor what) answered n
 
 -- the records of a step that was done: its own, and none of a read, nor where nothing was there to leave
 abbrev pub AreOfReply : Ask → Gave → List RecordValue → Type 0

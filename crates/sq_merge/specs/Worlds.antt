@@ -1,6 +1,7 @@
 -- Steps of the whole system by actors, and what is true of it at all times.
 use Rattle.std.specs.Prelude.{◌≡◌, ◌⊎◌, ◌+◌, ℕ, true, List, [], ◌∷◌, length, nat_le, if◌then◌else◌, position, slice_get, slice_set, Option, Some, None, option_map}
 use Rattle.sq_base.specs.Stamps.{stamp_end}
+use Rattle.sq_base.specs.StampValue.{StampValue}
 use Rattle.sq_base.specs.declared.ids.HomeId.{HomeId}
 use Rattle.sq_base.specs.declared.refusal.Refusal.{Refusal}
 use Rattle.sq_base.specs.declared.refusal.Refusal.TheVariants.{NoMemory, ClockRange, QueueDoesNotExist}
@@ -95,9 +96,13 @@ SharedRefused w actor now id what e =
 abbrev pub next_of : Item → NextItem
 next_of item = record { number = item.number; source = item.source; target = item.target; homeward = item.homeward }
 
+-- an actor has read a part whose last stamp is this
+abbrev pub having_seen_at : WorldValue → ℕ → StampValue → WorldValue
+having_seen_at w actor last = record w { journals = put_journal (having_seen (journal_of actor w.journals) last) w.journals }
+
 -- an actor has read the ledger
 abbrev pub having_peeked : WorldValue → ℕ → WorldValue
-having_peeked w actor = record w { journals = put_journal (having_seen (journal_of actor w.journals) w.ledger.last) w.journals }
+having_peeked w actor = having_seen_at w actor w.ledger.last
 
 -- an actor has read which item comes after the one that it tried last; from now on that is the one that it tried last
 abbrev pub having_tried : WorldValue → ℕ → Option NextItem → WorldValue
@@ -114,7 +119,7 @@ NextRefused w actor e = (e ≡ NoMemory) × ((position (is_of actor) w.journals 
 
 -- an actor has read the directory
 abbrev pub having_read : WorldValue → ℕ → WorldValue
-having_read w actor = record w { journals = put_journal (having_seen (journal_of actor w.journals) w.directory.last) w.journals }
+having_read w actor = having_seen_at w actor w.directory.last
 
 -- One step by an actor, and its outcome.
 abbrev pub StepDone : WorldValue → WorldValue → ℕ → ℕ → Act → Outcome → Type 0

@@ -1,14 +1,11 @@
 //! An actor at a world that it borrows, with its clock reading.
-ghost use Rattle.std.specs.Prelude.{◌≡◌, ℕ, Some};
-ghost use Rattle.std.proofs.Common.{sym, subst};
-ghost use Rattle.sq_merge.specs.Asks.{LeavesOf};
-ghost use Rattle.sq_merge.specs.Acting.{counts_of, ActorStepped};
+ghost use Rattle.std.specs.Prelude.{◌≡◌, Some};
+ghost use Rattle.sq_merge.specs.Acting.{counts_of, IsKnownTo, ActorStepped};
 ghost use Rattle.sq_merge.specs.ActingLaws.{actor_leaves};
 ghost use Rattle.sq_steps.specs.Journals.{journal_of};
 ghost use Rattle.sq_merge.specs.Fits.{CallFits};
 ghost use Rattle.sq_merge.specs.Turns.{TurnFits};
 ghost use Rattle.sq_merge.specs.Performs.{Performs, LeavesRecords};
-ghost use Rattle.sq_merge.specs.Worlds.{IsKnown};
 
 use crate::lock_steps::LockSteps;
 use crate::world::World;
@@ -39,7 +36,7 @@ impl<'a> LockSteps for Acting<'a> {
     ghost stepped = { λ s ask answered t.
         ActorStepped s.actor s.clock s.world.now ask answered t.world.now × (t.world.ghost_name ≡ s.world.ghost_name) × (t.actor ≡ s.actor) × (t.clock ≡ s.clock) };
 
-    ghost knows = { λ s name queue. IsKnown s.world.now.directory.events (journal_of s.actor s.world.now.journals) (Some name) queue };
+    ghost knows = { λ s name queue. IsKnownTo s.actor s.world.now (Some name) queue };
 
     ghost counts = { λ s. counts_of s.world.now };
 
@@ -101,7 +98,7 @@ impl<'a> LockSteps for Acting<'a> {
         self.world.draw(self.alloc)
     }
 
-    ghost leaves = { λ s t ask answered h. subst (λ (n : ℕ). LeavesOf ask answered (journal_of s.actor s.world.now.journals) (journal_of n t.world.now.journals)) (sym h.2) (actor_leaves s.actor s.clock s.world.now t.world.now ask answered h.0) };
+    ghost leaves = { λ s t ask answered h. actor_leaves s.actor t.actor s.clock s.world.now t.world.now ask answered h.0 h.2 };
 }
 
 // Does a client's call at the world that is borrowed.

@@ -1,5 +1,5 @@
 //! What each turn does, over any steps: one step of moving messages, beside reads.
-ghost use Rattle.std.specs.Prelude.{◌≡◌, IfErr, IfNone, IfOk, IfSome, Ok, Err};
+ghost use Rattle.std.specs.Prelude.{◌≡◌, IfErr, IfNone, IfOk, IfSome, Ok, Err, if◌then◌else◌};
 ghost use Rattle.sq_merge.specs.Asks.{MayRefuseMove, moved_of};
 ghost use Rattle.sq_merge.specs.Performs.{Performs, LeavesRecords};
 ghost use Rattle.sq_merge.specs.Turns.{TurnFits, LeaveFits, BringFits, Brings, WordFor, comes_in, goes_back, home_ahead, word_of};
@@ -63,13 +63,13 @@ fn bring<S: LockSteps>(steps: &mut S) -> Result<Turned, Refusal>
 fn bring_to<S: LockSteps>(steps: &mut S, next: &NextItem, home: &HomeId) -> Result<Turned, Refusal>
     ensures { Performs S.stepped (Brings next.now home.now) steps.old result steps.new }
 {
-    let answered = steps.moving(None, home, comes_in(next));
-    match word_for(comes_in(next), answered)? {
+    let answered = steps.moving(None, home, move_of(next, false));
+    match word_for(move_of(next, false), answered)? {
         Some(word) => return Ok(word),
         None => {}
     }
-    let answered = steps.moving(None, home, goes_back(next));
-    match word_for(goes_back(next), answered)? {
+    let answered = steps.moving(None, home, move_of(next, true));
+    match word_for(move_of(next, true), answered)? {
         Some(word) => Ok(word),
         None => Ok(Turned::Full),
     }
@@ -87,25 +87,16 @@ fn home_ahead(next: &NextItem, home: HomeNo) -> HomeId
     HomeId { queue, home }
 }
 
-// How an item comes in where it goes to.
-fn comes_in(next: &NextItem) -> Move
-    ensures { result ≡ comes_in next.now }
+// What is asked of a home that an item goes to: that it comes in, or what becomes of it where the home is closed.
+fn move_of(next: &NextItem, closed: bool) -> Move
+    ensures { result ≡ (if closed then goes_back next.now else comes_in next.now) }
 {
-    if next.homeward {
-        Move::GiveBack(next.number)
-    } else {
-        Move::Enter(next.number)
-    }
-}
-
-// What becomes of an item at a closed home.
-fn goes_back(next: &NextItem) -> Move
-    ensures { result ≡ goes_back next.now }
-{
-    if next.homeward {
-        Move::GiveUp(next.number)
-    } else {
-        Move::TurnBack(next.number)
+    let number = next.number;
+    match (next.homeward, closed) {
+        (false, false) => Move::Enter(number),
+        (false, true) => Move::TurnBack(number),
+        (true, false) => Move::GiveBack(number),
+        (true, true) => Move::GiveUp(number),
     }
 }
 

@@ -5,9 +5,9 @@ ghost use Rattle.sq_model.specs.Directories.{all_named, number_named};
 ghost use Rattle.sq_directory.specs.Makers.{IsAnsweredByName};
 ghost use Rattle.sq_history.specs.Acts.{call_of};
 ghost use Rattle.sq_steps.specs.Journals.{is_of, journal_of};
-ghost use Rattle.sq_merge.specs.Worlds.{SharedStepped, NothingLeaves, SharedRefused, next_of, having_peeked, next_tried, having_tried, NextRefused, HomeStepped, HomeRefused, DirectoryStepped, DirectoryRefused, NameRefused, having_read, StepDone, StepRefused, Schedule, IsKnown, IsKeptWorld};
+ghost use Rattle.sq_merge.specs.Worlds.{SharedStepped, NothingLeaves, SharedRefused, next_of, having_peeked, next_tried, having_tried, NextRefused, HomeStepped, HomeRefused, DirectoryStepped, DirectoryRefused, NameRefused, having_read, having_seen_at, StepDone, StepRefused, Schedule, IsKeptWorld};
 ghost use Rattle.sq_audit.specs.HomeIds.{histories_of};
-ghost use Rattle.sq_merge.specs.Acting.{counts_of, ActorStepped};
+ghost use Rattle.sq_merge.specs.Acting.{counts_of, IsKnownTo, ActorStepped};
 ghost use Rattle.sq_merge.specs.Fits.{CallFits};
 ghost use Rattle.sq_merge.specs.Turns.{TurnFits};
 ghost use Rattle.sq_merge.specs.Performs.{Performs, LeavesRecords};
@@ -26,13 +26,13 @@ use sq_audit::parts::Parts;
 use sq_base::ids::{HomeId, HomeNo, QueueNo};
 use sq_base::name::QueueName;
 use sq_base::refusal::Refusal;
+use sq_base::stamp::Stamp;
 use sq_calls::calls::{Answer, Call};
 use sq_calls::turns::{Turn, Turned};
 use sq_directory::directory::Directory;
 use sq_history::recorded::Home;
 use sq_ledger::ledger::TransitLedger;
 use sq_model::directory::{DirectoryCall, DirectoryReply};
-use sq_model::item::Item;
 use sq_model::listed::Listed;
 use sq_model::place::Limits;
 use sq_model::replies::HomeReply;
@@ -300,7 +300,7 @@ impl World {
         name: &QueueName,
     ) -> Result<QueueNo, Refusal>
         ensures found { IfOk result (λ queue. (number_named name.now self.old.directory.directory.queues ≡ Some queue) × (self.new ≡ having_read self.old actor)) }
-        ensures known { IfOk result (IsKnown self.new.directory.events (journal_of actor self.new.journals) (Some name.now)) }
+        ensures known { IfOk result (IsKnownTo actor self.new (Some name.now)) }
         ensures refusal { IfErr result (NameRefused self.old actor name.now) }
         ensures err { OnErr result (self.new ≡ self.old) }
     {
@@ -318,6 +318,15 @@ impl World {
         ensures err { OnErr result (self.new ≡ self.old) }
     {
         let last = self.directory.last();
+        self.see(alloc, actor, last)
+    }
+
+    // The actor has seen all that was done to a part whose last stamp is this. Refused as NoMemory of a new actor alone.
+    fn see(&mut self, alloc: Global, actor: u32, last: Stamp) -> Result<(), Refusal>
+        ensures read { OnOk result (self.new ≡ having_seen_at self.old actor last) }
+        ensures refused { IfErr result (λ e. (e ≡ Refusal.NoMemory) × (position (is_of actor) self.old.journals ≡ None)) }
+        ensures err { OnErr result (self.new ≡ self.old) }
+    {
         let at = open(&mut self.journals, alloc, actor)?;
         self.journals[at].see(last);
         Ok(())
@@ -333,7 +342,7 @@ impl World {
         id: &HomeId,
         act: HomeAct,
     ) -> Result<HomeReply, Refusal>
-        requires known { IsKnown self.old.directory.events (journal_of actor self.old.journals) name id.now.queue }
+        requires known { IsKnownTo actor self.old name id.now.queue }
         ensures stepped { IfOk result (HomeStepped self.old self.new actor now name id.now (call_of act)) }
         ensures refusal { IfErr result (HomeRefused self.old actor now id.now (call_of act)) }
         ensures err { OnErr result (self.new ≡ self.old) }
@@ -364,7 +373,7 @@ impl World {
         id: &HomeId,
         act: Move,
     ) -> Result<Option<HomeReply>, Refusal>
-        requires known { IsKnown self.old.directory.events (journal_of actor self.old.journals) name id.now.queue }
+        requires known { IsKnownTo actor self.old name id.now.queue }
         ensures stepped { IfOk result (λ told. IfSome told (SharedStepped self.old self.new actor now name id.now (asked_as act))) }
         ensures none { IfOk result (λ told. IfNone told (NothingLeaves self.old self.new actor now id.now (asked_as act))) }
         ensures refusal { IfErr result (SharedRefused self.old actor now id.now (asked_as act)) }
@@ -402,9 +411,8 @@ impl World {
         ensures err { OnErr result (self.new ≡ self.old) }
     {
         let last = self.ledger.last();
-        let at = open(&mut self.journals, alloc, actor)?;
-        self.journals[at].see(last);
-        Ok(self.ledger.peek(number).map(next_item))
+        self.see(alloc, actor, last)?;
+        Ok(next_after(&self.ledger, number))
     }
 
     // Reads where the item goes that comes after the one that the actor tried last, and which it tries now.
@@ -421,7 +429,7 @@ impl World {
         let last = self.ledger.last();
         let at = open(&mut self.journals, alloc, actor)?;
         let number = tried_by(&self.tried, actor);
-        match self.ledger.peek(number).map(next_item) {
+        match next_after(&self.ledger, number) {
             Some(next) => {
                 let now = TriedItem {
                     actor,
@@ -446,16 +454,17 @@ impl World {
     }
 }
 
-// What of an item says where it goes.
-fn next_item(item: &Item) -> NextItem
-    ensures { result ≡ next_of item.now }
+// Where the item goes that comes after a number.
+fn next_after(ledger: &TransitLedger, number: u64) -> Option<NextItem>
+    ensures { result ≡ option_map next_of (peek number ledger.now.history.ledger) }
 {
-    NextItem {
+    let item = ledger.peek(number)?;
+    Some(NextItem {
         number: item.number,
         source: item.source,
         target: item.target,
         homeward: item.homeward,
-    }
+    })
 }
 
 // Whether all options are in their ranges.

@@ -75,19 +75,7 @@ is_newer (Some policy) version = nat_lt policy.version version
 
 abbrev pub next_policy : Option Policy → HomeCall → Option Policy
 next_policy policy (call.Configure settings version) = if is_newer policy version then Some (record { retention = settings.retention; version = version }) else policy
-next_policy policy call.Close = policy
-next_policy policy (call.Send body delay) = policy
-next_policy policy (call.Look max timeout) = policy
-next_policy policy (call.Delete receipt) = policy
-next_policy policy (call.Change receipt timeout) = policy
-next_policy policy call.Purge = policy
-next_policy policy call.Count = policy
-next_policy policy call.LeaveDead = policy
-next_policy policy (call.LeaveTask task) = policy
-next_policy policy (call.Enter item) = policy
-next_policy policy (call.TurnBack item) = policy
-next_policy policy (call.GiveBack item) = policy
-next_policy policy (call.GiveUp item) = policy
+next_policy policy other = policy
 
 -- What an event does to the rows, after the trim. A message leaves the system, or goes into transit as a row; one that comes
 -- in from there is a new row, and one that is given up there leaves the system.
@@ -102,64 +90,24 @@ pub data Effect : Type 0 where
 
 -- a send puts a message in, a look receives messages, a leave takes one out, and an item comes in, as their replies say
 abbrev pub sent_by : HomeReply → Effect
-sent_by reply.Done = Stays
 sent_by (reply.Sent sent) = Arrives sent
-sent_by (reply.Looked picked) = Stays
-sent_by reply.Over = Stays
-sent_by (reply.Counted counts) = Stays
-sent_by (reply.Left item) = Stays
-sent_by reply.NoLiveRow = Stays
-sent_by (reply.NoOrigin serial) = Stays
-sent_by reply.SourceClosed = Stays
-sent_by (reply.Entered entered) = Stays
+sent_by other = Stays
 
 abbrev pub looked_by : HomeReply → Effect
-looked_by reply.Done = Stays
-looked_by (reply.Sent sent) = Stays
 looked_by (reply.Looked picked) = Looks picked
-looked_by reply.Over = Stays
-looked_by (reply.Counted counts) = Stays
-looked_by (reply.Left item) = Stays
-looked_by reply.NoLiveRow = Stays
-looked_by (reply.NoOrigin serial) = Stays
-looked_by reply.SourceClosed = Stays
-looked_by (reply.Entered entered) = Stays
+looked_by other = Stays
 
 abbrev pub left_by : HomeReply → Effect
-left_by reply.Done = Stays
-left_by (reply.Sent sent) = Stays
-left_by (reply.Looked picked) = Stays
-left_by reply.Over = Stays
-left_by (reply.Counted counts) = Stays
 left_by (reply.Left item) = Departs item.row
-left_by reply.NoLiveRow = Stays
-left_by (reply.NoOrigin serial) = Stays
-left_by reply.SourceClosed = Stays
-left_by (reply.Entered entered) = Stays
+left_by other = Stays
 
 abbrev pub entered_by : ℕ → Item → HomeReply → Effect
-entered_by m item reply.Done = Stays
-entered_by m item (reply.Sent sent) = Stays
-entered_by m item (reply.Looked picked) = Stays
-entered_by m item reply.Over = Stays
-entered_by m item (reply.Counted counts) = Stays
-entered_by m item (reply.Left other) = Stays
-entered_by m item reply.NoLiveRow = Stays
-entered_by m item (reply.NoOrigin serial) = Stays
-entered_by m item reply.SourceClosed = Stays
 entered_by m item (reply.Entered entered) = Enters (entered_state m item entered)
+entered_by m item other = Stays
 
 abbrev pub returned_by : Item → HomeReply → Effect
-returned_by item reply.Done = Stays
-returned_by item (reply.Sent sent) = Stays
-returned_by item (reply.Looked picked) = Stays
-returned_by item reply.Over = Stays
-returned_by item (reply.Counted counts) = Stays
-returned_by item (reply.Left other) = Stays
-returned_by item reply.NoLiveRow = Stays
-returned_by item (reply.NoOrigin serial) = Stays
-returned_by item reply.SourceClosed = Stays
 returned_by item (reply.Entered entered) = Enters (returned_state item entered)
+returned_by item other = Stays
 
 abbrev pub effect_of : ℕ → HomeCall → HomeReply → Effect
 effect_of m (call.Configure settings version) reply = Stays
@@ -179,33 +127,19 @@ effect_of m (call.GiveUp item) reply = Drops item.row.lineage
 
 -- who is sent
 abbrev pub effect_sends : Effect → List MessageId
-effect_sends Stays = []
 effect_sends (Arrives sent) = sent.id ∷ []
-effect_sends (Looks picked) = []
-effect_sends (Leaves p cause) = []
-effect_sends (Departs row) = []
-effect_sends (Enters row) = []
-effect_sends (Drops line) = []
+effect_sends other = []
 
 -- who goes into transit
 abbrev pub effect_outs : Effect → List MessageId
-effect_outs Stays = []
-effect_outs (Arrives sent) = []
-effect_outs (Looks picked) = []
-effect_outs (Leaves p cause) = []
 effect_outs (Departs row) = row.lineage ∷ []
-effect_outs (Enters row) = []
-effect_outs (Drops line) = []
+effect_outs other = []
 
 -- who is in transit no more
 abbrev pub effect_ins : Effect → List MessageId
-effect_ins Stays = []
-effect_ins (Arrives sent) = []
-effect_ins (Looks picked) = []
-effect_ins (Leaves p cause) = []
-effect_ins (Departs row) = []
 effect_ins (Enters row) = row.lineage ∷ []
 effect_ins (Drops line) = line ∷ []
+effect_ins other = []
 
 abbrev pub kept_states : Option Policy → ℕ → List RowState → List RowState
 kept_states None m rows = rows

@@ -46,9 +46,7 @@ pub fn is_past(retention: Retention, moment: u64, row: &RowState) -> bool
 pub fn is_named(receipt: &Receipt, row: &RowState) -> bool
     ensures { result ≡ states.is_named receipt.now row.now }
 {
-    row.slot == receipt.slot
-        && row.serial == receipt.serial
-        && row.receives == receipt.receive.get()
+    (row.slot, row.serial, row.receives) == (receipt.slot, receipt.serial, receipt.receive.get())
 }
 
 /// A row that is sent at a moment.

@@ -1,8 +1,9 @@
 //! What a line asks.
 ghost use Rattle.std.specs.Prelude.{◌≡◌};
+ghost use Rattle.serde_json.specs.Find.{get};
 ghost use Rattle.serde_json.specs.View.{view};
 ghost use Rattle.sq_requests.specs.Memory.{ReadsAsking};
-ghost use Rattle.sq_requests.specs.Requests.{clock_at, actor_at, call_of, call_asks, call_or_turn_of, call_or_turn_asks, request_of, request_asks, line_request, ReadsLine};
+ghost use Rattle.sq_requests.specs.Requests.{reading, actor_at, call_of, call_asks, call_or_turn_of, call_or_turn_asks, request_of, request_asks, line_request, ReadsLine};
 
 use crate::actions::{change_of, delete_of, receive_of, send_of};
 use crate::members::text_at;
@@ -24,17 +25,14 @@ pub struct Request {
     pub asked: Asked,
 }
 
-// The clock reading of a line.
-#[tactic(auto, unfolding(crate::specs::Requests::clock_at))]
-fn clock_at(value: &Value) -> Result<Option<u64>, Refusal>
-    ensures { result ≡ clock_at (view value.now) }
+// The whole number of a member that may be there, from 0 upwards.
+#[tactic(auto, unfolding(crate::specs::Requests::reading))]
+fn reading_at(value: &Value, name: &str) -> Result<Option<u64>, Refusal>
+    ensures { result ≡ reading (get name.now (view value.now)) }
 {
-    match value.get("Now") {
+    match value.get(name) {
+        Some(member) => Ok(Some(member.as_u64().ok_or(Refusal::InvalidRequest)?)),
         None => Ok(None),
-        Some(member) => match member.as_u64() {
-            Some(reading) => Ok(Some(reading)),
-            None => Err(Refusal::InvalidRequest),
-        },
     }
 }
 
@@ -43,12 +41,10 @@ fn clock_at(value: &Value) -> Result<Option<u64>, Refusal>
 fn actor_at(value: &Value) -> Result<u32, Refusal>
     ensures { result ≡ actor_at (view value.now) }
 {
-    match value.get("Actor") {
+    match reading_at(value, "Actor")? {
         None => Ok(0),
-        Some(member) => match member.as_u64() {
-            Some(actor) if actor < 64 => Ok(actor as u32),
-            _ => Err(Refusal::InvalidRequest),
-        },
+        Some(actor) if actor < 64 => Ok(actor as u32),
+        Some(_) => Err(Refusal::InvalidRequest),
     }
 }
 
@@ -87,7 +83,7 @@ fn call_or_turn_of(alloc: Global, value: &Value, action: &str) -> Result<Asked, 
     }
 }
 
-#[tactic(auto, unfolding(crate::specs::Requests::request_of, crate::specs::Requests::request_asks))]
+#[tactic(auto, unfolding(crate::specs::Requests::request_of, crate::specs::Requests::request_asks, crate::specs::Requests::clock_at))]
 fn request_of(alloc: Global, value: &Value) -> Result<Request, Refusal>
     ensures { let d = view value.now in
         ReadsAsking (request_asks d) result (request_of d) }
@@ -96,7 +92,7 @@ fn request_of(alloc: Global, value: &Value) -> Result<Request, Refusal>
         return Err(Refusal::InvalidRequest);
     }
     let action = text_at(value, "Action")?;
-    let clock = clock_at(value)?;
+    let clock = reading_at(value, "Now")?;
     let actor = actor_at(value)?;
     let asked = call_or_turn_of(alloc, value, action)?;
     Ok(Request {

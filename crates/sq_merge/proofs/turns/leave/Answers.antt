@@ -1,4 +1,4 @@
-use Rattle.std.proofs.Common.{rules, ◌≡◌, refl, ap, inl, inr, Ok, Err}
+use Rattle.std.proofs.Common.{rules, ◌≡◌, refl, ap, inl, inr, Err}
 use Rattle.sq_base.specs.declared.refusal.Refusal.TheVariants.{QueueDoesNotExist}
 use Rattle.sq_merge.specs.Asks.{moved_of}
 use Rattle.sq_merge.specs.Fits.{named}

@@ -1,12 +1,11 @@
 use Rattle.std.proofs.Common.{rules, ◌≡◌, length, Some, Err, inl}
 use Rattle.sq_audit.specs.HomeIds.{home_index}
-use Rattle.sq_merge.specs.WorldValue.{WorldValue}
-use Rattle.sq_merge.proofs.StepLaws.{home_there}
+use Rattle.sq_merge.proofs.StepLaws.{as_fields, home_there}
 use Rattle.sq_merge.proofs.world.World.step.Goals as goal
 
 pub returns-in_err-act-in-Home-clause-refusal : goal.returns-in_err-act-in-Home-clause-refusal
 returns-in_err-act-in-Home-clause-refusal c =
-    let old : WorldValue = record { directory = c.self.inside.directory; ledger = c.self.inside.ledger.history; per_queue = c.self.inside.per_queue; sample = c.self.inside.sample; homes = c.self.inside.homes.items; journals = c.self.inside.journals.items; tried = c.self.inside.tried.items } in
+    let old = as_fields c.self.view_is in
     let place : home_index old.per_queue (length old.homes) c.in-Home.id ≡ Some c.in-Some.field-0 = search rules in
     let refused : c.from_residual-in_err-act-in-Home.result ≡ Err c.in_err-act-in-Home.field-0.0 = search rules in
     rw (refused, c.in-Home.is, ← c.self.view_is)

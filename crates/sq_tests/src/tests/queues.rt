@@ -1,5 +1,5 @@
 //! Queues that are made with policies.
-use crate::setup::{named, options};
+use super::setup::{named, options};
 use sq_base::ranges::MaxReceives;
 use sq_base::refusal::Refusal;
 use sq_base::settings::Settings;

@@ -1,4 +1,4 @@
-//! What several tests begin with: plain values, and scripts of steps with what each is answered.
+//! What several tests begin with: plain values, calls of clients, and scripts of steps with what each is answered.
 ghost use Rattle.std.specs.Prelude.{◌<◌};
 ghost use Rattle.sq_base.specs.Stamps.{stamp_end};
 
@@ -6,15 +6,17 @@ use sq_base::body::{BODY_LIMIT, Body};
 use sq_base::ids::{HomeId, HomeNo, QueueNo, Serial};
 use sq_base::message_id::MessageId;
 use sq_base::name::QueueName;
-use sq_base::ranges::{Delay, MaxMessages, Receives, Timeout};
+use sq_base::ranges::{Delay, MaxMessages, MaxReceives, Receives, Timeout};
 use sq_base::refusal::Refusal;
 use sq_base::row::Row;
 use sq_base::settings::Settings;
 use sq_base::stamp::Stamp;
+use sq_calls::calls::{AskedAttributes, BodyText, Call, CreateQueue, ReceiveMessage, SendMessage};
 use sq_merge::options::Options;
 use sq_merge::world::World;
 use sq_model::calls::Receipt;
 use sq_model::directory::{Attributes, DirectoryCall, DirectoryReply};
+use sq_model::policy::RedrivePolicy;
 use sq_model::replies::HomeReply;
 use sq_steps::act::{Act, HomeAct, Outcome, Step};
 use std::alloc::Global;
@@ -75,11 +77,61 @@ pub fn options(homes: u32, rows: u32, flights: u32) -> Options {
     }
 }
 
+// With another queue for what is received once, if one is named.
+fn with_target(target: Option<&str>) -> Result<Attributes, Refusal> {
+    let mut attributes = Attributes::none();
+    if let Some(target) = target {
+        attributes.redrive = Some(Some(RedrivePolicy {
+            target: named(target)?,
+            max_receives: MaxReceives::of(1),
+        }));
+    }
+    Ok(attributes)
+}
+
+/// Makes a queue, with another one for what is received once, if one is named.
+pub fn create_call(name: &str, target: Option<&str>) -> Result<Call, Refusal> {
+    let attributes = with_target(target)?;
+    let name = named(name)?;
+    Ok(Call::CreateQueue(CreateQueue { name, attributes }))
+}
+
+/// Sends this text, without a delay of its own.
+pub fn send_call(alloc: Global, name: &str, text: &str) -> Result<Call, Refusal> {
+    let body = BodyText::new(alloc, text)?;
+    let queue = named(name)?;
+    Ok(Call::SendMessage(SendMessage {
+        queue,
+        body,
+        delay: None,
+    }))
+}
+
+/// Receives so many messages, without the attributes that are shown where they are asked for.
+pub fn receive_call(
+    name: &str,
+    max: MaxMessages,
+    timeout: Option<Timeout>,
+) -> Result<Call, Refusal> {
+    let queue = named(name)?;
+    Ok(Call::ReceiveMessage(ReceiveMessage {
+        queue,
+        max,
+        timeout,
+        attributes: AskedAttributes {
+            receive_count: false,
+            sent_timestamp: false,
+        },
+    }))
+}
+
 /// What is asked of a home, in values that are copied.
 #[derive(Clone, Copy)]
 pub enum Ask {
     /// Of the list of queues: makes the queue q, or finds it.
     Create,
+    /// With the standard settings, at version 1.
+    Open,
     Configure(Settings, u64),
     Send(Option<Delay>),
     /// For up to ten messages.
@@ -116,6 +168,7 @@ pub type Line = (u32, u64, u64, Ask, Answers);
 
 pub fn home_act(alloc: Global, ask: Ask) -> Result<HomeAct, Refusal> {
     Ok(match ask {
+        Ask::Open => HomeAct::Configure(Settings::standard(), 1),
         Ask::Configure(settings, version) => HomeAct::Configure(settings, version),
         Ask::Send(delay) => HomeAct::Send(hello(alloc)?, delay),
         Ask::Look(timeout) => HomeAct::Look(MaxMessages::of(10), timeout),

@@ -1,5 +1,5 @@
 //! Runs over a reader and a writer that fail. Whole scripts are in `rows/`.
-use crate::setup::options;
+use super::setup::options;
 use sq_lines::counted::Counted;
 use sq_lines::lines::{LineFault, Lines};
 use sq_merge::world::World;

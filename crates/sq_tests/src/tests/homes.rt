@@ -1,5 +1,5 @@
 //! What is asked of homes that no client asks, with values from the rules of the queue; and one home alone.
-use crate::setup::{
+use super::setup::{
     Answers, Ask, CLOCK_END, Line, answer_of, home, home_act, options, played, stamp,
 };
 use sq_base::ids::QueueNo;
@@ -86,13 +86,7 @@ fn a_home_that_does_not_serve_refuses(rt: HostRuntime) {
         rt.alloc(),
         &[
             (7, 1000, 0, Ask::Send(None), refused),
-            (
-                7,
-                0,
-                0,
-                Ask::Configure(Settings::standard(), 1),
-                Answers::Done,
-            ),
+            (7, 0, 0, Ask::Open, Answers::Done),
             (7, 1000, 0, Ask::Send(None), Answers::Sent(0, 0)),
             (7, 1000, 0, Ask::Delete(0, 1, 1), never_given),
             (
@@ -119,7 +113,7 @@ fn a_home_that_does_not_serve_refuses(rt: HostRuntime) {
 // Each call once, in an order in which each is done.
 fn ask_at(place: usize) -> Ask {
     match place {
-        0 => Ask::Configure(Settings::standard(), 1),
+        0 => Ask::Open,
         1 => Ask::Send(None),
         2 => Ask::Look(None),
         3 => Ask::Change(0, 0, 1, Timeout::of(0)),

@@ -2,22 +2,19 @@
 ghost use Rattle.std.specs.Prelude.{◌<◌};
 ghost use Rattle.sq_base.specs.Stamps.{stamp_end};
 
-use crate::audits::fault;
-use crate::setup::{CLOCK_END, named, options, stamp};
+use super::audits::fault;
+use super::setup::{CLOCK_END, create_call, named, options, receive_call, send_call, stamp};
 use sq_audit::check::AuditFault;
 use sq_audit::parts::Parts;
 use sq_base::ids::{HomeId, HomeNo, QueueNo};
-use sq_base::ranges::{MaxMessages, MaxReceives, Timeout};
+use sq_base::ranges::{MaxMessages, Timeout};
 use sq_base::refusal::Refusal;
-use sq_calls::calls::{
-    Answer, Asked, AskedAttributes, BodyText, Call, CreateQueue, ReceiveMessage, SendMessage,
-};
+use sq_calls::calls::{Answer, Asked, Call};
 use sq_calls::turns::{Turn, Turned};
 use sq_merge::options::Options;
 use sq_merge::world::World;
 use sq_model::directory::{Attributes, DirectoryCall};
 use sq_model::item::ItemNo;
-use sq_model::policy::RedrivePolicy;
 use sq_steps::act::{Act, Move, Outcome, Step};
 use std::alloc::Global;
 use std::process::Abort;
@@ -49,52 +46,14 @@ enum Told {
     Refused(Refusal),
 }
 
-// With another queue for what is received once.
-fn with_target(target: Option<&str>) -> Result<Attributes, Refusal> {
-    let mut attributes = Attributes::none();
-    if let Some(target) = target {
-        attributes.redrive = Some(Some(RedrivePolicy {
-            target: named(target)?,
-            max_receives: MaxReceives::of(1),
-        }));
-    }
-    Ok(attributes)
-}
-
-fn create(name: &str, target: Option<&str>) -> Result<Call, Refusal> {
-    let attributes = with_target(target)?;
-    let name = named(name)?;
-    Ok(Call::CreateQueue(CreateQueue { name, attributes }))
-}
-
-fn send(alloc: Global, name: &str, body: &str) -> Result<Call, Refusal> {
-    let body = BodyText::new(alloc, body)?;
-    let queue = named(name)?;
-    Ok(Call::SendMessage(SendMessage {
-        queue,
-        body,
-        delay: None,
-    }))
-}
-
-fn receive(name: &str) -> Result<Call, Refusal> {
-    let queue = named(name)?;
-    Ok(Call::ReceiveMessage(ReceiveMessage {
-        queue,
-        max: MaxMessages::of(1),
-        timeout: Some(Timeout::of(0)),
-        attributes: AskedAttributes {
-            receive_count: false,
-            sent_timestamp: false,
-        },
-    }))
-}
-
 fn asked(alloc: Global, request: Request) -> Result<Asked, Refusal> {
     match request {
-        Request::Create(name, target) => create(name, target).map(Asked::Call),
-        Request::Send(name, body) => send(alloc, name, body).map(Asked::Call),
-        Request::Receive(name) => receive(name).map(Asked::Call),
+        Request::Create(name, target) => create_call(name, target).map(Asked::Call),
+        Request::Send(name, body) => send_call(alloc, name, body).map(Asked::Call),
+        Request::Receive(name) => {
+            let timeout = Some(Timeout::of(0));
+            receive_call(name, MaxMessages::of(1), timeout).map(Asked::Call)
+        }
         Request::Remove(name) => named(name).map(|name| Asked::Call(Call::DeleteQueue(name))),
         Request::Leave(name) => named(name).map(|name| Asked::Turn(Turn::DeadTurn(name))),
         Request::Bring => Ok(Asked::Turn(Turn::EnterTurn)),
@@ -284,34 +243,29 @@ fn what_differs_between_two_histories_is_a_fault(rt: HostRuntime) {
     let left_by_another = [leaving(2, 31_000)];
     let in_by_another = [leaving(1, 31_000), bringing(2)];
     let left_later = [leaving(1, 32_000)];
+    let hello_left: Story<'_> = (&hello, &moved, 1);
+    let hallo_left: Story<'_> = (&hallo, &moved, 1);
+    let hello_moved: Story<'_> = (&hello, &moved, 2);
     let stories: [(Story<'_>, Story<'_>, [AuditFault; 2]); 7] = [
+        (hello_left, hallo_left, both_leave(31_000, 2)),
+        (hallo_left, hello_left, both_leave(31_000, 2)),
         (
-            (&hello, &moved, 1),
-            (&hallo, &moved, 1),
-            both_leave(31_000, 2),
-        ),
-        (
-            (&hallo, &moved, 1),
-            (&hello, &moved, 1),
-            both_leave(31_000, 2),
-        ),
-        (
-            (&hello, &moved, 2),
+            hello_moved,
             (&hallo, &moved, 2),
             [leave_at(31_000, 2), enter_at(31_000, 4)],
         ),
         (
-            (&hello, &moved, 1),
+            hello_left,
             (&hello, &left_by_another, 1),
             both_leave(31_000, 2),
         ),
         (
-            (&hello, &moved, 2),
+            hello_moved,
             (&hello, &in_by_another, 2),
             both_enter(31_000, 4),
         ),
         (
-            (&hello, &moved, 1),
+            hello_left,
             (&hello, &left_later, 1),
             [leave_at(31_000, 2), leave_at(32_000, 1)],
         ),
@@ -377,16 +331,29 @@ fn unopened(alloc: Global, world: &mut World, name: &str) -> Told {
     }
 }
 
-// The first of these moves that is not answered as it says, with its answer.
-fn first_other(
+// Queues, and what a move at the first home of each tells.
+type Row<'a> = (Move, &'a [(u32, Told)]);
+
+// The first of these moves, at 1000 ms, that tells something else, by its row and its queue.
+fn first_other(alloc: Global, world: &mut World, rows: &[Row<'_>]) -> Option<(usize, u32, Told)> {
+    for (place, (what, wants)) in rows.iter().enumerate() {
+        if let Some((queue, told)) = other_told(alloc, world, *what, wants) {
+            return Some((place, queue, told));
+        }
+    }
+    None
+}
+
+fn other_told(
     alloc: Global,
     world: &mut World,
-    lines: &[(u64, u32, Move, Told)],
-) -> Option<(usize, Told)> {
-    for (place, (clock, queue, what, want)) in lines.iter().enumerate() {
-        let told = moved(alloc, world, *clock, *queue, *what);
+    what: Move,
+    wants: &[(u32, Told)],
+) -> Option<(u32, Told)> {
+    for (queue, want) in wants {
+        let told = moved(alloc, world, 1000, *queue, what);
         if told != *want {
-            return Some((place, told));
+            return Some((*queue, told));
         }
     }
     None
@@ -421,67 +388,59 @@ fn moves_are_refused_in_order(rt: HostRuntime) {
     let nothing = Told::Turned(Turned::Nothing);
     let one = item(1);
     let mut world = crossing(&rt, alloc);
-    let wrong = first_other(
-        alloc,
-        &mut world,
-        &[
-            (1000, 0, Move::LeaveDead, nothing),
-            (1000, 1, Move::LeaveDead, nothing),
-            (1000, 2, Move::LeaveDead, no_queue),
-            (1000, 3, Move::LeaveDead, no_queue),
-            (1000, 4, Move::LeaveDead, no_queue),
-            (CLOCK_END, 0, Move::LeaveDead, late),
-            (CLOCK_END, 4, Move::LeaveDead, late),
-            (1000, 0, Move::Enter(item(2)), not_so),
-            (1000, 1, Move::Enter(one), full),
-            (1000, 2, Move::Enter(one), no_queue),
-            (1000, 3, Move::Enter(one), no_queue),
-            (1000, 0, Move::GiveBack(one), not_so),
-            (1000, 1, Move::GiveBack(one), full),
-            (1000, 3, Move::GiveBack(one), no_queue),
-            (1000, 0, Move::TurnBack(one), not_so),
-            (1000, 2, Move::TurnBack(one), not_so),
-            (1000, 3, Move::TurnBack(one), no_queue),
-            (1000, 1, Move::GiveUp(one), not_so),
-            (1000, 2, Move::GiveUp(one), not_so),
-            (1000, 3, Move::GiveUp(one), no_queue),
-        ],
-    );
-    assert_eq!(rt; wrong, None);
+    for queue in [0, 4] {
+        let told = moved(alloc, &mut world, CLOCK_END, queue, Move::LeaveDead);
+        assert_eq!(rt; told, late);
+    }
+    let left = [
+        (0, nothing),
+        (1, nothing),
+        (2, no_queue),
+        (3, no_queue),
+        (4, no_queue),
+    ];
+    let rows: [Row<'_>; 6] = [
+        (Move::LeaveDead, &left),
+        (Move::Enter(item(2)), &[(0, not_so)]),
+        (Move::Enter(one), &[(1, full), (2, no_queue), (3, no_queue)]),
+        (
+            Move::GiveBack(one),
+            &[(0, not_so), (1, full), (3, no_queue)],
+        ),
+        (
+            Move::TurnBack(one),
+            &[(0, not_so), (2, not_so), (3, no_queue)],
+        ),
+        (
+            Move::GiveUp(one),
+            &[(1, not_so), (2, not_so), (3, no_queue)],
+        ),
+    ];
+    assert_eq!(rt; first_other(alloc, &mut world, &rows), None);
     // The message that waits is dead too, and finds no room in transit.
     assert_eq!(rt;
         last_told(alloc, &mut world, &[(0, 1000, Request::Receive("q"))]),
         Told::Done
     );
-    let wrong = first_other(alloc, &mut world, &[(1000, 1, Move::LeaveDead, full)]);
-    assert_eq!(rt; wrong, None);
+    let rows: [Row<'_>; 1] = [(Move::LeaveDead, &[(1, full)])];
+    assert_eq!(rt; first_other(alloc, &mut world, &rows), None);
     let _ = last_told(alloc, &mut world, &[(0, 1000, Request::Remove("d"))]);
-    let wrong = first_other(
-        alloc,
-        &mut world,
-        &[
-            (1000, 0, Move::Enter(one), no_queue),
-            (1000, 0, Move::GiveUp(one), not_so),
-            (1000, 0, Move::TurnBack(item(2)), not_so),
-            (1000, 0, Move::TurnBack(one), Told::Done),
-            (1000, 0, Move::TurnBack(one), not_so),
-            (1000, 1, Move::GiveBack(one), full),
-            (1000, 1, Move::GiveUp(one), not_so),
-        ],
-    );
-    assert_eq!(rt; wrong, None);
+    let rows: [Row<'_>; 6] = [
+        (Move::Enter(one), &[(0, no_queue)]),
+        (Move::GiveUp(one), &[(0, not_so)]),
+        (Move::TurnBack(item(2)), &[(0, not_so)]),
+        (Move::TurnBack(one), &[(0, Told::Done), (0, not_so)]),
+        (Move::GiveBack(one), &[(1, full)]),
+        (Move::GiveUp(one), &[(1, not_so)]),
+    ];
+    assert_eq!(rt; first_other(alloc, &mut world, &rows), None);
     let _ = last_told(alloc, &mut world, &[(0, 1000, Request::Remove("q"))]);
-    let wrong = first_other(
-        alloc,
-        &mut world,
-        &[
-            (1000, 1, Move::GiveBack(one), no_queue),
-            (1000, 1, Move::TurnBack(one), not_so),
-            (1000, 1, Move::GiveUp(one), Told::Done),
-            (1000, 1, Move::GiveUp(one), not_so),
-        ],
-    );
-    assert_eq!(rt; wrong, None);
+    let rows: [Row<'_>; 3] = [
+        (Move::GiveBack(one), &[(1, no_queue)]),
+        (Move::TurnBack(one), &[(1, not_so)]),
+        (Move::GiveUp(one), &[(1, Told::Done), (1, not_so)]),
+    ];
+    assert_eq!(rt; first_other(alloc, &mut world, &rows), None);
     assert_eq!(rt; fault(alloc, &world.parts()), None);
 }
 

@@ -1,8 +1,8 @@
 //! Runs of steps chosen at random over two chains of dead-letter queues, and what the audit says of them.
 ghost use Rattle.std.specs.Prelude.{◌≤◌};
 
-use crate::audits::{Choices, directory_act, fault, taken_out};
-use crate::setup::{hello, home, named, receipt};
+use super::audits::{Choices, directory_act, fault, taken_out};
+use super::setup::{hello, home, named, receipt};
 use sq_audit::check::AuditFault;
 use sq_audit::merge::merge;
 use sq_audit::parts::Parts;
@@ -362,55 +362,6 @@ fn clock(choices: &mut Choices, number: u64) -> u64 {
         .saturating_sub(4000)
 }
 
-// A step of the world.
-fn stepped(
-    rt: &impl Abort,
-    alloc: Global,
-    world: &mut World,
-    choices: &mut Choices,
-    seen: &mut Seen,
-    number: u64,
-) {
-    let actor = choices.below(8) as u32;
-    let clock = clock(choices, number);
-    let (place, act) = if number < 40 {
-        (place_of_first(number), first_act(seen, number))
-    } else {
-        let place = choices.below(8);
-        (place as usize, act(choices, alloc, seen, place))
-    };
-    let step = Step {
-        actor,
-        clock,
-        act: act.expect(rt, "memory"),
-    };
-    if let Ok(outcome) = world.step(alloc, &step) {
-        seen.keep(actor, place, &step.act, &outcome);
-    }
-}
-
-// A turn of an actor.
-fn turned(
-    rt: &impl Abort,
-    alloc: Global,
-    world: &mut World,
-    choices: &mut Choices,
-    seen: &mut Seen,
-    number: u64,
-) {
-    let actor = choices.below(8) as u32;
-    let clock = clock(choices, number);
-    let name = named(name_at(choices.below(8))).expect(rt, "a name");
-    let turn = if choices.below(5) < 3 {
-        Turn::DeadTurn(name)
-    } else {
-        Turn::EnterTurn
-    };
-    if let Ok(word) = world.turn(alloc, actor, clock, &turn) {
-        seen.keep_turn(actor, word);
-    }
-}
-
 // Up to so many queues of four homes each, which give at most 15 messages in flight and keep 12.
 fn chained(queues: u32) -> Options {
     Options {
@@ -424,45 +375,90 @@ fn chained(queues: u32) -> Options {
     }
 }
 
-// The next step; one in five is a turn.
-fn go_on(
-    rt: &impl Abort,
-    alloc: Global,
-    world: &mut World,
-    choices: &mut Choices,
-    seen: &mut Seen,
-    number: u64,
-) {
-    seen.moved = None;
-    if 40 <= number && choices.below(5) == 0 {
-        turned(rt, alloc, world, choices, seen, number);
-    } else {
-        stepped(rt, alloc, world, choices, seen, number);
+// A world under way: the choices to come, and what was answered so far.
+#[derive(Drop)]
+struct Course {
+    world: World,
+    choices: Choices,
+    seen: Seen,
+}
+
+impl Course {
+    fn new(rt: &impl Abort, alloc: Global, queues: u32, seed: u64) -> Course {
+        Course {
+            world: World::new(alloc, chained(queues)).expect(rt, "memory"),
+            choices: Choices { state: seed },
+            seen: Seen::new(),
+        }
+    }
+
+    // A step of the world, by its number.
+    fn step(&mut self, rt: &impl Abort, alloc: Global, actor: u32, clock: u64, number: u64) {
+        let (place, act) = if number < 40 {
+            (place_of_first(number), first_act(&self.seen, number))
+        } else {
+            let place = self.choices.below(8);
+            (
+                place as usize,
+                act(&mut self.choices, alloc, &self.seen, place),
+            )
+        };
+        let step = Step {
+            actor,
+            clock,
+            act: act.expect(rt, "memory"),
+        };
+        if let Ok(outcome) = self.world.step(alloc, &step) {
+            self.seen.keep(actor, place, &step.act, &outcome);
+        }
+    }
+
+    fn turn(&mut self, rt: &impl Abort, alloc: Global, actor: u32, clock: u64) {
+        let name = named(name_at(self.choices.below(8))).expect(rt, "a name");
+        let turn = if self.choices.below(5) < 3 {
+            Turn::DeadTurn(name)
+        } else {
+            Turn::EnterTurn
+        };
+        if let Ok(word) = self.world.turn(alloc, actor, clock, &turn) {
+            self.seen.keep_turn(actor, word);
+        }
+    }
+
+    // The next step; one in five is a turn.
+    fn go_on(&mut self, rt: &impl Abort, alloc: Global, number: u64) {
+        self.seen.moved = None;
+        let is_turn = 40 <= number && self.choices.below(5) == 0;
+        let actor = self.choices.below(8) as u32;
+        let clock = clock(&mut self.choices, number);
+        if is_turn {
+            self.turn(rt, alloc, actor, clock);
+        } else {
+            self.step(rt, alloc, actor, clock, number);
+        }
     }
 }
 
 // The world after so many steps, and what was answered.
-fn ran(rt: &impl Abort, alloc: Global, queues: u32, seed: u64, steps: u64) -> (World, Seen) {
-    let mut world = World::new(alloc, chained(queues)).expect(rt, "memory");
-    let mut choices = Choices { state: seed };
-    let mut seen = Seen::new();
+fn ran(rt: &impl Abort, alloc: Global, queues: u32, seed: u64, steps: u64) -> Course {
+    let mut course = Course::new(rt, alloc, queues, seed);
     for number in 0..steps {
-        go_on(rt, alloc, &mut world, &mut choices, &mut seen, number);
+        course.go_on(rt, alloc, number);
     }
-    (world, seen)
+    course
 }
 
 // How many messages a home has; 0 where it refuses.
-fn rows_at(alloc: Global, world: &mut World, seen: &mut Seen, at: HomeId) -> usize {
+fn rows_at(alloc: Global, course: &mut Course, at: HomeId) -> usize {
     let step = Step {
         actor: 0,
         clock: 0,
         act: Act::Home(at, HomeAct::Count),
     };
-    let Ok(Outcome::Home(HomeReply::Counted(counts))) = world.step(alloc, &step) else {
+    let Ok(Outcome::Home(HomeReply::Counted(counts))) = course.world.step(alloc, &step) else {
         return 0;
     };
-    seen.count(0, None);
+    course.seen.count(0, None);
     let rows = counts
         .visible
         .saturating_add(counts.flying)
@@ -471,7 +467,7 @@ fn rows_at(alloc: Global, world: &mut World, seen: &mut Seen, at: HomeId) -> usi
 }
 
 // How many messages all homes have.
-fn rows_in(alloc: Global, world: &mut World, seen: &mut Seen, queues: u32) -> usize {
+fn rows_in(alloc: Global, course: &mut Course, queues: u32) -> usize {
     let mut rows = 0usize;
     for queue in 0..queues {
         for number in 0..4u8 {
@@ -479,7 +475,7 @@ fn rows_in(alloc: Global, world: &mut World, seen: &mut Seen, queues: u32) -> us
                 queue: QueueNo::following(queue),
                 home: HomeNo::of(number),
             };
-            rows = rows.saturating_add(rows_at(alloc, world, seen, at));
+            rows = rows.saturating_add(rows_at(alloc, course, at));
         }
     }
     rows
@@ -520,8 +516,9 @@ fn audited(
     seed: u64,
     steps: u64,
 ) -> ([usize; 5], [usize; 5], [u64; 5]) {
-    let (mut world, mut seen) = ran(rt, alloc, queues, seed, steps);
-    let rows = rows_in(alloc, &mut world, &mut seen, queues);
+    let mut course = ran(rt, alloc, queues, seed, steps);
+    let rows = rows_in(alloc, &mut course, queues);
+    let Course { world, seen, .. } = course;
     let parts = world.parts();
     let items = items_in(&parts);
     let run = merge(alloc, &parts).expect(rt, "one run");
@@ -576,13 +573,11 @@ struct MoveSeen {
 
 // The first three moves of each kind in so many steps.
 fn first_moves(rt: &impl Abort, alloc: Global, steps: u64) -> [Option<MoveSeen>; 15] {
-    let mut world = World::new(alloc, chained(64)).expect(rt, "memory");
-    let mut choices = Choices { state: 1 };
-    let mut seen = Seen::new();
+    let mut course = Course::new(rt, alloc, 64, 1);
     let mut firsts = [None; 15];
     for number in 0..steps {
-        go_on(rt, alloc, &mut world, &mut choices, &mut seen, number);
-        note(&mut firsts, &seen, number);
+        course.go_on(rt, alloc, number);
+        note(&mut firsts, &course.seen, number);
     }
     firsts
 }
@@ -613,8 +608,7 @@ fn events_of(seen: &Seen, actor: u32) -> u64 {
 
 // The parts that so many steps leave.
 fn parts_of(rt: &impl Abort, alloc: Global, steps: u64) -> Parts {
-    let (world, _) = ran(rt, alloc, 64, 1, steps);
-    world.parts()
+    ran(rt, alloc, 64, 1, steps).world.parts()
 }
 
 // Which parts are those after a step, in place of those before it. The list of queues is the same.
@@ -693,18 +687,6 @@ fn a_move_that_is_not_everywhere_is_reported(rt: HostRuntime) {
     }
 }
 
-// Of so many steps, with the record of one taken out.
-fn without(
-    rt: &impl Abort,
-    alloc: Global,
-    steps: u64,
-    actor: u32,
-    place: u64,
-) -> (bool, bool, Option<AuditFault>) {
-    let mut parts = parts_of(rt, alloc, steps);
-    taken_out(alloc, &mut parts, actor, place)
-}
-
 // Those of the moves, and some of all others.
 #[test]
 fn a_record_that_is_taken_out_among_moves_is_reported(rt: HostRuntime) {
@@ -712,16 +694,18 @@ fn a_record_that_is_taken_out_among_moves_is_reported(rt: HostRuntime) {
         let seen = found.expect(&rt, "a move");
         for steps in [1u64, 200] {
             let steps = seen.number.saturating_add(steps);
-            let answered = without(&rt, rt.alloc(), steps, seen.actor, seen.place);
+            let parts = parts_of(&rt, rt.alloc(), steps);
+            let answered = taken_out(rt.alloc(), parts, seen.actor, seen.place);
             let missing = Some(AuditFault::RecordMissing(seen.actor, seen.place));
             assert_eq!(rt; answered, (true, false, missing), "{}", seen.number);
         }
     }
-    let (_, seen) = ran(&rt, rt.alloc(), 64, 1, 1_000);
+    let seen = ran(&rt, rt.alloc(), 64, 1, 1_000).seen;
     for actor in 0..8u32 {
         for tenth in 0..10u64 {
             let place = tenth * 5;
-            let answered = without(&rt, rt.alloc(), 1_000, actor, place);
+            let parts = parts_of(&rt, rt.alloc(), 1_000);
+            let answered = taken_out(rt.alloc(), parts, actor, place);
             let wanted = if place < events_of(&seen, actor) {
                 (true, false, Some(AuditFault::RecordMissing(actor, place)))
             } else {

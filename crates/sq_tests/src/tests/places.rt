@@ -1,7 +1,6 @@
 //! Where messages are after the events of a home, and the texts of that.
-use crate::setup::{Answers, Ask, Line, first_wrong, id, options, stamp};
+use super::setup::{Answers, Ask, Line, first_wrong, id, options, stamp};
 use sq_audit::merge::merge;
-use sq_base::settings::Settings;
 use sq_base::stamp::Stamp;
 use sq_merge::world::World;
 use sq_model::place::Place;
@@ -17,13 +16,7 @@ use std::process::Abort;
 fn lines() -> [Line; 13] {
     [
         (0, 0, 0, Ask::Create, Answers::Made(1)),
-        (
-            0,
-            0,
-            0,
-            Ask::Configure(Settings::standard(), 1),
-            Answers::Done,
-        ),
+        (0, 0, 0, Ask::Open, Answers::Done),
         (0, 1000, 0, Ask::Send(None), Answers::Sent(0, 0)),
         (0, 1000, 0, Ask::Send(None), Answers::Sent(1, 1)),
         (0, 2000, 0, Ask::Look(None), Answers::GaveAll(2)),

@@ -1,9 +1,10 @@
 //! The library in use, from a service without queues to where its messages are.
+use super::setup::{create_call, named, options, receive_call, send_call};
 use sq_audit::merge::merge;
 use sq_base::handle::Handle;
 use sq_base::message_id::MessageId;
 use sq_base::name::QueueName;
-use sq_base::ranges::{MaxMessages, MaxReceives, Receives, Timeout};
+use sq_base::ranges::{MaxMessages, Receives, Timeout};
 use sq_base::refusal::Refusal;
 use sq_calls::calls::{
     Answer, AskedAttributes, BodyText, Call, CreateQueue, DeleteMessage, ReceiveMessage,
@@ -14,7 +15,6 @@ use sq_merge::options::Options;
 use sq_merge::world::World;
 use sq_model::directory::Attributes;
 use sq_model::place::Place;
-use sq_model::policy::RedrivePolicy;
 use sq_places::message_pass::place_of;
 use std::alloc::Global;
 use std::process::Abort;
@@ -99,29 +99,12 @@ fn handle_of(answered: &Result<Answer, Refusal>) -> Option<Handle> {
 }
 
 // Sends a message, which is received once and visible again at once, and gives its id.
-fn sent_and_received(
-    rt: &impl Abort,
-    alloc: Global,
-    world: &mut World,
-    queue: QueueName,
-) -> MessageId {
-    let body = BodyText::new(alloc, "hello").expect(rt, "memory");
-    let send = SendMessage {
-        queue,
-        body,
-        delay: None,
-    };
-    let sent = world.call(alloc, 1, 1000, &Call::SendMessage(send));
-    let receive = ReceiveMessage {
-        queue,
-        max: MaxMessages::of(1),
-        timeout: Some(Timeout::of(0)),
-        attributes: AskedAttributes {
-            receive_count: false,
-            sent_timestamp: false,
-        },
-    };
-    let received = world.call(alloc, 2, 2000, &Call::ReceiveMessage(receive));
+fn sent_and_received(rt: &impl Abort, alloc: Global, world: &mut World, queue: &str) -> MessageId {
+    let send = send_call(alloc, queue, "hello").expect(rt, "memory");
+    let sent = world.call(alloc, 1, 1000, &send);
+    let at_once = Some(Timeout::of(0));
+    let receive = receive_call(queue, MaxMessages::of(1), at_once).expect(rt, "a name");
+    let received = world.call(alloc, 2, 2000, &receive);
     assert!(rt; received.is_ok());
     id_of(&sent).expect(rt, "a message")
 }
@@ -134,26 +117,14 @@ fn take(rt: &impl Abort, alloc: Global, world: &mut World, turns: &[(Turn, Turne
 }
 
 // Makes a queue of this name. What is received from it once goes to another queue, if there is one.
-fn make(
-    rt: &impl Abort,
-    alloc: Global,
-    world: &mut World,
-    name: QueueName,
-    target: Option<QueueName>,
-) {
-    let mut attributes = Attributes::none();
-    if let Some(target) = target {
-        attributes.redrive = Some(Some(RedrivePolicy {
-            target,
-            max_receives: MaxReceives::of(1),
-        }));
-    }
-    let create = CreateQueue { name, attributes };
-    let made = world.call(alloc, 0, 0, &Call::CreateQueue(create));
+fn make(rt: &impl Abort, alloc: Global, world: &mut World, name: &str, target: Option<&str>) {
+    let create = create_call(name, target).expect(rt, "a name");
+    let made = world.call(alloc, 0, 0, &create);
     assert!(rt; made.is_ok());
 }
 
-fn remove(rt: &impl Abort, alloc: Global, world: &mut World, name: QueueName) {
+fn remove(rt: &impl Abort, alloc: Global, world: &mut World, name: &str) {
+    let name = named(name).expect(rt, "a name");
     let removed = world.call(alloc, 0, 3000, &Call::DeleteQueue(name));
     assert!(rt; removed.is_ok());
 }
@@ -161,32 +132,17 @@ fn remove(rt: &impl Abort, alloc: Global, world: &mut World, name: QueueName) {
 #[test]
 fn dead_letters_are_moved(rt: HostRuntime) {
     let alloc = rt.alloc();
-    let options = Options {
-        homes: 1,
-        sample: 1,
-        queues: 64,
-        rows: 1000,
-        flights: 100,
-        transit: 1,
-        seed: 0,
-    };
-    let mut world = World::new(alloc, options).expect(&rt, "memory");
-    let orders = QueueName::new(b"orders").expect(&rt, "a name");
-    let failed = QueueName::new(b"failed-orders").expect(&rt, "a name");
-    make(&rt, alloc, &mut world, failed, None);
-    make(&rt, alloc, &mut world, orders, Some(failed));
+    let mut world = World::new(alloc, options(1, 1000, 100)).expect(&rt, "memory");
+    make(&rt, alloc, &mut world, "failed-orders", None);
+    make(&rt, alloc, &mut world, "orders", Some("failed-orders"));
 
     // A dead letter leaves, and another one finds no room in transit until the first has come in.
-    let leave = Turn::DeadTurn(orders);
+    let leave = Turn::DeadTurn(named("orders").expect(&rt, "a name"));
     let bring = Turn::EnterTurn;
-    let first = sent_and_received(&rt, alloc, &mut world, orders);
-    take(
-        &rt,
-        alloc,
-        &mut world,
-        &[(leave, Turned::Left), (leave, Turned::Nothing)],
-    );
-    let second = sent_and_received(&rt, alloc, &mut world, orders);
+    let first = sent_and_received(&rt, alloc, &mut world, "orders");
+    let turns = [(leave, Turned::Left), (leave, Turned::Nothing)];
+    take(&rt, alloc, &mut world, &turns);
+    let second = sent_and_received(&rt, alloc, &mut world, "orders");
     let turns = [
         (leave, Turned::Full),
         (bring, Turned::Entered),
@@ -196,22 +152,14 @@ fn dead_letters_are_moved(rt: HostRuntime) {
     take(&rt, alloc, &mut world, &turns);
 
     // Where the dead-letter queue is deleted, the second goes back to its source; where that is deleted too, it is given up.
-    remove(&rt, alloc, &mut world, failed);
-    take(
-        &rt,
-        alloc,
-        &mut world,
-        &[(bring, Turned::Turned), (bring, Turned::Back)],
-    );
-    let third = sent_and_received(&rt, alloc, &mut world, orders);
+    remove(&rt, alloc, &mut world, "failed-orders");
+    let turns = [(bring, Turned::Turned), (bring, Turned::Back)];
+    take(&rt, alloc, &mut world, &turns);
+    let third = sent_and_received(&rt, alloc, &mut world, "orders");
     take(&rt, alloc, &mut world, &[(leave, Turned::Left)]);
-    remove(&rt, alloc, &mut world, orders);
-    take(
-        &rt,
-        alloc,
-        &mut world,
-        &[(bring, Turned::Turned), (bring, Turned::Dropped)],
-    );
+    remove(&rt, alloc, &mut world, "orders");
+    let turns = [(bring, Turned::Turned), (bring, Turned::Dropped)];
+    take(&rt, alloc, &mut world, &turns);
 
     let parts = world.parts();
     let run = merge(alloc, &parts).expect(&rt, "one run");

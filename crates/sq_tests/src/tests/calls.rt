@@ -1,14 +1,11 @@
 //! Calls of clients: what no script shows, since it follows from the seed or from a home that is closed.
-use crate::setup::{Answers, Ask, first_wrong, named, options};
+use super::setup::{Answers, Ask, create_call, first_wrong, options, receive_call, send_call};
 use sq_audit::merge::merge;
 use sq_base::ranges::MaxMessages;
 use sq_base::refusal::Refusal;
-use sq_calls::calls::{
-    Answer, AskedAttributes, BodyText, Call, CreateQueue, ReceiveMessage, SendMessage,
-};
+use sq_calls::calls::{Answer, Call};
 use sq_merge::options::Options;
 use sq_merge::world::World;
-use sq_model::directory::Attributes;
 use std::alloc::Global;
 use std::process::Abort;
 
@@ -21,27 +18,11 @@ enum Request {
 }
 
 fn call_of(alloc: Global, request: Request) -> Result<Call, Refusal> {
-    let queue = named("q")?;
-    Ok(match request {
-        Request::Create => Call::CreateQueue(CreateQueue {
-            name: queue,
-            attributes: Attributes::none(),
-        }),
-        Request::Send => Call::SendMessage(SendMessage {
-            queue,
-            body: BodyText::new(alloc, "hello")?,
-            delay: None,
-        }),
-        Request::Receive => Call::ReceiveMessage(ReceiveMessage {
-            queue,
-            max: MaxMessages::of(10),
-            timeout: None,
-            attributes: AskedAttributes {
-                receive_count: false,
-                sent_timestamp: false,
-            },
-        }),
-    })
+    match request {
+        Request::Create => create_call("q", None),
+        Request::Send => send_call(alloc, "q", "hello"),
+        Request::Receive => receive_call("q", MaxMessages::of(10), None),
+    }
 }
 
 // The home that a message is put at, or how many messages are given.

@@ -1,5 +1,5 @@
 //! Plain values from outside, each call once where it succeeds, and how a refusal is written.
-use crate::setup::{hello, id, stamp};
+use super::setup::{hello, id, stamp};
 use sq_base::body::{BODY_LIMIT, Body, body_md5};
 use sq_base::handle::{Handle, read_handle, write_handle};
 use sq_base::ids::{HomeNo, QueueNo, Serial};

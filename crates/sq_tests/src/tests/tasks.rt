@@ -1,5 +1,5 @@
 //! Move tasks: each call on its happy path.
-use crate::setup::{Ask, home, home_act, named, stamp};
+use super::setup::{Ask, home, home_act, named, stamp};
 use sq_base::ids::QueueNo;
 use sq_base::ranges::Rate;
 use sq_base::refusal::Refusal;

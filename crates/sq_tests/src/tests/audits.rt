@@ -1,7 +1,7 @@
 //! Runs of steps chosen at random, what the audit says of them, and of each record that is taken out.
 ghost use Rattle.std.specs.Prelude.{◌<◌, ◌≤◌};
 
-use crate::setup::{hello, home, named, options, receipt};
+use super::setup::{hello, home, named, options, receipt};
 use sq_audit::check::AuditFault;
 use sq_audit::merge::merge;
 use sq_audit::parts::Parts;
@@ -209,27 +209,13 @@ fn recorded(rt: &impl Abort, alloc: Global, steps: u64) -> ([u64; 9], u64, usize
 /// Takes a record out, and again: whether it was there, and what the audit says.
 pub fn taken_out(
     alloc: Global,
-    parts: &mut Parts,
+    mut parts: Parts,
     actor: u32,
     place: u64,
 ) -> (bool, bool, Option<AuditFault>) {
     let first = parts.drop_record(actor, place);
     let second = parts.drop_record(actor, place);
-    (first, second, fault(alloc, parts))
-}
-
-// The same of what so many steps leave.
-fn without(
-    rt: &impl Abort,
-    alloc: Global,
-    steps: u64,
-    actor: u32,
-    place: u64,
-) -> (bool, bool, Option<AuditFault>)
-    requires { steps ≤ 100000 }
-{
-    let (mut parts, _) = ran(rt, alloc, steps);
-    taken_out(alloc, &mut parts, actor, place)
+    (first, second, fault(alloc, &parts))
 }
 
 // The actors are 0 to 7.
@@ -239,7 +225,8 @@ fn each_record_that_is_taken_out_is_reported(rt: HostRuntime) {
     let mut dropped = 0u64;
     for (actor, count) in (0u32..).zip(&counts) {
         for place in 0..*count {
-            let answered = without(&rt, rt.alloc(), 150, actor, place);
+            let (parts, _) = ran(&rt, rt.alloc(), 150);
+            let answered = taken_out(rt.alloc(), parts, actor, place);
             assert_eq!(rt;
                 answered,
                 (true, false, Some(AuditFault::RecordMissing(actor, place)))
@@ -247,7 +234,8 @@ fn each_record_that_is_taken_out_is_reported(rt: HostRuntime) {
             dropped = dropped.saturating_add(1);
         }
         for place in [*count, u64::MAX] {
-            let answered = without(&rt, rt.alloc(), 150, actor, place);
+            let (parts, _) = ran(&rt, rt.alloc(), 150);
+            let answered = taken_out(rt.alloc(), parts, actor, place);
             assert_eq!(rt; answered, (false, false, None));
         }
     }
