@@ -28,7 +28,11 @@ fn behind_front(b: &[u8]) -> Option<&[u8]>
         return None;
     }
     let (front, rest) = b.split_at(TASK_FRONT.len());
-    if front == TASK_FRONT { Some(rest) } else { None }
+    if front == TASK_FRONT {
+        Some(rest)
+    } else {
+        None
+    }
 }
 
 #[tactic(auto, unfolding(crate::specs::TaskHandles::task_handle_at))]

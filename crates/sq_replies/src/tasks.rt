@@ -56,11 +56,7 @@ fn task_members(alloc: Global, task: &Task) -> Result<Map<String, Value>, AllocE
 }
 
 // Its members are put in the order of their names.
-fn put_task(
-    alloc: Global,
-    members: &mut Map<String, Value>,
-    task: &Task,
-) -> Result<(), AllocError>
+fn put_task(alloc: Global, members: &mut Map<String, Value>, task: &Task) -> Result<(), AllocError>
     ensures { OnOk result (members_view members.new.entries ≡ put_values (task_values task.now) (members_view members.old.entries)) }
 {
     let (moved, started) = (Some(task.moved), Some(task.started));
@@ -92,11 +88,7 @@ fn put_number(
     }
 }
 
-fn put_rate(
-    alloc: Global,
-    members: &mut Map<String, Value>,
-    task: &Task,
-) -> Result<(), AllocError>
+fn put_rate(alloc: Global, members: &mut Map<String, Value>, task: &Task) -> Result<(), AllocError>
     ensures { OnOk result (members_view members.new.entries
         ≡ put_value (codes "MaxNumberOfMessagesPerSecond") (option_map (λ rate. number (unsigned rate)) task.now.rate) (members_view members.old.entries)) }
 {

@@ -35,8 +35,7 @@ start_move_of d = do
   source ← ok_or members.source InvalidAddress
   destination ← destination_of members.destination
   rate ← in_range_if 1 500 InvalidParameterValue members.rate
-  if is_destination source destination then Err InvalidParameterValue
-    else Ok (call.StartMessageMoveTask (record { source = source; destination = destination; rate = rate }))
+  if is_destination source destination then Err InvalidParameterValue else Ok (call.StartMessageMoveTask (record { source = source; destination = destination; rate = rate }))
 
 unfoldable pub cancel_move_of : Data → Result Call Refusal
 cancel_move_of d = task_at d >>= λ task. Ok (call.CancelMessageMoveTask task)
