@@ -56,8 +56,8 @@ unfoldable pub arn_if_at : List ℕ → Data → Result (Option (Option (List �
 arn_if_at name d = text_if_at name d >>= λ arn. Ok (arn_if arn)
 
 -- the task that a handle names (SQS API Reference, TaskHandle), where it is one
-unfoldable pub task_at : Data → Result (Option ℕ) Refusal
-task_at d = text_at (codes "TaskHandle") d >>= λ handle. Ok (task_handle_at handle)
+unfoldable pub named_task : Data → Result (Option ℕ) Refusal
+named_task d = text_at (codes "TaskHandle") d >>= λ handle. Ok (task_handle_at handle)
 
 -- whether a member that may be there is an object with members
 abbrev pub is_empty : Members → Bool

@@ -6,7 +6,7 @@ use Rattle.sq_base.specs.declared.refusal.Refusal.{Refusal}
 use Rattle.sq_base.specs.declared.refusal.Refusal.TheVariants.{InvalidParameterValue, InvalidAddress}
 use Rattle.sq_policy.specs.Reading.{◌>>=◌}
 use Rattle.sq_policy.specs.Amounts.{in_range_if}
-use Rattle.sq_requests.specs.Members.{arn_at, arn_if_at, task_at, amount_if_at}
+use Rattle.sq_requests.specs.Members.{arn_at, arn_if_at, named_task, amount_if_at}
 use Rattle.sq_requests.specs.declared.tasks.MoveMembers.{MoveMembers}
 use Rattle.sq_calls.specs.declared.calls.Call.{Call}
 use Rattle.sq_calls.specs.declared.calls.Call.TheVariants as call
@@ -38,7 +38,7 @@ start_move_of d = do
   if is_destination source destination then Err InvalidParameterValue else Ok (call.StartMessageMoveTask (record { source = source; destination = destination; rate = rate }))
 
 unfoldable pub cancel_move_of : Data → Result Call Refusal
-cancel_move_of d = task_at d >>= λ task. Ok (call.CancelMessageMoveTask task)
+cancel_move_of d = named_task d >>= λ task. Ok (call.CancelMessageMoveTask task)
 
 -- without a number of tasks one is asked for
 unfoldable pub list_moves_of : Data → Result Call Refusal

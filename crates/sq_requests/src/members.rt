@@ -2,7 +2,7 @@
 ghost use Rattle.std.specs.Prelude.{◌≡◌, not, option_map};
 ghost use Rattle.serde_json.specs.View.{view, members_view};
 ghost use Rattle.sq_policy.specs.Reading.{seen_as};
-ghost use Rattle.sq_requests.specs.Members.{url_name, text_at, text_if_at, url_at, receipt_handle_at, arn_at, arn_if, arn_if_at, task_at, is_empty, has_members_at, amount_at, amount_if_at};
+ghost use Rattle.sq_requests.specs.Members.{url_name, text_at, text_if_at, url_at, receipt_handle_at, arn_at, arn_if, arn_if_at, named_task, is_empty, has_members_at, amount_at, amount_if_at};
 
 use serde_json::{Map, Value};
 use sq_base::handle::{Handle, read_handle};
@@ -98,9 +98,9 @@ pub fn arn_if_at(value: &Value, name: &str) -> Result<Option<Option<QueueName>>,
 }
 
 /// The task of the member `TaskHandle`; none where that is the handle of none.
-#[tactic(auto, unfolding(crate::specs::Members::task_at))]
-pub fn task_at(value: &Value) -> Result<Option<TaskNo>, Refusal>
-    ensures { result ≡ task_at (view value.now) }
+#[tactic(auto, unfolding(crate::specs::Members::named_task))]
+pub fn named_task(value: &Value) -> Result<Option<TaskNo>, Refusal>
+    ensures { result ≡ named_task (view value.now) }
 {
     let handle = text_at(value, "TaskHandle")?;
     Ok(read_task_handle(handle.as_bytes()))

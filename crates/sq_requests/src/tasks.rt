@@ -3,7 +3,7 @@ ghost use Rattle.std.specs.Prelude.{◌≡◌};
 ghost use Rattle.serde_json.specs.View.{view};
 ghost use Rattle.sq_requests.specs.Tasks.{move_members, destination_of, is_destination, start_move_of, cancel_move_of, list_moves_of};
 
-use crate::members::{amount_if_at, arn_at, arn_if_at, task_at};
+use crate::members::{amount_if_at, arn_at, arn_if_at, named_task};
 use serde_json::Value;
 use sq_base::name::QueueName;
 use sq_base::ranges::MaxResults;
@@ -78,7 +78,7 @@ pub fn start_move_of(value: &Value) -> Result<Call, Refusal>
 pub fn cancel_move_of(value: &Value) -> Result<Call, Refusal>
     ensures { result ≡ cancel_move_of (view value.now) }
 {
-    let task = task_at(value)?;
+    let task = named_task(value)?;
     Ok(Call::CancelMessageMoveTask(task))
 }
 

@@ -3,7 +3,7 @@ ghost use Rattle.std.specs.Prelude.{◌≡◌};
 ghost use Rattle.serde_json.specs.View.{view};
 ghost use Rattle.sq_requests.specs.Turns.{dead_turn_of, task_turn_of};
 
-use crate::members::task_at;
+use crate::members::named_task;
 use crate::queues::named_queue;
 use serde_json::Value;
 use sq_base::refusal::Refusal;
@@ -23,6 +23,6 @@ pub fn dead_turn_of(value: &Value) -> Result<Turn, Refusal>
 pub fn task_turn_of(value: &Value) -> Result<Turn, Refusal>
     ensures { result ≡ task_turn_of (view value.now) }
 {
-    let task = task_at(value)?;
+    let task = named_task(value)?;
     Ok(Turn::TaskTurn(task))
 }
