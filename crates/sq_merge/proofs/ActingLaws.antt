@@ -5,7 +5,7 @@ use Rattle.sq_base.specs.Stamps.{stamp_end, next_at, after, stamped}
 use Rattle.sq_base.specs.StampValue.{StampValue}
 use Rattle.sq_base.specs.declared.ids.HomeId.{HomeId}
 use Rattle.sq_base.specs.declared.refusal.Refusal.{Refusal}
-use Rattle.sq_base.specs.declared.refusal.Refusal.TheVariants.{NoMemory, ClockRange, Worn, InvalidAttributeValue, InvalidParameterValue, PurgeQueueInProgress, QueueDoesNotExist, OverLimit, ReceiptHandleIsInvalid, MessageNotInflight, UnsupportedOperation}
+use Rattle.sq_base.specs.declared.refusal.Refusal.TheVariants.{NoMemory, ClockRange, Worn, InvalidAttributeValue, InvalidParameterValue, PurgeQueueInProgress, QueueDoesNotExist, OverLimit, ReceiptHandleIsInvalid, ResourceNotFoundException, MessageNotInflight, UnsupportedOperation}
 use Rattle.std.specs.List.{list_any}
 use Rattle.sq_base.specs.declared.row.Row.{Row}
 use Rattle.sq_model.specs.Directories.{Directory, DirectoryStep, agrees, create_refusal, deleted_recently, directory_refusal, last_version, may_have, purged_recently, queue_of, refused_at}
@@ -15,9 +15,11 @@ use Rattle.sq_model.specs.declared.directory.DirectoryCall.TheVariants as asks
 use Rattle.sq_model.specs.declared.directory.DirectoryReply.{DirectoryReply}
 use Rattle.sq_model.specs.declared.directory.DirectoryReply.TheVariants as answers
 use Rattle.sq_model.specs.declared.directory.Queue.{Queue}
-use Rattle.sq_model.specs.Rows.{ms, trimmed, is_dead, is_held, is_late}
-use Rattle.sq_model.specs.Ledgers.{Ledger, item_of, last_number, room_refusal}
-use Rattle.sq_model.specs.Shared.{after_given, is_entering, is_returning, shared_refusal}
+use Rattle.sq_model.specs.Rows.{ms, trimmed, is_dead, is_held, is_late, is_live}
+use Rattle.sq_model.specs.declared.task.Task.{Task}
+use Rattle.sq_model.specs.Tasks.{is_running}
+use Rattle.sq_model.specs.Ledgers.{Ledger, is_of_source, item_of, last_number, room_refusal, task_of}
+use Rattle.sq_model.specs.Shared.{after_given, is_entering, is_returning, is_throttled, shared_refusal, task_refusal}
 use Rattle.sq_steps.specs.SharedSteps.{asked_as}
 use Rattle.sq_steps.specs.declared.act.Move.{Move}
 use Rattle.sq_steps.specs.declared.act.Move.TheVariants as move
@@ -144,6 +146,15 @@ dead_cases : (l : Ledger) (test : Bool) (e : Refusal) → (if test then room_ref
 dead_cases l true e h = room_cases l e h
 dead_cases l false e h = absurd (no_refusal e h)
 
+-- why a leave for a task is refused, where its own checks come first
+task_cases : (home : HomeId) (number : ℕ) (found : Option Task) (later : Option Refusal) (e : Refusal) → ((later ≡ Some e) → IsOfAnyStep e ⊎ (e ≡ OverLimit)) → task_refusal home found later ≡ Some e
+    → IsOfAnyStep e ⊎ (e ≡ QueueDoesNotExist) ⊎ IsOfMove (move.LeaveTask number) e
+task_cases home number None later e own h = inr (inr (inl cc))
+task_cases home number (Some task) later e own h = elim (refused_cases (not (is_running task.status && is_of_source home.queue task)) UnsupportedOperation later e h) [
+  | inl over ↦ inr (inr (inr (inl over)))
+  | inr rest ↦ elim (own rest) [ inl any ↦ inl any | inr full ↦ inr (inr (inr (inr full))) ]
+]
+
 -- why an item does not come in at a home that serves, where it is not for this home or else
 arrival_is : (site : Site) (n : ℕ) (rows : List Row) (other : Bool) (e : Refusal) → place_refusal site.limits n rows (refused_if other UnsupportedOperation None) ≡ Some e → IsOfAnyStep e ⊎ (e ≡ QueueDoesNotExist) ⊎ (e ≡ OverLimit) ⊎ (e ≡ UnsupportedOperation)
 arrival_is site n rows other e h =
@@ -153,11 +164,14 @@ shared_is : (site : Site) (home : Home) (l : Ledger) (m : ℕ) (what : Move) (e 
 unfolding shared_refusal
 shared_is site Unopened l m what e h = inr (inl cc)
 shared_is site (Serving s v n rows) l m move.LeaveDead e h = elim (dead_cases l (list_any (is_dead s m) (trimmed s m rows)) e h) [ inl any ↦ inl any | inr over ↦ inr (inr over) ]
+shared_is site (Serving s v n rows) l m (move.LeaveTask number) e h =
+    task_cases site.home number (task_of number l) _ e (λ later. dead_cases l (not (is_throttled m (task_of number l)) && list_any (is_live s m) (trimmed s m rows)) e later) h
 shared_is site (Serving s v n rows) l m (move.Enter number) e h = arrival_is site n (trimmed s m rows) (not (is_entering site.home (item_of number l))) e h
 shared_is site (Serving s v n rows) l m (move.TurnBack number) e h = inr (inr cc)
 shared_is site (Serving s v n rows) l m (move.GiveBack number) e h = arrival_is site n (trimmed s m rows) (not (is_returning site.home (item_of number l))) e h
 shared_is site (Serving s v n rows) l m (move.GiveUp number) e h = inr (inr cc)
 shared_is site Closed l m move.LeaveDead e h = inr (inl cc)
+shared_is site Closed l m (move.LeaveTask number) e h = task_cases site.home number (task_of number l) None e (λ later. absurd (no_refusal e later)) h
 shared_is site Closed l m (move.Enter number) e h = inr (inl cc)
 shared_is site Closed l m (move.TurnBack number) e h = inr (inr (one_case (not (is_entering site.home (item_of number l))) UnsupportedOperation e h))
 shared_is site Closed l m (move.GiveBack number) e h = inr (inl cc)

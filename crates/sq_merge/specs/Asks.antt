@@ -5,7 +5,7 @@ use Rattle.sq_base.specs.StampValue.{StampValue}
 use Rattle.sq_base.specs.Stamps.{Below}
 use Rattle.sq_base.specs.declared.ids.HomeId.{HomeId}
 use Rattle.sq_base.specs.declared.refusal.Refusal.{Refusal}
-use Rattle.sq_base.specs.declared.refusal.Refusal.TheVariants.{NoMemory, ClockRange, Worn, InvalidAttributeValue, InvalidParameterValue, PurgeQueueInProgress, QueueDeletedRecently, QueueDoesNotExist, QueueNameExists, OverLimit, ReceiptHandleIsInvalid, MessageNotInflight, TableFull, UnsupportedOperation}
+use Rattle.sq_base.specs.declared.refusal.Refusal.TheVariants.{NoMemory, ClockRange, Worn, InvalidAttributeValue, InvalidParameterValue, PurgeQueueInProgress, QueueDeletedRecently, QueueDoesNotExist, QueueNameExists, OverLimit, ReceiptHandleIsInvalid, ResourceNotFoundException, MessageNotInflight, TableFull, UnsupportedOperation}
 use Rattle.sq_model.specs.declared.directory.DirectoryCall.{DirectoryCall}
 use Rattle.sq_model.specs.declared.directory.DirectoryCall.TheVariants as asks
 use Rattle.sq_model.specs.declared.directory.DirectoryReply.{DirectoryReply}
@@ -15,7 +15,12 @@ use Rattle.sq_model.specs.declared.replies.HomeReply.TheVariants as reply
 use Rattle.sq_model.specs.declared.calls.HomeCall.{HomeCall}
 use Rattle.sq_model.specs.declared.calls.HomeCall.TheVariants as at_home
 use Rattle.sq_model.specs.declared.item.Item.{Item}
-use Rattle.sq_model.specs.RecordValues.{HomeRecordValue, DirectoryRecordValue, RecordValue, OfDirectory, OfHome, place_of_record, stamp_of, Journal}
+use Rattle.sq_model.specs.declared.ledger.LedgerReply.{LedgerReply}
+use Rattle.sq_model.specs.declared.ledger.LedgerReply.TheVariants as ledger
+use Rattle.sq_model.specs.declared.task.Task.{Task}
+use Rattle.sq_model.specs.Directories.{MoveEnds}
+use Rattle.sq_directory.specs.MoveQueues.{as_ends}
+use Rattle.sq_model.specs.RecordValues.{HomeRecordValue, DirectoryRecordValue, LedgerRecordValue, RecordValue, OfDirectory, OfLedger, OfHome, place_of_record, stamp_of, Journal}
 use Rattle.sq_history.specs.declared.act.HomeAct.{HomeAct}
 use Rattle.sq_history.specs.declared.act.HomeAct.TheVariants as act
 use Rattle.sq_history.specs.Acts.{call_of}
@@ -25,17 +30,26 @@ use Rattle.sq_steps.specs.Journals.{having_seen, with_record}
 use Rattle.sq_steps.specs.declared.act.Move.{Move}
 use Rattle.sq_steps.specs.declared.act.Move.TheVariants as move
 use Rattle.sq_steps.specs.declared.act.NextItem.{NextItem}
+use Rattle.sq_steps.specs.declared.act.TaskAct.{TaskAct}
+use Rattle.sq_steps.specs.declared.act.TaskAct.TheVariants as task
+use Rattle.sq_steps.specs.TaskActs.{task_call}
+use Rattle.sq_merge.specs.declared.progress.Walk.{Walk}
 use Rattle.sq_model.specs.declared.task.NamedQueue.{NamedQueue}
 use Rattle.sq_calls.specs.ReceivedValue.{AreReceived}
 
 -- What a step asks: the number of the queue of a name, which is a read; a step of the directory; a step of a home, by the queue's name that was used; a step that a home shares
--- with the ledger, by the name that was used, if any; which item in transit is tried next, which is a read.
+-- with the ledger, by the name that was used, if any; which item in transit is tried next, which is a read; between which queues messages may be moved, which is a read; a step of the
+-- ledger alone; a task, and how far the actor's walk for it is, which is a read; and that the walk is so far now.
 pub data Ask : Type 0 where
   Resolve : (name : List ℕ) → Ask
   Directed : (call : DirectoryCall) → Ask
   AtHome : (name : List ℕ) (home : HomeId) (act : HomeAct) → Ask
   Moving : (name : Option (List ℕ)) (home : HomeId) (what : Move) → Ask
   Next : Ask
+  Redriven : (source : List ℕ) (destination : Option (List ℕ)) → Ask
+  Ledgered : (what : TaskAct) → Ask
+  Walking : (number : ℕ) → Ask
+  Walked : (walk : Walk) → Ask
 
 -- what it is answered where it is not refused
 pub data Gave : Type 0 where
@@ -44,6 +58,10 @@ pub data Gave : Type 0 where
   Replied : (reply : HomeReply) → Gave
   Nothing : Gave
   Peeked : (next : Option NextItem) → Gave
+  Ends : (ends : MoveEnds) → Gave
+  Told : (reply : LedgerReply) → Gave
+  Walks : (found : Task) (walk : Walk) → Gave
+  Noted : Gave
 
 abbrev pub found_of : Result NamedQueue Refusal → Result Gave Refusal
 found_of (Ok of) = Ok (Found of.number)
@@ -66,6 +84,18 @@ moved_of (Err e) = Err e
 abbrev pub peeked_of : Result (Option NextItem) Refusal → Result Gave Refusal
 peeked_of (Ok next) = Ok (Peeked next)
 peeked_of (Err e) = Err e
+
+abbrev pub ends_of : Result (NamedQueue × Option NamedQueue) Refusal → Result Gave Refusal
+ends_of (Ok queues) = Ok (Ends (as_ends queues))
+ends_of (Err e) = Err e
+
+abbrev pub told_of : Result LedgerReply Refusal → Result Gave Refusal
+told_of (Ok reply) = Ok (Told reply)
+told_of (Err e) = Err e
+
+abbrev pub walks_of : Result (Task × Walk) Refusal → Result Gave Refusal
+walks_of (Ok found) = Ok (Walks found.0 found.1)
+walks_of (Err e) = Err e
 
 -- a step that was asked, and what was answered; what is refused is no step of the system, and is asked all the same
 pub record Done : Type 0 where
@@ -102,6 +132,14 @@ IsReplyTo act.Purge reply.Done = Unit {0}
 IsReplyTo act.Count (reply.Counted counts) = Unit {0}
 IsReplyTo act other = ⊥
 
+-- what the ledger tells of a step of its own
+abbrev pub IsToldTo : TaskAct → LedgerReply → Type 0
+IsToldTo (task.Start asked) (ledger.Started number) = Unit {0}
+IsToldTo (task.Cancel number) (ledger.Cancelled moved) = Unit {0}
+IsToldTo (task.List source most) (ledger.Listed tasks) = Unit {0}
+IsToldTo (task.Finish number) ledger.Finished = Unit {0}
+IsToldTo what other = ⊥
+
 -- what may refuse each step: memory, the clock, a count at its end
 abbrev pub IsOfAnyStep : Refusal → Type 0
 IsOfAnyStep e = (e ≡ NoMemory) ⊎ (e ≡ ClockRange) ⊎ (e ≡ Worn)
@@ -131,6 +169,7 @@ IsOfDirectory (asks.Read name) e = e ≡ QueueDoesNotExist
 -- and what may refuse this step of a home and the ledger
 abbrev pub IsOfMove : Move → Refusal → Type 0
 IsOfMove move.LeaveDead e = e ≡ OverLimit
+IsOfMove (move.LeaveTask number) e = (e ≡ ResourceNotFoundException) ⊎ (e ≡ UnsupportedOperation) ⊎ (e ≡ OverLimit)
 IsOfMove (move.Enter number) e = (e ≡ OverLimit) ⊎ (e ≡ UnsupportedOperation)
 IsOfMove (move.TurnBack number) e = e ≡ UnsupportedOperation
 IsOfMove (move.GiveBack number) e = (e ≡ OverLimit) ⊎ (e ≡ UnsupportedOperation)
@@ -140,6 +179,13 @@ IsOfMove (move.GiveUp number) e = e ≡ UnsupportedOperation
 abbrev pub MayRefuseMove : Move → Refusal → Type 0
 MayRefuseMove what e = IsOfAnyStep e ⊎ (e ≡ QueueDoesNotExist) ⊎ IsOfMove what e
 
+-- and what may refuse this step of the ledger alone
+abbrev pub IsOfTask : TaskAct → Refusal → Type 0
+IsOfTask (task.Start asked) e = (e ≡ UnsupportedOperation) ⊎ (e ≡ OverLimit)
+IsOfTask (task.Cancel number) e = (e ≡ ResourceNotFoundException) ⊎ (e ≡ UnsupportedOperation)
+IsOfTask (task.List source most) e = ⊥
+IsOfTask (task.Finish number) e = (e ≡ ResourceNotFoundException) ⊎ (e ≡ UnsupportedOperation)
+
 -- what may refuse a step
 abbrev pub MayRefuse : Ask → Refusal → Type 0
 MayRefuse (Resolve name) e = (e ≡ QueueDoesNotExist) ⊎ (e ≡ NoMemory)
@@ -147,6 +193,10 @@ MayRefuse (Directed call) e = IsOfAnyStep e ⊎ IsOfDirectory call e
 MayRefuse (AtHome name home act) e = IsOfAnyStep e ⊎ (e ≡ QueueDoesNotExist) ⊎ IsOfAct act e
 MayRefuse (Moving name home what) e = MayRefuseMove what e
 MayRefuse Next e = e ≡ NoMemory
+MayRefuse (Redriven source destination) e = (e ≡ ResourceNotFoundException) ⊎ (e ≡ UnsupportedOperation) ⊎ (e ≡ NoMemory)
+MayRefuse (Ledgered what) e = IsOfAnyStep e ⊎ IsOfTask what e
+MayRefuse (Walking number) e = (e ≡ ResourceNotFoundException) ⊎ (e ≡ NoMemory)
+MayRefuse (Walked walk) e = ⊥
 
 -- a record of a step of the directory
 pub record IsDirectoryRecord (call : DirectoryCall) (answered : DirectoryReply) (n : RecordValue) : Type 0 where
@@ -155,9 +205,17 @@ pub record IsDirectoryRecord (call : DirectoryCall) (answered : DirectoryReply) 
   pub asked : its_record.call ≡ call
   pub replied : its_record.reply ≡ answered
 
--- the call of a step of a home and the ledger: with the item of this number
+-- a record of a step of the ledger alone
+pub record IsLedgerRecord (what : TaskAct) (answered : LedgerReply) (n : RecordValue) : Type 0 where
+  pub its_record : LedgerRecordValue
+  pub value : n ≡ OfLedger its_record
+  pub asked : its_record.call ≡ task_call what
+  pub replied : its_record.reply ≡ answered
+
+-- the call of a step of a home and the ledger: for the task, or with the item, of this number
 abbrev pub IsCallFor : Move → HomeCall → Type 0
 IsCallFor move.LeaveDead call = call ≡ at_home.LeaveDead
+IsCallFor (move.LeaveTask number) call = call ≡ at_home.LeaveTask number
 IsCallFor (move.Enter number) call = (item : Item) × (item.number ≡ number) × (call ≡ at_home.Enter item)
 IsCallFor (move.TurnBack number) call = (item : Item) × (item.number ≡ number) × (call ≡ at_home.TurnBack item)
 IsCallFor (move.GiveBack number) call = (item : Item) × (item.number ≡ number) × (call ≡ at_home.GiveBack item)
@@ -180,7 +238,7 @@ IsHomeRecord name home what answered n = IsStepRecord (Some name) home (λ call.
 abbrev pub IsMoveRecord : Option (List ℕ) → HomeId → Move → HomeReply → RecordValue → Type 0
 IsMoveRecord name home what answered n = IsStepRecord name home (IsCallFor what) answered n
 
--- the records of a step that was done: its own, and none of a read, nor where nothing was there to leave
+-- the records of a step that was done: its own, and none of a read, nor where nothing was there to leave, nor of how far a walk is
 abbrev pub AreOfReply : Ask → Gave → List RecordValue → Type 0
 AreOfReply (Resolve name) (Found queue) ns = ns ≡ []
 AreOfReply (Directed call) (Answered reply) ns = (n : RecordValue) × IsDirectoryRecord call reply n × (ns ≡ n ∷ [])
@@ -188,6 +246,10 @@ AreOfReply (AtHome name home act) (Replied reply) ns = (n : RecordValue) × IsHo
 AreOfReply (Moving name home what) (Replied reply) ns = (n : RecordValue) × IsMoveRecord name home what reply n × (ns ≡ n ∷ [])
 AreOfReply (Moving name home what) Nothing ns = ns ≡ []
 AreOfReply Next (Peeked next) ns = ns ≡ []
+AreOfReply (Redriven source destination) (Ends ends) ns = ns ≡ []
+AreOfReply (Ledgered what) (Told reply) ns = (n : RecordValue) × IsLedgerRecord what reply n × (ns ≡ n ∷ [])
+AreOfReply (Walking number) (Walks found walk) ns = ns ≡ []
+AreOfReply (Walked walk) Noted ns = ns ≡ []
 AreOfReply ask gave ns = ⊥
 
 -- the records of a step; what was refused has none
@@ -212,11 +274,19 @@ LeavesOf (AtHome name home act) (Ok (Replied reply)) before after = (n : RecordV
 LeavesOf (Moving name home what) (Ok (Replied reply)) before after = (n : RecordValue) × IsMoveRecord name home what reply n × IsNext before n after
 LeavesOf (Moving name home what) (Ok Nothing) before after = after ≡ before
 LeavesOf Next (Ok (Peeked next)) before after = (last : StampValue) × (after ≡ having_seen before last)
+LeavesOf (Redriven source destination) (Ok (Ends ends)) before after = (last : StampValue) × (after ≡ having_seen before last)
+LeavesOf (Ledgered what) (Ok (Told reply)) before after = (n : RecordValue) × IsLedgerRecord what reply n × IsNext before n after
+LeavesOf (Walking number) (Ok (Walks found walk)) before after = (last : StampValue) × (after ≡ having_seen before last)
+LeavesOf (Walked walk) (Ok Noted) before after = after ≡ before
 LeavesOf (Resolve name) (Err e) before after = after ≡ before
 LeavesOf (Directed call) (Err e) before after = after ≡ before
 LeavesOf (AtHome name home act) (Err e) before after = after ≡ before
 LeavesOf (Moving name home what) (Err e) before after = after ≡ before
 LeavesOf Next (Err e) before after = after ≡ before
+LeavesOf (Redriven source destination) (Err e) before after = after ≡ before
+LeavesOf (Ledgered what) (Err e) before after = after ≡ before
+LeavesOf (Walking number) (Err e) before after = after ≡ before
+LeavesOf (Walked walk) (Err e) before after = after ≡ before
 LeavesOf ask answered before after = ⊥
 
 -- these records have this number and the numbers after it, and each a stamp above this one and above those before it

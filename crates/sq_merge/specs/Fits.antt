@@ -6,7 +6,7 @@ use Rattle.rand.specs.Sample.{IsSampleOf}
 use Rattle.sq_base.specs.Bodies.{body_check}
 use Rattle.sq_base.specs.declared.handle.Handle.{Handle}
 use Rattle.sq_base.specs.declared.refusal.Refusal.{Refusal}
-use Rattle.sq_base.specs.declared.refusal.Refusal.TheVariants.{NoMemory, QueueDoesNotExist, OverLimit, ReceiptHandleIsInvalid}
+use Rattle.sq_base.specs.declared.refusal.Refusal.TheVariants.{NoMemory, QueueDoesNotExist, OverLimit, ReceiptHandleIsInvalid, ResourceNotFoundException}
 use Rattle.sq_base.specs.declared.row.Row.{Row}
 use Rattle.sq_model.specs.declared.calls.Receipt.{Receipt}
 use Rattle.sq_model.specs.declared.directory.Attributes.{Attributes}
@@ -16,7 +16,14 @@ use Rattle.sq_model.specs.declared.directory.DirectoryCall.TheVariants.{List as 
 use Rattle.sq_model.specs.declared.directory.DirectoryReply.{DirectoryReply}
 use Rattle.sq_model.specs.declared.directory.DirectoryReply.TheVariants as told
 use Rattle.sq_model.specs.declared.directory.QueueAttributes.{QueueAttributes}
+use Rattle.sq_model.specs.declared.ledger.LedgerReply.{LedgerReply}
+use Rattle.sq_model.specs.declared.ledger.LedgerReply.TheVariants as ledger
 use Rattle.sq_model.specs.declared.replies.Counts.{Counts}
+use Rattle.sq_model.specs.declared.task.Task.{Task}
+use Rattle.sq_model.specs.Directories.{MoveEnds}
+use Rattle.sq_ledger.specs.declared.task_calls.TaskStart.{TaskStart}
+use Rattle.sq_steps.specs.declared.act.TaskAct.{TaskAct}
+use Rattle.sq_steps.specs.declared.act.TaskAct.TheVariants as task
 use Rattle.sq_model.specs.Policies.{has_list}
 use Rattle.sq_model.specs.declared.replies.HomeReply.{HomeReply}
 use Rattle.sq_model.specs.declared.replies.HomeReply.TheVariants as reply
@@ -29,11 +36,13 @@ use Rattle.sq_calls.specs.declared.calls.Call.{Call}
 use Rattle.sq_calls.specs.declared.calls.Call.TheVariants as call
 use Rattle.sq_calls.specs.declared.calls.CreateQueue.{CreateQueue}
 use Rattle.sq_calls.specs.declared.calls.GetQueueAttributes.{GetQueueAttributes}
+use Rattle.sq_calls.specs.declared.calls.ListMessageMoveTasks.{ListMessageMoveTasks}
 use Rattle.sq_calls.specs.declared.calls.QueueCounts.{QueueCounts}
 use Rattle.sq_calls.specs.declared.calls.ReceiveMessage.{ReceiveMessage}
 use Rattle.sq_calls.specs.declared.calls.SetQueueAttributes.{SetQueueAttributes}
 use Rattle.sq_calls.specs.declared.calls.SendMessage.{SendMessage}
-use Rattle.sq_merge.specs.Asks.{Resolve, Directed, AtHome, Gave, Found, Done, answered_of, replied_of, HomeCounts, IsAnswerTo, IsOfAnyStep, MayRefuse}
+use Rattle.sq_calls.specs.declared.calls.StartMessageMoveTask.{StartMessageMoveTask}
+use Rattle.sq_merge.specs.Asks.{Resolve, Directed, AtHome, Redriven, Ledgered, Gave, Found, Ends, Done, answered_of, replied_of, told_of, HomeCounts, IsAnswerTo, IsOfAnyStep, MayRefuse}
 use Rattle.sq_merge.specs.Calls.{home_numbered, counted_homes, counts_with, no_counts, received_from, receipt_of, handle_at}
 
 -- a queue is looked up by its name; the directory is asked; a home of a queue is asked, by the queue's name
@@ -45,6 +54,13 @@ directed call answered = record { ask = Directed call; answered = answered_of an
 
 abbrev pub at_home : List ℕ → ℕ → ℕ → HomeAct → Result HomeReply Refusal → Done
 at_home name queue home act answered = record { ask = AtHome name (home_numbered queue home) act; answered = replied_of answered }
+
+-- between which queues messages may be moved is read; the ledger alone is asked
+abbrev pub redriven : List ℕ → Option (List ℕ) → Result Gave Refusal → Done
+redriven source destination answered = record { ask = Redriven source destination; answered = answered }
+
+abbrev pub ledgered : TaskAct → Result LedgerReply Refusal → Done
+ledgered what answered = record { ask = Ledgered what; answered = told_of answered }
 
 -- A call on a queue: the queue is looked up by its name, and what is left is done after that.
 abbrev pub ByName : List ℕ → (ℕ → List Done → Result Answer Refusal → Type 0) → List Done → Result Answer Refusal → Type 0
@@ -191,6 +207,48 @@ HandleAt homes name handle act queue trace answered =
     ((handle_at homes queue handle ≡ None) × (trace ≡ []) × (answered ≡ Err ReceiptHandleIsInvalid))
     ⊎ ((h : Handle) × (handle_at homes queue handle ≡ Some h) × OneStep name queue h.home (act (receipt_of h)) MakesDone trace answered)
 
+-- A step of the ledger alone, whose reply makes the answer.
+abbrev pub ByLedger : TaskAct → (LedgerReply → Answer → Type 0) → List Done → Result Answer Refusal → Type 0
+ByLedger what Makes trace answered =
+    ((by : LedgerReply) × (answer : Answer) × (trace ≡ ledgered what (Ok by) ∷ []) × Makes by answer × (answered ≡ Ok answer))
+    ⊎ ((e : Refusal) × MayRefuse (Ledgered what) e × (trace ≡ ledgered what (Err e) ∷ []) × (answered ≡ Err e))
+
+-- the answer is the task's number, how many messages it had moved, or the tasks
+abbrev pub MakesStarted : LedgerReply → Answer → Type 0
+MakesStarted by answered = (number : ℕ) × (by ≡ ledger.Started number) × (answered ≡ answer.Started number)
+
+abbrev pub MakesCancelled : LedgerReply → Answer → Type 0
+MakesCancelled by answered = (moved : ℕ) × (by ≡ ledger.Cancelled moved) × (answered ≡ answer.Cancelled moved)
+
+abbrev pub MakesTasks : LedgerReply → Answer → Type 0
+MakesTasks by answered = (tasks : List Task) × (by ≡ ledger.Listed tasks) × (answered ≡ answer.Tasks tasks)
+
+-- a task between these queues, at this rate
+abbrev pub start_between : MoveEnds → Option ℕ → TaskStart
+start_between ends rate = record { source = ends.source; destination = ends.destination; rate = rate }
+
+-- StartMessageMoveTask: it is read whether messages may be moved between these queues, and then a task starts
+abbrev pub StartFits : StartMessageMoveTask → List Done → Result Answer Refusal → Type 0
+StartFits c trace answered =
+    ((e : Refusal) × MayRefuse (Redriven c.source c.destination) e × (trace ≡ redriven c.source c.destination (Err e) ∷ []) × (answered ≡ Err e))
+    ⊎ ((ends : MoveEnds) × (rest : List Done) × (trace ≡ redriven c.source c.destination (Ok (Ends ends)) ∷ rest) × ByLedger (task.Start (start_between ends c.rate)) MakesStarted rest answered)
+
+-- CancelMessageMoveTask: a text that is no handle names no task
+abbrev pub CancelFits : Option ℕ → List Done → Result Answer Refusal → Type 0
+CancelFits None trace answered = (trace ≡ []) × (answered ≡ Err ResourceNotFoundException)
+CancelFits (Some number) trace answered = ByLedger (task.Cancel number) MakesCancelled trace answered
+
+-- a source that is not there is reported as a resource that is not
+abbrev pub source_refusal : Refusal → Refusal
+source_refusal QueueDoesNotExist = ResourceNotFoundException
+source_refusal e = e
+
+-- ListMessageMoveTasks: the source is looked up, and its tasks are listed
+abbrev pub ListTasksFits : ListMessageMoveTasks → List Done → Result Answer Refusal → Type 0
+ListTasksFits c trace answered =
+    ((e : Refusal) × MayRefuse (Resolve c.source) e × (trace ≡ named c.source (Err e) ∷ []) × (answered ≡ Err (source_refusal e)))
+    ⊎ ((queue : ℕ) × (rest : List Done) × (trace ≡ named c.source (Ok (Found queue)) ∷ rest) × ByLedger (task.List queue c.max) MakesTasks rest answered)
+
 -- These steps are the call's, and the answer is made of them.
 abbrev pub CallFits : HomeCounts → Call → List Done → Result Answer Refusal → Type 0
 CallFits counts (call.CreateQueue c) trace answered = CreateFits counts.homes c trace answered
@@ -205,3 +263,6 @@ CallFits counts (call.SendMessage c) trace answered = ByName c.queue (SendAt cou
 CallFits counts (call.ReceiveMessage c) trace answered = ByName c.queue (ReceiveAt counts c) trace answered
 CallFits counts (call.DeleteMessage c) trace answered = ByName c.queue (HandleAt counts.homes c.queue c.handle (λ receipt. Delete receipt)) trace answered
 CallFits counts (call.ChangeMessageVisibility c) trace answered = ByName c.queue (HandleAt counts.homes c.queue c.handle (λ receipt. Change receipt c.timeout)) trace answered
+CallFits counts (call.StartMessageMoveTask c) trace answered = StartFits c trace answered
+CallFits counts (call.CancelMessageMoveTask number) trace answered = CancelFits number trace answered
+CallFits counts (call.ListMessageMoveTasks c) trace answered = ListTasksFits c trace answered

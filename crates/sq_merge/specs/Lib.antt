@@ -1,4 +1,4 @@
-pub mod Tried
+pub mod Progresses
 pub mod WorldValue
 pub mod Worlds
 pub mod Openings

@@ -42,5 +42,5 @@ new_world o = record {
   sample = o.sample;
   homes = never_opened_homes o.homes (limits_of o) (o.queues * o.homes);
   journals = [];
-  tried = [];
+  progress = [];
 }

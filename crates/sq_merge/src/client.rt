@@ -5,7 +5,7 @@ ghost use Rattle.sq_model.specs.declared.directory.DirectoryCall.TheVariants.{Li
 ghost use Rattle.sq_directory.specs.Makers.{name_asked};
 ghost use Rattle.sq_merge.specs.Messages.{act_of, act_at_each};
 ghost use Rattle.sq_merge.specs.Calls.{home_numbered, counted_homes, counts_with, changes_queue, received_from, receipt_of, handle_at, AreFew};
-ghost use Rattle.sq_merge.specs.Fits.{ByName, AtAll, ByDirectory, ThenAll, CreateFits, SetFits, TellsUrl, TellsQueues, TellsSources, CountsAt, Shows, PutAt, ReceiveAt, HandleAt, CallFits};
+ghost use Rattle.sq_merge.specs.Fits.{ByName, AtAll, ByDirectory, ThenAll, CreateFits, SetFits, TellsUrl, TellsQueues, TellsSources, StartFits, CancelFits, ListTasksFits, source_refusal, CountsAt, Shows, PutAt, ReceiveAt, HandleAt, CallFits};
 ghost use Rattle.sq_calls.specs.ReceivedValue.{AreReceived};
 ghost use Rattle.sq_merge.specs.Performs.{Performs, LeavesRecords};
 
@@ -18,18 +18,21 @@ use sq_base::ranges::{Delay, Timeout};
 use sq_base::refusal::Refusal;
 use sq_base::settings::Settings;
 use sq_calls::calls::{
-    Answer, AskedOfQueue, Call, CreateQueue, GetQueueAttributes, QueueCounts, ReceiveMessage,
-    SetQueueAttributes, ShownAttributes,
+    Answer, AskedOfQueue, Call, CreateQueue, GetQueueAttributes, ListMessageMoveTasks, QueueCounts,
+    ReceiveMessage, SetQueueAttributes, ShownAttributes, StartMessageMoveTask,
 };
 use sq_calls::digest::Digest;
 use sq_calls::received_messages::ReceivedMessages;
 use sq_history::act::HomeAct;
 use sq_model::calls::Receipt;
 use sq_model::directory::{DirectoryCall, DirectoryReply, NamePrefix, QueueAttributes};
+use sq_model::item::TaskNo;
+use sq_model::ledger::LedgerReply;
 use sq_model::replies::{Counts, HomeReply};
 use sq_model::rows::Rows;
 use sq_model::task::NamedQueue;
 use sq_sample::sampler::HomeCount;
+use sq_steps::act::{TaskAct, TaskStart};
 
 /// Does a client's call, step by step; steps that were done before a refusal stand.
 pub fn call<S: LockSteps>(steps: &mut S, call: &Call) -> Result<Answer, Refusal>
@@ -74,6 +77,9 @@ fn answer<S: LockSteps>(steps: &mut S, call: &Call) -> Result<Answer, Refusal>
             let change = OnMessage::Change(call.timeout);
             on_message(steps, &call.queue, &call.handle, change)
         }
+        Call::StartMessageMoveTask(call) => start_task(steps, call),
+        Call::CancelMessageMoveTask(number) => cancel_task(steps, number),
+        Call::ListMessageMoveTasks(call) => list_tasks(steps, call),
     }
 }
 
@@ -353,6 +359,59 @@ fn on_message<S: LockSteps>(
     let act = what.act(&handle);
     steps.at_home(&of, handle.home, act)?;
     Ok(Answer::Done)
+}
+
+// A task starts between two queues that it may move messages between.
+fn start_task<S: LockSteps>(steps: &mut S, call: &StartMessageMoveTask) -> Result<Answer, Refusal>
+    ensures { Performs S.stepped (StartFits call.now) steps.old result steps.new }
+{
+    let (source, destination) = steps.can_redrive(&call.source, &call.destination)?;
+    let start = TaskAct::Start(TaskStart {
+        source,
+        destination,
+        rate: call.rate,
+    });
+    match steps.ledgered(&start)? {
+        LedgerReply::Started(number) => Ok(Answer::Started(number)),
+        _ => unreachable!(),
+    }
+}
+
+// The task of a number takes no more messages. Without a number there is none.
+fn cancel_task<S: LockSteps>(steps: &mut S, number: &Option<TaskNo>) -> Result<Answer, Refusal>
+    ensures { Performs S.stepped (CancelFits number.now) steps.old result steps.new }
+{
+    let Some(number) = number else {
+        return Err(Refusal::ResourceNotFoundException);
+    };
+    match steps.ledgered(&TaskAct::Cancel(*number))? {
+        LedgerReply::Cancelled(moved) => Ok(Answer::Cancelled(moved)),
+        _ => unreachable!(),
+    }
+}
+
+// The tasks of a source are listed.
+fn list_tasks<S: LockSteps>(steps: &mut S, call: &ListMessageMoveTasks) -> Result<Answer, Refusal>
+    ensures { Performs S.stepped (ListTasksFits call.now) steps.old result steps.new }
+{
+    let source = match steps.resolve(&call.source) {
+        Ok(source) => source,
+        Err(refusal) => return Err(source_refusal(refusal)),
+    };
+    match steps.ledgered(&TaskAct::List(source.number, call.max))? {
+        LedgerReply::Listed(tasks) => Ok(Answer::Tasks(tasks)),
+        _ => unreachable!(),
+    }
+}
+
+// A source that is not there is reported as a resource that is not.
+fn source_refusal(refusal: Refusal) -> Refusal
+    ensures { result ≡ source_refusal refusal }
+{
+    match refusal {
+        Refusal::QueueDoesNotExist => Refusal::ResourceNotFoundException,
+        other => other,
+    }
 }
 
 // The answer with the messages that a home of the queue gave.

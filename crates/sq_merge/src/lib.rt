@@ -6,7 +6,7 @@ pub mod client;
 mod homes;
 pub mod lock_steps;
 pub mod options;
-pub mod tried;
+pub mod progress;
 pub mod turns;
 pub mod world;
 
@@ -17,4 +17,4 @@ pub use sq_audit::run::Run;
 pub use sq_audit::tagged::Tagged;
 pub use sq_places::message_pass::place_of;
 pub use sq_places::places::places_of;
-pub use sq_steps::act::{Act, HomeAct, Move, NextItem, Outcome, Step};
+pub use sq_steps::act::{Act, HomeAct, Move, NextItem, Outcome, Step, TaskAct, TaskStart};

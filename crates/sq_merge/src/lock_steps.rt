@@ -1,21 +1,24 @@
 //! The steps that calls of clients are made of: each is done under one lock, or changes nothing.
-ghost use Rattle.std.specs.Prelude.{◌≡◌, ◌<◌, ◌≤◌, ℕ, List, Some, Result, IfOk, IfErr, IfSome};
+ghost use Rattle.std.specs.Prelude.{◌≡◌, ◌<◌, ◌≤◌, ℕ, List, Some, Result, Ok, IfOk, IfErr, IfSome};
 ghost use Rattle.rand.specs.Sample.{IsSampleOf};
 ghost use Rattle.sq_base.specs.declared.refusal.Refusal.{Refusal};
 ghost use Rattle.sq_directory.specs.Makers.{name_asked, queue_answered};
 ghost use Rattle.sq_model.specs.RecordValues.{Journal};
-ghost use Rattle.sq_merge.specs.Asks.{Ask, Resolve, Directed, AtHome, Moving, Next, Gave, found_of, answered_of, replied_of, moved_of, peeked_of, HomeCounts, IsAnswerTo, IsReplyTo, MayRefuse, LeavesOf};
+ghost use Rattle.sq_merge.specs.Asks.{Ask, Resolve, Directed, AtHome, Moving, Next, Redriven, Ledgered, Walking, Walked, Gave, Noted, found_of, answered_of, replied_of, moved_of, peeked_of, ends_of, told_of, walks_of, HomeCounts, IsAnswerTo, IsReplyTo, IsToldTo, MayRefuse, LeavesOf};
 ghost use Rattle.sq_merge.specs.Calls.{home_numbered};
 
+use crate::progress::Walk;
 use sq_base::ids::{HomeId, HomeNo};
 use sq_base::name::QueueName;
 use sq_base::refusal::Refusal;
 use sq_history::act::HomeAct;
 use sq_model::directory::{DirectoryCall, DirectoryReply};
+use sq_model::item::TaskNo;
+use sq_model::ledger::LedgerReply;
 use sq_model::replies::HomeReply;
-use sq_model::task::NamedQueue;
+use sq_model::task::{NamedQueue, Task};
 use sq_sample::sampler::HomeCount;
-use sq_steps::act::{Move, NextItem};
+use sq_steps::act::{Move, NextItem, TaskAct};
 use std::alloc::Global;
 
 /// Does the steps of one actor's calls. A home that the queue does not have refuses its step.
@@ -84,6 +87,36 @@ pub trait LockSteps {
     fn next_item(&mut self) -> Result<Option<NextItem>, Refusal>
         ensures did { stepped self.old Next (peeked_of result) self.new }
         ensures refusal { IfErr result (MayRefuse Next) }
+        ensures same_counts { counts self.new ≡ counts self.old };
+
+    /// Between which queues a task may move messages: the source, and the destination, where one is given.
+    /// Refused as ResourceNotFoundException, UnsupportedOperation, NoMemory.
+    fn can_redrive(
+        &mut self,
+        source: &QueueName,
+        destination: &Option<QueueName>,
+    ) -> Result<(NamedQueue, Option<NamedQueue>), Refusal>
+        ensures did { stepped self.old (Redriven source.now destination.now) (ends_of result) self.new }
+        ensures refusal { IfErr result (MayRefuse (Redriven source.now destination.now)) }
+        ensures same_counts { counts self.new ≡ counts self.old };
+
+    /// A step of the ledger alone. Refused as NoMemory, ClockRange, Worn, and then as the ledger's step: UnsupportedOperation,
+    /// OverLimit, ResourceNotFoundException.
+    fn ledgered(&mut self, act: &TaskAct) -> Result<LedgerReply, Refusal>
+        ensures did { stepped self.old (Ledgered act.now) (told_of result) self.new }
+        ensures reply { IfOk result (IsToldTo act.now) }
+        ensures refusal { IfErr result (MayRefuse (Ledgered act.now)) }
+        ensures same_counts { counts self.new ≡ counts self.old };
+
+    /// The task of a number, and how far the actor's walk for it is. Refused as ResourceNotFoundException, NoMemory.
+    fn walking(&mut self, number: TaskNo) -> Result<(Task, Walk), Refusal>
+        ensures did { stepped self.old (Walking number) (walks_of result) self.new }
+        ensures refusal { IfErr result (MayRefuse (Walking number)) }
+        ensures same_counts { counts self.new ≡ counts self.old };
+
+    /// The actor's walk is so far now.
+    fn walked(&mut self, walk: Walk)
+        ensures did { stepped self.old (Walked walk) (Ok Noted) self.new }
         ensures same_counts { counts self.new ≡ counts self.old };
 
     /// One home of a queue.

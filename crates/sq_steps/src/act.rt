@@ -6,9 +6,10 @@ pub use sq_history::act::HomeAct;
 pub use sq_ledger::task_calls::TaskStart;
 use sq_model::directory::{DirectoryCall, DirectoryReply};
 use sq_model::item::{ItemNo, TaskNo};
+use sq_model::ledger::LedgerReply;
 use sq_model::listed::Listed;
 use sq_model::replies::HomeReply;
-use sq_model::task::NamedQueue;
+use sq_model::task::{NamedQueue, Task};
 
 /// What a home and the ledger of messages in transit do together.
 #[derive(Clone, Copy, PartialEq, Eq, Debug)]
@@ -54,11 +55,19 @@ pub enum Act {
     Resolve(QueueName),
     /// Reads the names and numbers of all queues; it is no event.
     Names,
+    /// Reads between which queues a task may move messages: the source, and the destination if any; it is no event.
+    CanRedrive(QueueName, Option<QueueName>),
     Home(HomeId, HomeAct),
     /// A step that this home shares with the ledger.
     Shared(HomeId, Move),
+    /// A step of the ledger alone.
+    Ledger(TaskAct),
     /// Reads which item in transit comes after a number, the first again after the last; it is no event.
     Peek(u64),
+    /// Reads the task of a number; it is no event.
+    ReadTask(TaskNo),
+    /// Reads the most recent task of a source; it is no event.
+    LastTask(QueueNo),
 }
 
 /// Who does what, at a clock reading in ms.
@@ -77,9 +86,16 @@ pub enum Outcome {
     Resolved(QueueNo),
     /// All queues, in order of creation.
     Named(Listed<NamedQueue>),
+    /// The source of a task that may be started, and its destination, where one was given.
+    Redriven(NamedQueue, Option<NamedQueue>),
     Home(HomeReply),
     /// Nothing was there to leave; it is no event.
     Nothing,
+    Ledger(LedgerReply),
     /// The next item in transit, where there is any.
     Peeked(Option<NextItem>),
+    /// The task of a number.
+    Task(Task),
+    /// The most recent task of a source, where there is any.
+    LastTask(Option<Task>),
 }

@@ -1,11 +1,11 @@
 use Rattle.std.proofs.Common.{rules, ◌≡◌, length, ap, arith, subst, sym}
 use Rattle.std.specs.List.{slice_index_or}
 use Rattle.sq_steps.specs.Journals.{index_in, opened}
-use Rattle.sq_merge.specs.Tried.{put_tried}
+use Rattle.sq_merge.specs.Progresses.{progress_of, put_progress, with_item}
 use Rattle.sq_merge.specs.WorldValue.{WorldValue}
 use Rattle.sq_merge.specs.Worlds.{IsKeptWorld}
 use Rattle.sq_merge.proofs.StepLaws.{as_fields, opened_front, seen_opened}
-use Rattle.sq_merge.proofs.WorldLaws.{kept_seen, kept_tried}
+use Rattle.sq_merge.proofs.WorldLaws.{kept_seen, kept_progress}
 use Rattle.sq_merge.proofs.world.World.next_item.Goals as goal
 
 pub invariant_of-self-in-Ok : goal.invariant_of-self-in-Ok
@@ -13,7 +13,7 @@ invariant_of-self-in-Ok c =
     let old = as_fields c.self.view_is in
     let own : c.index_mut.result.now ≡ slice_index_or (opened c.args.actor old.journals) (index_in c.args.actor old.journals) c.index_mut.result.now = rw (c.in_ok-at.ensures.opened, c.in_ok-at.ensures.index) at c.index_mut.ensures.value in
     record {
-      kept = rw (c.see.ensures, c.last-last.ensures, c.in_ok-at.ensures.opened, c.in_ok-at.ensures.index) (kept_tried _ c.put_tried.new.tried.items (subst IsKeptWorld (sym (seen_opened old c.args.actor old.ledger.last c.index_mut.result.now own)) (kept_seen old c.args.actor old.ledger.last c.self.invariant.kept)));
+      kept = rw (c.see.ensures, c.last-last.ensures, c.in_ok-at.ensures.opened, c.in_ok-at.ensures.index) (kept_progress _ c.put_progress.new.progress.items (subst IsKeptWorld (sym (seen_opened old c.args.actor old.ledger.last c.index_mut.result.now own)) (kept_seen old c.args.actor old.ledger.last c.self.invariant.kept)));
       sample = c.self.invariant.sample;
       few = c.self.invariant.few;
     }
@@ -23,7 +23,7 @@ returns-in-Ok-clause-read c =
     let old = as_fields c.self.view_is in
     let own : c.index_mut.result.now ≡ slice_index_or (opened c.args.actor old.journals) (index_in c.args.actor old.journals) c.index_mut.result.now = rw (c.in_ok-at.ensures.opened, c.in_ok-at.ensures.index) at c.index_mut.ensures.value in
     rw (← c.self.view_is, c.see.ensures, c.last-last.ensures, c.in_ok-at.ensures.opened, c.in_ok-at.ensures.index, c.in-Ok.ensures.put, c.get.ensures)
-    (search rules, ap (λ (w : WorldValue). record w { tried = put_tried (record { actor = c.args.actor; item = c.in-Some.next.number }) c.self.inside.tried.items }) (seen_opened old c.args.actor old.ledger.last c.index_mut.result.now own))
+    (search rules, ap (λ (w : WorldValue). record w { progress = put_progress (with_item c.in-Some.next.number (progress_of c.args.actor c.self.inside.progress.items)) c.self.inside.progress.items }) (seen_opened old c.args.actor old.ledger.last c.index_mut.result.now own))
 
 pub invariant_of-self-in-Err : goal.invariant_of-self-in-Err
 invariant_of-self-in-Err c =

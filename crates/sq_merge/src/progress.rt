@@ -1,0 +1,164 @@
+//! How far the turns of each actor are.
+ghost use Rattle.std.specs.Prelude.{◌≡◌, ◌<◌, None, length, position, IfErr, IfSome, OnErr, OnOk};
+ghost use Rattle.sq_merge.specs.Progresses.{after_nothing, after_other, home_after, is_progress_of, new_walk, progress_of, put_progress, row_again, walk_for, walked_on, with_item, with_walk};
+
+use sq_base::ids::HomeNo;
+use sq_base::refusal::Refusal;
+use sq_model::item::TaskNo;
+use sq_sample::sampler::HomeCount;
+use sq_steps::capacity::push_within_capacity;
+
+/// The way of an actor over the homes that a task takes messages from.
+#[derive(Clone, Copy, PartialEq, Eq, Debug)]
+pub struct Walk {
+    pub task: TaskNo,
+    /// The home that is asked next.
+    pub home: HomeNo,
+    /// How many homes in a row had no message.
+    pub nothings: u32,
+}
+
+impl Walk {
+    /// A walk begins at the first home.
+    pub fn new(task: TaskNo) -> Walk
+        ensures { result ≡ new_walk task }
+    {
+        Walk {
+            task,
+            home: HomeNo::first(),
+            nothings: 0,
+        }
+    }
+
+    /// After a home that had no message.
+    pub(crate) fn after_nothing(self, homes: HomeCount) -> Walk
+        requires few { self.nothings < 4294967295 }
+        ensures { result ≡ after_nothing homes self }
+    {
+        Walk {
+            home: home_after(homes, self.home),
+            nothings: self.nothings + 1,
+            ..self
+        }
+    }
+
+    /// After a home that answered otherwise, which ends the row.
+    pub(crate) fn after_other(self, homes: HomeCount) -> Walk
+        ensures { result ≡ after_other homes self }
+    {
+        Walk {
+            home: home_after(homes, self.home),
+            nothings: 0,
+            ..self
+        }
+    }
+
+    /// With the row of homes that had no message started again.
+    pub(crate) fn row_again(self) -> Walk
+        ensures { result ≡ row_again self }
+    {
+        Walk {
+            nothings: 0,
+            ..self
+        }
+    }
+}
+
+// The home after this one; from the last one to the first.
+fn home_after(homes: HomeCount, home: HomeNo) -> HomeNo
+    ensures { result ≡ home_after homes home }
+{
+    let next = home.get() as u32 + 1;
+    if next < homes.get() as u32 {
+        HomeNo::of(next as u8)
+    } else {
+        HomeNo::first()
+    }
+}
+
+/// The walk for this task: a new one where another task was named last, or none.
+pub(crate) fn walk_for(task: TaskNo, walk: Option<Walk>) -> Walk
+    ensures { result ≡ walk_for task walk }
+{
+    match walk {
+        Some(walk) if walk.task == task => walk,
+        _ => Walk::new(task),
+    }
+}
+
+/// How far an actor is.
+#[derive(Clone, Copy, PartialEq, Eq, Debug)]
+pub struct Progress {
+    pub actor: u32,
+    /// The number of the item in transit that it tried last; 0 where it tried none.
+    pub item: u64,
+    /// Its walk for the task that it named last.
+    pub walk: Option<Walk>,
+}
+
+impl Progress {
+    /// With this item tried last.
+    pub(crate) fn with_item(self, item: u64) -> Progress
+        ensures { result ≡ with_item item self }
+    {
+        Progress { item, ..self }
+    }
+
+    /// With this walk.
+    pub(crate) fn with_walk(self, walk: Walk) -> Progress
+        ensures { result ≡ with_walk walk self }
+    {
+        Progress {
+            walk: Some(walk),
+            ..self
+        }
+    }
+}
+
+/// How far this actor is.
+pub(crate) fn progress_of(progress: &[Progress], actor: u32) -> Progress
+    ensures value { result ≡ progress_of actor progress.now }
+    ensures own { result.actor ≡ actor }
+{
+    match progress.iter().find(|progress| progress.actor == actor) {
+        Some(progress) => *progress,
+        None => Progress {
+            actor,
+            item: 0,
+            walk: None,
+        },
+    }
+}
+
+// Where it stands how far this actor is.
+fn progress_at(progress: &[Progress], actor: u32) -> Option<usize>
+    ensures index { result ≡ position (is_progress_of actor) progress.now }
+    ensures within { IfSome result (λ at. at < length progress.now) }
+{
+    progress.iter().position(|progress| progress.actor == actor)
+}
+
+/// The actor is so far now. Refused as NoMemory of an actor's first turn alone.
+pub(crate) fn put_progress(progress: &mut Vec<Progress>, now: Progress) -> Result<(), Refusal>
+    ensures put { OnOk result (progress.new.items ≡ put_progress now progress.old.items) }
+    ensures refused { IfErr result (λ e. (e ≡ Refusal.NoMemory) × (position (is_progress_of now.actor) progress.old.items ≡ None)) }
+    ensures err { OnErr result (progress.new.items ≡ progress.old.items) }
+{
+    if let Some(at) = progress_at(progress, now.actor) {
+        progress[at] = now;
+        return Ok(());
+    }
+    progress.try_reserve(1)?;
+    push_within_capacity(progress, now);
+    Ok(())
+}
+
+/// The actor's walk goes on so, where it has one. It takes no memory.
+pub(crate) fn walk_on(progress: &mut Vec<Progress>, actor: u32, walk: Walk)
+    ensures { progress.new.items ≡ walked_on actor walk progress.old.items }
+{
+    let now = progress_of(progress, actor).with_walk(walk);
+    if let Some(at) = progress_at(progress, actor) {
+        progress[at] = now;
+    }
+}
