@@ -25,15 +25,21 @@ use Rattle.sq_calls.specs.declared.calls.Answer.{Answer}
 use Rattle.sq_calls.specs.declared.calls.GetQueueAttributes.{GetQueueAttributes}
 use Rattle.sq_calls.specs.declared.calls.QueueCounts.{QueueCounts}
 use Rattle.sq_model.specs.declared.task.NamedQueue.{NamedQueue}
+use Rattle.sq_model.specs.declared.task.Task.{Task}
+use Rattle.sq_model.specs.declared.ledger.LedgerReply.{LedgerReply}
+use Rattle.sq_model.specs.declared.ledger.LedgerReply.TheVariants as ledger
+use Rattle.sq_ledger.specs.declared.task_calls.TaskStart.{TaskStart}
+use Rattle.sq_steps.specs.declared.act.TaskAct.{TaskAct}
+use Rattle.sq_steps.specs.declared.act.TaskAct.TheVariants as task
 use Rattle.sq_calls.specs.declared.calls.ReceiveMessage.{ReceiveMessage}
 use Rattle.sq_merge.specs.declared.client.AtEach.{AtEach}
 use Rattle.sq_merge.specs.declared.client.AtEach.TheVariants as at
 use Rattle.sq_merge.specs.declared.client.OnMessage.{OnMessage}
 use Rattle.sq_merge.specs.declared.client.OnMessage.TheVariants.{Delete, Change}
 use Rattle.sq_merge.specs.Messages.{act_of, act_at_each}
-use Rattle.sq_merge.specs.Asks.{Ask, Resolve, Directed, AtHome, Gave, Found, Answered, Done, replied_of, HomeCounts, IsAnswerTo, IsReplyTo, IsOfAnyStep, MayRefuse}
+use Rattle.sq_merge.specs.Asks.{Ask, Resolve, Directed, AtHome, Ledgered, Gave, Found, Answered, Done, replied_of, told_of, HomeCounts, IsAnswerTo, IsReplyTo, IsToldTo, IsOfAnyStep, MayRefuse}
 use Rattle.sq_merge.specs.Calls.{home_numbered, changes_queue, counted_homes, counts_with, received_from, receipt_of, handle_at}
-use Rattle.sq_merge.specs.Fits.{named, directed, at_home, ByDirectory, ByName, Copied, CountedAll, CountsAt, shown_of, IsPassed, AskedAll, AtAll, HasNoMessage, InVain, EndsReceive, none_answered, ReceiveAt, HandleAt, OneStep, MakesDone}
+use Rattle.sq_merge.specs.Fits.{named, directed, at_home, ledgered, ByLedger, ByDirectory, ByName, Copied, CountedAll, CountsAt, shown_of, IsPassed, AskedAll, AtAll, HasNoMessage, InVain, EndsReceive, none_answered, ReceiveAt, HandleAt, OneStep, MakesDone}
 use Rattle.sq_merge.specs.Performs.{Path, Performs}
 use Rattle.sq_merge.proofs.PathLaws.{path_more, answered_one, answered_more}
 
@@ -279,3 +285,26 @@ changed_is (asks.List prefix) (told.Listed names) changes h a b c d = absurd cc
 changed_is (asks.Sources name) (told.Sources names) changes h a b c d = absurd cc
 changed_is (asks.Read name) (told.Read attributes) changes h a b c d = absurd cc
 changed_is call by changes h a b c d = elim h [ ]
+
+-- ---- move tasks
+
+-- a step of the ledger alone was refused, or its reply makes the answer
+pub ledger_refused : {S : Type 0} (stepped : S → Ask → Result Gave Refusal → S → Type 0) (old new : S) (what : TaskAct) (Makes : LedgerReply → Answer → Type 0) (e : Refusal) (answered : Result Answer Refusal)
+    → stepped old (Ledgered what) (told_of (Err e)) new → MayRefuse (Ledgered what) e → answered ≡ Err e → Performs stepped (ByLedger what Makes) old answered new
+ledger_refused stepped old new what Makes e answered h may is = answered_one stepped (ByLedger what Makes) old old new answered (ledgered what (Err e)) refl h (inr (e, may, refl, is))
+
+pub ledger_told : {S : Type 0} (stepped : S → Ask → Result Gave Refusal → S → Type 0) (old new : S) (what : TaskAct) (Makes : LedgerReply → Answer → Type 0) (by : LedgerReply) (answer : Answer)
+    → stepped old (Ledgered what) (told_of (Ok by)) new → Makes by answer → Performs stepped (ByLedger what Makes) old (Ok answer) new
+ledger_told stepped old new what Makes by answer h makes = answered_one stepped (ByLedger what Makes) old old new (Ok answer) (ledgered what (Ok by)) refl h (inl (by, answer, refl, makes, refl))
+
+pub started_is : (asked : TaskStart) (by : LedgerReply) → IsToldTo (task.Start asked) by → ((number : ℕ) → by ≡ ledger.Started number → ⊥) → ⊥
+started_is asked (ledger.Started number) h other = other number refl
+started_is asked by h other = elim h [ ]
+
+pub cancelled_is : (number : ℕ) (by : LedgerReply) → IsToldTo (task.Cancel number) by → ((moved : ℕ) → by ≡ ledger.Cancelled moved → ⊥) → ⊥
+cancelled_is number (ledger.Cancelled moved) h other = other moved refl
+cancelled_is number by h other = elim h [ ]
+
+pub tasks_is : (source most : ℕ) (by : LedgerReply) → IsToldTo (task.List source most) by → ((tasks : List Task) → by ≡ ledger.Listed tasks → ⊥) → ⊥
+tasks_is source most (ledger.Listed tasks) h other = other tasks refl
+tasks_is source most by h other = elim h [ ]

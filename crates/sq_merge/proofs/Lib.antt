@@ -8,3 +8,4 @@ pub mod ClientLaws
 pub mod ActingLaws
 pub mod TurnLaws
 pub mod BorrowedLaws
+pub mod ProgressLaws

@@ -1,17 +1,21 @@
 -- What the steps of a turn come to.
 use Rattle.std.proofs.Common.{◌≡◌, ◌⊎◌, ℕ, ◌<◌, List, [], ◌∷◌, refl, subst, inl, inr, None, Some, Result, Ok, Err}
+use Rattle.sq_model.specs.declared.ledger.LedgerReply.{LedgerReply}
+use Rattle.sq_model.specs.declared.task.Task.{Task}
+use Rattle.sq_steps.specs.declared.act.TaskAct.TheVariants.{Finish}
+use Rattle.sq_merge.specs.declared.progress.Walk.{Walk}
 use Rattle.sq_base.specs.declared.ids.HomeId.{HomeId}
 use Rattle.sq_base.specs.declared.refusal.Refusal.{Refusal}
 use Rattle.sq_base.specs.declared.refusal.Refusal.TheVariants.{QueueDoesNotExist}
 use Rattle.sq_calls.specs.declared.turns.Turned.{Turned}
 use Rattle.sq_calls.specs.declared.turns.Turned.TheVariants as word
-use Rattle.sq_steps.specs.declared.act.Move.TheVariants.{LeaveDead}
+use Rattle.sq_steps.specs.declared.act.Move.TheVariants.{LeaveDead, LeaveTask}
 use Rattle.sq_steps.specs.declared.act.NextItem.{NextItem}
-use Rattle.sq_merge.specs.Asks.{Ask, Resolve, Moving, Next, Gave, Found, Peeked, HomeCounts}
+use Rattle.sq_merge.specs.Asks.{Ask, Resolve, Moving, Next, Ledgered, Walking, Walked, Gave, Found, Peeked, Walks, Noted, Done, HomeCounts, told_of}
 use Rattle.sq_merge.specs.Calls.{home_numbered}
-use Rattle.sq_merge.specs.Fits.{named}
+use Rattle.sq_merge.specs.Fits.{ledgered, named}
 use Rattle.sq_merge.specs.Performs.{Performs}
-use Rattle.sq_merge.specs.Turns.{moving, trying, WordFor, LeaveFits, home_ahead, comes_in, goes_back, Brings, BringFits}
+use Rattle.sq_merge.specs.Turns.{moving, trying, walking, walked, WordFor, LeaveFits, home_ahead, comes_in, goes_back, Brings, BringFits, walk_after, LeavesFor, walk_waiting, finish_word, Finishes, ServesTask, TaskFits}
 use Rattle.sq_merge.proofs.PathLaws.{answered_one, answered_more}
 
 -- a queue was found, and one of its homes was asked for a dead letter
@@ -46,4 +50,36 @@ went_back stepped old mid new next home by answered h k words = record {
   trace = moving None home (comes_in next) (Err QueueDoesNotExist) ∷ moving None home (goes_back next) by ∷ [];
   path = (mid, h, (new, k, refl));
   fits = inr (by, refl, words);
+}
+
+-- steps that fit one way fit another
+pub fits_as : {S A : Type 0} (stepped : S → Ask → Result Gave Refusal → S → Type 0) (F G : List Done → Result A Refusal → Type 0) (old new : S) (answered : Result A Refusal) → Performs stepped G old answered new
+    → ((ds : List Done) → G ds answered → F ds answered) → Performs stepped F old answered new
+fits_as stepped F G old new answered h fits = record { trace = h.trace; path = h.path; fits = fits h.trace h.fits }
+
+-- a task was read, with the walk for it, and then served
+pub served : {S : Type 0} (stepped : S → Ask → Result Gave Refusal → S → Type 0) (counts : S → HomeCounts) (old mid new : S) (number : ℕ) (task : Task) (walk : Walk) (answered : Result Turned Refusal)
+    → stepped old (Walking number) (Ok (Walks task walk)) mid → counts mid ≡ counts old → Performs stepped (ServesTask (counts mid).homes number task walk) mid answered new
+    → Performs stepped (TaskFits (counts old).homes (Some number)) old answered new
+served stepped counts old mid new number task walk answered h same rest =
+    answered_more stepped (TaskFits (counts old).homes (Some number)) (ServesTask (counts mid).homes number task walk) old mid new answered (walking number (Ok (Walks task walk))) h rest
+    (λ ds fits. inr (task, walk, ds, refl, subst (λ (n : HomeCounts). ServesTask n.homes number task walk ds answered) same fits))
+
+-- a home was asked for a message of a task's source, and the walk went on
+pub left_for : {S : Type 0} (stepped : S → Ask → Result Gave Refusal → S → Type 0) (homes number : ℕ) (task : Task) (walk : Walk) (old mid new : S) (by : Result Gave Refusal) (answered : Result Turned Refusal)
+    → stepped old (Moving None (home_numbered task.source.number walk.home) (LeaveTask number)) by mid → stepped mid (Walked (walk_after homes walk by)) (Ok Noted) new
+    → WordFor (LeaveTask number) by answered ⊎ ((by ≡ Err QueueDoesNotExist) × (answered ≡ Err QueueDoesNotExist)) → Performs stepped (LeavesFor homes number task walk) old answered new
+left_for stepped homes number task walk old mid new by answered h k words = record {
+  trace = moving None (home_numbered task.source.number walk.home) (LeaveTask number) by ∷ walked (walk_after homes walk by) ∷ [];
+  path = (mid, h, (new, k, refl));
+  fits = (by, refl, words);
+}
+
+-- a task was to finish, and the walk waits or stays
+pub finished_by : {S : Type 0} (stepped : S → Ask → Result Gave Refusal → S → Type 0) (number : ℕ) (walk : Walk) (old mid new : S) (by : Result LedgerReply Refusal) (answered : Result Turned Refusal)
+    → stepped old (Ledgered (Finish number)) (told_of by) mid → stepped mid (Walked (walk_waiting walk by)) (Ok Noted) new → answered ≡ finish_word by → Performs stepped (Finishes number walk) old answered new
+finished_by stepped number walk old mid new by answered h k said = record {
+  trace = ledgered (Finish number) by ∷ walked (walk_waiting walk by) ∷ [];
+  path = (mid, h, (new, k, refl));
+  fits = (by, refl, said);
 }

@@ -1,6 +1,5 @@
 -- How far the turns of each actor are: the item in transit that it tried last, and its walk over the homes that a task takes messages from. Own.
-use Rattle.std.specs.Prelude.{ℕ, ◌+◌, Bool, ◌==◌, nat_lt, List, [], ◌∷◌, ◌++◌, if◌then◌else◌, Option, Some, None, unwrap_or, position, slice_set}
-use Rattle.std.specs.List.{find}
+use Rattle.std.specs.Prelude.{ℕ, ◌+◌, Bool, ◌==◌, nat_lt, List, [], ◌∷◌, ◌++◌, if◌then◌else◌, Option, Some, None, unwrap_or, position, slice_get, slice_set}
 use Rattle.sq_merge.specs.declared.progress.Progress.{Progress}
 use Rattle.sq_merge.specs.declared.progress.Walk.{Walk}
 
@@ -36,8 +35,13 @@ no_progress actor = record { actor = actor; item = 0; walk = None }
 abbrev pub is_progress_of : ℕ → Progress → Bool
 is_progress_of actor p = p.actor == actor
 
+-- what stands at the actor's place, if it has one
+abbrev pub progress_where : Option ℕ → ℕ → List Progress → Progress
+progress_where None actor ps = no_progress actor
+progress_where (Some at) actor ps = unwrap_or (slice_get ps at) (no_progress actor)
+
 abbrev pub progress_of : ℕ → List Progress → Progress
-progress_of actor ps = unwrap_or (find (is_progress_of actor) ps) (no_progress actor)
+progress_of actor ps = progress_where (position (is_progress_of actor) ps) actor ps
 
 -- in place of what stands there, or last
 abbrev pub put_where : Option ℕ → Progress → List Progress → List Progress

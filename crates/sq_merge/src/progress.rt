@@ -76,16 +76,6 @@ fn home_after(homes: HomeCount, home: HomeNo) -> HomeNo
     }
 }
 
-/// The walk for this task: a new one where another task was named last, or none.
-pub(crate) fn walk_for(task: TaskNo, walk: Option<Walk>) -> Walk
-    ensures { result ≡ walk_for task walk }
-{
-    match walk {
-        Some(walk) if walk.task == task => walk,
-        _ => Walk::new(task),
-    }
-}
-
 /// How far an actor is.
 #[derive(Clone, Copy, PartialEq, Eq, Debug)]
 pub struct Progress {
@@ -97,6 +87,16 @@ pub struct Progress {
 }
 
 impl Progress {
+    /// The walk for this task: a new one where another task was named last, or none.
+    pub(crate) fn walk_for(&self, task: TaskNo) -> Walk
+        ensures { result ≡ walk_for task self.now.walk }
+    {
+        match &self.walk {
+            Some(walk) if walk.task == task => *walk,
+            _ => Walk::new(task),
+        }
+    }
+
     /// With this item tried last.
     pub(crate) fn with_item(self, item: u64) -> Progress
         ensures { result ≡ with_item item self }
@@ -105,11 +105,11 @@ impl Progress {
     }
 
     /// With this walk.
-    pub(crate) fn with_walk(self, walk: Walk) -> Progress
-        ensures { result ≡ with_walk walk self }
+    pub(crate) fn with_walk(self, walk: &Walk) -> Progress
+        ensures { result ≡ with_walk walk.now self }
     {
         Progress {
-            walk: Some(walk),
+            walk: Some(*walk),
             ..self
         }
     }
@@ -120,8 +120,8 @@ pub(crate) fn progress_of(progress: &[Progress], actor: u32) -> Progress
     ensures value { result ≡ progress_of actor progress.now }
     ensures own { result.actor ≡ actor }
 {
-    match progress.iter().find(|progress| progress.actor == actor) {
-        Some(progress) => *progress,
+    match progress_at(progress, actor) {
+        Some(at) => progress[at],
         None => Progress {
             actor,
             item: 0,
@@ -157,7 +157,7 @@ pub(crate) fn put_progress(progress: &mut Vec<Progress>, now: Progress) -> Resul
 pub(crate) fn walk_on(progress: &mut Vec<Progress>, actor: u32, walk: Walk)
     ensures { progress.new.items ≡ walked_on actor walk progress.old.items }
 {
-    let now = progress_of(progress, actor).with_walk(walk);
+    let now = progress_of(progress, actor).with_walk(&walk);
     if let Some(at) = progress_at(progress, actor) {
         progress[at] = now;
     }

@@ -1,5 +1,5 @@
 //! What each turn does, over any steps: one step of moving messages, beside reads.
-ghost use Rattle.std.specs.Prelude.{◌≡◌, IfErr, IfNone, IfOk, IfSome, Ok, Err, if◌then◌else◌};
+ghost use Rattle.std.specs.Prelude.{◌≡◌, ◌<◌, IfErr, IfNone, IfOk, IfSome, Ok, Err, if◌then◌else◌};
 ghost use Rattle.sq_merge.specs.Asks.{MayRefuseMove, moved_of};
 ghost use Rattle.sq_merge.specs.Performs.{Performs, LeavesRecords};
 ghost use Rattle.sq_merge.specs.Turns.{TurnFits, LeaveFits, BringFits, Brings, TaskFits, ServesTask, LeavesFor, Finishes, WordFor, comes_in, finish_word, goes_back, goes_on, home_ahead, left_word, none_word, over_word, walk_after, walk_waiting, word_of};

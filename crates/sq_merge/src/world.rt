@@ -21,7 +21,7 @@ ghost use Rattle.sq_steps.specs.SharedSteps.{asked_as};
 use crate::acting::{Acting, call_at, turn_at};
 use crate::homes::{never_opened_homes, no_such_home};
 use crate::options::{MOST_FLIGHTS, MOST_HOMES, MOST_QUEUES, MOST_ROWS, MOST_TRANSIT, Options};
-use crate::progress::{Progress, Walk, progress_of, put_progress, walk_for, walk_on};
+use crate::progress::{Progress, Walk, progress_of, put_progress, walk_on};
 use sq_audit::homes::{Homes, home_index};
 use sq_audit::parts::Parts;
 use sq_base::ids::{HomeId, HomeNo, QueueNo};
@@ -568,8 +568,9 @@ impl World {
         let last = self.ledger.last();
         let at = open(&mut self.journals, alloc, actor)?;
         let before = progress_of(&self.progress, actor);
-        let walk = walk_for(number, before.walk);
-        match put_progress(&mut self.progress, before.with_walk(walk)) {
+        let walk = before.walk_for(number);
+        let now = before.with_walk(&walk);
+        match put_progress(&mut self.progress, now) {
             Ok(()) => {
                 self.journals[at].see(last);
                 Ok((task, walk))
