@@ -8,7 +8,7 @@ use Rattle.sq_base.specs.declared.refusal.Refusal.{Refusal}
 use Rattle.sq_base.specs.declared.refusal.Refusal.TheVariants.{NoMemory, ClockRange, Worn, InvalidAttributeValue, InvalidParameterValue, PurgeQueueInProgress, QueueDoesNotExist, OverLimit, ReceiptHandleIsInvalid, ResourceNotFoundException, MessageNotInflight, UnsupportedOperation}
 use Rattle.std.specs.List.{list_any}
 use Rattle.sq_base.specs.declared.row.Row.{Row}
-use Rattle.sq_model.specs.Directories.{Directory, DirectoryStep, MoveEnds, agrees, can_redrive, create_refusal, deleted_recently, directory_refusal, last_version, may_have, move_between, move_from, move_to, purged_recently, queue_of, refused_at}
+use Rattle.sq_model.specs.Directories.{Directory, DirectoryStep, MoveEnds, agrees, create_refusal, deleted_recently, directory_refusal, last_version, may_have, move_between, move_from, move_to, purged_recently, queue_of, refused_at}
 use Rattle.sq_model.specs.declared.task.NamedQueue.{NamedQueue}
 use Rattle.sq_model.specs.declared.ledger.LedgerReply.{LedgerReply}
 use Rattle.sq_model.specs.declared.ledger.LedgerReply.TheVariants as ledger

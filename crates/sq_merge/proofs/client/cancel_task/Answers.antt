@@ -1,4 +1,4 @@
-use Rattle.std.proofs.Common.{rules, ◌≡◌, refl, Some, Ok, Err}
+use Rattle.std.proofs.Common.{rules, ◌≡◌, refl, Err}
 use Rattle.sq_steps.specs.declared.act.TaskAct.TheVariants as task
 use Rattle.sq_calls.specs.declared.calls.Answer.TheVariants as answer
 use Rattle.sq_model.specs.declared.ledger.LedgerReply.TheVariants as ledger
