@@ -451,7 +451,7 @@ impl World {
         let at = open(&mut self.journals, alloc, actor)?;
         let journal = &mut self.journals[at];
         match ledger_step(alloc, &mut self.ledger, journal, now, act) {
-            Ok(by) => Ok(by),
+            Ok(told) => Ok(told),
             Err(refusal) => {
                 self.journals.truncate(count);
                 Err(refusal)
@@ -569,8 +569,8 @@ impl World {
         let at = open(&mut self.journals, alloc, actor)?;
         let before = progress_of(&self.progress, actor);
         let walk = before.walk_for(number);
-        let now = before.with_walk(&walk);
-        match put_progress(&mut self.progress, now) {
+        let kept = before.with_walk(&walk);
+        match put_progress(&mut self.progress, kept) {
             Ok(()) => {
                 self.journals[at].see(last);
                 Ok((task, walk))

@@ -22,8 +22,8 @@ invariant_of-self-in-Ok c =
     let old = as_fields c.self.view_is in
     record {
       kept = rw (c.in_ok-at.ensures.opened, c.in_ok-at.ensures.index)
-          (kept_ledgered old c.args.actor c.args.now c.args.act.now c.in-Ok.by _ c.self.invariant.kept
-          (ledgered_opened old c.args.actor c.args.now c.args.act.now c.in-Ok.by c.ledger_step.new.ledger.history c.index_mut-journal.result.now c.ledger_step.new.journal (mine (goal.at.invariant_of-self-in-Ok c).After-ledger_step) c.in-Ok.ensures.step));
+          (kept_ledgered old c.args.actor c.args.now c.args.act.now c.in-Ok.told _ c.self.invariant.kept
+          (ledgered_opened old c.args.actor c.args.now c.args.act.now c.in-Ok.told c.ledger_step.new.ledger.history c.index_mut-journal.result.now c.ledger_step.new.journal (mine (goal.at.invariant_of-self-in-Ok c).After-ledger_step) c.in-Ok.ensures.step));
       sample = c.self.invariant.sample;
       few = c.self.invariant.few;
     }
@@ -31,7 +31,7 @@ invariant_of-self-in-Ok c =
 pub returns-in-Ok-clause-stepped : goal.returns-in-Ok-clause-stepped
 returns-in-Ok-clause-stepped c =
     rw (← c.self.view_is, c.in_ok-at.ensures.opened, c.in_ok-at.ensures.index)
-    (ledgered_opened (as_fields c.self.view_is) c.args.actor c.args.now c.args.act.now c.in-Ok.by c.ledger_step.new.ledger.history c.index_mut-journal.result.now c.ledger_step.new.journal (mine (goal.at.returns-in-Ok-clause-stepped c).After-ledger_step) c.in-Ok.ensures.step)
+    (ledgered_opened (as_fields c.self.view_is) c.args.actor c.args.now c.args.act.now c.in-Ok.told c.ledger_step.new.ledger.history c.index_mut-journal.result.now c.ledger_step.new.journal (mine (goal.at.returns-in-Ok-clause-stepped c).After-ledger_step) c.in-Ok.ensures.step)
 
 -- a step that was refused leaves the actors as they were
 front : (c : After-truncate) → c.index_mut-journal.result.now ≡ journal_of c.args.actor c.self.inside.journals.items → c.truncate.new.self.items ≡ c.self.inside.journals.items

@@ -27,7 +27,7 @@ returns-in-Ok-clause-read c =
     let found : task_of c.args.number old.ledger.ledger ≡ Some c.in-Some.task.now = search rules in
     let before : c.progress_of-before.result ≡ progress_of c.args.actor old.progress = rw c.deref.ensures.value at c.progress_of-before.ensures.value in
     let walk_is : c.walk_for-walk.result ≡ walk_for c.args.number (progress_of c.args.actor old.progress).walk = rw before at c.walk_for-walk.ensures in
-    rw (← c.self.view_is, c.see.ensures, c.last-last.ensures, c.in_ok-at.ensures.opened, c.in_ok-at.ensures.index, c.in-Ok.ensures.put, c.with_walk-now.ensures, before) (record {
+    rw (← c.self.view_is, c.see.ensures, c.last-last.ensures, c.in_ok-at.ensures.opened, c.in_ok-at.ensures.index, c.in-Ok.ensures.put, c.with_walk-kept.ensures, before) (record {
       found = found;
       walk_is = walk_is;
       changed = ap (λ (w : WorldValue). record w { progress = put_progress (with_walk c.walk_for-walk.result (progress_of c.args.actor old.progress)) old.progress }) (seen_opened old c.args.actor old.ledger.last c.index_mut.result.now own);
