@@ -11,8 +11,11 @@ use Rattle.sq_calls.specs.declared.calls.AskedAttributes.{AskedAttributes}
 use Rattle.sq_calls.specs.declared.calls.Answer.{Answer}
 use Rattle.sq_calls.specs.declared.calls.Answer.TheVariants.{Queue, Queues, Sources, Attributes, Sent, Received, Started, Cancelled, Tasks, Done}
 use Rattle.sq_calls.specs.declared.calls.ShownAttributes.{ShownAttributes}
+use Rattle.sq_calls.specs.TaskHandles.{task_handle_text}
+use Rattle.sq_model.specs.declared.task.NamedQueue.{NamedQueue}
 use Rattle.sq_model.specs.declared.task.Task.{Task}
 use Rattle.sq_model.specs.Tasks.{is_running}
+use Rattle.sq_policy.specs.PolicyTexts.{arn_text}
 use Rattle.sq_replies.specs.Replies.{queue_url, queues_data, source_queues_data, text_member, text_members, shown_texts, shown_data, attributes_data, answered_data, message_data, received_data, failure_word, task_values, value_member, value_members, task_data, tasks_data, answer_data}
 
 -- the attributes, where each test has a value
@@ -52,29 +55,33 @@ shown_no_float : (shown : ShownAttributes) → has_float (shown_data shown) ≡ 
 shown_no_float shown = rw (texts_no_float (shown_texts shown)) refl
 
 -- what is there has no float
-abbrev HasNone : Option Data → Type 0
-HasNone None = Unit {0}
-HasNone (Some d) = has_float d ≡ false
+abbrev HasNoFloat : Option Data → Type 0
+HasNoFloat None = Unit {0}
+HasNoFloat (Some d) = has_float d ≡ false
 
-value_no_float : (name : List ℕ) (value : Option Data) (rest : Members) → HasNone value → members_have_float (value_member name value rest) ≡ members_have_float rest
+value_no_float : (name : List ℕ) (value : Option Data) (rest : Members) → HasNoFloat value → members_have_float (value_member name value rest) ≡ members_have_float rest
 value_no_float name None rest h = refl
 value_no_float name (Some d) rest h = rw h refl
 
-values_no_float : (values : List (List ℕ × Option Data)) → AllByRecursion (λ v. HasNone v.1) values → members_have_float (value_members values) ≡ false
+values_no_float : (values : List (List ℕ × Option Data)) → AllByRecursion (λ v. HasNoFloat v.1) values → members_have_float (value_members values) ≡ false
 values_no_float [] h = refl
 values_no_float (v ∷ rest) h = value_no_float v.0 v.1 (value_members rest) h.0 ∙ values_no_float rest h.1
 
-mapped_none : {A : Type 0} (f : A → Data) (value : Option A) → ((x : A) → has_float (f x) ≡ false) → HasNone (option_map f value)
-mapped_none {A} f None h = tt
-mapped_none {A} f (Some x) h = h x
+mapped_no_float : {A : Type 0} (f : A → Data) (value : Option A) → ((x : A) → has_float (f x) ≡ false) → HasNoFloat (option_map f value)
+mapped_no_float {A} f None h = tt
+mapped_no_float {A} f (Some x) h = h x
 
-handle_none : (running : Bool) (text : List ℕ) → HasNone (cond running (Some (string text)) None)
-handle_none true text = refl
-handle_none false text = tt
+handle_no_float : (running : Bool) (text : List ℕ) → HasNoFloat (cond running (Some (string text)) None)
+handle_no_float true text = refl
+handle_no_float false text = tt
 
 task_no_float : (task : Task) → has_float (task_data task) ≡ false
-task_no_float task = values_no_float (task_values task)
-    (refl, mapped_none _ task.destination (λ q. refl), mapped_none string (failure_word task.status) (λ w. refl), mapped_none _ task.rate (λ n. refl), refl, refl, refl, handle_none (is_running task.status) _, tt)
+task_no_float task =
+    let destination = mapped_no_float (λ (q : NamedQueue). string (arn_text q.name)) task.destination (λ q. refl) in
+    let failure = mapped_no_float string (failure_word task.status) (λ w. refl) in
+    let rate = mapped_no_float (λ (n : ℕ). number (unsigned n)) task.rate (λ n. refl) in
+    let handle = handle_no_float (is_running task.status) (task_handle_text task.number) in
+    values_no_float (task_values task) (refl, (destination, (failure, (rate, (refl, (refl, (refl, (handle, tt))))))))
 
 items_no_float : (tasks : List Task) → items_have_float (items_of (map task_data tasks)) ≡ false
 items_no_float [] = refl
