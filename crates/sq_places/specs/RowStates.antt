@@ -75,7 +75,19 @@ is_newer (Some policy) version = nat_lt policy.version version
 
 abbrev pub next_policy : Option Policy → HomeCall → Option Policy
 next_policy policy (call.Configure settings version) = if is_newer policy version then Some (record { retention = settings.retention; version = version }) else policy
-next_policy policy other = policy
+next_policy policy call.Close = policy
+next_policy policy (call.Send body delay) = policy
+next_policy policy (call.Look max timeout) = policy
+next_policy policy (call.Delete receipt) = policy
+next_policy policy (call.Change receipt timeout) = policy
+next_policy policy call.Purge = policy
+next_policy policy call.Count = policy
+next_policy policy call.LeaveDead = policy
+next_policy policy (call.LeaveTask task) = policy
+next_policy policy (call.Enter item) = policy
+next_policy policy (call.TurnBack item) = policy
+next_policy policy (call.GiveBack item) = policy
+next_policy policy (call.GiveUp item) = policy
 
 -- What an event does to the rows, after the trim. A message leaves the system, or goes into transit as a row; one that comes
 -- in from there is a new row, and one that is given up there leaves the system.
@@ -88,58 +100,93 @@ pub data Effect : Type 0 where
   Enters : RowState → Effect
   Drops : MessageId → Effect
 
--- a send puts a message in, a look receives messages, a leave takes one out, and an item comes in, as their replies say
-abbrev pub sent_by : HomeReply → Effect
-sent_by (reply.Sent sent) = Arrives sent
-sent_by other = Stays
+-- what a send, a look and a leave make of the rows: the reply says it
+abbrev pub reply_effect : HomeReply → Effect
+reply_effect reply.Done = Stays
+reply_effect (reply.Sent sent) = Arrives sent
+reply_effect (reply.Looked picked) = Looks picked
+reply_effect reply.Over = Stays
+reply_effect (reply.Counted counts) = Stays
+reply_effect (reply.Left item) = Departs item.row
+reply_effect reply.NoLiveRow = Stays
+reply_effect (reply.NoOrigin serial) = Stays
+reply_effect reply.SourceClosed = Stays
+reply_effect (reply.Entered entered) = Stays
 
-abbrev pub looked_by : HomeReply → Effect
-looked_by (reply.Looked picked) = Looks picked
-looked_by other = Stays
-
-abbrev pub left_by : HomeReply → Effect
-left_by (reply.Left item) = Departs item.row
-left_by other = Stays
-
-abbrev pub entered_by : ℕ → Item → HomeReply → Effect
-entered_by m item (reply.Entered entered) = Enters (entered_state m item entered)
-entered_by m item other = Stays
-
-abbrev pub returned_by : Item → HomeReply → Effect
-returned_by item (reply.Entered entered) = Enters (returned_state item entered)
-returned_by item other = Stays
+-- what a row that comes in makes of them, by what it is as a row of the home
+abbrev pub entry_effect : (EnteredRow → RowState) → HomeReply → Effect
+entry_effect row_of reply.Done = Stays
+entry_effect row_of (reply.Sent sent) = Stays
+entry_effect row_of (reply.Looked picked) = Stays
+entry_effect row_of reply.Over = Stays
+entry_effect row_of (reply.Counted counts) = Stays
+entry_effect row_of (reply.Left item) = Stays
+entry_effect row_of reply.NoLiveRow = Stays
+entry_effect row_of (reply.NoOrigin serial) = Stays
+entry_effect row_of reply.SourceClosed = Stays
+entry_effect row_of (reply.Entered entered) = Enters (row_of entered)
 
 abbrev pub effect_of : ℕ → HomeCall → HomeReply → Effect
 effect_of m (call.Configure settings version) reply = Stays
 effect_of m call.Close reply = Leaves (λ row. true) ClosedAway
-effect_of m (call.Send body delay) reply = sent_by reply
-effect_of m (call.Look max timeout) reply = looked_by reply
+effect_of m (call.Send body delay) reply = reply_effect reply
+effect_of m (call.Look max timeout) reply = reply_effect reply
 effect_of m (call.Delete receipt) reply = Leaves (is_named receipt) Deleted
 effect_of m (call.Change receipt timeout) reply = Stays
 effect_of m call.Purge reply = Leaves (λ row. true) Purged
 effect_of m call.Count reply = Stays
-effect_of m call.LeaveDead reply = left_by reply
-effect_of m (call.LeaveTask task) reply = left_by reply
-effect_of m (call.Enter item) reply = entered_by m item reply
+effect_of m call.LeaveDead reply = reply_effect reply
+effect_of m (call.LeaveTask task) reply = reply_effect reply
+effect_of m (call.Enter item) reply = entry_effect (entered_state m item) reply
 effect_of m (call.TurnBack item) reply = Stays
-effect_of m (call.GiveBack item) reply = returned_by item reply
+effect_of m (call.GiveBack item) reply = entry_effect (returned_state item) reply
 effect_of m (call.GiveUp item) reply = Drops item.row.lineage
+
+-- A message is sent, goes into transit, or is in transit no more.
+pub data Crossing : Type 0 where
+  Nobody : Crossing
+  Sends : MessageId → Crossing
+  Outs : MessageId → Crossing
+  Ins : MessageId → Crossing
+
+abbrev pub crossing_of : Effect → Crossing
+crossing_of Stays = Nobody
+crossing_of (Arrives sent) = Sends sent.id
+crossing_of (Looks picked) = Nobody
+crossing_of (Leaves p cause) = Nobody
+crossing_of (Departs row) = Outs row.lineage
+crossing_of (Enters row) = Ins row.lineage
+crossing_of (Drops line) = Ins line
+
+abbrev pub sends_of : Crossing → List MessageId
+sends_of Nobody = []
+sends_of (Sends id) = id ∷ []
+sends_of (Outs id) = []
+sends_of (Ins id) = []
+
+abbrev pub outs_of : Crossing → List MessageId
+outs_of Nobody = []
+outs_of (Sends id) = []
+outs_of (Outs id) = id ∷ []
+outs_of (Ins id) = []
+
+abbrev pub ins_of : Crossing → List MessageId
+ins_of Nobody = []
+ins_of (Sends id) = []
+ins_of (Outs id) = []
+ins_of (Ins id) = id ∷ []
 
 -- who is sent
 abbrev pub effect_sends : Effect → List MessageId
-effect_sends (Arrives sent) = sent.id ∷ []
-effect_sends other = []
+effect_sends effect = sends_of (crossing_of effect)
 
 -- who goes into transit
 abbrev pub effect_outs : Effect → List MessageId
-effect_outs (Departs row) = row.lineage ∷ []
-effect_outs other = []
+effect_outs effect = outs_of (crossing_of effect)
 
 -- who is in transit no more
 abbrev pub effect_ins : Effect → List MessageId
-effect_ins (Enters row) = row.lineage ∷ []
-effect_ins (Drops line) = line ∷ []
-effect_ins other = []
+effect_ins effect = ins_of (crossing_of effect)
 
 abbrev pub kept_states : Option Policy → ℕ → List RowState → List RowState
 kept_states None m rows = rows

@@ -1,6 +1,6 @@
 //! What decides how the rows of a home leave it, for all rows of the home.
 ghost use Rattle.std.specs.Prelude.{◌≡◌, ◌∷◌, [], ◌++◌, ℕ, not, filter, OnOk, IfErr};
-ghost use Rattle.sq_places.specs.RowStates.{kept_states, past_states, effect_of, sent_by, looked_by, left_by, entered_by, returned_by, is_named};
+ghost use Rattle.sq_places.specs.RowStates.{kept_states, past_states, effect_of, reply_effect, entry_effect, entered_state, returned_state, is_named};
 ghost use Rattle.sq_model.specs.declared.place.Place.TheVariants as at;
 ghost use Rattle.sq_places.specs.Audits as audits;
 
@@ -92,41 +92,31 @@ fn change(
         | HomeCall::Change(_, _)
         | HomeCall::Count
         | HomeCall::TurnBack(_) => Ok(()),
-        HomeCall::Send(_, _) => arrive(rows, moment, reply),
-        HomeCall::Look(_, _) => {
-            receive(rows, reply);
-            Ok(())
-        }
+        HomeCall::Send(_, _)
+        | HomeCall::Look(_, _)
+        | HomeCall::LeaveDead
+        | HomeCall::LeaveTask(_) => apply_reply(rows, moment, reply),
         HomeCall::Delete(receipt) => delete(rows, receipt, ends),
         HomeCall::Purge => rows.clear(Place::Purged, ends),
         HomeCall::Close => rows.clear(Place::ClosedAway, ends),
-        HomeCall::LeaveDead | HomeCall::LeaveTask(_) => {
-            depart(rows, reply);
-            Ok(())
-        }
         HomeCall::Enter(item) => enter(rows, moment, item.get(), reply),
         HomeCall::GiveBack(item) => come_back(rows, item.get(), reply),
         HomeCall::GiveUp(item) => drop_item(item.get(), ends),
     }
 }
 
-fn arrive(rows: &mut HomeRows, moment: u64, reply: &HomeReply) -> Result<(), Refusal>
-    ensures rows { OnOk result (rows.new ≡ audits.rows_after moment (sent_by reply.now) rows.old) }
+// What is sent comes in, what is received is raised, and the row of an item goes into transit.
+fn apply_reply(rows: &mut HomeRows, moment: u64, reply: &HomeReply) -> Result<(), Refusal>
+    ensures rows { OnOk result (rows.new ≡ audits.rows_after moment (reply_effect reply.now) rows.old) }
     ensures err { IfErr result (λ e. e ≡ Refusal.NoMemory) }
 {
-    if let HomeReply::Sent(message) = reply {
-        rows.put(sent(message, moment))?;
+    match reply {
+        HomeReply::Sent(message) => rows.put(sent(message, moment))?,
+        HomeReply::Looked(picked) => rows.receive_all(picked.as_slice()),
+        HomeReply::Left(item) => rows.take_out(&item.get().row),
+        _ => {}
     }
     Ok(())
-}
-
-// The row of an item goes into transit.
-fn depart(rows: &mut HomeRows, reply: &HomeReply)
-    ensures { (moment : ℕ) → rows.new ≡ audits.rows_after moment (left_by reply.now) rows.old }
-{
-    if let HomeReply::Left(item) = reply {
-        rows.take_out(&item.get().row);
-    }
 }
 
 // The row that a receipt names leaves, where it is there, and is put last.
@@ -146,7 +136,7 @@ fn delete(
 }
 
 fn enter(rows: &mut HomeRows, moment: u64, item: &Item, reply: &HomeReply) -> Result<(), Refusal>
-    ensures rows { OnOk result (rows.new ≡ audits.rows_after moment (entered_by moment item.now reply.now) rows.old) }
+    ensures rows { OnOk result (rows.new ≡ audits.rows_after moment (entry_effect (entered_state moment item.now) reply.now) rows.old) }
     ensures err { IfErr result (λ e. e ≡ Refusal.NoMemory) }
 {
     if let HomeReply::Entered(row) = reply {
@@ -156,7 +146,7 @@ fn enter(rows: &mut HomeRows, moment: u64, item: &Item, reply: &HomeReply) -> Re
 }
 
 fn come_back(rows: &mut HomeRows, item: &Item, reply: &HomeReply) -> Result<(), Refusal>
-    ensures rows { OnOk result ((moment : ℕ) → rows.new ≡ audits.rows_after moment (returned_by item.now reply.now) rows.old) }
+    ensures rows { OnOk result ((moment : ℕ) → rows.new ≡ audits.rows_after moment (entry_effect (returned_state item.now) reply.now) rows.old) }
     ensures err { IfErr result (λ e. e ≡ Refusal.NoMemory) }
 {
     if let HomeReply::Entered(row) = reply {
@@ -172,12 +162,4 @@ fn drop_item(item: &Item, ends: &mut Vec<(MessageId, Place)>) -> Result<(), Refu
 {
     ends.push((item.row.lineage, Place::Dropped))?;
     Ok(())
-}
-
-fn receive(rows: &mut HomeRows, reply: &HomeReply)
-    ensures { (moment : ℕ) → rows.new ≡ audits.rows_after moment (looked_by reply.now) rows.old }
-{
-    if let HomeReply::Looked(picked) = reply {
-        rows.receive_all(picked.as_slice());
-    }
 }

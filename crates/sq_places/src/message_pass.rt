@@ -6,7 +6,7 @@ ghost use Rattle.sq_model.specs.Systems.{System, RunFrom, opening, IsOnePlace};
 ghost use Rattle.sq_model.specs.Places.{run_ends, run_sends, place_in};
 ghost use Rattle.sq_model.specs.declared.place.Place.TheVariants as at;
 ghost use Rattle.sq_audit.specs.Tags.{tag_of, tags_of};
-ghost use Rattle.sq_places.specs.RowStates.{effect_of, sent_by, looked_by, left_by, entered_by, returned_by, is_named, is_past};
+ghost use Rattle.sq_places.specs.RowStates.{effect_of, reply_effect, entry_effect, entered_state, returned_state, is_named, is_past};
 ghost use Rattle.sq_places.specs.MessagePasses as tracks;
 ghost use Rattle.sq_places.specs.declared.message_pass.MessageState.TheVariants.{Gone};
 
@@ -180,42 +180,36 @@ fn changed(
         | HomeCall::Change(_, _)
         | HomeCall::Count
         | HomeCall::TurnBack(_) => state,
-        HomeCall::Send(_, _) => arrived(x, index, moment, reply, state),
-        HomeCall::Look(_, _) => received(index, reply, state),
+        HomeCall::Send(_, _)
+        | HomeCall::Look(_, _)
+        | HomeCall::LeaveDead
+        | HomeCall::LeaveTask(_) => answered(x, index, moment, reply, state),
         HomeCall::Delete(receipt) => deleted(index, receipt, state),
         HomeCall::Purge => cleared(index, Place::Purged, state),
         HomeCall::Close => cleared(index, Place::ClosedAway, state),
-        HomeCall::LeaveDead | HomeCall::LeaveTask(_) => departed(x, reply, state),
         HomeCall::Enter(item) => came_in(x, index, moment, item.get(), reply, state),
         HomeCall::GiveBack(item) => came_back(x, index, item.get(), reply, state),
         HomeCall::GiveUp(item) => given_up(x, item.get(), state),
     }
 }
 
-fn arrived(
+fn answered(
     x: &MessageId,
     index: u32,
     moment: u64,
     reply: &HomeReply,
     state: MessageState,
 ) -> MessageState
-    ensures { result ≡ tracks.state_after x.now index moment (sent_by reply.now) state }
-{
-    match reply {
-        HomeReply::Sent(message) if message.id == *x => {
-            MessageState::Here(index, sent(message, moment))
-        }
-        _ => state,
-    }
-}
-
-fn received(index: u32, reply: &HomeReply, state: MessageState) -> MessageState
-    ensures { (x : MessageId) (moment : ℕ) → result ≡ tracks.state_after x index moment (looked_by reply.now) state }
+    ensures { result ≡ tracks.state_after x.now index moment (reply_effect reply.now) state }
 {
     match (reply, state) {
+        (HomeReply::Sent(message), _) if message.id == *x => {
+            MessageState::Here(index, sent(message, moment))
+        }
         (HomeReply::Looked(picked), MessageState::Here(home, row)) if home == index => {
             MessageState::Here(home, looked(picked.as_slice(), &row))
         }
+        (HomeReply::Left(item), _) if item.get().row.lineage == *x => MessageState::InTransit,
         _ => state,
     }
 }
@@ -241,15 +235,6 @@ fn cleared(index: u32, place: Place, state: MessageState) -> MessageState
     }
 }
 
-fn departed(x: &MessageId, reply: &HomeReply, state: MessageState) -> MessageState
-    ensures { (index moment : ℕ) → result ≡ tracks.state_after x.now index moment (left_by reply.now) state }
-{
-    match reply {
-        HomeReply::Left(item) if item.get().row.lineage == *x => MessageState::InTransit,
-        _ => state,
-    }
-}
-
 fn came_in(
     x: &MessageId,
     index: u32,
@@ -258,7 +243,7 @@ fn came_in(
     reply: &HomeReply,
     state: MessageState,
 ) -> MessageState
-    ensures { result ≡ tracks.state_after x.now index moment (entered_by moment item.now reply.now) state }
+    ensures { result ≡ tracks.state_after x.now index moment (entry_effect (entered_state moment item.now) reply.now) state }
 {
     match reply {
         HomeReply::Entered(row) if item.row.lineage == *x => {
@@ -275,7 +260,7 @@ fn came_back(
     reply: &HomeReply,
     state: MessageState,
 ) -> MessageState
-    ensures { (moment : ℕ) → result ≡ tracks.state_after x.now index moment (returned_by item.now reply.now) state }
+    ensures { (moment : ℕ) → result ≡ tracks.state_after x.now index moment (entry_effect (returned_state item.now) reply.now) state }
 {
     match reply {
         HomeReply::Entered(row) if item.row.lineage == *x => {
