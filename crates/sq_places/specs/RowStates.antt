@@ -100,7 +100,7 @@ pub data Effect : Type 0 where
   Enters : RowState → Effect
   Drops : MessageId → Effect
 
--- what a send, a look and a leave make of the rows: the reply says it
+-- what a send, a look and a leave make of the rows; each is replied in a way of its own, so the reply says it
 abbrev pub reply_effect : HomeReply → Effect
 reply_effect reply.Done = Stays
 reply_effect (reply.Sent sent) = Arrives sent
@@ -146,35 +146,35 @@ effect_of m (call.GiveUp item) reply = Drops item.row.lineage
 pub data Crossing : Type 0 where
   Nobody : Crossing
   Sends : MessageId → Crossing
-  Outs : MessageId → Crossing
-  Ins : MessageId → Crossing
+  IntoTransit : MessageId → Crossing
+  OutOfTransit : MessageId → Crossing
 
 abbrev pub crossing_of : Effect → Crossing
 crossing_of Stays = Nobody
 crossing_of (Arrives sent) = Sends sent.id
 crossing_of (Looks picked) = Nobody
 crossing_of (Leaves p cause) = Nobody
-crossing_of (Departs row) = Outs row.lineage
-crossing_of (Enters row) = Ins row.lineage
-crossing_of (Drops line) = Ins line
+crossing_of (Departs row) = IntoTransit row.lineage
+crossing_of (Enters row) = OutOfTransit row.lineage
+crossing_of (Drops line) = OutOfTransit line
 
 abbrev pub sends_of : Crossing → List MessageId
 sends_of Nobody = []
 sends_of (Sends id) = id ∷ []
-sends_of (Outs id) = []
-sends_of (Ins id) = []
+sends_of (IntoTransit id) = []
+sends_of (OutOfTransit id) = []
 
 abbrev pub outs_of : Crossing → List MessageId
 outs_of Nobody = []
 outs_of (Sends id) = []
-outs_of (Outs id) = id ∷ []
-outs_of (Ins id) = []
+outs_of (IntoTransit id) = id ∷ []
+outs_of (OutOfTransit id) = []
 
 abbrev pub ins_of : Crossing → List MessageId
 ins_of Nobody = []
 ins_of (Sends id) = []
-ins_of (Outs id) = []
-ins_of (Ins id) = id ∷ []
+ins_of (IntoTransit id) = []
+ins_of (OutOfTransit id) = id ∷ []
 
 -- who is sent
 abbrev pub effect_sends : Effect → List MessageId
