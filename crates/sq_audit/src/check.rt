@@ -21,7 +21,7 @@ use sq_directory::names::has_name;
 use sq_history::events::{event_at, has_home_event};
 use sq_history::record::HomeRecord;
 use sq_history::recorded::Home;
-use sq_ledger::events::{has_shared_event, is_alone, is_leave, is_shared_event};
+use sq_ledger::events::{has_ledger_event, has_shared_event, is_alone, is_leave, is_shared_event};
 use sq_ledger::ledger::TransitLedger;
 use sq_model::calls::HomeCall;
 use sq_model::event::Event;
@@ -184,6 +184,7 @@ fn has_its_event(evidence: &Evidence<'_>, actor: u32, kept: &Record) -> bool
 {
     match kept {
         Record::Directory(kept) => has_directory_event(evidence.directory, actor, kept),
+        Record::Ledger(kept) => has_ledger_event(evidence.ledger, actor, kept),
         Record::Home(kept) => home_has_its_event(evidence, actor, kept),
     }
 }
@@ -348,13 +349,14 @@ fn check_event(
     }
 }
 
-// Whether a record names this event of a part. Of the ledger alone there is none yet.
+// Whether a record names this event of a part.
 fn is_at(evidence: &Evidence<'_>, part: Part, index: usize, kept: &Record) -> bool
     requires within { IsThere evidence.now.homes part }
     ensures { result ≡ true ↔ IsAt evidence.now.per_queue part index (value_of_record kept.now) }
 {
     match (part, kept) {
         (Part::Directory, Record::Directory(kept)) => kept.step().index == index as u64,
+        (Part::Ledger, Record::Ledger(kept)) => kept.step().index == index as u64,
         (Part::Home(at), Record::Home(kept)) => {
             is_home_at(evidence, at, kept.home()) && kept.step().index == index as u64
         }

@@ -1,1 +1,2 @@
 pub mod DigestLaws
+pub mod TaskHandleLaws

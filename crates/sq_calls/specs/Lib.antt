@@ -1,1 +1,2 @@
 pub mod ReceivedValue
+pub mod TaskHandles

@@ -7,10 +7,12 @@ use crate::turns::{Turn, Turned};
 use sq_base::handle::Handle;
 use sq_base::message_id::MessageId;
 use sq_base::name::QueueName;
-use sq_base::ranges::{Delay, MaxMessages, Timeout};
+use sq_base::ranges::{Delay, MaxMessages, MaxResults, Rate, Timeout};
 use sq_base::refusal::Refusal;
 use sq_model::directory::{Attributes, NamePrefix, QueueAttributes};
+use sq_model::item::TaskNo;
 use sq_model::listed::Listed;
+use sq_model::task::Task;
 use std::alloc::Global;
 use std::marker::Model;
 
@@ -134,6 +136,24 @@ pub struct GetQueueAttributes {
     pub asked: AskedOfQueue,
 }
 
+/// StartMessageMoveTask.
+#[derive(Clone, Copy, PartialEq, Eq, Debug)]
+pub struct StartMessageMoveTask {
+    pub source: QueueName,
+    /// Without one each message goes to the queue that it came from.
+    pub destination: Option<QueueName>,
+    /// MaxNumberOfMessagesPerSecond.
+    pub rate: Option<Rate>,
+}
+
+/// ListMessageMoveTasks.
+#[derive(Clone, Copy, PartialEq, Eq, Debug)]
+pub struct ListMessageMoveTasks {
+    pub source: QueueName,
+    /// MaxResults.
+    pub max: MaxResults,
+}
+
 /// A request of a client.
 #[derive(Drop)]
 pub enum Call {
@@ -149,6 +169,10 @@ pub enum Call {
     ReceiveMessage(ReceiveMessage),
     DeleteMessage(DeleteMessage),
     ChangeMessageVisibility(ChangeMessageVisibility),
+    StartMessageMoveTask(StartMessageMoveTask),
+    /// Without a task where the text is the handle of none.
+    CancelMessageMoveTask(Option<TaskNo>),
+    ListMessageMoveTasks(ListMessageMoveTasks),
 }
 
 /// What a line of a script asks.
@@ -191,6 +215,12 @@ pub enum Answer {
     /// The id of a message that was sent, and the digest of its body.
     Sent(MessageId, Digest),
     Received(ReceivedMessages),
+    /// The move task that was started.
+    Started(TaskNo),
+    /// How many messages a cancelled task had moved.
+    Cancelled(u64),
+    /// The tasks of a source, the most recent first.
+    Tasks(Listed<Task>),
     Done,
 }
 

@@ -4,4 +4,5 @@
 pub mod calls;
 pub mod digest;
 pub mod received_messages;
+pub mod task_handle;
 pub mod turns;

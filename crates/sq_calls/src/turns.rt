@@ -2,6 +2,7 @@
 ghost use Rattle.std.specs.Prelude.{◌≡◌};
 
 use sq_base::name::QueueName;
+use sq_model::item::TaskNo;
 
 /// One step of moving messages.
 #[derive(Clone, Copy, PartialEq, Eq, Debug)]
@@ -10,6 +11,9 @@ pub enum Turn {
     DeadTurn(QueueName),
     /// A message in transit comes in where it goes to: at its target, or at its source on its way back.
     EnterTurn,
+    /// A message leaves its queue for this task, or the task is finished; without a task where the text is the handle of
+    /// none.
+    TaskTurn(Option<TaskNo>),
 }
 
 /// What came of a turn.
@@ -29,4 +33,14 @@ pub enum Turned {
     Dropped,
     /// There is no room for the message in transit or where it would come in, or that home is not opened; nothing moved.
     Full,
+    /// As many messages left for the task in this second as its rate allows; nothing moved.
+    Throttled,
+    /// The task failed: its source is closed, or a message has nowhere to go.
+    Failed,
+    /// The task is completed, or it is cancelled at last.
+    Finished,
+    /// Messages of the task are in transit: it is not finished yet.
+    Waiting,
+    /// The task was over before; nothing moved.
+    Ended,
 }

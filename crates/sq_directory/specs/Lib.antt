@@ -3,4 +3,5 @@ pub mod DirectoryHistories
 pub mod Makers
 pub mod Events
 pub mod Stored
+pub mod MoveQueues
 pub mod Listings

@@ -1,7 +1,9 @@
 //! The directory: the queues of a service, and all that was done to them.
 ghost use Rattle.std.specs.Prelude.{◌≡◌, [], IfOk, IfErr, IfSome, OnErr};
 ghost use Rattle.sq_base.specs.Stamps.{start};
-ghost use Rattle.sq_model.specs.Directories.{number_named, all_named, opening_directory};
+ghost use Rattle.sq_model.specs.Directories.{number_named, all_named, can_redrive, opening_directory};
+ghost use Rattle.sq_policy.specs.Reading.{seen_as};
+ghost use Rattle.sq_directory.specs.MoveQueues.{as_ends};
 ghost use Rattle.sq_directory.specs.Makers.{IsMadeBy, IsAnsweredByName};
 
 use crate::copies::{copy_call, copy_twice};
@@ -81,6 +83,19 @@ impl Directory {
         ensures refused { IfErr result (λ e. e ≡ Refusal.NoMemory) }
     {
         self.queues.names(alloc)
+    }
+
+    /// The queue whose messages a task may move, and the one that it moves them to, where that is given. Refused as
+    /// ResourceNotFoundException, where one of them is not there, and then as UnsupportedOperation, where no queue's
+    /// dead letters go to the source. It takes no memory.
+    pub fn can_redrive(
+        &self,
+        source: &QueueName,
+        destination: &Option<QueueName>,
+    ) -> Result<(NamedQueue, Option<NamedQueue>), Refusal>
+        ensures { seen_as as_ends result ≡ can_redrive source.now destination.now self.now.directory }
+    {
+        self.queues.can_redrive(source, destination)
     }
 
     /// Does what one call asks, at its stamp. What it answers is what its record says.

@@ -1,9 +1,9 @@
 //! The names of queues, in order of creation.
 ghost use Rattle.std.specs.Prelude.{◌≡◌, IfOk, IfErr, map};
-ghost use Rattle.sq_model.specs.Directories.{as_named, begins, is_source_of};
+ghost use Rattle.sq_model.specs.Directories.{as_named, begins};
 ghost use Rattle.sq_directory.specs.Listings.{is_listed, listed_names};
 
-use crate::stored::NamedQueues;
+use crate::stored::{NamedQueues, is_source_of};
 use sq_base::ids::QueueNo;
 use sq_base::name::QueueName;
 use sq_base::refusal::Refusal;
@@ -66,7 +66,8 @@ pub fn all_named(alloc: Global, queues: &NamedQueues) -> Result<Listed<NamedQueu
     Ok(names)
 }
 
-fn as_named(queue: &Queue) -> NamedQueue
+/// A queue by its number and its name.
+pub fn as_named(queue: &Queue) -> NamedQueue
     ensures { result ≡ as_named queue.now }
 {
     NamedQueue {
@@ -82,14 +83,5 @@ fn begins(prefix: &NamePrefix, name: &QueueName) -> bool
         NamePrefix::Any => true,
         NamePrefix::Text(front) => name.as_bytes().starts_with(front.as_bytes()),
         NamePrefix::NoName => false,
-    }
-}
-
-fn is_source_of(number: QueueNo, queue: &Queue) -> bool
-    ensures { result ≡ is_source_of number queue.now }
-{
-    match queue.settings.redrive {
-        Some(redrive) => redrive.target == number,
-        None => false,
     }
 }

@@ -1,6 +1,8 @@
 //! The queues of a service, and what each step does to them.
 ghost use Rattle.std.specs.Prelude.{◌≡◌, ◌⊎◌, ◌<◌, ◌++◌, ◌∷◌, ℕ, suc, [], true, None, Some, IfOk, IfErr, OnOk, OnErr};
-ghost use Rattle.sq_model.specs.Directories.{queue_of, number_named, all_named, new_queue, deleted_recently, is_recent, purged_recently, opening_directory, settings_at, attributes_at, last_version, IsThere, MayMake, DirectoryStep, create_refusal, directory_refusal};
+ghost use Rattle.sq_model.specs.Directories.{queue_of, number_named, all_named, can_redrive, move_from, new_queue, deleted_recently, is_recent, purged_recently, opening_directory, settings_at, attributes_at, last_version, IsThere, MayMake, DirectoryStep, create_refusal, directory_refusal};
+ghost use Rattle.sq_policy.specs.Reading.{seen_as};
+ghost use Rattle.sq_directory.specs.MoveQueues.{as_ends};
 ghost use Rattle.sq_directory.specs.Stored.{with_given};
 ghost use Rattle.sq_model.specs.declared.directory.DirectoryCall.TheVariants as asks;
 ghost use Rattle.sq_model.specs.declared.directory.Queue.{Queue as QueueValue};
@@ -9,7 +11,7 @@ ghost use Rattle.sq_directory.specs.DirectoryHistories.{IsUnanswered};
 
 use crate::attributes::{agrees, given_redrive, may_have, new_queue, number_named};
 use crate::copies::copy_allow;
-use crate::listing::{Listing, all_named, listed_names};
+use crate::listing::{Listing, all_named, as_named, listed_names};
 use crate::stored::{NamedQueues, given_settings};
 use sq_base::ids::QueueNo;
 use sq_base::name::QueueName;
@@ -78,6 +80,43 @@ impl Queues {
         ensures refused { IfErr result (λ e. e ≡ Refusal.NoMemory) }
     {
         all_named(alloc, &self.queues)
+    }
+
+    /// The queue whose messages a task may move, and the one that it moves them to, where that is given. Refused as
+    /// ResourceNotFoundException, where one of them is not there, and then as UnsupportedOperation, where no queue's
+    /// dead letters go to the source.
+    pub fn can_redrive(
+        &self,
+        source: &QueueName,
+        destination: &Option<QueueName>,
+    ) -> Result<(NamedQueue, Option<NamedQueue>), Refusal>
+        ensures { seen_as as_ends result ≡ can_redrive source.now destination.now self.now }
+    {
+        let Some(source) = self.queues.get(source) else {
+            return Err(Refusal::ResourceNotFoundException);
+        };
+        match destination {
+            None => self.move_from(source, None),
+            Some(name) => match self.queues.get(name) {
+                Some(destination) => self.move_from(source, Some(as_named(destination))),
+                None => Err(Refusal::ResourceNotFoundException),
+            },
+        }
+    }
+
+    // The ends of a move of messages out of a queue, where that one takes dead letters.
+    fn move_from(
+        &self,
+        source: &Queue,
+        destination: Option<NamedQueue>,
+    ) -> Result<(NamedQueue, Option<NamedQueue>), Refusal>
+        ensures { seen_as as_ends result ≡ move_from self.now source.now destination }
+    {
+        if self.queues.has_source(source.number) {
+            Ok((as_named(source), destination))
+        } else {
+            Err(Refusal::UnsupportedOperation)
+        }
     }
 
     /// What a call is answered at a moment in ms, and what it does. Refused as NoMemory (of a list of queues, or of

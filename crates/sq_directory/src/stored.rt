@@ -1,10 +1,12 @@
 //! Queues by their names, in order of creation.
 ghost use Rattle.std.specs.Prelude.{◌≡◌, ◌+◌, ◌<◌, ◌≤◌, ◌++◌, ◌∷◌, [], None, Some, IfOk, length, option_map, slice_get};
 ghost use Rattle.sq_model.specs.declared.directory.Queue.{Queue as QueueValue};
-ghost use Rattle.sq_model.specs.Directories.{queue_of, changed_queue, queues_without, last_version};
+ghost use Rattle.std.specs.List.{list_any};
+ghost use Rattle.sq_model.specs.Directories.{queue_of, is_source_of, changed_queue, queues_without, last_version};
 ghost use Rattle.sq_directory.specs.Stored.{given_settings, with_given, with_purge};
 
 use indexmap::IndexMap;
+use sq_base::ids::QueueNo;
 use sq_base::name::{QueueName, names_are_equal_by_bytes};
 use sq_base::settings::{Redrive, Settings};
 use sq_model::directory::{Attributes, Queue};
@@ -61,6 +63,15 @@ impl NamedQueues {
         Some(queue)
     }
 
+    /// Whether the dead letters of a queue go to the one of this number.
+    pub fn has_source(&self, number: QueueNo) -> bool
+        ensures { result ≡ list_any (is_source_of number) self.now.queues }
+    {
+        self.queues
+            .values()
+            .any(|queue| is_source_of(number, queue))
+    }
+
     /// Puts a queue last, of whose name none is there.
     pub fn push(&mut self, queue: Queue)
         requires other { queue_of queue.name self.old.queues ≡ None }
@@ -106,6 +117,16 @@ impl NamedQueues {
         if let Some(queue) = self.queues.get_mut(name) {
             queue.last_purge = Some(moment);
         }
+    }
+}
+
+/// Whether the dead letters of a queue go to the one of this number.
+pub fn is_source_of(number: QueueNo, queue: &Queue) -> bool
+    ensures { result ≡ is_source_of number queue.now }
+{
+    match queue.settings.redrive {
+        Some(redrive) => redrive.target == number,
+        None => false,
     }
 }
 

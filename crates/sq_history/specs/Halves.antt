@@ -1,20 +1,26 @@
 -- What a home's half of a step that it shares with the ledger gives.
-use Rattle.std.specs.Prelude.{◌≡◌, ◌⊎◌, ℕ, true, List, Option, Result, Ok, Err, Some, None}
+use Rattle.std.specs.Prelude.{◌≡◌, ◌⊎◌, ℕ, true, false, List, Option, Result, Ok, Err, Some, None}
 use Rattle.std.specs.List.{list_any}
 use Rattle.sq_base.specs.StampValue.{StampValue}
 use Rattle.sq_base.specs.declared.refusal.Refusal.{Refusal}
 use Rattle.sq_base.specs.declared.refusal.Refusal.TheVariants.{NoMemory}
+use Rattle.sq_base.specs.declared.row.Row.{Row}
 use Rattle.sq_model.specs.declared.calls.HomeCall.{HomeCall}
-use Rattle.sq_model.specs.declared.calls.HomeCall.TheVariants.{LeaveDead}
+use Rattle.sq_model.specs.declared.calls.HomeCall.TheVariants.{LeaveDead, LeaveTask}
 use Rattle.sq_model.specs.declared.event.Actor.{Actor}
 use Rattle.sq_model.specs.declared.item.Item.{Item}
-use Rattle.sq_model.specs.declared.replies.HomeReply.TheVariants.{Left}
+use Rattle.sq_model.specs.declared.place.Site.{Site}
+use Rattle.sq_model.specs.declared.replies.HomeReply.{HomeReply}
+use Rattle.sq_model.specs.declared.replies.HomeReply.TheVariants.{Left, NoLiveRow, NoOrigin, SourceClosed}
+use Rattle.sq_model.specs.declared.task.Task.{Task}
 use Rattle.sq_model.specs.Homes.{Home, Unopened, Serving, Closed, home_refusal}
 use Rattle.sq_model.specs.Rows.{trimmed, is_dead}
-pub use Rattle.sq_shard.specs.Moves.{item_refusal}
+use Rattle.sq_model.specs.Tasks.{target_of}
+pub use Rattle.sq_shard.specs.Moves.{IsLiveAt, has_live_row, item_refusal}
 use Rattle.sq_history.specs.HistoryValue.{HistoryValue}
 use Rattle.sq_history.specs.Histories.{RecordsShared}
 use Rattle.sq_history.specs.declared.shared.HomeHalf.{HomeHalf}
+use Rattle.sq_history.specs.declared.task_leave.TaskLeave.{TaskLeave}
 
 -- One event was added, of this call. What is answered, and what the ledger is told, is what the record says.
 pub record DoesHalf (old new : HistoryValue) (by : Actor) (stamp : StampValue) (name : Option (List ℕ)) (call : HomeCall) (half : HomeHalf) : Type 0 where
@@ -39,3 +45,42 @@ IsLeaveRefused old m number e =
 -- Why an item is not done with: no memory was found, for an event, or for copies where nothing else is wrong; or the first check that fails.
 abbrev pub IsItemRefused : HistoryValue → Option Refusal → Refusal → Type 0
 IsItemRefused old first e = ((e ≡ NoMemory) × ((old.room ≡ 0) ⊎ (first ≡ None))) ⊎ (first ≡ Some e)
+
+-- the task takes messages of this home, as the ledger says
+abbrev pub IsTaker : TaskLeave → Task → Type 0
+IsTaker asked task = asked.task ≡ Ok task
+
+-- its rate allows a leave, and the ledger takes in the item of this number
+abbrev pub TakesItem : TaskLeave → ℕ → Type 0
+TakesItem asked number = (asked.allowed ≡ true) × (asked.item ≡ Ok number)
+
+-- What a leave for this task is answered, and the item that left. A message that may leave goes to the task's destination, or without one to the queue that it came from; a closed home asks for no rate.
+abbrev pub IsTaskAnswer : TaskLeave → Task → HomeReply → Option Item → Type 0
+IsTaskAnswer asked task (Left item) left = TakesItem asked item.number × (Some item.target ≡ target_of task item.row) × (left ≡ Some item)
+IsTaskAnswer asked task NoLiveRow left = (asked.allowed ≡ true) × (left ≡ None)
+IsTaskAnswer asked task (NoOrigin serial) left = ((number : ℕ) × TakesItem asked number) × (task.destination ≡ None) × (left ≡ None)
+IsTaskAnswer asked task SourceClosed left = left ≡ None
+-- no other reply is given
+IsTaskAnswer asked task reply left = ⊥
+
+abbrev pub IsServing : Home → Type 0
+IsServing (Serving s v n rows) = Unit {0}
+IsServing Unopened = ⊥
+IsServing Closed = ⊥
+
+-- the home serves, and the task that takes its messages is at its rate
+abbrev pub IsThrottled : Home → TaskLeave → Type 0
+IsThrottled home asked = IsServing home × ((task : Task) × IsTaker asked task) × (asked.allowed ≡ false)
+
+-- a live message may leave for the task, and has a queue to go to
+abbrev pub HasLeaving : Home → ℕ → TaskLeave → Type 0
+HasLeaving home m asked =
+    (task : Task) × (row : Row) × (number : ℕ) × (target : ℕ) × IsTaker asked task × IsLiveAt home m row × TakesItem asked number × (target_of task row ≡ Some target)
+
+-- Why nothing is done for a task at a home: no memory was found for copies of a message that leaves; the home's first check that fails; the task takes no message of it; or the ledger takes none in where a live one may leave.
+abbrev pub IsTaskRefused : Site → Home → ℕ → TaskLeave → Refusal → Type 0
+IsTaskRefused site home m asked e =
+    ((e ≡ NoMemory) × HasLeaving home m asked)
+    ⊎ (home_refusal site home m (LeaveTask asked.number) ≡ Some e)
+    ⊎ ((home_refusal site home m (LeaveTask asked.number) ≡ None) × (asked.task ≡ Err e))
+    ⊎ (((task : Task) × IsTaker asked task) × (asked.allowed ≡ true) × (has_live_row home m ≡ true) × (asked.item ≡ Err e))

@@ -3,11 +3,12 @@ ghost use Rattle.std.specs.Prelude.{◌≡◌, ◌⊎◌, ◌<◌, Some, IfOk, I
 ghost use Rattle.sq_base.specs.Stamps.{stamp_end};
 ghost use Rattle.sq_model.specs.Homes.{HomeStep, home_refusal};
 ghost use Rattle.sq_model.specs.declared.calls.HomeCall.TheVariants.{Look as AsLook};
-ghost use Rattle.sq_model.specs.declared.replies.HomeReply.TheVariants.{Done, Sent, Counted, Entered};
+ghost use Rattle.sq_model.specs.declared.replies.HomeReply.TheVariants.{Done, Sent, Counted, Entered, NoLiveRow, NoOrigin, SourceClosed};
 ghost use Rattle.sq_shard.specs.Looks.{look_reply, GivesAny, GivesRows};
 ghost use Rattle.sq_history.specs.Acts.{call_of, CopiesBytes, HasBytes};
 
 use sq_base::body::Body;
+use sq_base::ids::Serial;
 use sq_base::ranges::{Delay, MaxMessages, Timeout};
 use sq_base::refusal::Refusal;
 use sq_base::settings::Settings;
@@ -168,6 +169,36 @@ impl Answer {
             kept: HomeReply::Entered(entered),
             for_record: HomeReply::Entered(for_record),
             answered: HomeReply::Entered(answered),
+        }
+    }
+
+    pub(crate) fn no_live_row() -> Answer
+        ensures { result ≡ NoLiveRow }
+    {
+        Answer {
+            kept: HomeReply::NoLiveRow,
+            for_record: HomeReply::NoLiveRow,
+            answered: HomeReply::NoLiveRow,
+        }
+    }
+
+    pub(crate) fn no_origin(serial: Serial) -> Answer
+        ensures { result ≡ NoOrigin serial }
+    {
+        Answer {
+            kept: HomeReply::NoOrigin(serial),
+            for_record: HomeReply::NoOrigin(serial),
+            answered: HomeReply::NoOrigin(serial),
+        }
+    }
+
+    pub(crate) fn source_closed() -> Answer
+        ensures { result ≡ SourceClosed }
+    {
+        Answer {
+            kept: HomeReply::SourceClosed,
+            for_record: HomeReply::SourceClosed,
+            answered: HomeReply::SourceClosed,
         }
     }
 

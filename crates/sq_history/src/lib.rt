@@ -8,3 +8,4 @@ pub mod log;
 pub mod record;
 pub mod recorded;
 pub mod shared;
+pub mod task_leave;

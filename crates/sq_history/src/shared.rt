@@ -1,15 +1,16 @@
 //! The steps that a home shares with the ledger: the home's half, with its event and its record.
-ghost use Rattle.std.specs.Prelude.{◌≡◌, ◌++◌, ◌∷◌, [], length, false, Some, Ok, option_map, IfOk, IfErr, IfSome, IfNone, OnErr};
+ghost use Rattle.std.specs.Prelude.{◌≡◌, ◌⊎◌, ◌++◌, ◌∷◌, [], length, false, Some, Ok, option_map, IfOk, IfErr, IfSome, IfNone, OnErr};
 ghost use Rattle.sq_base.specs.Stamps.{Below, start};
 ghost use Rattle.sq_model.specs.Replays.{StampsRise};
 ghost use Rattle.sq_model.specs.declared.item.Item.{Item as Moved};
 ghost use Rattle.sq_model.specs.declared.item.Reason.TheVariants.{DeadLetter};
-ghost use Rattle.sq_model.specs.declared.calls.HomeCall.TheVariants.{LeaveDead};
+ghost use Rattle.sq_model.specs.declared.task.Task.{Task as Taking};
+ghost use Rattle.sq_model.specs.declared.calls.HomeCall.TheVariants.{LeaveDead, LeaveTask};
 ghost use Rattle.sq_model.specs.declared.replies.HomeReply.TheVariants.{Left};
 ghost use Rattle.sq_model.specs.Homes.{IsFrom, IsIdle};
 ghost use Rattle.sq_model.specs.ItemActs.{call_with, replied_by};
 ghost use Rattle.sq_shard.specs.Moves.{item_refusal};
-ghost use Rattle.sq_history.specs.Halves.{DoesHalf, IsLeaveRefused, IsItemRefused};
+ghost use Rattle.sq_history.specs.Halves.{DoesHalf, IsLeaveRefused, IsItemRefused, IsTaker, IsTaskAnswer, IsTaskRefused, IsThrottled};
 ghost use Rattle.sq_history.specs.Histories.{new_event, new_record};
 ghost use Rattle.sq_history.specs.Rooms.{IsReady, KeepsRoom};
 
@@ -17,6 +18,7 @@ use crate::act::Answer;
 use crate::log::Log;
 use crate::record::HomeRecord;
 use crate::recorded::Recorded;
+use crate::task_leave::{TaskAnswer, TaskLeave, leave_for_task};
 use sq_base::ids::{HomeId, QueueNo};
 use sq_base::name::QueueName;
 use sq_base::refusal::Refusal;
@@ -58,7 +60,7 @@ fn dead_letter(number: ItemNo, row: Row, source: QueueNo, target: QueueNo) -> It
 }
 
 // What is answered where this item leaves, and for the ledger. Refused as NoMemory.
-fn answer_left(alloc: Global, item: &Item) -> Result<(Answer, HomeReply), Refusal>
+pub(crate) fn answer_left(alloc: Global, item: &Item) -> Result<(Answer, HomeReply), Refusal>
     ensures answer { IfOk result (λ r. r.0 ≡ Left item.now) }
     ensures for_ledger { IfOk result (λ r. r.1 ≡ Left item.now) }
     ensures refused { IfErr result (λ e. e ≡ Refusal.NoMemory) }
@@ -115,6 +117,13 @@ fn note(
 }
 
 impl<S: Store> Recorded<S> {
+    /// The home's id.
+    pub fn id(&self) -> HomeId
+        ensures { result ≡ self.now.site.home }
+    {
+        self.shard.site().home
+    }
+
     /// A dead message, any of them, leaves for its dead-letter queue, at a stamp that was drawn: it is told with the
     /// item that it becomes. None where none is dead, which is no event. The number of the item is what the ledger
     /// gives, or why it takes none in.
@@ -159,6 +168,49 @@ impl<S: Store> Recorded<S> {
         );
         let half = note(&mut self.log, by, stamp, &home, name, calls, answers);
         Ok(Some((half, dead_letter(number, row, home.queue, target))))
+    }
+
+    /// A live message, any of them, leaves for a move task, at a stamp that was drawn: it is told with the item that it
+    /// becomes. Recorded, with no item, is that none is live (NoLiveRow), that the one that was chosen has no queue to go
+    /// to and stays (NoOrigin), or that the home is closed (SourceClosed). None where the task is at its rate, which is no
+    /// event.
+    /// Refused as NoMemory (the history has room for none, or the message that leaves is copied), QueueDoesNotExist
+    /// (never opened), then as the ledger says of the task, and where a message is live as it says of the next item.
+    #[tactic(auto, using(crate::proofs::HistoryLaws::kept_shared))]
+    pub fn leave_task(
+        &mut self,
+        alloc: Global,
+        by: &Actor,
+        stamp: Stamp,
+        name: Option<QueueName>,
+        asked: &TaskLeave,
+    ) -> Result<Option<(HomeHalf, Option<Item>)>, Refusal>
+        requires above_last { Below self.old.last stamp }
+        requires above_seen { Below by.now.seen stamp }
+        ensures recorded { IfOk result (λ told. IfSome told (λ t. DoesHalf self.old self.new by.now stamp name (LeaveTask asked.now.number) t.0)) }
+        ensures answer { IfOk result (λ told. IfSome told (λ t. (task : Taking) × IsTaker asked.now task × IsTaskAnswer asked.now task t.0.its_record.reply t.1)) }
+        ensures throttled { IfOk result (λ told. IfNone told (IsThrottled self.old.home asked.now × (self.new ≡ self.old))) }
+        ensures refusal { IfErr result (λ e. ((e ≡ Refusal.NoMemory) × (self.old.room ≡ 0)) ⊎ IsTaskRefused self.old.site self.old.home stamp.moment asked.now e) }
+        ensures err { OnErr result (self.new ≡ self.old) }
+    {
+        self.log.reserve()?;
+        let Some(told) = leave_for_task(alloc, &mut self.shard, stamp.moment, asked)? else {
+            return Ok(None);
+        };
+        let TaskAnswer {
+            answer,
+            for_ledger,
+            left,
+        } = told;
+        let home = self.shard.site().home;
+        let calls = (
+            HomeCall::LeaveTask(asked.number),
+            HomeCall::LeaveTask(asked.number),
+            HomeCall::LeaveTask(asked.number),
+        );
+        let answers = (answer, for_ledger);
+        let done = note(&mut self.log, by, stamp, &home, name, calls, answers);
+        Ok(Some((done, left)))
     }
 
     /// This is done with the item here, at a stamp that was drawn.

@@ -1,2 +1,4 @@
 pub mod ItemLaws
 pub mod LedgerLaws
+pub mod TaskLaws
+pub mod TaskCallLaws

@@ -1,20 +1,32 @@
--- What a step that the ledger shares with a home does to it, and what is true of the ledger at all times.
-use Rattle.std.specs.Prelude.{◌≡◌, true, [], ◌∷◌, ◌++◌}
+-- What a step of the ledger does to it, its own or one that it shares with a home, and what is true of the ledger at all times.
+use Rattle.std.specs.Prelude.{◌≡◌, ◌≢◌, ◌⊎◌, ℕ, ◌<◌, ◌++◌, true, false, [], ◌∷◌, length, Option, Some, None, Ok, Err, nat_le, count_by}
+use Rattle.std.specs.List.{list_any}
 use Rattle.sq_base.specs.StampValue.{StampValue}
-use Rattle.sq_base.specs.Stamps.{start}
+use Rattle.sq_base.specs.Stamps.{start, after}
 use Rattle.sq_base.specs.declared.ids.HomeId.{HomeId}
+use Rattle.sq_base.specs.declared.refusal.Refusal.{Refusal}
+use Rattle.sq_base.specs.declared.refusal.Refusal.TheVariants.{NoMemory, Worn, OverLimit, UnsupportedOperation}
 use Rattle.sq_model.specs.declared.calls.HomeCall.{HomeCall}
+use Rattle.sq_model.specs.declared.calls.HomeCall.TheVariants.{LeaveDead, LeaveTask}
 use Rattle.sq_model.specs.declared.event.Actor.{Actor}
 use Rattle.sq_model.specs.declared.item.Item.{Item}
+use Rattle.sq_model.specs.declared.item.Reason.TheVariants.{DeadLetter, Task as ForTask}
+use Rattle.sq_model.specs.declared.ledger.LedgerCall.{LedgerCall}
 use Rattle.sq_model.specs.declared.ledger.LedgerCall.TheVariants as asks
+use Rattle.sq_model.specs.declared.ledger.LedgerReply.{LedgerReply}
 use Rattle.sq_model.specs.declared.ledger.LedgerReply.TheVariants as answers
 use Rattle.sq_model.specs.declared.place.Component.TheVariants as part
 use Rattle.sq_model.specs.declared.replies.HomeReply.{HomeReply}
+use Rattle.sq_model.specs.declared.replies.HomeReply.TheVariants.{NoLiveRow, NoOrigin, SourceClosed}
 use Rattle.sq_model.specs.declared.shared.ItemAct.{ItemAct}
+use Rattle.sq_model.specs.declared.task.Task.{Task}
+use Rattle.sq_model.specs.Homes.{IsFrom, refused_if}
 use Rattle.sq_model.specs.ItemActs.{IsItemReply, call_with, may_act}
-use Rattle.sq_model.specs.Ledgers.{LedgerEvent, LedgerStep, opening_ledger}
+use Rattle.sq_model.specs.Ledgers.{HasRoom, Ledger, LedgerEvent, LedgerStep, MayTake, is_active_at, last_number, last_task, ledger_refusal, most_active, opening_ledger}
+use Rattle.sq_model.specs.RecordValues.{LedgerRecordValue, record_of}
 use Rattle.sq_model.specs.Replays.{Replays, StampsRise}
 use Rattle.sq_model.specs.Systems.{AreLedger}
+use Rattle.sq_model.specs.Tasks.{is_active, may_leave, target_of}
 use Rattle.sq_history.specs.Logs.{event_by}
 use Rattle.sq_history.specs.Rooms.{IsReady, KeepsRoom}
 use Rattle.sq_ledger.specs.LedgerHistory.{LedgerHistory, LedgerValue}
@@ -29,6 +41,53 @@ pub record LedgerShares (old new : LedgerHistory) (by : Actor) (stamp : StampVal
   pub last : new.last ≡ stamp
   pub events : new.events ≡ old.events ++ shared_event stamp by home call reply ∷ []
   pub room : KeepsRoom old.room new.room
+  pub task_room : new.task_room ≡ old.task_room
+
+-- the event of a step of the ledger alone
+abbrev pub own_event : StampValue → Actor → LedgerCall → LedgerReply → LedgerEvent
+own_event stamp by call reply = event_by stamp by part.Ledger call reply
+
+-- the start of a task uses memory for one, and no other call does
+abbrev pub KeepsTaskRoom : LedgerCall → ℕ → ℕ → Type 0
+KeepsTaskRoom (asks.StartTask source destination rate) old new = KeepsRoom old new
+KeepsTaskRoom other old new = new ≡ old
+
+-- Exactly one event was added: a step of the ledger alone at a new stamp, above its last and above what the actor had seen. The record is its own.
+pub record LedgerRecords (old new : LedgerHistory) (by : Actor) (now : ℕ) (call : LedgerCall) (its_record : LedgerRecordValue) : Type 0 where
+  pub stamped : after old.last by.seen now ≡ Ok its_record.stamp
+  pub step : LedgerStep old.ledger its_record.stamp.moment call its_record.reply new.ledger
+  pub last : new.last ≡ its_record.stamp
+  pub events : new.events ≡ old.events ++ own_event its_record.stamp by call its_record.reply ∷ []
+  pub room : KeepsRoom old.room new.room
+  pub task_room : KeepsTaskRoom call old.task_room new.task_room
+  pub record_is : its_record ≡ record_of (length old.events) (own_event its_record.stamp by call its_record.reply)
+
+-- What a call takes memory for, beside its event: a task where there is room for none, or the first one of its source; and the tasks that are listed.
+abbrev pub TakesMemory : LedgerHistory → LedgerCall → Type 0
+TakesMemory h (asks.StartTask source destination rate) = (h.task_room ≡ 0) ⊎ (last_task source.number h.ledger ≡ None)
+TakesMemory h (asks.ListTasks source most) = last_task source h.ledger ≢ None
+TakesMemory h other = ⊥
+
+-- No memory was found for the event; or the first check in order that fails: the clock's, the counts', the ledger's; or, where none fails, no memory was found for what else is kept or copied.
+abbrev pub IsLedgerRefused : LedgerHistory → Actor → ℕ → LedgerCall → Refusal → Type 0
+IsLedgerRefused old by now call e =
+    ((e ≡ NoMemory) × (old.room ≡ 0))
+    ⊎ (after old.last by.seen now ≡ Err e)
+    ⊎ ((stamp : StampValue) × (after old.last by.seen now ≡ Ok stamp)
+    × ((ledger_refusal old.ledger stamp.moment call ≡ Some e) ⊎ ((e ≡ NoMemory) × (ledger_refusal old.ledger stamp.moment call ≡ None) × TakesMemory old call)))
+
+-- a number is left for a task, none of its source is active, and not too many are
+pub record MayStart (source : ℕ) (l : Ledger) : Type 0 where
+  pub not_worn : l.next_task < last_number
+  pub none_active : list_any (is_active_at source) l.tasks ≡ false
+  pub few_active : count_by (λ task. is_active task.status) l.tasks < most_active
+
+-- why a task of a source does not start
+abbrev pub start_refusal : ℕ → Ledger → Option Refusal
+start_refusal source l =
+    refused_if (nat_le last_number l.next_task) Worn
+    (refused_if (list_any (is_active_at source) l.tasks) UnsupportedOperation
+    (refused_if (nat_le most_active (count_by (λ task. is_active task.status) l.tasks)) OverLimit None))
 
 -- there is memory for one event more
 abbrev pub IsPrepared : LedgerValue → Type 0
@@ -39,6 +98,21 @@ pub record DoesItem (act : ItemAct) (home : HomeId) (call : HomeCall) (reply : H
   pub is_call : call ≡ call_with act item
   pub may : may_act act home item ≡ true
   pub replies : IsItemReply act reply
+
+-- A message leaves this home as this item: a dead one, or one for a task that takes messages from there and whose rate allows it, to where the task moves it.
+abbrev pub IsLeaving : Ledger → ℕ → HomeId → HomeCall → Item → Type 0
+IsLeaving l m home LeaveDead item = IsFrom home DeadLetter item
+IsLeaving l m home (LeaveTask number) item = IsFrom home (ForTask number) item × ((task : Task) × MayTake l home.queue number task × (may_leave m task ≡ true) × (Some item.target ≡ target_of task item.row))
+-- no other call lets a message out
+IsLeaving l m home call item = ⊥
+
+-- A leave for the task of this number let no message out of this home: none was live; the one that was chosen has no queue to go to; or the home was closed.
+abbrev pub IsNoneLeft : Ledger → ℕ → HomeId → ℕ → HomeCall → HomeReply → Type 0
+IsNoneLeft l m home number (LeaveTask asked) NoLiveRow = (asked ≡ number) × ((task : Task) × MayTake l home.queue number task × (may_leave m task ≡ true))
+IsNoneLeft l m home number (LeaveTask asked) (NoOrigin serial) = (asked ≡ number) × ((task : Task) × MayTake l home.queue number task × (may_leave m task ≡ true) × (task.destination ≡ None)) × HasRoom l
+IsNoneLeft l m home number (LeaveTask asked) SourceClosed = (asked ≡ number) × ((task : Task) × MayTake l home.queue number task)
+-- no other answer is without a message
+IsNoneLeft l m home number call reply = ⊥
 
 -- True at all times: the ledger is the replay of its events, whose stamps rise, and each event is its own or one that it shares.
 pub record IsLedgerKept (h : LedgerHistory) : Type 0 where

@@ -3,10 +3,13 @@ ghost use Rattle.std.specs.Prelude.{◌≡◌, ◌↔◌, true};
 ghost use Rattle.sq_model.specs.Matches.{InLedger};
 ghost use Rattle.sq_model.specs.Passages.{is_alone, is_leave};
 ghost use Rattle.sq_model.specs.Systems.{as_ledger};
+ghost use Rattle.sq_ledger.specs.Events.{HasLedgerEvent};
 
 use crate::ledger::TransitLedger;
+use crate::record::LedgerRecord;
+use crate::same;
 use sq_base::ids::HomeId;
-use sq_history::events::event_at;
+use sq_history::events::{event_at, event_of};
 use sq_model::calls::HomeCall;
 use sq_model::event::Event;
 use sq_model::ledger::{LedgerCall, LedgerReply};
@@ -69,4 +72,16 @@ pub fn has_shared_event(
         Some(kept) => is_shared_event(kept, home, event),
         None => false,
     }
+}
+
+/// Whether the ledger's history has the event of this actor's record, as an event of the ledger alone.
+pub fn has_ledger_event(ledger: &TransitLedger, actor: u32, kept: &LedgerRecord) -> bool
+    ensures { result ≡ true ↔ HasLedgerEvent ledger.now.history.events actor kept.now }
+{
+    let step = kept.step();
+    event_of(ledger.events(), actor, step).is_some_and(|event| {
+        same::is_own(&event.call)
+            && same::is_same_call(&event.call, &step.call)
+            && same::is_same_reply(&event.reply, &step.reply)
+    })
 }

@@ -1,42 +1,44 @@
 //! The ledger: the messages that left one queue and are not yet in another, and all that was done to them.
-ghost use Rattle.std.specs.Prelude.{◌≡◌, ◌⊎◌, ◌+◌, ◌<◌, ◌≤◌, ◌++◌, ◌∷◌, [], Some, None, IfOk, IfErr, OnOk, option_map};
+ghost use Rattle.std.specs.Prelude.{◌≡◌, ◌⊎◌, ◌+◌, ◌<◌, ◌≤◌, ◌++◌, ◌∷◌, [], Some, None, IfOk, IfErr, OnOk, find, option_map};
 ghost use Rattle.sq_base.specs.Stamps.{start, Below};
-ghost use Rattle.sq_model.specs.declared.calls.HomeCall.TheVariants.{LeaveDead};
 ghost use Rattle.sq_model.specs.declared.item.Item.{Item as Moved};
-ghost use Rattle.sq_model.specs.declared.item.Reason.TheVariants.{DeadLetter};
 ghost use Rattle.sq_model.specs.declared.replies.HomeReply.TheVariants.{Left};
-ghost use Rattle.sq_model.specs.Homes.{IsFrom};
-ghost use Rattle.sq_model.specs.Ledgers.{HasRoom, item_of, opening_ledger, peek, room_refusal};
+ghost use Rattle.sq_model.specs.declared.task.Task.{Task as Moving};
+ghost use Rattle.sq_model.specs.Ledgers.{HasRoom, has_number, is_task, item_of, opening_ledger, peek, room_refusal};
 ghost use Rattle.sq_model.specs.Replays.{StampsRise};
 ghost use Rattle.sq_history.specs.Rooms.{IsReady, KeepsRoom};
-ghost use Rattle.sq_ledger.specs.LedgerHistories.{DoesItem, IsLedgerKept, IsPrepared, LedgerShares, shared_event};
+ghost use Rattle.sq_ledger.specs.LedgerHistories.{DoesItem, IsLeaving, IsLedgerKept, IsNoneLeft, IsPrepared, LedgerShares, shared_event};
+ghost use Rattle.sq_ledger.specs.ItemMoves.{change_by, tasks_without};
 
 use crate::items::Items;
+use crate::tasks::{TaskChange, Tasks};
 use sq_base::ids::HomeId;
 use sq_base::refusal::Refusal;
 use sq_base::stamp::Stamp;
 use sq_history::log::Log;
 use sq_model::calls::HomeCall;
 use sq_model::event::{Actor, Event};
-use sq_model::item::{Item, ItemNo};
+use sq_model::item::{Item, ItemNo, Reason, TaskNo};
 use sq_model::ledger::{LedgerCall, LedgerReply};
 use sq_model::place::Component;
 use sq_model::replies::HomeReply;
 use sq_model::shared::ItemAct;
+use sq_model::task::FailureReason;
 use std::alloc::Global;
 use std::marker::Model;
 
-/// The messages between two queues, as items with numbers, and the history of the steps that the ledger shares with the
-/// homes: the ledger is always the replay of it. Moments are in ms. Own.
+/// The messages between two queues, as items with numbers, the tasks that move messages, and the history of all steps, those
+/// that the ledger shares with homes and its own: the ledger is always the replay of it. Moments are in ms. Own.
 ///
-/// A step is done at a home and here, at one stamp. It is begun with `prepare`, and with `room` where an item is to come
-/// in; what follows takes no memory and is not refused.
+/// A shared step is done at a home and here, at one stamp. It is begun with `prepare`, and with `room` or `task_leave` where
+/// an item is to come in; what follows takes no memory and is not refused.
 #[derive(Drop)]
 pub struct TransitLedger {
     items: Items,
     next: u64,
+    pub(crate) tasks: Tasks,
     limit: u32,
-    log: Log<LedgerCall, LedgerReply>,
+    pub(crate) log: Log<LedgerCall, LedgerReply>,
 }
 
 impl Model for TransitLedger {
@@ -45,19 +47,20 @@ impl Model for TransitLedger {
 
     ghost Value = { LedgerValue };
 
-    ghost view = { λ t. record { history = history_of t.items.items t.next t.limit t.log; reserved = t.log.reserved; item_reserved = t.items.reserved } };
+    ghost view = { λ t. record { history = history_of t.items.items t.next t.tasks t.limit t.log; reserved = t.log.reserved; item_reserved = t.items.reserved } };
 
-    ghost invariant = { λ t. IsLedgerKept (history_of t.items.items t.next t.limit t.log) };
+    ghost invariant = { λ t. IsLedgerKept (history_of t.items.items t.next t.tasks t.limit t.log) };
 }
 
 impl TransitLedger {
     /// No item and no event. It is to hold so many items at most.
     pub fn new(alloc: Global, limit: u32) -> TransitLedger
-        ensures { result.history ≡ record { ledger = opening_ledger limit; last = start; events = []; room = 0 } }
+        ensures { result.history ≡ record { ledger = opening_ledger limit; last = start; events = []; room = 0; task_room = 0 } }
     {
         TransitLedger {
             items: Items::new(alloc),
             next: 1,
+            tasks: Tasks::new(alloc),
             limit,
             log: Log::new(alloc),
         }
@@ -125,8 +128,8 @@ impl TransitLedger {
         self.log.reserve()
     }
 
-    /// A dead message comes in from this home, as the item with the next number. The call and the reply are those of the
-    /// home's event.
+    /// A message comes in from this home, as the item with the next number: a dead one, or one for a task, which counts it.
+    /// The call and the reply are those of the home's event.
     pub fn take_in(
         &mut self,
         by: &Actor,
@@ -140,19 +143,42 @@ impl TransitLedger {
         requires above { Below self.old.history.last stamp }
         requires has_room { HasRoom self.old.history.ledger }
         requires number { item.number ≡ self.old.history.ledger.next_item }
-        requires from { IsFrom home.now DeadLetter item }
-        requires call { kept.0 ≡ LeaveDead }
+        requires leaves { IsLeaving self.old.history.ledger stamp.moment home.now kept.0 item }
         requires reply { kept.1 ≡ Left item }
         ensures shares { LedgerShares self.old.history self.new.history by.now stamp home.now kept.0 kept.1 }
         ensures item_reserved { self.old.item_reserved ≤ self.new.item_reserved + 1 }
     {
+        let change = TaskChange::Left(stamp.moment);
+        self.tasks.change_for(item.reason, change);
         self.items.push(item);
         self.next += 1;
         add_event(&mut self.log, by, stamp, home, kept);
     }
 
-    /// This home did this with the item of a number: it goes out, to its target, back to its source or given up there; or it
-    /// goes back to its source from now on. The call and the reply are those of the home's event.
+    /// A leave for the task of a number let no message out of this home. Where none was live that changes nothing; where the
+    /// message has no queue to go to, or the home was closed, the task fails. The call and the reply are those of the home's
+    /// event.
+    pub fn take_none(
+        &mut self,
+        by: &Actor,
+        stamp: Stamp,
+        home: &HomeId,
+        kept: (HomeCall, HomeReply),
+        number: TaskNo,
+    )
+        requires prepared { IsPrepared self.old }
+        requires above { Below self.old.history.last stamp }
+        requires none { IsNoneLeft self.old.history.ledger stamp.moment home.now number kept.0 kept.1 }
+        ensures shares { LedgerShares self.old.history self.new.history by.now stamp home.now kept.0 kept.1 }
+        ensures item_reserved { self.new.item_reserved ≡ self.old.item_reserved }
+    {
+        fail_without(&mut self.tasks, number, &kept.1);
+        add_event(&mut self.log, by, stamp, home, kept);
+    }
+
+    /// This home did this with the item of a number: it goes out, to its target, back to its source or given up there, which
+    /// its task counts; or it goes back to its source from now on, and its task fails. The call and the reply are those of the
+    /// home's event.
     pub fn item_step(
         &mut self,
         by: &Actor,
@@ -168,8 +194,50 @@ impl TransitLedger {
         ensures shares { LedgerShares self.old.history self.new.history by.now stamp home.now kept.0 kept.1 }
         ensures item_reserved { self.old.item_reserved ≤ self.new.item_reserved }
     {
+        let reason = reason_of(&self.items, number);
+        self.tasks.change_for(reason, change_by(act));
         self.items.apply(act, number.get());
         add_event(&mut self.log, by, stamp, home, kept);
+    }
+}
+
+// Why the item of a number was moved.
+fn reason_of(items: &Items, number: ItemNo) -> Reason
+    ensures { (item : Moved) → find (has_number number) items.now.items ≡ Some item → result ≡ item.reason }
+{
+    match items.get(number.get()) {
+        Some(item) => item.reason,
+        None => Reason::DeadLetter,
+    }
+}
+
+// What is done to the task of an item.
+fn change_by(act: ItemAct) -> TaskChange
+    ensures { result ≡ change_by act }
+{
+    match act {
+        ItemAct::Enter => TaskChange::Entered,
+        ItemAct::TurnBack => TaskChange::Failed(FailureReason::DestinationClosed),
+        ItemAct::GiveBack => TaskChange::Back,
+        ItemAct::GiveUp => TaskChange::Dropped,
+    }
+}
+
+// A task fails that a leave answered so, where it does.
+fn fail_without(tasks: &mut Tasks, number: TaskNo, reply: &HomeReply)
+    requires { (task : Moving) × (find (is_task number) tasks.old.items ≡ Some task) }
+    ensures items { tasks.new.items ≡ tasks_without number reply.now tasks.old.items }
+    ensures room { tasks.new.room ≡ tasks.old.room }
+    ensures reserved { tasks.new.reserved ≡ tasks.old.reserved }
+{
+    match reply {
+        HomeReply::NoOrigin(_) => {
+            tasks.change(number, TaskChange::Failed(FailureReason::NoOrigin));
+        }
+        HomeReply::SourceClosed => {
+            tasks.change(number, TaskChange::Failed(FailureReason::SourceClosed));
+        }
+        _ => {}
     }
 }
 

@@ -4,3 +4,7 @@
 pub mod events;
 pub mod items;
 pub mod ledger;
+pub mod record;
+pub mod same;
+pub mod task_calls;
+pub mod tasks;

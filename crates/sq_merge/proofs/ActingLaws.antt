@@ -5,19 +5,28 @@ use Rattle.sq_base.specs.Stamps.{stamp_end, next_at, after, stamped}
 use Rattle.sq_base.specs.StampValue.{StampValue}
 use Rattle.sq_base.specs.declared.ids.HomeId.{HomeId}
 use Rattle.sq_base.specs.declared.refusal.Refusal.{Refusal}
-use Rattle.sq_base.specs.declared.refusal.Refusal.TheVariants.{NoMemory, ClockRange, Worn, InvalidAttributeValue, InvalidParameterValue, PurgeQueueInProgress, QueueDoesNotExist, OverLimit, ReceiptHandleIsInvalid, MessageNotInflight, UnsupportedOperation}
+use Rattle.sq_base.specs.declared.refusal.Refusal.TheVariants.{NoMemory, ClockRange, Worn, InvalidAttributeValue, InvalidParameterValue, PurgeQueueInProgress, QueueDoesNotExist, OverLimit, ReceiptHandleIsInvalid, ResourceNotFoundException, MessageNotInflight, UnsupportedOperation}
 use Rattle.std.specs.List.{list_any}
 use Rattle.sq_base.specs.declared.row.Row.{Row}
-use Rattle.sq_model.specs.Directories.{Directory, DirectoryStep, agrees, create_refusal, deleted_recently, directory_refusal, last_version, may_have, purged_recently, queue_of, refused_at}
+use Rattle.sq_model.specs.Directories.{Directory, DirectoryStep, MoveEnds, agrees, create_refusal, deleted_recently, directory_refusal, last_version, may_have, move_between, move_from, move_to, purged_recently, queue_of, refused_at}
+use Rattle.sq_model.specs.declared.task.NamedQueue.{NamedQueue}
+use Rattle.sq_model.specs.declared.ledger.LedgerReply.{LedgerReply}
+use Rattle.sq_model.specs.declared.ledger.LedgerReply.TheVariants as ledger
+use Rattle.sq_steps.specs.declared.act.TaskAct.{TaskAct}
+use Rattle.sq_steps.specs.declared.act.TaskAct.TheVariants as task
+use Rattle.sq_steps.specs.TaskActs.{task_call}
+use Rattle.sq_client.specs.declared.walk.Walk.{Walk}
 use Rattle.sq_model.specs.declared.directory.Attributes.{Attributes}
 use Rattle.sq_model.specs.declared.directory.DirectoryCall.{DirectoryCall}
 use Rattle.sq_model.specs.declared.directory.DirectoryCall.TheVariants as asks
 use Rattle.sq_model.specs.declared.directory.DirectoryReply.{DirectoryReply}
 use Rattle.sq_model.specs.declared.directory.DirectoryReply.TheVariants as answers
 use Rattle.sq_model.specs.declared.directory.Queue.{Queue}
-use Rattle.sq_model.specs.Rows.{ms, trimmed, is_dead, is_held, is_late}
-use Rattle.sq_model.specs.Ledgers.{Ledger, item_of, last_number, room_refusal}
-use Rattle.sq_model.specs.Shared.{after_given, is_entering, is_returning, shared_refusal}
+use Rattle.sq_model.specs.Rows.{ms, trimmed, is_dead, is_held, is_late, is_live}
+use Rattle.sq_model.specs.declared.task.Task.{Task}
+use Rattle.sq_model.specs.Tasks.{is_running}
+use Rattle.sq_model.specs.Ledgers.{Ledger, LedgerStep, cancel_refusal, finish_refusal, in_transit, is_of_source, item_of, last_number, ledger_refusal, room_refusal, task_of}
+use Rattle.sq_model.specs.Shared.{after_given, is_entering, is_returning, is_throttled, shared_refusal, task_refusal}
 use Rattle.sq_steps.specs.SharedSteps.{asked_as}
 use Rattle.sq_steps.specs.declared.act.Move.{Move}
 use Rattle.sq_steps.specs.declared.act.Move.TheVariants as move
@@ -29,11 +38,11 @@ use Rattle.sq_history.specs.declared.act.HomeAct.{HomeAct}
 use Rattle.sq_history.specs.declared.act.HomeAct.TheVariants as act
 use Rattle.sq_history.specs.Acts.{call_of}
 use Rattle.sq_history.specs.HistoryValue.{HistoryValue}
-use Rattle.sq_merge.specs.Asks.{Resolve, Directed, AtHome, Moving, IsAnswerTo, IsReplyTo, IsOfAnyStep, IsOfAct, IsOfMove, IsOfDirectory, MayRefuse}
+use Rattle.sq_client.specs.Asks.{Resolve, Directed, AtHome, Moving, Redriven, Ledgered, Walking, IsAnswerTo, IsReplyTo, IsToldTo, IsOfAnyStep, IsOfAct, IsOfMove, IsOfDirectory, IsOfTask, MayRefuse}
 use Rattle.sq_steps.specs.Journals.{journal_of, worn_at, last_place, IsNotReady}
 use Rattle.sq_model.specs.RecordValues.{Journal}
 use Rattle.sq_merge.specs.WorldValue.{WorldValue}
-use Rattle.sq_merge.specs.Worlds.{HomeStepped, HomeRefused, DirectoryStepped, DirectoryRefused, NameRefused, SharedRefused, IsKnown}
+use Rattle.sq_merge.specs.Worlds.{HomeStepped, HomeRefused, DirectoryStepped, DirectoryRefused, NameRefused, SharedRefused, LedgerStepped, LedgerRefused, EndsUnread, WalkUnread, IsKnown}
 use Rattle.sq_directory.specs.Makers.{IsAnsweredByName, name_asked, queue_answered}
 use Rattle.sq_merge.proofs.ReceivedLaws.{step_received}
 use Rattle.sq_merge.proofs.KnownLaws.{known_directed, known_stepped}
@@ -144,6 +153,15 @@ dead_cases : (l : Ledger) (test : Bool) (e : Refusal) → (if test then room_ref
 dead_cases l true e h = room_cases l e h
 dead_cases l false e h = absurd (no_refusal e h)
 
+-- why a leave for a task is refused, where its own checks come first
+task_cases : (home : HomeId) (number : ℕ) (found : Option Task) (later : Option Refusal) (e : Refusal) → ((later ≡ Some e) → IsOfAnyStep e ⊎ (e ≡ OverLimit)) → task_refusal home found later ≡ Some e
+    → IsOfAnyStep e ⊎ (e ≡ QueueDoesNotExist) ⊎ IsOfMove (move.LeaveTask number) e
+task_cases home number None later e own h = inr (inr (inl cc))
+task_cases home number (Some task) later e own h = elim (refused_cases (not (is_running task.status && is_of_source home.queue task)) UnsupportedOperation later e h) [
+  | inl over ↦ inr (inr (inr (inl over)))
+  | inr rest ↦ elim (own rest) [ inl any ↦ inl any | inr full ↦ inr (inr (inr (inr full))) ]
+]
+
 -- why an item does not come in at a home that serves, where it is not for this home or else
 arrival_is : (site : Site) (n : ℕ) (rows : List Row) (other : Bool) (e : Refusal) → place_refusal site.limits n rows (refused_if other UnsupportedOperation None) ≡ Some e → IsOfAnyStep e ⊎ (e ≡ QueueDoesNotExist) ⊎ (e ≡ OverLimit) ⊎ (e ≡ UnsupportedOperation)
 arrival_is site n rows other e h =
@@ -153,11 +171,14 @@ shared_is : (site : Site) (home : Home) (l : Ledger) (m : ℕ) (what : Move) (e 
 unfolding shared_refusal
 shared_is site Unopened l m what e h = inr (inl cc)
 shared_is site (Serving s v n rows) l m move.LeaveDead e h = elim (dead_cases l (list_any (is_dead s m) (trimmed s m rows)) e h) [ inl any ↦ inl any | inr over ↦ inr (inr over) ]
+shared_is site (Serving s v n rows) l m (move.LeaveTask number) e h =
+    task_cases site.home number (task_of number l) _ e (λ later. dead_cases l (not (is_throttled m (task_of number l)) && list_any (is_live s m) (trimmed s m rows)) e later) h
 shared_is site (Serving s v n rows) l m (move.Enter number) e h = arrival_is site n (trimmed s m rows) (not (is_entering site.home (item_of number l))) e h
 shared_is site (Serving s v n rows) l m (move.TurnBack number) e h = inr (inr cc)
 shared_is site (Serving s v n rows) l m (move.GiveBack number) e h = arrival_is site n (trimmed s m rows) (not (is_returning site.home (item_of number l))) e h
 shared_is site (Serving s v n rows) l m (move.GiveUp number) e h = inr (inr cc)
 shared_is site Closed l m move.LeaveDead e h = inr (inl cc)
+shared_is site Closed l m (move.LeaveTask number) e h = task_cases site.home number (task_of number l) None e (λ later. absurd (no_refusal e later)) h
 shared_is site Closed l m (move.Enter number) e h = inr (inl cc)
 shared_is site Closed l m (move.TurnBack number) e h = inr (inr (one_case (not (is_entering site.home (item_of number l))) UnsupportedOperation e h))
 shared_is site Closed l m (move.GiveBack number) e h = inr (inl cc)
@@ -283,3 +304,79 @@ pub answered_known : (old new : WorldValue) (actor now : ℕ) (call : DirectoryC
     → IfOk answered (λ by. (name : List ℕ) (queue : ℕ) → name_asked call ≡ Some name → queue_answered by ≡ Some queue → IsKnown new.directory.events (journal_of actor new.journals) (Some name) queue)
 answered_known old new actor now call (Ok by) s made = λ name queue asked of. known_directed old new actor now call by name queue s (made name queue asked of)
 answered_known old new actor now call (Err e) s made = tt
+
+-- ---- move tasks
+
+cancel_cases : (found : Option Task) (e : Refusal) → cancel_refusal found ≡ Some e → (e ≡ ResourceNotFoundException) ⊎ (e ≡ UnsupportedOperation)
+cancel_cases None e h = inl cc
+cancel_cases (Some found) e h = inr (one_case _ UnsupportedOperation e h)
+
+finish_cases : (waiting : ℕ) (found : Option Task) (e : Refusal) → finish_refusal waiting found ≡ Some e → (e ≡ ResourceNotFoundException) ⊎ (e ≡ UnsupportedOperation)
+finish_cases waiting None e h = inl cc
+finish_cases waiting (Some found) e h = inr (one_case _ UnsupportedOperation e h)
+
+own_cases : (l : Ledger) (m : ℕ) (what : TaskAct) (e : Refusal) → ledger_refusal l m (task_call what) ≡ Some e → IsOfAnyStep e ⊎ IsOfTask what e
+unfolding ledger_refusal
+own_cases l m (task.Start asked) e h = elim (three_cases _ _ _ Worn UnsupportedOperation OverLimit e h) [ inl worn ↦ inl (inr (inr worn)) | inr rest ↦ inr rest ]
+own_cases l m (task.Cancel number) e h = inr (cancel_cases (task_of number l) e h)
+own_cases l m (task.List source most) e h = absurd (no_refusal e h)
+own_cases l m (task.Finish number) e h = inr (finish_cases (in_transit number l.items) (task_of number l) e h)
+
+-- why a step of the ledger alone is refused
+pub ledgered_may : (w : WorldValue) (actor now : ℕ) (what : TaskAct) (e : Refusal) → LedgerRefused w actor now what e → MayRefuse (Ledgered what) e
+ledgered_may w actor now what e h = elim h [
+  | inl unready ↦ inl (not_ready (journal_of actor w.journals) now e unready)
+  | inr step ↦ step_may e step.1 (λ clock. after_refused _ _ now e clock) (λ own. elim own.2 [ inl refused ↦ own_cases _ _ what e refused | inr out ↦ inl (inl out.0) ])
+]
+
+pub answered_ledgered : (w : WorldValue) (actor now : ℕ) (what : TaskAct) (answered : Result LedgerReply Refusal) → IfErr answered (LedgerRefused w actor now what) → IfErr answered (MayRefuse (Ledgered what))
+answered_ledgered w actor now what (Ok by) h = tt
+answered_ledgered w actor now what (Err e) h = ledgered_may w actor now what e h
+
+-- what the ledger tells of a step of its own
+told_is : (l : Ledger) (m : ℕ) (what : TaskAct) (by : LedgerReply) (after : Ledger) → LedgerStep l m (task_call what) by after → IsToldTo what by
+unfolding LedgerStep
+told_is l m (task.Start asked) (ledger.Started number) after h = tt
+told_is l m (task.Cancel number) (ledger.Cancelled moved) after h = tt
+told_is l m (task.List source most) (ledger.Listed tasks) after h = tt
+told_is l m (task.Finish number) ledger.Finished after h = tt
+told_is l m (task.Start asked) by after h = elim h [ ]
+told_is l m (task.Cancel number) by after h = elim h [ ]
+told_is l m (task.List source most) by after h = elim h [ ]
+told_is l m (task.Finish number) by after h = elim h [ ]
+
+pub answered_told : (old new : WorldValue) (actor now : ℕ) (what : TaskAct) (answered : Result LedgerReply Refusal) → IfOk answered (LedgerStepped old new actor now what) → IfOk answered (IsToldTo what)
+answered_told old new actor now what (Ok by) s = subst (λ (r : LedgerReply). IsToldTo what r) s.moves.answered (told_is _ _ what s.moves.its_record.reply _ s.moves.does.step)
+answered_told old new actor now what (Err e) s = tt
+
+-- between which queues messages may not be moved
+chosen_err : {X : Type 0} (test : Bool) (x : X) (r e : Refusal) → (if test then Ok x else Err r) ≡ Err e → e ≡ r
+chosen_err true x r e h = absurd (ok_is_no_err x e h)
+chosen_err false x r e h = cc
+
+from_cases : (d : Directory) (source : Queue) (destination : Option NamedQueue) (e : Refusal) → move_from d source destination ≡ Err e → e ≡ UnsupportedOperation
+from_cases d source destination e h = chosen_err {X = MoveEnds} _ _ UnsupportedOperation e h
+
+to_cases : (d : Directory) (source : Queue) (found : Option Queue) (e : Refusal) → move_to d source found ≡ Err e → (e ≡ ResourceNotFoundException) ⊎ (e ≡ UnsupportedOperation)
+to_cases d source None e h = inl cc
+to_cases d source (Some destination) e h = inr (from_cases d source _ e h)
+
+between_cases : (d : Directory) (found : Option Queue) (destination : Option (List ℕ)) (e : Refusal) → move_between d found destination ≡ Err e → (e ≡ ResourceNotFoundException) ⊎ (e ≡ UnsupportedOperation)
+between_cases d None destination e h = inl cc
+between_cases d (Some source) None e h = inr (from_cases d source None e h)
+between_cases d (Some source) (Some name) e h = to_cases d source (queue_of name d.queues) e h
+
+pub redriven_may : (w : WorldValue) (actor : ℕ) (source : List ℕ) (destination : Option (List ℕ)) (e : Refusal) → EndsUnread w actor source destination e → MayRefuse (Redriven source destination) e
+redriven_may w actor source destination e h = elim h [
+  | inl refused ↦ elim (between_cases w.directory.directory (queue_of source w.directory.directory.queues) destination e refused) [ inl none ↦ inl none | inr other ↦ inr (inl other) ]
+  | inr unread ↦ inr (inr unread.1.0)
+]
+
+pub answered_redriven : (w : WorldValue) (actor : ℕ) (source : List ℕ) (destination : Option (List ℕ)) (answered : Result (NamedQueue × Option NamedQueue) Refusal) → IfErr answered (EndsUnread w actor source destination)
+    → IfErr answered (MayRefuse (Redriven source destination))
+answered_redriven w actor source destination (Ok queues) h = tt
+answered_redriven w actor source destination (Err e) h = redriven_may w actor source destination e h
+
+pub answered_walking : (w : WorldValue) (actor number : ℕ) (answered : Result (Task × Walk) Refusal) → IfErr answered (WalkUnread w actor number) → IfErr answered (MayRefuse (Walking number))
+answered_walking w actor number (Ok found) h = tt
+answered_walking w actor number (Err e) h = elim h [ inl none ↦ inl none.1 | inr unmade ↦ inr unmade.1 ]

@@ -3,10 +3,10 @@ use Rattle.std.proofs.Common.{◌≡◌, ℕ, List, Result, refl, ap, subst}
 use Rattle.sq_base.specs.declared.refusal.Refusal.{Refusal}
 use Rattle.sq_steps.specs.Journals.{journal_of}
 use Rattle.sq_merge.specs.Acting.{ActorStepped}
-use Rattle.sq_merge.specs.Asks.{Ask, Gave, Done}
-use Rattle.sq_merge.specs.Performs.{Performs, LeavesRecords}
+use Rattle.sq_client.specs.Asks.{Ask, Gave, Done}
+use Rattle.sq_client.specs.Performs.{Performs, LeavesRecords}
 use Rattle.sq_merge.specs.declared.acting.Acting.{Acting}
-use Rattle.sq_merge.proofs.PathLaws.{path_inside}
+use Rattle.sq_client.proofs.PathLaws.{path_inside}
 
 -- a step at the world that is borrowed; the reference, the actor and the clock reading stay
 abbrev pub ActingStepped : Acting → Ask → Result Gave Refusal → Acting → Type 0

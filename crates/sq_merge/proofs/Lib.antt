@@ -3,8 +3,6 @@ pub mod ScheduleLaws
 pub mod StepLaws
 pub mod ReceivedLaws
 pub mod KnownLaws
-pub mod PathLaws
-pub mod ClientLaws
 pub mod ActingLaws
-pub mod TurnLaws
 pub mod BorrowedLaws
+pub mod ProgressLaws

@@ -19,15 +19,18 @@ use Rattle.sq_model.specs.declared.directory.DirectoryReply.{DirectoryReply}
 use Rattle.sq_model.specs.declared.shared.SharedAct.{SharedAct}
 use Rattle.sq_ledger.specs.LedgerHistory.{LedgerHistory}
 use Rattle.sq_steps.specs.SharedSteps.{SharedMoves, IsUnmoved}
+use Rattle.sq_steps.specs.declared.act.TaskAct.{TaskAct}
+use Rattle.sq_steps.specs.TaskActs.{task_call}
+use Rattle.sq_model.specs.declared.ledger.LedgerReply.{LedgerReply}
 use Rattle.sq_model.specs.Replays.{HomeEvent}
 use Rattle.sq_model.specs.RecordValues.{Journal, RecordValue}
 use Rattle.sq_model.specs.Matches.{HomeHistory, IsHomeEvent}
 use Rattle.sq_history.specs.HistoryValue.{HistoryValue}
 use Rattle.sq_directory.specs.DirectoryHistory.{DirectoryHistory}
-use Rattle.sq_steps.specs.Journals.{is_of, new_journal, journal_of, index_in, opened, having_seen, put_journal, with_record, last_place, HomeMoves, DirectoryMoves, IsNotReady}
+use Rattle.sq_steps.specs.Journals.{is_of, new_journal, journal_of, index_in, opened, having_seen, put_journal, with_record, last_place, HomeMoves, DirectoryMoves, LedgerMoves, IsNotReady}
 use Rattle.sq_merge.specs.WorldValue.{WorldValue}
 use Rattle.sq_audit.specs.HomeIds.{history_of, histories_of, IsNumbered, home_index}
-use Rattle.sq_merge.specs.Worlds.{IsHomeOf, IsKeptWorld, HomeStepped, SharedStepped, NothingLeaves, DirectoryStepped, DirectoryRefused, having_seen_at}
+use Rattle.sq_merge.specs.Worlds.{IsHomeOf, IsKeptWorld, HomeStepped, SharedStepped, NothingLeaves, DirectoryStepped, DirectoryRefused, LedgerStepped, LedgerRefused, having_seen_at}
 use Rattle.sq_merge.specs.declared.options.Options.{Options}
 use Rattle.sq_merge.specs.Openings.{never_opened, never_opened_homes, limits_of, IsServed, new_world}
 use Rattle.sq_directory.proofs.ElementLaws.{some_same, get_cases, get_mapped, get_within}
@@ -161,6 +164,21 @@ directed_opened old actor now call reply after mine recorded_in is moves = recor
   recorded_in = recorded_in;
   moves = subst (λ (b : Journal). DirectoryMoves old.directory after b recorded_in now call reply) is moves;
   changed = ap (λ (bs : List Journal). record old { directory = after; journals = bs }) (recorded_put actor old.journals mine recorded_in _ is moves.recorded_as);
+}
+
+-- ---- a step of the ledger alone
+
+pub ledgered_unmade : (old : WorldValue) (actor now : ℕ) (what : TaskAct) → position (is_of actor) old.journals ≡ None → LedgerRefused old actor now what NoMemory
+ledgered_unmade old actor now what pos = inl (unmade actor now old.journals pos)
+
+pub ledgered_opened : (old : WorldValue) (actor now : ℕ) (what : TaskAct) (reply : LedgerReply) (after : LedgerHistory) (mine recorded_in : Journal) → mine ≡ journal_of actor old.journals
+    → LedgerMoves old.ledger after mine recorded_in now (task_call what) reply
+    → LedgerStepped old (record old { ledger = after; journals = slice_set (opened actor old.journals) (index_in actor old.journals) recorded_in }) actor now what reply
+ledgered_opened old actor now what reply after mine recorded_in is moves = record {
+  after = after;
+  recorded_in = recorded_in;
+  moves = subst (λ (b : Journal). LedgerMoves old.ledger after b recorded_in now (task_call what) reply) is moves;
+  changed = ap (λ (bs : List Journal). record old { ledger = after; journals = bs }) (recorded_put actor old.journals mine recorded_in _ is moves.recorded_as);
 }
 
 -- ---- a part is read

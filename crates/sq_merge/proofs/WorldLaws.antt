@@ -13,9 +13,13 @@ use Rattle.sq_model.specs.declared.directory.DirectoryReply.{DirectoryReply}
 use Rattle.sq_model.specs.declared.place.Site.{Site}
 use Rattle.sq_model.specs.declared.shared.SharedAct.{SharedAct}
 use Rattle.sq_model.specs.Ledgers.{LedgerEvent, is_own}
+use Rattle.sq_model.specs.declared.ledger.LedgerReply.{LedgerReply}
+use Rattle.sq_steps.specs.declared.act.TaskAct.{TaskAct}
+use Rattle.sq_steps.specs.declared.act.TaskAct.TheVariants.{Start, Cancel, List as ListOf, Finish}
+use Rattle.sq_steps.specs.TaskActs.{task_call}
 use Rattle.sq_model.specs.Replays.{HomeEvent}
 use Rattle.sq_model.specs.Systems.{DirectoryEvent, as_ledger, is_alone}
-use Rattle.sq_model.specs.RecordValues.{HomeRecordValue, DirectoryRecordValue, RecordValue, OfDirectory, OfLedger, OfHome, place_of_record, Journal, actor_of, directory_record_of, home_record_of}
+use Rattle.sq_model.specs.RecordValues.{HomeRecordValue, DirectoryRecordValue, LedgerRecordValue, RecordValue, OfDirectory, OfLedger, OfHome, place_of_record, Journal, actor_of, record_of, directory_record_of, home_record_of}
 use Rattle.sq_model.specs.Matches.{HomeHistory, IsHomeEvent, IsRecordAt, IsNamed, HasItsEvent, IsRecorded, IsOfDirectory, IsOfLedger, IsOfHome, IsMatched, IsPaired, InHome, InLedger}
 use Rattle.sq_history.specs.HistoryValue.{HistoryValue}
 use Rattle.sq_history.specs.Acts.{call_of}
@@ -23,13 +27,13 @@ use Rattle.sq_history.specs.Histories.{new_event, new_record}
 use Rattle.sq_history.specs.declared.act.HomeAct.{HomeAct}
 use Rattle.sq_history.specs.declared.act.HomeAct.TheVariants.{Close}
 use Rattle.sq_ledger.specs.LedgerHistory.{LedgerHistory}
-use Rattle.sq_ledger.specs.LedgerHistories.{shared_event}
+use Rattle.sq_ledger.specs.LedgerHistories.{own_event, shared_event}
 use Rattle.sq_directory.specs.DirectoryHistories.{directory_event}
 use Rattle.sq_steps.specs.Journals.{new_journal, journal_of, put_journal, with_record, having_seen}
 use Rattle.sq_merge.specs.WorldValue.{WorldValue}
-use Rattle.sq_merge.specs.declared.tried.TriedItem.{TriedItem}
+use Rattle.sq_merge.specs.declared.progress.Progress.{Progress}
 use Rattle.sq_audit.specs.HomeIds.{history_of, histories_of, home_id}
-use Rattle.sq_merge.specs.Worlds.{IsKnown, IsKeptWorld, HomeStepped, SharedStepped, DirectoryStepped, having_seen_at}
+use Rattle.sq_merge.specs.Worlds.{IsKnown, IsKeptWorld, HomeStepped, SharedStepped, DirectoryStepped, LedgerStepped, having_seen_at}
 use Rattle.sq_directory.proofs.MakerLaws.{seen_below}
 use Rattle.sq_directory.proofs.ElementLaws.{get_old, get_new, get_cases, get_map, get_mapped, get_same, set_cases, set_kept}
 use Rattle.sq_steps.proofs.JournalListLaws.{journal_there, journal_own, put_cases, put_there, put_kept, put_distinct}
@@ -390,6 +394,81 @@ module _ (old : WorldValue) (actor now : ℕ) (call : DirectoryCall) (reply : Di
     paired = kept.paired;
   })
 
+acts_are_own : (what : TaskAct) → is_own (task_call what) ≡ true
+acts_are_own (Start asked) = refl
+acts_are_own (Cancel number) = refl
+acts_are_own (ListOf source most) = refl
+acts_are_own (Finish number) = refl
+
+-- a step of the ledger alone
+module _ (old : WorldValue) (actor now : ℕ) (what : TaskAct) (reply : LedgerReply) (new : WorldValue) (kept : IsKeptWorld old) (s : LedgerStepped old new actor now what reply) where
+  abbrev own_by : Actor
+  own_by = actor_of (journal_of actor old.journals)
+
+  abbrev own_added : LedgerEvent
+  own_added = own_event s.moves.its_record.stamp own_by (task_call what) s.moves.its_record.reply
+
+  abbrev own_record : LedgerRecordValue
+  own_record = s.moves.its_record
+
+  abbrev own_journals : List Journal
+  own_journals = put_journal (with_record (journal_of actor old.journals) (OfLedger own_record) s.recorded_in.room) old.journals
+
+  own_index : own_record.index ≡ length old.ledger.events
+  own_index = ap (λ (n : LedgerRecordValue). n.index) s.moves.does.record_is
+
+  own_grows : (k : ℕ) (e : LedgerEvent) → slice_get old.ledger.events k ≡ Some e → slice_get s.after.events k ≡ Some e
+  own_grows k e h = rw s.moves.does.events (get_old old.ledger.events own_added e k h)
+
+  own_stays : (a : ℕ) (P : RecordValue → Type 0) → IsRecorded old.journals a P → IsRecorded own_journals a P
+  own_stays a P h = recorded_kept old.journals actor (with_record (journal_of actor old.journals) (OfLedger own_record) s.recorded_in.room) a P (journal_own actor old.journals) (λ i m g. get_old (journal_of actor old.journals).records (OfLedger own_record) m i g) h
+
+  own_is : own_record ≡ record_of own_record.index own_added
+  own_is = subst (λ (i : ℕ). own_record ≡ record_of i own_added) (sym own_index) s.moves.does.record_is
+
+  own_there : slice_get s.after.events own_record.index ≡ Some own_added
+  own_there = subst (λ (es : List LedgerEvent). slice_get es own_record.index ≡ Some own_added) (sym s.moves.does.events)
+      (subst (λ (k : ℕ). slice_get (old.ledger.events ++ own_added ∷ []) k ≡ Some own_added) (sym own_index) (get_new old.ledger.events own_added))
+
+  own_have_events : (b i : ℕ) (journal : Journal) (n : RecordValue) → IsRecordAt own_journals b i journal n → HasItsEvent old.directory.events s.after.events (histories_of old.homes) journal.actor n
+  own_have_events b i journal n h = elim (old_or_new old.journals actor (OfLedger own_record) s.recorded_in.room b i journal n h) [
+    | inl was ↦ subst (λ (a : ℕ). HasItsEvent old.directory.events s.after.events (histories_of old.homes) a n) was.own
+        (its_event_stays old.directory.events old.directory.events old.ledger.events s.after.events (histories_of old.homes) (histories_of old.homes) was.journal.actor n (λ k e h. h) own_grows (λ j h g. record { new = h; in_list = g; same = refl; more = λ k e f. f }) (kept.has_its_event was.at i was.journal n was.in_list))
+    | inr new ↦ subst (λ (a : ℕ). HasItsEvent old.directory.events s.after.events (histories_of old.homes) a n) (sym new.0) (subst (λ (m : RecordValue). HasItsEvent old.directory.events s.after.events (histories_of old.homes) actor m) (sym new.2) (own_added, own_there, acts_are_own what, journal_own actor old.journals, own_is))
+  ]
+
+  own_recorded : (k : ℕ) (e : LedgerEvent) → slice_get s.after.events k ≡ Some e → is_own e.call ≡ true → IsRecorded own_journals e.actor (IsOfLedger k e)
+  own_recorded k e h own = elim (get_cases old.ledger.events own_added e k (rw s.moves.does.events at h)) [
+    | inl g ↦ own_stays e.actor (IsOfLedger k e) (kept.ledger_recorded k e g own)
+    | inr g ↦ (
+        let index : own_record.index ≡ k = own_index ∙ sym g.0 in
+        let is : IsOfLedger k own_added (OfLedger own_record) = ap OfLedger (subst (λ (x : ℕ). own_record ≡ record_of x own_added) index own_is) in
+        subst (λ (x : LedgerEvent). IsRecorded own_journals x.actor (IsOfLedger k x)) (sym g.1) (subst (λ (a : ℕ). IsRecorded own_journals a (IsOfLedger k own_added)) (sym (journal_own actor old.journals)) (new_recorded old.journals actor (OfLedger own_record) s.recorded_in.room (IsOfLedger k own_added) is)))
+  ]
+
+  -- what is shared has its partner as before, and the new event is not shared
+  own_paired : IsPaired s.after.events (histories_of old.homes)
+  own_paired = record {
+    in_ledger = λ j k h e there shared. (let was = kept.paired.in_ledger j k h e there shared in (was.0, own_grows was.0 (as_ledger h.home e) was.1));
+    in_home = λ k e there shared. elim (get_cases old.ledger.events own_added e k (rw s.moves.does.events at there)) [
+      | inl was ↦ kept.paired.in_home k e was shared
+      | inr new ↦ (let k : true ≡ false = sym (acts_are_own what) ∙ subst (λ (x : LedgerEvent). is_own x.call ≡ false) new.1 shared in absurd cc)
+    ];
+  }
+
+  pub kept_ledgered : IsKeptWorld new
+  kept_ledgered = rw (s.changed, s.moves.recorded_as) (record {
+    numbered = kept.numbered;
+    has_its_event = own_have_events;
+    directory_recorded = λ k e h. own_stays e.actor (IsOfDirectory k e) (kept.directory_recorded k e h);
+    ledger_recorded = own_recorded;
+    homes_recorded = λ j k h e at. own_stays e.actor (IsOfHome h.home k e) (kept.homes_recorded j k h e at);
+    exact = exact_more old actor (OfLedger own_record) s.recorded_in.room kept (ap (λ (n : LedgerRecordValue). n.place) s.moves.does.record_is);
+    counted = counted_more old actor (OfLedger own_record) s.recorded_in.room kept;
+    distinct = put_distinct (with_record (journal_of actor old.journals) (OfLedger own_record) s.recorded_in.room) old.journals kept.distinct;
+    paired = own_paired;
+  })
+
 -- an actor that has read the directory has the same records
 read_was : (journals : List Journal) (actor : ℕ) (stamp : StampValue) (b i : ℕ) (x : Journal) (m : RecordValue) → IsRecordAt (put_journal (having_seen (journal_of actor journals) stamp) journals) b i x m → WasRecord journals i x.actor m
 read_was journals actor stamp b i x m h = elim (put_cases (having_seen (journal_of actor journals) stamp) journals b x h.in_journals) [
@@ -414,9 +493,9 @@ kept_seen w actor stamp kept =
       paired = kept.paired;
     }
 
--- which item an actor tried last is no record and no event
-pub kept_tried : (w : WorldValue) (tried : List TriedItem) → IsKeptWorld w → IsKeptWorld (record w { tried = tried })
-kept_tried w tried kept = record {
+-- how far the turns of an actor are is no record and no event
+pub kept_progress : (w : WorldValue) (progress : List Progress) → IsKeptWorld w → IsKeptWorld (record w { progress = progress })
+kept_progress w progress kept = record {
   numbered = kept.numbered;
   has_its_event = kept.has_its_event;
   directory_recorded = kept.directory_recorded;

@@ -5,9 +5,9 @@ use Rattle.sq_model.specs.Directories.{number_named}
 use Rattle.sq_history.specs.Acts.{call_of}
 use Rattle.sq_steps.specs.Journals.{journal_of}
 use Rattle.sq_steps.specs.SharedSteps.{asked_as}
-use Rattle.sq_merge.specs.Asks.{Ask, Resolve, Directed, AtHome, Moving, Next, Gave, Found, Answered, Replied, Nothing, Peeked, HomeCounts}
+use Rattle.sq_client.specs.Asks.{Ask, Resolve, Directed, AtHome, Moving, Next, Redriven, Ledgered, Walking, Walked, Gave, Found, Answered, Replied, Nothing, Peeked, Ends, Told, Walks, Noted, HomeCounts}
 use Rattle.sq_merge.specs.WorldValue.{WorldValue}
-use Rattle.sq_merge.specs.Worlds.{IsKnown, HomeStepped, HomeRefused, DirectoryStepped, DirectoryRefused, NameRefused, having_read, SharedStepped, NothingLeaves, SharedRefused, having_tried, next_tried, NextRefused}
+use Rattle.sq_merge.specs.Worlds.{IsKnown, HomeStepped, HomeRefused, DirectoryStepped, DirectoryRefused, NameRefused, having_read, SharedStepped, NothingLeaves, SharedRefused, having_tried, next_tried, NextRefused, EndsRead, EndsUnread, LedgerStepped, LedgerRefused, WalkRead, WalkUnread, having_walked}
 
 abbrev pub counts_of : WorldValue → HomeCounts
 counts_of w = record { homes = w.per_queue; sample = w.sample }
@@ -24,6 +24,10 @@ ActorDoes actor now w (AtHome name id act) (Replied reply) t = HomeStepped w t a
 ActorDoes actor now w (Moving name id what) (Replied reply) t = SharedStepped w t actor now name id (asked_as what) reply
 ActorDoes actor now w (Moving name id what) Nothing t = NothingLeaves w t actor now id (asked_as what)
 ActorDoes actor now w Next (Peeked next) t = (next ≡ next_tried w actor) × (t ≡ having_tried w actor next)
+ActorDoes actor now w (Redriven source destination) (Ends ends) t = EndsRead w t actor source destination ends
+ActorDoes actor now w (Ledgered what) (Told reply) t = LedgerStepped w t actor now what reply
+ActorDoes actor now w (Walking number) (Walks task walk) t = WalkRead w t actor number task walk
+ActorDoes actor now w (Walked walk) Noted t = t ≡ having_walked w actor walk
 ActorDoes actor now w ask gave t = ⊥
 
 -- why one is refused
@@ -33,6 +37,10 @@ ActorRefused actor now w (Directed call) e = DirectoryRefused w actor now call e
 ActorRefused actor now w (AtHome name id act) e = HomeRefused w actor now id (call_of act) e
 ActorRefused actor now w (Moving name id what) e = SharedRefused w actor now id (asked_as what) e
 ActorRefused actor now w Next e = NextRefused w actor e
+ActorRefused actor now w (Redriven source destination) e = EndsUnread w actor source destination e
+ActorRefused actor now w (Ledgered what) e = LedgerRefused w actor now what e
+ActorRefused actor now w (Walking number) e = WalkUnread w actor number e
+ActorRefused actor now w (Walked walk) e = ⊥
 
 -- One step of a call by an actor at a clock reading; what is refused changes nothing.
 abbrev pub ActorStepped : ℕ → ℕ → WorldValue → Ask → Result Gave Refusal → WorldValue → Type 0

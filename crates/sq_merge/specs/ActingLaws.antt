@@ -4,7 +4,7 @@ use Rattle.std.proofs.Common.{◌∙◌, refl, ap, sym, subst}
 use Rattle.sq_base.specs.declared.refusal.Refusal.{Refusal}
 use Rattle.sq_base.specs.Stamps.{Below}
 use Rattle.sq_base.proofs.StampLaws.{after_above_second}
-use Rattle.sq_model.specs.RecordValues.{HomeRecordValue, DirectoryRecordValue, Journal, OfDirectory, OfHome, RecordValue, actor_of, place_of_record, stamp_of}
+use Rattle.sq_model.specs.RecordValues.{HomeRecordValue, DirectoryRecordValue, LedgerRecordValue, Journal, OfDirectory, OfLedger, OfHome, RecordValue, actor_of, place_of_record, stamp_of}
 use Rattle.sq_base.specs.declared.ids.HomeId.{HomeId}
 use Rattle.sq_model.specs.declared.calls.HomeCall.{HomeCall}
 use Rattle.sq_model.specs.declared.replies.HomeReply.{HomeReply}
@@ -21,7 +21,7 @@ use Rattle.sq_steps.specs.declared.act.Move.{Move}
 use Rattle.sq_steps.specs.declared.act.Move.TheVariants as move
 use Rattle.sq_steps.proofs.JournalListLaws.{journal_own, journal_put}
 use Rattle.sq_merge.specs.Acting.{ActorDoes, ActorStepped}
-use Rattle.sq_merge.specs.Asks.{Ask, Resolve, Directed, AtHome, Moving, Next, Gave, Found, Answered, Replied, Nothing, Peeked, IsCallFor, IsStepRecord, IsNext, LeavesOf}
+use Rattle.sq_client.specs.Asks.{Ask, Resolve, Directed, AtHome, Moving, Next, Redriven, Ledgered, Walking, Walked, Gave, Found, Answered, Replied, Nothing, Peeked, Ends, Told, Walks, Noted, IsCallFor, IsStepRecord, IsNext, LeavesOf}
 use Rattle.sq_merge.specs.WorldValue.{WorldValue}
 
 -- what an actor has after a change is the change
@@ -39,6 +39,7 @@ next_is actor s t n b place above more room journals =
 -- the call of a step of both has the item that was asked
 call_is : (l : Ledger) (what : Move) (call : HomeCall) → IsCallOf l (asked_as what) call → IsCallFor what call
 call_is l move.LeaveDead call h = h
+call_is l (move.LeaveTask number) call h = h
 call_is l (move.Enter number) call h = (h.0, found_number (λ i. i.number) number l.items h.0 h.1, h.2)
 call_is l (move.TurnBack number) call h = (h.0, found_number (λ i. i.number) number l.items h.0 h.1, h.2)
 call_is l (move.GiveBack number) call h = (h.0, found_number (λ i. i.number) number l.items h.0 h.1, h.2)
@@ -89,6 +90,22 @@ does_leaves actor now s t Next (Peeked None) h =
     (s.ledger.last, mine_is actor s t (having_seen (journal_of actor s.journals) s.ledger.last) (journal_own actor s.journals) (ap (λ (v : WorldValue). v.journals) h.1))
 does_leaves actor now s t Next (Peeked (Some next)) h =
     (s.ledger.last, mine_is actor s t (having_seen (journal_of actor s.journals) s.ledger.last) (journal_own actor s.journals) (ap (λ (v : WorldValue). v.journals) h.1))
+does_leaves actor now s t (Redriven source destination) (Ends ends) h =
+    (s.directory.last, mine_is actor s t (having_seen (journal_of actor s.journals) s.directory.last) (journal_own actor s.journals) (ap (λ (v : WorldValue). v.journals) h.1))
+does_leaves actor now s t (Ledgered what) (Told reply) h = (
+  OfLedger h.moves.its_record,
+  record {
+    its_record = h.moves.its_record;
+    value = refl;
+    asked = ap (λ (m : LedgerRecordValue). m.call) h.moves.does.record_is;
+    replied = h.moves.answered;
+  },
+  next_is actor s t (OfLedger h.moves.its_record) h.recorded_in (ap (λ (m : LedgerRecordValue). m.place) h.moves.does.record_is)
+      (after_above_second s.ledger.last (journal_of actor s.journals).seen now h.moves.its_record.stamp h.moves.does.stamped) h.moves.recorded_as h.moves.room (ap (λ (v : WorldValue). v.journals) h.changed),
+)
+does_leaves actor now s t (Walking number) (Walks task walk) h =
+    (s.ledger.last, mine_is actor s t (having_seen (journal_of actor s.journals) s.ledger.last) (journal_own actor s.journals) (ap (λ (v : WorldValue). v.journals) h.changed))
+does_leaves actor now s t (Walked walk) Noted h = ap (λ (v : WorldValue). journal_of actor v.journals) h
 does_leaves actor now s t ask gave h = elim h [ ]
 
 leaves_own : (actor now : ℕ) (s t : WorldValue) (ask : Ask) (answered : Result Gave Refusal) → ActorStepped actor now s ask answered t → LeavesOf ask answered (journal_of actor s.journals) (journal_of actor t.journals)
@@ -98,6 +115,10 @@ leaves_own actor now s t (Directed call) (Err e) h = ap (λ (v : WorldValue). jo
 leaves_own actor now s t (AtHome name id act) (Err e) h = ap (λ (v : WorldValue). journal_of actor v.journals) h.1
 leaves_own actor now s t (Moving name id what) (Err e) h = ap (λ (v : WorldValue). journal_of actor v.journals) h.1
 leaves_own actor now s t Next (Err e) h = ap (λ (v : WorldValue). journal_of actor v.journals) h.1
+leaves_own actor now s t (Redriven source destination) (Err e) h = ap (λ (v : WorldValue). journal_of actor v.journals) h.1
+leaves_own actor now s t (Ledgered what) (Err e) h = ap (λ (v : WorldValue). journal_of actor v.journals) h.1
+leaves_own actor now s t (Walking number) (Err e) h = ap (λ (v : WorldValue). journal_of actor v.journals) h.1
+leaves_own actor now s t (Walked walk) (Err e) h = ap (λ (v : WorldValue). journal_of actor v.journals) h.1
 
 -- the same of an actor that stays who it is
 pub actor_leaves : (actor after now : ℕ) (s t : WorldValue) (ask : Ask) (answered : Result Gave Refusal) → ActorStepped actor now s ask answered t → after ≡ actor → LeavesOf ask answered (journal_of actor s.journals) (journal_of after t.journals)

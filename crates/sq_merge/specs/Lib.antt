@@ -1,13 +1,7 @@
-pub mod Tried
+pub mod Progresses
 pub mod WorldValue
 pub mod Worlds
 pub mod Openings
 pub mod PartsValue
-pub mod Asks
-pub mod Messages
-pub mod Performs
-pub mod Calls
-pub mod Fits
-pub mod Turns
 pub mod Acting
 pub mod ActingLaws

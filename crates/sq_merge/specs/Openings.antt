@@ -37,10 +37,10 @@ limits_of o = record { rows = o.rows; flights = o.flights / o.homes }
 unfoldable pub new_world : Options → WorldValue
 new_world o = record {
   directory = record { directory = opening_directory o.queues; last = start; events = []; room = 0 };
-  ledger = record { ledger = opening_ledger o.transit; last = start; events = []; room = 0 };
+  ledger = record { ledger = opening_ledger o.transit; last = start; events = []; room = 0; task_room = 0 };
   per_queue = o.homes;
   sample = o.sample;
   homes = never_opened_homes o.homes (limits_of o) (o.queues * o.homes);
   journals = [];
-  tried = [];
+  progress = [];
 }

@@ -4,9 +4,9 @@ use Rattle.sq_model.specs.RecordValues.{Journal}
 use Rattle.sq_history.specs.HistoryValue.{HistoryValue}
 use Rattle.sq_directory.specs.DirectoryHistory.{DirectoryHistory}
 use Rattle.sq_ledger.specs.LedgerHistory.{LedgerHistory}
-use Rattle.sq_merge.specs.declared.tried.TriedItem.{TriedItem}
+use Rattle.sq_merge.specs.declared.progress.Progress.{Progress}
 
--- the directory, the ledger, how many homes a queue has and how many of them a receive asks, all homes, the first queue's first, the actors in order of their first act, and the item that each tried last
+-- the directory, the ledger, how many homes a queue has and how many of them a receive asks, all homes, the first queue's first, the actors in order of their first act, and how far the turns of each are
 pub record WorldValue : Type 0 where
   pub directory : DirectoryHistory
   pub ledger : LedgerHistory
@@ -14,4 +14,4 @@ pub record WorldValue : Type 0 where
   pub sample : ℕ
   pub homes : List HistoryValue
   pub journals : List Journal
-  pub tried : List TriedItem
+  pub progress : List Progress

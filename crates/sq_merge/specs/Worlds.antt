@@ -1,18 +1,20 @@
 -- Steps of the whole system by actors, and what is true of it at all times.
-use Rattle.std.specs.Prelude.{◌≡◌, ◌⊎◌, ◌+◌, ℕ, true, List, [], ◌∷◌, length, nat_le, if◌then◌else◌, position, slice_get, slice_set, Option, Some, None, option_map}
+use Rattle.std.specs.Prelude.{◌≡◌, ◌⊎◌, ◌+◌, ℕ, true, List, [], ◌∷◌, length, nat_le, if◌then◌else◌, position, slice_get, slice_set, Option, Some, None, option_map, Ok, Err}
 use Rattle.sq_base.specs.Stamps.{stamp_end}
 use Rattle.sq_base.specs.StampValue.{StampValue}
 use Rattle.sq_base.specs.declared.ids.HomeId.{HomeId}
 use Rattle.sq_base.specs.declared.refusal.Refusal.{Refusal}
-use Rattle.sq_base.specs.declared.refusal.Refusal.TheVariants.{NoMemory, ClockRange, QueueDoesNotExist}
+use Rattle.sq_base.specs.declared.refusal.Refusal.TheVariants.{NoMemory, ClockRange, QueueDoesNotExist, ResourceNotFoundException}
 use Rattle.sq_model.specs.declared.directory.DirectoryCall.{DirectoryCall}
 use Rattle.sq_model.specs.declared.directory.DirectoryReply.{DirectoryReply}
 use Rattle.sq_model.specs.declared.calls.HomeCall.{HomeCall}
 use Rattle.sq_model.specs.declared.replies.HomeReply.{HomeReply}
-use Rattle.sq_model.specs.Directories.{all_named, number_named}
+use Rattle.sq_model.specs.Directories.{MoveEnds, all_named, can_redrive, number_named}
 use Rattle.sq_model.specs.declared.item.Item.{Item}
+use Rattle.sq_model.specs.declared.ledger.LedgerReply.{LedgerReply}
+use Rattle.sq_model.specs.declared.task.Task.{Task}
 use Rattle.sq_model.specs.declared.shared.SharedAct.{SharedAct}
-use Rattle.sq_model.specs.Ledgers.{LedgerEvent, is_own, peek}
+use Rattle.sq_model.specs.Ledgers.{LedgerEvent, is_own, last_task, peek, task_of}
 use Rattle.sq_model.specs.Replays.{HomeEvent}
 use Rattle.sq_ledger.specs.LedgerHistory.{LedgerHistory}
 use Rattle.sq_steps.specs.declared.act.NextItem.{NextItem}
@@ -26,11 +28,14 @@ use Rattle.sq_steps.specs.declared.act.Act.TheVariants as act
 use Rattle.sq_steps.specs.declared.act.Outcome.{Outcome}
 use Rattle.sq_steps.specs.declared.act.Outcome.TheVariants as answered
 use Rattle.sq_steps.specs.declared.act.Step.{Step}
+use Rattle.sq_steps.specs.declared.act.TaskAct.{TaskAct}
+use Rattle.sq_steps.specs.TaskActs.{task_call}
 use Rattle.sq_history.specs.declared.act.HomeAct.{HomeAct}
 use Rattle.sq_history.specs.Acts.{call_of, HasBytes}
-use Rattle.sq_steps.specs.Journals.{is_of, journal_of, put_journal, having_seen, HomeMoves, DirectoryMoves, IsHomeRefused, IsDirectoryStepRefused, AreDistinct}
+use Rattle.sq_steps.specs.Journals.{is_of, journal_of, put_journal, having_seen, HomeMoves, DirectoryMoves, LedgerMoves, IsHomeRefused, IsDirectoryStepRefused, IsLedgerStepRefused, AreDistinct}
 use Rattle.sq_directory.specs.DirectoryHistory.{DirectoryHistory}
-use Rattle.sq_merge.specs.Tried.{is_tried_by, tried_by, put_tried}
+use Rattle.sq_merge.specs.Progresses.{is_progress_of, progress_of, put_progress, walk_for, walked_on, with_item, with_walk}
+use Rattle.sq_client.specs.declared.walk.Walk.{Walk}
 use Rattle.sq_merge.specs.WorldValue.{WorldValue}
 use Rattle.sq_audit.specs.HomeIds.{histories_of, IsNumbered}
 use Rattle.sq_directory.specs.Makers.{IsMadeBy}
@@ -92,6 +97,17 @@ SharedRefused w actor now id what e =
     (((at : ℕ) (h : HistoryValue) → IsHomeOf w id at h → ⊥) × (e ≡ (if nat_le stamp_end now then ClockRange else QueueDoesNotExist)))
     ⊎ ((at : ℕ) × (h : HistoryValue) × IsHomeOf w id at h × IsSharedRefused h w.ledger (journal_of actor w.journals) now what e)
 
+-- One step of the ledger alone by an actor, with this reply: the ledger and what the actor has go on by one, and all else stays.
+pub record LedgerStepped (old new : WorldValue) (actor now : ℕ) (what : TaskAct) (reply : LedgerReply) : Type 0 where
+  pub after : LedgerHistory
+  pub recorded_in : Journal
+  pub moves : LedgerMoves old.ledger after (journal_of actor old.journals) recorded_in now (task_call what) reply
+  pub changed : new ≡ record old { ledger = after; journals = put_journal recorded_in old.journals }
+
+-- why a step of the ledger alone is refused
+abbrev pub LedgerRefused : WorldValue → ℕ → ℕ → TaskAct → Refusal → Type 0
+LedgerRefused w actor now what e = IsLedgerStepRefused w.ledger (journal_of actor w.journals) now (task_call what) e
+
 -- where an item goes
 abbrev pub next_of : Item → NextItem
 next_of item = record { number = item.number; source = item.source; target = item.target; homeward = item.homeward }
@@ -107,19 +123,63 @@ having_peeked w actor = having_seen_at w actor w.ledger.last
 -- an actor has read which item comes after the one that it tried last; from now on that is the one that it tried last
 abbrev pub having_tried : WorldValue → ℕ → Option NextItem → WorldValue
 having_tried w actor None = having_peeked w actor
-having_tried w actor (Some next) = record (having_peeked w actor) { tried = put_tried (record { actor = actor; item = next.number }) w.tried }
+having_tried w actor (Some next) = record (having_peeked w actor) { progress = put_progress (with_item next.number (progress_of actor w.progress)) w.progress }
 
 -- that item
 abbrev pub next_tried : WorldValue → ℕ → Option NextItem
-next_tried w actor = option_map next_of (peek (tried_by actor w.tried) w.ledger.ledger)
+next_tried w actor = option_map next_of (peek (progress_of actor w.progress).item w.ledger.ledger)
 
--- why it is not read: the actor is new, or tries its first item, and no memory was found for that
+-- why it is not read: the actor is new, or tries its first item and named no task, and no memory was found for that
 abbrev pub NextRefused : WorldValue → ℕ → Refusal → Type 0
-NextRefused w actor e = (e ≡ NoMemory) × ((position (is_of actor) w.journals ≡ None) ⊎ ((position (is_tried_by actor) w.tried ≡ None) × ((next : NextItem) × (next_tried w actor ≡ Some next))))
+NextRefused w actor e = (e ≡ NoMemory) × ((position (is_of actor) w.journals ≡ None) ⊎ ((position (is_progress_of actor) w.progress ≡ None) × ((next : NextItem) × (next_tried w actor ≡ Some next))))
 
 -- an actor has read the directory
 abbrev pub having_read : WorldValue → ℕ → WorldValue
 having_read w actor = having_seen_at w actor w.directory.last
+
+-- why a part is not read: the actor is new, and no memory was found for it
+abbrev pub IsUnread : WorldValue → ℕ → Refusal → Type 0
+IsUnread w actor e = (e ≡ NoMemory) × (position (is_of actor) w.journals ≡ None)
+
+-- an actor has read the task of a number
+abbrev pub TaskRead : WorldValue → WorldValue → ℕ → ℕ → Task → Type 0
+TaskRead old new actor number task = (task_of number old.ledger.ledger ≡ Some task) × (new ≡ having_peeked old actor)
+
+-- why it is not read: there is no such task; or there is one, and the actor cannot read
+abbrev pub TaskUnread : WorldValue → ℕ → ℕ → Refusal → Type 0
+TaskUnread w actor number e =
+    ((task_of number w.ledger.ledger ≡ None) × (e ≡ ResourceNotFoundException))
+    ⊎ (((task : Task) × (task_of number w.ledger.ledger ≡ Some task)) × IsUnread w actor e)
+
+-- an actor's walk is so far now
+abbrev pub having_walk : WorldValue → ℕ → Walk → WorldValue
+having_walk w actor walk = record w { progress = put_progress (with_walk walk (progress_of actor w.progress)) w.progress }
+
+-- an actor has read the task of a number, and how far its walk for it is; a walk that is new is its walk from now on
+pub record WalkRead (old new : WorldValue) (actor number : ℕ) (task : Task) (walk : Walk) : Type 0 where
+  pub found : task_of number old.ledger.ledger ≡ Some task
+  pub walk_is : walk ≡ walk_for number (progress_of actor old.progress).walk
+  pub changed : new ≡ having_walk (having_peeked old actor) actor walk
+
+-- why it is not read: there is no such task; or there is one, and no memory was found for a new actor, or for the first walk of one that tried no item
+abbrev pub WalkUnread : WorldValue → ℕ → ℕ → Refusal → Type 0
+WalkUnread w actor number e =
+    ((task_of number w.ledger.ledger ≡ None) × (e ≡ ResourceNotFoundException))
+    ⊎ (((task : Task) × (task_of number w.ledger.ledger ≡ Some task)) × (e ≡ NoMemory) × ((position (is_of actor) w.journals ≡ None) ⊎ (position (is_progress_of actor) w.progress ≡ None)))
+
+-- an actor's walk goes on so, where it has a place
+abbrev pub having_walked : WorldValue → ℕ → Walk → WorldValue
+having_walked w actor walk = record w { progress = walked_on actor walk w.progress }
+
+-- an actor has read between which queues messages may be moved
+abbrev pub EndsRead : WorldValue → WorldValue → ℕ → List ℕ → Option (List ℕ) → MoveEnds → Type 0
+EndsRead old new actor source destination ends = (can_redrive source destination old.directory.directory ≡ Ok ends) × (new ≡ having_read old actor)
+
+-- why it has not: they may not be moved between these; or they may, and the actor cannot read
+abbrev pub EndsUnread : WorldValue → ℕ → List ℕ → Option (List ℕ) → Refusal → Type 0
+EndsUnread w actor source destination e =
+    (can_redrive source destination w.directory.directory ≡ Err e)
+    ⊎ (((ends : MoveEnds) × (can_redrive source destination w.directory.directory ≡ Ok ends)) × IsUnread w actor e)
 
 -- One step by an actor, and its outcome.
 abbrev pub StepDone : WorldValue → WorldValue → ℕ → ℕ → Act → Outcome → Type 0
@@ -130,6 +190,10 @@ StepDone old new actor now (act.Home id what) (answered.Home reply) = HomeSteppe
 StepDone old new actor now (act.Shared id what) (answered.Home reply) = SharedStepped old new actor now None id (asked_as what) reply
 StepDone old new actor now (act.Shared id what) answered.Nothing = NothingLeaves old new actor now id (asked_as what)
 StepDone old new actor now (act.Peek number) (answered.Peeked next) = (next ≡ option_map next_of (peek number old.ledger.ledger)) × (new ≡ having_peeked old actor)
+StepDone old new actor now (act.Ledger what) (answered.Ledger reply) = LedgerStepped old new actor now what reply
+StepDone old new actor now (act.ReadTask number) (answered.Task task) = TaskRead old new actor number task
+StepDone old new actor now (act.LastTask source) (answered.LastTask task) = (task ≡ last_task source old.ledger.ledger) × (new ≡ having_peeked old actor)
+StepDone old new actor now (act.CanRedrive source destination) (answered.Redriven queue target) = EndsRead old new actor source destination (record { source = queue; destination = target })
 StepDone old new actor now what outcome = ⊥
 
 -- why a name is not read: there is no such queue; or there is one, the actor is new, and no memory was found for it
@@ -149,7 +213,11 @@ StepRefused w actor now (act.Resolve name) e = NameRefused w actor name e
 StepRefused w actor now act.Names e = e ≡ NoMemory
 StepRefused w actor now (act.Home id what) e = ((e ≡ NoMemory) × IsSentTo w id what) ⊎ HomeRefused w actor now id (call_of what) e
 StepRefused w actor now (act.Shared id what) e = SharedRefused w actor now id (asked_as what) e
-StepRefused w actor now (act.Peek number) e = (e ≡ NoMemory) × (position (is_of actor) w.journals ≡ None)
+StepRefused w actor now (act.Peek number) e = IsUnread w actor e
+StepRefused w actor now (act.Ledger what) e = LedgerRefused w actor now what e
+StepRefused w actor now (act.ReadTask number) e = TaskUnread w actor number e
+StepRefused w actor now (act.LastTask source) e = IsUnread w actor e
+StepRefused w actor now (act.CanRedrive source destination) e = EndsUnread w actor source destination e
 
 -- Of these steps so many were done, one after another, and the others changed nothing.
 abbrev pub Schedule : WorldValue → List Step → ℕ → WorldValue → Type 0

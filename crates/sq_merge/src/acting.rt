@@ -3,24 +3,27 @@ ghost use Rattle.std.specs.Prelude.{◌≡◌, Some};
 ghost use Rattle.sq_merge.specs.Acting.{counts_of, IsKnownTo, ActorStepped};
 ghost use Rattle.sq_merge.specs.ActingLaws.{actor_leaves};
 ghost use Rattle.sq_steps.specs.Journals.{journal_of};
-ghost use Rattle.sq_merge.specs.Fits.{CallFits};
-ghost use Rattle.sq_merge.specs.Turns.{TurnFits};
-ghost use Rattle.sq_merge.specs.Performs.{Performs, LeavesRecords};
+ghost use Rattle.sq_client.specs.Fits.{CallFits};
+ghost use Rattle.sq_client.specs.Turns.{TurnFits};
+ghost use Rattle.sq_client.specs.Performs.{Performs, LeavesRecords};
 
-use crate::lock_steps::LockSteps;
 use crate::world::World;
-use crate::{client, turns};
 use sq_base::ids::{HomeId, HomeNo, QueueNo};
 use sq_base::name::QueueName;
 use sq_base::refusal::Refusal;
 use sq_calls::calls::{Answer, Call};
 use sq_calls::turns::{Turn, Turned};
+use sq_client::lock_steps::LockSteps;
+use sq_client::walk::Walk;
+use sq_client::{client, turns};
 use sq_history::act::HomeAct;
 use sq_model::directory::{DirectoryCall, DirectoryReply};
+use sq_model::item::TaskNo;
+use sq_model::ledger::LedgerReply;
 use sq_model::replies::HomeReply;
-use sq_model::task::NamedQueue;
+use sq_model::task::{NamedQueue, Task};
 use sq_sample::sampler::HomeCount;
-use sq_steps::act::{Move, NextItem};
+use sq_steps::act::{Move, NextItem, TaskAct};
 use std::alloc::Global;
 
 /// Does the steps of an actor's calls at a world. A clock reading is in ms.
@@ -88,6 +91,27 @@ impl<'a> LockSteps for Acting<'a> {
 
     fn next_item(&mut self) -> Result<Option<NextItem>, Refusal> {
         self.world.next_item(self.alloc, self.actor)
+    }
+
+    fn can_redrive(
+        &mut self,
+        source: &QueueName,
+        destination: &Option<QueueName>,
+    ) -> Result<(NamedQueue, Option<NamedQueue>), Refusal> {
+        self.world
+            .can_redrive(self.alloc, self.actor, source, destination)
+    }
+
+    fn ledgered(&mut self, act: &TaskAct) -> Result<LedgerReply, Refusal> {
+        self.world.ledgered(self.alloc, self.actor, self.clock, act)
+    }
+
+    fn walking(&mut self, number: TaskNo) -> Result<(Task, Walk), Refusal> {
+        self.world.walking(self.alloc, self.actor, number)
+    }
+
+    fn walked(&mut self, walk: Walk) {
+        self.world.walked(self.actor, walk);
     }
 
     fn pick(&mut self) -> HomeNo {

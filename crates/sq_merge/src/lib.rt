@@ -2,12 +2,9 @@
 #![tactic(auto)]
 
 pub mod acting;
-pub mod client;
 mod homes;
-pub mod lock_steps;
 pub mod options;
-pub mod tried;
-pub mod turns;
+pub mod progress;
 pub mod world;
 
 pub use sq_audit::check::AuditFault;
@@ -17,4 +14,4 @@ pub use sq_audit::run::Run;
 pub use sq_audit::tagged::Tagged;
 pub use sq_places::message_pass::place_of;
 pub use sq_places::places::places_of;
-pub use sq_steps::act::{Act, HomeAct, Move, NextItem, Outcome, Step};
+pub use sq_steps::act::{Act, HomeAct, Move, NextItem, Outcome, Step, TaskAct, TaskStart};

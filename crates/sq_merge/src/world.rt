@@ -2,25 +2,26 @@
 ghost use Rattle.std.specs.Prelude.{◌≡◌, ◌⊎◌, ◌↔◌, ◌<◌, ◌≤◌, true, None, Some, length, position, IfOk, IfErr, IfSome, IfNone, OnOk, OnErr, option_map};
 ghost use Rattle.rand.specs.Sample.{IsSampleOf};
 ghost use Rattle.sq_model.specs.Directories.{all_named, number_named};
+ghost use Rattle.sq_directory.specs.MoveQueues.{as_ends};
 ghost use Rattle.sq_directory.specs.Makers.{IsAnsweredByName};
 ghost use Rattle.sq_history.specs.Acts.{call_of};
 ghost use Rattle.sq_steps.specs.Journals.{is_of, journal_of};
-ghost use Rattle.sq_merge.specs.Worlds.{SharedStepped, NothingLeaves, SharedRefused, next_of, having_peeked, next_tried, having_tried, NextRefused, HomeStepped, HomeRefused, DirectoryStepped, DirectoryRefused, NameRefused, having_read, having_seen_at, StepDone, StepRefused, Schedule, IsKeptWorld};
+ghost use Rattle.sq_merge.specs.Worlds.{SharedStepped, NothingLeaves, SharedRefused, next_of, having_peeked, next_tried, having_tried, NextRefused, LedgerStepped, LedgerRefused, IsUnread, TaskRead, TaskUnread, WalkRead, WalkUnread, having_walked, EndsRead, EndsUnread, HomeStepped, HomeRefused, DirectoryStepped, DirectoryRefused, NameRefused, having_read, having_seen_at, StepDone, StepRefused, Schedule, IsKeptWorld};
 ghost use Rattle.sq_audit.specs.HomeIds.{histories_of};
 ghost use Rattle.sq_merge.specs.Acting.{counts_of, IsKnownTo, ActorStepped};
-ghost use Rattle.sq_merge.specs.Fits.{CallFits};
-ghost use Rattle.sq_merge.specs.Turns.{TurnFits};
-ghost use Rattle.sq_merge.specs.Performs.{Performs, LeavesRecords};
+ghost use Rattle.sq_client.specs.Fits.{CallFits};
+ghost use Rattle.sq_client.specs.Turns.{TurnFits};
+ghost use Rattle.sq_client.specs.Performs.{Performs, LeavesRecords};
 ghost use Rattle.sq_merge.specs.Openings.{IsServed, new_world};
 ghost use Rattle.sq_merge.specs.PartsValue.{ArePartsOf};
-ghost use Rattle.sq_model.specs.Ledgers.{peek};
+ghost use Rattle.sq_model.specs.Ledgers.{last_task, peek};
 ghost use Rattle.sq_model.specs.Matches.{IsMatched, IsPaired};
 ghost use Rattle.sq_steps.specs.SharedSteps.{asked_as};
 
 use crate::acting::{Acting, call_at, turn_at};
 use crate::homes::{never_opened_homes, no_such_home};
 use crate::options::{MOST_FLIGHTS, MOST_HOMES, MOST_QUEUES, MOST_ROWS, MOST_TRANSIT, Options};
-use crate::tried::{TriedItem, put_tried, tried_by};
+use crate::progress::{Progress, progress_of, put_progress, walk_on};
 use sq_audit::homes::{Homes, home_index};
 use sq_audit::parts::Parts;
 use sq_base::ids::{HomeId, HomeNo, QueueNo};
@@ -29,17 +30,20 @@ use sq_base::refusal::Refusal;
 use sq_base::stamp::Stamp;
 use sq_calls::calls::{Answer, Call};
 use sq_calls::turns::{Turn, Turned};
+use sq_client::walk::Walk;
 use sq_directory::directory::Directory;
 use sq_history::recorded::Home;
 use sq_ledger::ledger::TransitLedger;
 use sq_model::directory::{DirectoryCall, DirectoryReply};
+use sq_model::item::TaskNo;
+use sq_model::ledger::LedgerReply;
 use sq_model::listed::Listed;
 use sq_model::place::Limits;
 use sq_model::replies::HomeReply;
-use sq_model::task::NamedQueue;
+use sq_model::task::{NamedQueue, Task};
 use sq_sample::sampler::{HomeCount, Sampler};
-use sq_steps::act::{Act, HomeAct, Move, NextItem, Outcome, Step};
-use sq_steps::journal::{Journal, directory_step, home_step};
+use sq_steps::act::{Act, HomeAct, Move, NextItem, Outcome, Step, TaskAct};
+use sq_steps::journal::{Journal, directory_step, home_step, ledger_step};
 use sq_steps::journals::{Journals, open};
 use sq_steps::shared::shared_step;
 use std::alloc::Global;
@@ -54,7 +58,7 @@ pub struct World {
     sample: HomeCount,
     homes: Vec<Home>,
     journals: Vec<Journal>,
-    tried: Vec<TriedItem>,
+    progress: Vec<Progress>,
     sampler: Sampler,
 }
 
@@ -65,10 +69,10 @@ impl Model for World {
 
     ghost Value = { WorldValue };
 
-    ghost view = { λ w. record { directory = w.directory; ledger = w.ledger.history; per_queue = w.per_queue; sample = w.sample; homes = w.homes.items; journals = w.journals.items; tried = w.tried.items } };
+    ghost view = { λ w. record { directory = w.directory; ledger = w.ledger.history; per_queue = w.per_queue; sample = w.sample; homes = w.homes.items; journals = w.journals.items; progress = w.progress.items } };
 
     ghost invariant = { λ w. record {
-      kept : IsKeptWorld (record { directory = w.directory; ledger = w.ledger.history; per_queue = w.per_queue; sample = w.sample; homes = w.homes.items; journals = w.journals.items; tried = w.tried.items });
+      kept : IsKeptWorld (record { directory = w.directory; ledger = w.ledger.history; per_queue = w.per_queue; sample = w.sample; homes = w.homes.items; journals = w.journals.items; progress = w.progress.items });
       sample : w.sample ≤ w.per_queue;
       few : length w.homes.items ≤ 16384;
     } };
@@ -97,7 +101,7 @@ impl World {
             sample: HomeCount::of(options.sample),
             homes: never_opened_homes(alloc, options.queues, per_queue, &limits)?,
             journals: Vec::new(alloc),
-            tried: Vec::new(alloc),
+            progress: Vec::new(alloc),
             sampler: Sampler::new(options.seed),
         })
     }
@@ -140,6 +144,22 @@ impl World {
                 let next = self.peek(alloc, step.actor, *number)?;
                 Ok(Outcome::Peeked(next))
             }
+            Act::Ledger(act) => {
+                let reply = self.ledgered(alloc, step.actor, step.clock, act)?;
+                Ok(Outcome::Ledger(reply))
+            }
+            Act::ReadTask(number) => {
+                let task = self.read_task(alloc, step.actor, *number)?;
+                Ok(Outcome::Task(task))
+            }
+            Act::LastTask(source) => {
+                let task = self.last_task(alloc, step.actor, *source)?;
+                Ok(Outcome::LastTask(task))
+            }
+            Act::CanRedrive(source, destination) => {
+                let (queue, target) = self.can_redrive(alloc, step.actor, source, destination)?;
+                Ok(Outcome::Redriven(queue, target))
+            }
         }
     }
 
@@ -149,7 +169,11 @@ impl World {
     /// ReceiptHandleIsInvalid of what is no handle of the queue and of one of its homes; NoMemory; ClockRange; Worn; and
     /// then as the home's call. CreateQueue is refused as QueueNameExists, QueueDeletedRecently, InvalidAttributeValue and
     /// TableFull too, SetQueueAttributes as InvalidAttributeValue, PurgeQueue as PurgeQueueInProgress, and ReceiveMessage as
-    /// OverLimit where no home that was asked gave a message and one of them has too many in flight.
+    /// OverLimit where no home that was asked gave a message and one of them has too many in flight. Of move tasks: a start as
+    /// InvalidParameterValue (the destination is the source), ResourceNotFoundException (one of them is not there),
+    /// UnsupportedOperation (no queue's dead letters go to the source, or a task of it is active) and OverLimit (100 tasks are
+    /// active); a cancel as ResourceNotFoundException and UnsupportedOperation (the task does not run); and a list as
+    /// ResourceNotFoundException.
     pub fn call(
         &mut self,
         alloc: Global,
@@ -171,8 +195,9 @@ impl World {
 
     /// A turn of an actor at a clock reading in ms: one step of moving messages, beside reads. A dead letter leaves a home of
     /// the queue that is named; or the item in transit that comes after the one that the actor tried last comes in where it
-    /// goes to, is sent back where that home is closed, comes back, or is given up. Refused as QueueDoesNotExist, of a queue
-    /// that is named; NoMemory; ClockRange; Worn. All else is a word of the answer.
+    /// goes to, is sent back where that home is closed, comes back, or is given up; or a message leaves for the task that is
+    /// named, or the task is to finish. Refused as QueueDoesNotExist, of a queue that is named or a home that was never
+    /// opened; ResourceNotFoundException, of a task that is named; NoMemory; ClockRange; Worn. All else is a word of the answer.
     pub fn turn(
         &mut self,
         alloc: Global,
@@ -311,10 +336,27 @@ impl World {
         Ok(queue)
     }
 
+    // Reads between which queues messages may be moved: the source, and the destination, where one is given.
+    pub(crate) fn can_redrive(
+        &mut self,
+        alloc: Global,
+        actor: u32,
+        source: &QueueName,
+        destination: &Option<QueueName>,
+    ) -> Result<(NamedQueue, Option<NamedQueue>), Refusal>
+        ensures read { IfOk result (λ ends. EndsRead self.old self.new actor source.now destination.now (as_ends ends)) }
+        ensures refusal { IfErr result (EndsUnread self.old actor source.now destination.now) }
+        ensures err { OnErr result (self.new ≡ self.old) }
+    {
+        let ends = self.directory.can_redrive(source, destination)?;
+        self.see_directory(alloc, actor)?;
+        Ok(ends)
+    }
+
     // The actor has seen all that was done to the directory. Refused as NoMemory of a new actor alone.
     fn see_directory(&mut self, alloc: Global, actor: u32) -> Result<(), Refusal>
         ensures read { OnOk result (self.new ≡ having_read self.old actor) }
-        ensures refused { IfErr result (λ e. (e ≡ Refusal.NoMemory) × (position (is_of actor) self.old.journals ≡ None)) }
+        ensures refused { IfErr result (IsUnread self.old actor) }
         ensures err { OnErr result (self.new ≡ self.old) }
     {
         let last = self.directory.last();
@@ -324,7 +366,7 @@ impl World {
     // The actor has seen all that was done to a part whose last stamp is this. Refused as NoMemory of a new actor alone.
     fn see(&mut self, alloc: Global, actor: u32, last: Stamp) -> Result<(), Refusal>
         ensures read { OnOk result (self.new ≡ having_seen_at self.old actor last) }
-        ensures refused { IfErr result (λ e. (e ≡ Refusal.NoMemory) × (position (is_of actor) self.old.journals ≡ None)) }
+        ensures refused { IfErr result (IsUnread self.old actor) }
         ensures err { OnErr result (self.new ≡ self.old) }
     {
         let at = open(&mut self.journals, alloc, actor)?;
@@ -399,6 +441,69 @@ impl World {
         }
     }
 
+    // A step of the ledger alone.
+    pub(crate) fn ledgered(
+        &mut self,
+        alloc: Global,
+        actor: u32,
+        now: u64,
+        act: &TaskAct,
+    ) -> Result<LedgerReply, Refusal>
+        ensures stepped { IfOk result (LedgerStepped self.old self.new actor now act.now) }
+        ensures refusal { IfErr result (LedgerRefused self.old actor now act.now) }
+        ensures err { OnErr result (self.new ≡ self.old) }
+    {
+        let count = self.journals.len();
+        let at = open(&mut self.journals, alloc, actor)?;
+        let journal = &mut self.journals[at];
+        match ledger_step(alloc, &mut self.ledger, journal, now, act) {
+            Ok(told) => Ok(told),
+            Err(refusal) => {
+                self.journals.truncate(count);
+                Err(refusal)
+            }
+        }
+    }
+
+    // Reads the task of a number. Refused as ResourceNotFoundException; NoMemory of a new actor alone.
+    pub(crate) fn read_task(
+        &mut self,
+        alloc: Global,
+        actor: u32,
+        number: TaskNo,
+    ) -> Result<Task, Refusal>
+        ensures read { IfOk result (TaskRead self.old self.new actor number) }
+        ensures refusal { IfErr result (TaskUnread self.old actor number) }
+        ensures err { OnErr result (self.new ≡ self.old) }
+    {
+        let Some(task) = self.ledger.read_task(number) else {
+            return Err(Refusal::ResourceNotFoundException);
+        };
+        let task = *task;
+        let last = self.ledger.last();
+        self.see(alloc, actor, last)?;
+        Ok(task)
+    }
+
+    // Reads the most recent task of a source. Refused as NoMemory of a new actor alone.
+    fn last_task(
+        &mut self,
+        alloc: Global,
+        actor: u32,
+        source: QueueNo,
+    ) -> Result<Option<Task>, Refusal>
+        ensures read { IfOk result (λ task. (task ≡ last_task source self.old.ledger.ledger) × (self.new ≡ having_peeked self.old actor)) }
+        ensures refused { IfErr result (IsUnread self.old actor) }
+        ensures err { OnErr result (self.new ≡ self.old) }
+    {
+        let last = self.ledger.last();
+        self.see(alloc, actor, last)?;
+        match self.ledger.last_task(source) {
+            Some((_, task)) => Ok(Some(*task)),
+            None => Ok(None),
+        }
+    }
+
     // Reads where the item goes that comes after a number. Refused as NoMemory of a new actor alone.
     pub(crate) fn peek(
         &mut self,
@@ -407,7 +512,7 @@ impl World {
         number: u64,
     ) -> Result<Option<NextItem>, Refusal>
         ensures read { IfOk result (λ next. (next ≡ option_map next_of (peek number self.old.ledger.ledger)) × (self.new ≡ having_peeked self.old actor)) }
-        ensures refused { IfErr result (λ e. (e ≡ Refusal.NoMemory) × (position (is_of actor) self.old.journals ≡ None)) }
+        ensures refused { IfErr result (IsUnread self.old actor) }
         ensures err { OnErr result (self.new ≡ self.old) }
     {
         let last = self.ledger.last();
@@ -428,14 +533,11 @@ impl World {
         let count = self.journals.len();
         let last = self.ledger.last();
         let at = open(&mut self.journals, alloc, actor)?;
-        let number = tried_by(&self.tried, actor);
-        match next_after(&self.ledger, number) {
+        let progress = progress_of(&self.progress, actor);
+        match next_after(&self.ledger, progress.item) {
             Some(next) => {
-                let now = TriedItem {
-                    actor,
-                    item: next.number.get(),
-                };
-                match put_tried(&mut self.tried, now) {
+                let now = progress.with_item(next.number.get());
+                match put_progress(&mut self.progress, now) {
                     Ok(()) => {
                         self.journals[at].see(last);
                         Ok(Some(next))
@@ -451,6 +553,46 @@ impl World {
                 Ok(None)
             }
         }
+    }
+
+    // Reads the task of a number, and how far the actor's walk for it is; a new walk is kept.
+    pub(crate) fn walking(
+        &mut self,
+        alloc: Global,
+        actor: u32,
+        number: TaskNo,
+    ) -> Result<(Task, Walk), Refusal>
+        ensures read { IfOk result (λ found. WalkRead self.old self.new actor number found.0 found.1) }
+        ensures refusal { IfErr result (WalkUnread self.old actor number) }
+        ensures err { OnErr result (self.new ≡ self.old) }
+    {
+        let Some(task) = self.ledger.read_task(number) else {
+            return Err(Refusal::ResourceNotFoundException);
+        };
+        let task = *task;
+        let count = self.journals.len();
+        let last = self.ledger.last();
+        let at = open(&mut self.journals, alloc, actor)?;
+        let before = progress_of(&self.progress, actor);
+        let walk = before.walk_for(number);
+        let kept = before.with_walk(&walk);
+        match put_progress(&mut self.progress, kept) {
+            Ok(()) => {
+                self.journals[at].see(last);
+                Ok((task, walk))
+            }
+            Err(refusal) => {
+                self.journals.truncate(count);
+                Err(refusal)
+            }
+        }
+    }
+
+    // The actor's walk is so far now, where it has one.
+    pub(crate) fn walked(&mut self, actor: u32, walk: Walk)
+        ensures { self.new ≡ having_walked self.old actor walk }
+    {
+        walk_on(&mut self.progress, actor, walk);
     }
 }
 

@@ -68,6 +68,33 @@ impl Model for TaskNo {
     ghost invariant = { λ n. (1 ≤ n.0) × (n.0 < 4611686018427387903) };
 }
 
+impl TaskNo {
+    /// The number of the first task.
+    pub fn first() -> TaskNo
+        ensures { result ≡ 1 }
+    {
+        TaskNo(1)
+    }
+
+    /// The task of this number, from 1 to 2^62 - 2.
+    pub fn new(number: u64) -> Option<TaskNo>
+        ensures number { IfSome result (λ n. n ≡ number) }
+        ensures none { IfNone result ((number ≡ 0) ⊎ (4611686018427387903 ≤ number)) }
+    {
+        if number == 0 || number >= 4_611_686_018_427_387_903 {
+            return None;
+        }
+        Some(TaskNo(number))
+    }
+
+    /// Its number.
+    pub fn get(&self) -> u64
+        ensures { result ≡ self.now }
+    {
+        self.0
+    }
+}
+
 /// Why a message is moved (SQS Developer Guide, dead-letter queues and redrive).
 #[derive(Clone, Copy, PartialEq, Eq, Debug)]
 pub enum Reason {

@@ -4,6 +4,7 @@ use Rattle.std.specs.Str.{IsAscii}
 use Rattle.std.proofs.lemmas.Grind.{common_steps}
 use Rattle.std.proofs.lemmas.Str.{IsAscii-append}
 use Rattle.std.proofs.lemmas.Str.Ascii.{IsAscii-nil, IsAscii-cons}
+use Rattle.sq_calls.specs.TaskHandles.{task_handle_text}
 use Rattle.sq_base.specs.declared.handle.Handle.{Handle}
 use Rattle.sq_base.specs.Fields.{digit, field}
 use Rattle.sq_base.specs.Handles.{handle_text}
@@ -27,3 +28,13 @@ handle_ascii h =
     (dash_ascii _ _ (field_ascii 3 h.home)
     (dash_ascii _ _ (field_ascii 8 h.slot)
     (dash_ascii _ _ (field_ascii 16 h.serial) (field_ascii 8 h.receive))))
+
+pub task_handle_ascii : (task : ℕ) → IsAscii (task_handle_text task)
+unfolding task_handle_text
+task_handle_ascii task =
+    let digits = field 16 task in
+    IsAscii-cons 116 (97 ∷ 115 ∷ 107 ∷ 45 ∷ digits) (omega arith)
+    (IsAscii-cons 97 (115 ∷ 107 ∷ 45 ∷ digits) (omega arith)
+    (IsAscii-cons 115 (107 ∷ 45 ∷ digits) (omega arith)
+    (IsAscii-cons 107 (45 ∷ digits) (omega arith)
+    (IsAscii-cons 45 digits (omega arith) (field_ascii 16 task)))))

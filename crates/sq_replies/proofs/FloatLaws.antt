@@ -1,15 +1,22 @@
 -- No answer has a float.
-use Rattle.std.proofs.Common.{◌≡◌, ◌∙◌, false, true, Bool, List, [], ◌∷◌, map, refl, ℕ, Option, Some, None}
+use Rattle.std.proofs.Common.{◌≡◌, ◌∙◌, false, true, Bool, List, [], ◌∷◌, map, refl, ℕ, Option, Some, None, cond}
+use Rattle.std.specs.Prelude.{option_map}
+use Rattle.std.specs.List.{AllByRecursion}
 use Rattle.serde_json.specs.View.{items_of}
-use Rattle.serde_json.specs.Data.{Members, string}
+use Rattle.serde_json.specs.Data.{Data, Members, string, number, unsigned}
 use Rattle.serde_json.specs.Written.{has_float, items_have_float, members_have_float}
 use Rattle.sq_base.specs.declared.ids.HomeId.{HomeId}
 use Rattle.sq_base.specs.declared.row.Row.{Row}
 use Rattle.sq_calls.specs.declared.calls.AskedAttributes.{AskedAttributes}
 use Rattle.sq_calls.specs.declared.calls.Answer.{Answer}
-use Rattle.sq_calls.specs.declared.calls.Answer.TheVariants.{Queue, Queues, Sources, Attributes, Sent, Received, Done}
+use Rattle.sq_calls.specs.declared.calls.Answer.TheVariants.{Queue, Queues, Sources, Attributes, Sent, Received, Started, Cancelled, Tasks, Done}
 use Rattle.sq_calls.specs.declared.calls.ShownAttributes.{ShownAttributes}
-use Rattle.sq_replies.specs.Replies.{queue_url, queues_data, source_queues_data, text_member, text_members, shown_texts, shown_data, attributes_data, answered_data, message_data, received_data, answer_data}
+use Rattle.sq_calls.specs.TaskHandles.{task_handle_text}
+use Rattle.sq_model.specs.declared.task.NamedQueue.{NamedQueue}
+use Rattle.sq_model.specs.declared.task.Task.{Task}
+use Rattle.sq_model.specs.Tasks.{is_running}
+use Rattle.sq_policy.specs.PolicyTexts.{arn_text}
+use Rattle.sq_replies.specs.Replies.{queue_url, queues_data, source_queues_data, text_member, text_members, shown_texts, shown_data, attributes_data, answered_data, message_data, received_data, failure_word, task_values, value_member, value_members, task_data, tasks_data, answer_data}
 
 -- the attributes, where each test has a value
 answered_no_float : (count sent : Bool) (row : Row) (body digest id handle : List ℕ) → has_float (answered_data (attributes_data (record { receive_count = count; sent_timestamp = sent }) row) body digest id handle) ≡ false
@@ -47,6 +54,42 @@ texts_no_float (t ∷ rest) = text_no_float t.0 t.1 (text_members rest) ∙ text
 shown_no_float : (shown : ShownAttributes) → has_float (shown_data shown) ≡ false
 shown_no_float shown = rw (texts_no_float (shown_texts shown)) refl
 
+-- what is there has no float
+abbrev HasNoFloat : Option Data → Type 0
+HasNoFloat None = Unit {0}
+HasNoFloat (Some d) = has_float d ≡ false
+
+value_no_float : (name : List ℕ) (value : Option Data) (rest : Members) → HasNoFloat value → members_have_float (value_member name value rest) ≡ members_have_float rest
+value_no_float name None rest h = refl
+value_no_float name (Some d) rest h = rw h refl
+
+values_no_float : (values : List (List ℕ × Option Data)) → AllByRecursion (λ v. HasNoFloat v.1) values → members_have_float (value_members values) ≡ false
+values_no_float [] h = refl
+values_no_float (v ∷ rest) h = value_no_float v.0 v.1 (value_members rest) h.0 ∙ values_no_float rest h.1
+
+mapped_no_float : {A : Type 0} (f : A → Data) (value : Option A) → ((x : A) → has_float (f x) ≡ false) → HasNoFloat (option_map f value)
+mapped_no_float {A} f None h = tt
+mapped_no_float {A} f (Some x) h = h x
+
+handle_no_float : (running : Bool) (text : List ℕ) → HasNoFloat (cond running (Some (string text)) None)
+handle_no_float true text = refl
+handle_no_float false text = tt
+
+task_no_float : (task : Task) → has_float (task_data task) ≡ false
+task_no_float task =
+    let destination = mapped_no_float (λ (q : NamedQueue). string (arn_text q.name)) task.destination (λ q. refl) in
+    let failure = mapped_no_float string (failure_word task.status) (λ w. refl) in
+    let rate = mapped_no_float (λ (n : ℕ). number (unsigned n)) task.rate (λ n. refl) in
+    let handle = handle_no_float (is_running task.status) (task_handle_text task.number) in
+    values_no_float (task_values task) (refl, (destination, (failure, (rate, (refl, (refl, (refl, (handle, tt))))))))
+
+items_no_float : (tasks : List Task) → items_have_float (items_of (map task_data tasks)) ≡ false
+items_no_float [] = refl
+items_no_float (task ∷ tasks) = rw (task_no_float task, items_no_float tasks) refl
+
+tasks_no_float : (tasks : List Task) → has_float (tasks_data tasks) ≡ false
+tasks_no_float tasks = rw items_no_float refl
+
 pub answer_no_float : (answer : Answer) → has_float (answer_data answer) ≡ false
 answer_no_float (Queue name) = refl
 answer_no_float (Queues names) = queues_no_float names
@@ -54,4 +97,7 @@ answer_no_float (Sources names) = source_queues_no_float names
 answer_no_float (Attributes shown) = shown_no_float shown
 answer_no_float (Sent id digest) = refl
 answer_no_float (Received received) = received_no_float received.attributes received.home received.rows
+answer_no_float (Started task) = refl
+answer_no_float (Cancelled moved) = refl
+answer_no_float (Tasks tasks) = tasks_no_float tasks
 answer_no_float Done = refl

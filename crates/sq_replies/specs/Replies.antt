@@ -3,7 +3,7 @@ use Rattle.std.specs.Prelude.{⊤, ℕ, List, [], ◌∷◌, ◌++◌, map, code
 use Rattle.std.specs.Int.{w128, to_be_bytes}
 use Rattle.hex.specs.Hex.{encode_lower}
 use Rattle.md5.specs.Md5.{md5}
-use Rattle.serde_json.specs.Data.{Data, object, array, string, Members, member, no_members}
+use Rattle.serde_json.specs.Data.{Data, object, array, string, number, unsigned, Members, member, no_members}
 use Rattle.serde_json.specs.View.{items_of}
 use Rattle.serde_json.specs.Written.{compact_text}
 use Rattle.uuid.specs.Text.{hyphenated_text, lower}
@@ -17,12 +17,19 @@ use Rattle.sq_base.specs.MessageIds.{id_number}
 use Rattle.sq_base.specs.Refusals.{name_of, number_of}
 use Rattle.sq_calls.specs.declared.calls.AskedAttributes.{AskedAttributes}
 use Rattle.sq_calls.specs.declared.calls.Answer.{Answer}
-use Rattle.sq_calls.specs.declared.calls.Answer.TheVariants.{Queue, Queues, Sources, Attributes, Sent, Received, Done}
+use Rattle.sq_calls.specs.declared.calls.Answer.TheVariants.{Queue, Queues, Sources, Attributes, Sent, Received, Started, Cancelled, Tasks, Done}
 use Rattle.sq_calls.specs.declared.calls.Answered.{Answered}
 use Rattle.sq_calls.specs.declared.calls.Answered.TheVariants.{Call, Turn}
 use Rattle.sq_calls.specs.declared.calls.ShownAttributes.{ShownAttributes}
 use Rattle.sq_calls.specs.declared.turns.Turned.{Turned}
 use Rattle.sq_calls.specs.declared.turns.Turned.TheVariants as came
+use Rattle.sq_calls.specs.TaskHandles.{task_handle_text}
+use Rattle.sq_model.specs.declared.task.FailureReason.{FailureReason}
+use Rattle.sq_model.specs.declared.task.FailureReason.TheVariants as why
+use Rattle.sq_model.specs.declared.task.Task.{Task}
+use Rattle.sq_model.specs.declared.task.TaskStatus.{TaskStatus}
+use Rattle.sq_model.specs.declared.task.TaskStatus.TheVariants as is
+use Rattle.sq_model.specs.Tasks.{is_running}
 use Rattle.sq_policy.specs.PolicyTexts.{arn_text, redrive_data, allow_data}
 
 -- the text of a refusal: its name, and its number in decimal digits. Own.
@@ -124,6 +131,66 @@ message_data asked home row =
 abbrev pub received_data : AskedAttributes → HomeId → List Row → Data
 received_data asked home rows = object (member (codes "Messages") (array (items_of (map (message_data asked home) rows))) no_members)
 
+-- the handle of a task (SQS API Reference, StartMessageMoveTask, TaskHandle)
+abbrev pub started_data : ℕ → Data
+started_data task = object (member (codes "TaskHandle") (string (task_handle_text task)) no_members)
+
+-- how many messages a task had moved (SQS API Reference, CancelMessageMoveTask, ApproximateNumberOfMessagesMoved)
+abbrev pub cancelled_data : ℕ → Data
+cancelled_data moved = object (member (codes "ApproximateNumberOfMessagesMoved") (number (unsigned moved)) no_members)
+
+-- (SQS API Reference, ListMessageMoveTasksResultEntry, Status)
+abbrev pub status_word : TaskStatus → List ℕ
+status_word is.Running = codes "RUNNING"
+status_word is.Completed = codes "COMPLETED"
+status_word is.Cancelling = codes "CANCELLING"
+status_word is.Cancelled = codes "CANCELLED"
+status_word (is.Failed reason) = codes "FAILED"
+
+-- (SQS API Reference, ListMessageMoveTasksResultEntry, FailureReason); the last two are own
+abbrev pub reason_word : FailureReason → List ℕ
+reason_word why.NoOrigin = codes "CouldNotDetermineMessageSource"
+reason_word why.SourceClosed = codes "SourceClosed"
+reason_word why.DestinationClosed = codes "DestinationClosed"
+
+-- why a task failed, where it did
+abbrev pub failure_word : TaskStatus → Option (List ℕ)
+failure_word is.Running = None
+failure_word is.Completed = None
+failure_word is.Cancelling = None
+failure_word is.Cancelled = None
+failure_word (is.Failed reason) = Some (reason_word reason)
+
+-- what each member of a task is, if it is there, in ascending byte order of their names (SQS API Reference, ListMessageMoveTasksResultEntry); a task that is running has its handle
+abbrev pub task_values : Task → List (List ℕ × Option Data)
+task_values task =
+    (codes "ApproximateNumberOfMessagesMoved", Some (number (unsigned task.moved)))
+    ∷ (codes "DestinationArn", option_map (λ queue. string (arn_text queue.name)) task.destination)
+    ∷ (codes "FailureReason", option_map string (failure_word task.status))
+    ∷ (codes "MaxNumberOfMessagesPerSecond", option_map (λ rate. number (unsigned rate)) task.rate)
+    ∷ (codes "SourceArn", Some (string (arn_text task.source.name)))
+    ∷ (codes "StartedTimestamp", Some (number (unsigned task.started)))
+    ∷ (codes "Status", Some (string (status_word task.status)))
+    ∷ (codes "TaskHandle", if is_running task.status then Some (string (task_handle_text task.number)) else None)
+    ∷ []
+
+-- a member, where it has a value
+abbrev pub value_member : List ℕ → Option Data → Members → Members
+value_member name None rest = rest
+value_member name (Some d) rest = member name d rest
+
+-- those that have a value, in order
+abbrev pub value_members : List (List ℕ × Option Data) → Members
+value_members [] = no_members
+value_members (v ∷ rest) = value_member v.0 v.1 (value_members rest)
+
+abbrev pub task_data : Task → Data
+task_data task = object (value_members (task_values task))
+
+-- (SQS API Reference, ListMessageMoveTasks, Results)
+abbrev pub tasks_data : List Task → Data
+tasks_data tasks = object (member (codes "Results") (array (items_of (map task_data tasks))) no_members)
+
 abbrev pub answer_data : Answer → Data
 answer_data (Queue name) = queue_data name
 answer_data (Queues names) = queues_data names
@@ -131,6 +198,9 @@ answer_data (Sources names) = source_queues_data names
 answer_data (Attributes shown) = shown_data shown
 answer_data (Sent id digest) = sent_data digest (id_text id)
 answer_data (Received received) = received_data received.attributes received.home received.rows
+answer_data (Started task) = started_data task
+answer_data (Cancelled moved) = cancelled_data moved
+answer_data (Tasks tasks) = tasks_data tasks
 answer_data Done = object no_members
 
 -- the word for what came of a turn. Own.
@@ -142,6 +212,11 @@ turned_word came.Turned = codes "turned"
 turned_word came.Back = codes "back"
 turned_word came.Dropped = codes "dropped"
 turned_word came.Full = codes "full"
+turned_word came.Throttled = codes "throttled"
+turned_word came.Failed = codes "failed"
+turned_word came.Finished = codes "finished"
+turned_word came.Waiting = codes "waiting"
+turned_word came.Ended = codes "ended"
 
 abbrev pub turned_data : Turned → Data
 turned_data turned = object (member (codes "Turn") (string (turned_word turned)) no_members)

@@ -1,11 +1,13 @@
 -- The answers of the worked cases.
-use Rattle.std.specs.Prelude.{ℕ, List, codes, true, false, Option, None}
+use Rattle.std.specs.Prelude.{ℕ, List, codes, true, false, Option, Some, None}
 use Rattle.serde_json.specs.Written.{compact_text}
 use Rattle.sq_calls.specs.declared.calls.Answer.{Answer}
 use Rattle.sq_calls.specs.declared.calls.Answer.TheVariants.{Attributes}
 use Rattle.sq_calls.specs.declared.calls.AskedOfQueue.{AskedOfQueue}
 use Rattle.sq_model.specs.declared.directory.QueueAttributes.{QueueAttributes}
 use Rattle.sq_model.specs.declared.policy.RedrivePolicy.{RedrivePolicy}
+use Rattle.sq_model.specs.declared.task.Task.{Task}
+use Rattle.sq_model.specs.declared.task.TaskStatus.{TaskStatus}
 use Rattle.sq_replies.specs.Replies.{answer_data}
 
 abbrev pub text_of : Answer → List ℕ
@@ -27,3 +29,11 @@ plain_with redrive = record { queue = 1; settings = record { delay = 0; retentio
 -- queue q with no messages
 abbrev pub q_shown : AskedOfQueue → Option RedrivePolicy → Answer
 q_shown asked redrive = Attributes (record { queue = codes "q"; asked = asked; attributes = plain_with redrive; counts = record { visible = 0; flying = 0; delayed = 0 } })
+
+-- a task that moves what queue d has back to where it came from, at no rate of its own
+abbrev pub back_from_d : ℕ → TaskStatus → Task
+back_from_d number status = record { number = number; source = record { number = 1; name = codes "d" }; destination = None; rate = None; started = 1000; status = status; left = 0; moved = 0; back = 0; given_up = 0; second = 0; in_second = 0 }
+
+-- one that moves it to queue q, two messages in a second, of which two came in
+abbrev pub moved_to_q : TaskStatus → Task
+moved_to_q status = record (back_from_d 1 status) { destination = Some (record { number = 2; name = codes "q" }); rate = Some 2; left = 3; moved = 2; second = 2; in_second = 1 }

@@ -4,6 +4,7 @@
 mod attributes;
 mod queues;
 pub mod reply;
+mod tasks;
 pub mod text;
 mod turns;
 pub mod worked;

@@ -6,6 +6,7 @@ ghost use Rattle.sq_replies.specs.Replies.{error_text, handle_of, sent_data, att
 
 use crate::attributes::shown_value;
 use crate::queues::{queue_value, queues_value, sources_value};
+use crate::tasks::{cancelled_value, started_value, tasks_value};
 use crate::text::{Text, ascii_text};
 use crate::turns::turned_text;
 use serde_json::{Value, json};
@@ -99,6 +100,9 @@ fn answer_value(alloc: Global, answer: &Answer) -> Result<Value, AllocError>
             sent_value(alloc, ascii_text(digest.digits()), id_text(id, &mut uuid))
         }
         Answer::Received(received) => received_value(alloc, received),
+        Answer::Started(task) => started_value(alloc, *task),
+        Answer::Cancelled(moved) => cancelled_value(alloc, *moved),
+        Answer::Tasks(tasks) => tasks_value(alloc, tasks.as_slice()),
         Answer::Done => json!(in alloc; {}),
     }
 }

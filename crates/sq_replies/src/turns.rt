@@ -18,5 +18,10 @@ pub(crate) fn turned_text(turned: Turned) -> &'static str
         Turned::Back => "{\"Turn\":\"back\"}",
         Turned::Dropped => "{\"Turn\":\"dropped\"}",
         Turned::Full => "{\"Turn\":\"full\"}",
+        Turned::Throttled => "{\"Turn\":\"throttled\"}",
+        Turned::Failed => "{\"Turn\":\"failed\"}",
+        Turned::Finished => "{\"Turn\":\"finished\"}",
+        Turned::Waiting => "{\"Turn\":\"waiting\"}",
+        Turned::Ended => "{\"Turn\":\"ended\"}",
     }
 }

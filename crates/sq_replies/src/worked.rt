@@ -2,11 +2,13 @@
 #![tactic(auto, unfolding(crate::proofs::OnLiterals::replies_on_literals))]
 
 ghost use Rattle.std.specs.Prelude.{◌≡◌, List, [], ◌∷◌, codes, Some, None, Ok};
-ghost use Rattle.sq_calls.specs.declared.calls.Answer.TheVariants.{Queues, Sources};
+ghost use Rattle.sq_calls.specs.declared.calls.Answer.TheVariants.{Queues, Sources, Started, Cancelled, Tasks};
 ghost use Rattle.sq_calls.specs.declared.calls.Answered.TheVariants.{Turn};
 ghost use Rattle.sq_calls.specs.declared.turns.Turned.TheVariants as came;
+ghost use Rattle.sq_model.specs.declared.task.FailureReason.TheVariants.{NoOrigin};
+ghost use Rattle.sq_model.specs.declared.task.TaskStatus.TheVariants.{Running, Cancelling, Failed};
 ghost use Rattle.sq_replies.specs.Replies.{reply_text_of};
-ghost use Rattle.sq_replies.specs.Worked.{text_of, none_asked, all_asked, redrive_asked, q_shown};
+ghost use Rattle.sq_replies.specs.Worked.{text_of, none_asked, all_asked, redrive_asked, q_shown, back_from_d, moved_to_q};
 
 /// The URLs of no queue, of two queues, and of one queue that has another one for its dead letters.
 pub fn queues_are_listed_by_their_urls()
@@ -36,4 +38,24 @@ pub fn a_turn_is_answered_by_one_word()
     ensures back { reply_text_of (Ok (Turn came.Back)) ≡ codes "{\"Turn\":\"back\"}" }
     ensures dropped { reply_text_of (Ok (Turn came.Dropped)) ≡ codes "{\"Turn\":\"dropped\"}" }
     ensures full { reply_text_of (Ok (Turn came.Full)) ≡ codes "{\"Turn\":\"full\"}" }
+    ensures throttled { reply_text_of (Ok (Turn came.Throttled)) ≡ codes "{\"Turn\":\"throttled\"}" }
+    ensures failed { reply_text_of (Ok (Turn came.Failed)) ≡ codes "{\"Turn\":\"failed\"}" }
+    ensures finished { reply_text_of (Ok (Turn came.Finished)) ≡ codes "{\"Turn\":\"finished\"}" }
+    ensures waiting { reply_text_of (Ok (Turn came.Waiting)) ≡ codes "{\"Turn\":\"waiting\"}" }
+    ensures ended { reply_text_of (Ok (Turn came.Ended)) ≡ codes "{\"Turn\":\"ended\"}" }
+{}
+
+/// A task is started and cancelled: its handle, and what it had moved.
+pub fn a_task_goes_by_its_handle()
+    ensures started { text_of (Started 1) ≡ codes "{\"TaskHandle\":\"task-0000000000000001\"}" }
+    ensures later { text_of (Started 171) ≡ codes "{\"TaskHandle\":\"task-00000000000000ab\"}" }
+    ensures cancelled { text_of (Cancelled 2) ≡ codes "{\"ApproximateNumberOfMessagesMoved\":2}" }
+{}
+
+/// Tasks are listed with the members that each has: the handle of one that runs alone, and the reason of one that failed.
+pub fn a_task_is_listed_with_what_it_has()
+    ensures none { text_of (Tasks []) ≡ codes "{\"Results\":[]}" }
+    ensures running { text_of (Tasks (moved_to_q Running ∷ [])) ≡ codes "{\"Results\":[{\"ApproximateNumberOfMessagesMoved\":2,\"DestinationArn\":\"arn:aws:sqs:local:000000000000:q\",\"MaxNumberOfMessagesPerSecond\":2,\"SourceArn\":\"arn:aws:sqs:local:000000000000:d\",\"StartedTimestamp\":1000,\"Status\":\"RUNNING\",\"TaskHandle\":\"task-0000000000000001\"}]}" }
+    ensures cancelling { text_of (Tasks (moved_to_q Cancelling ∷ [])) ≡ codes "{\"Results\":[{\"ApproximateNumberOfMessagesMoved\":2,\"DestinationArn\":\"arn:aws:sqs:local:000000000000:q\",\"MaxNumberOfMessagesPerSecond\":2,\"SourceArn\":\"arn:aws:sqs:local:000000000000:d\",\"StartedTimestamp\":1000,\"Status\":\"CANCELLING\"}]}" }
+    ensures failed { text_of (Tasks (back_from_d 1 (Failed NoOrigin) ∷ [])) ≡ codes "{\"Results\":[{\"ApproximateNumberOfMessagesMoved\":0,\"FailureReason\":\"CouldNotDetermineMessageSource\",\"SourceArn\":\"arn:aws:sqs:local:000000000000:d\",\"StartedTimestamp\":1000,\"Status\":\"FAILED\"}]}" }
 {}

@@ -4,5 +4,6 @@ pub mod Attributes
 pub mod Asked
 pub mod Actions
 pub mod Queues
+pub mod Tasks
 pub mod Turns
 pub mod Requests

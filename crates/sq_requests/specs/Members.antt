@@ -8,8 +8,9 @@ use Rattle.sq_base.specs.declared.refusal.Refusal.{Refusal}
 use Rattle.sq_base.specs.declared.refusal.Refusal.TheVariants.{InvalidRequest}
 use Rattle.sq_policy.specs.Reading.{◌>>=◌}
 use Rattle.sq_policy.specs.Amounts.{amount_of, received}
-use Rattle.sq_policy.specs.PolicyTexts.{name_behind}
+use Rattle.sq_policy.specs.PolicyTexts.{name_behind, arn_name}
 use Rattle.sq_policy.specs.declared.amount.Amount.{Amount}
+use Rattle.sq_calls.specs.TaskHandles.{task_handle_at}
 
 -- the text of a member that must be there
 abbrev pub as_text : Option (List ℕ) → Result (List ℕ) Refusal
@@ -41,6 +42,22 @@ url_at d = text_at (codes "QueueUrl") d >>= λ url. Ok (url_name url)
 -- what the receipt handle names (SQS API Reference, ReceiptHandle), where it is one
 unfoldable pub receipt_handle_at : Data → Result (Option Handle) Refusal
 receipt_handle_at d = text_at (codes "ReceiptHandle") d >>= λ handle. Ok (handle_at handle)
+
+-- the queue of a member that must be an ARN, where it is one
+unfoldable pub arn_at : List ℕ → Data → Result (Option (List ℕ)) Refusal
+arn_at name d = text_at name d >>= λ arn. Ok (arn_name arn)
+
+-- and of one that may be there
+abbrev pub arn_if : Option (List ℕ) → Option (Option (List ℕ))
+arn_if None = None
+arn_if (Some arn) = Some (arn_name arn)
+
+unfoldable pub arn_if_at : List ℕ → Data → Result (Option (Option (List ℕ))) Refusal
+arn_if_at name d = text_if_at name d >>= λ arn. Ok (arn_if arn)
+
+-- the task that a handle names (SQS API Reference, TaskHandle), where it is one
+unfoldable pub named_task : Data → Result (Option ℕ) Refusal
+named_task d = text_at (codes "TaskHandle") d >>= λ handle. Ok (task_handle_at handle)
 
 -- whether a member that may be there is an object with members
 abbrev pub is_empty : Members → Bool

@@ -10,7 +10,8 @@ use Rattle.sq_policy.specs.Reading.{◌>>=◌}
 use Rattle.sq_requests.specs.Members.{text_at}
 use Rattle.sq_requests.specs.Queues.{create_of, create_asks, set_of, set_asks, get_of, get_url_of, list_of, purge_of, delete_queue_of, list_sources_of}
 use Rattle.sq_requests.specs.Actions.{send_of, receive_of, delete_of, change_of}
-use Rattle.sq_requests.specs.Turns.{dead_turn_of}
+use Rattle.sq_requests.specs.Tasks.{start_move_of, cancel_move_of, list_moves_of}
+use Rattle.sq_requests.specs.Turns.{dead_turn_of, task_turn_of}
 use Rattle.sq_calls.specs.declared.calls.Asked.{Asked}
 use Rattle.sq_calls.specs.declared.calls.Asked.TheVariants as asked
 use Rattle.sq_calls.specs.declared.calls.Call.{Call}
@@ -57,6 +58,9 @@ call_of action d =
     else if bytes_eq action (codes "ReceiveMessage") then receive_of d
     else if bytes_eq action (codes "DeleteMessage") then delete_of d
     else if bytes_eq action (codes "ChangeMessageVisibility") then change_of d
+    else if bytes_eq action (codes "StartMessageMoveTask") then start_move_of d
+    else if bytes_eq action (codes "CancelMessageMoveTask") then cancel_move_of d
+    else if bytes_eq action (codes "ListMessageMoveTasks") then list_moves_of d
     else Err UnsupportedOperation
 
 -- memory is asked for the text of a policy and for a body
@@ -71,6 +75,7 @@ unfoldable pub call_or_turn_of : List ℕ → Data → Result Asked Refusal
 call_or_turn_of action d =
     if bytes_eq action (codes "DeadTurn") then (dead_turn_of d >>= λ turn. Ok (asked.Turn turn))
     else if bytes_eq action (codes "EnterTurn") then Ok (asked.Turn EnterTurn)
+    else if bytes_eq action (codes "TaskTurn") then (task_turn_of d >>= λ turn. Ok (asked.Turn turn))
     else call_of action d >>= λ call. Ok (asked.Call call)
 
 -- no memory is asked for a turn
@@ -78,6 +83,7 @@ unfoldable pub call_or_turn_asks : List ℕ → Data → Result Bool Refusal
 call_or_turn_asks action d =
     if bytes_eq action (codes "DeadTurn") then (dead_turn_of d >>= λ turn. Ok false)
     else if bytes_eq action (codes "EnterTurn") then Ok false
+    else if bytes_eq action (codes "TaskTurn") then (task_turn_of d >>= λ turn. Ok false)
     else call_asks action d
 
 abbrev pub request_in : Data → Result Request Refusal

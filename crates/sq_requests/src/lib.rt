@@ -7,4 +7,5 @@ pub mod attributes;
 pub mod members;
 pub mod queues;
 pub mod request;
+pub mod tasks;
 pub mod turns;

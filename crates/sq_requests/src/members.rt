@@ -2,14 +2,16 @@
 ghost use Rattle.std.specs.Prelude.{◌≡◌, not, option_map};
 ghost use Rattle.serde_json.specs.View.{view, members_view};
 ghost use Rattle.sq_policy.specs.Reading.{seen_as};
-ghost use Rattle.sq_requests.specs.Members.{url_name, text_at, text_if_at, url_at, receipt_handle_at, is_empty, has_members_at, amount_at, amount_if_at};
+ghost use Rattle.sq_requests.specs.Members.{url_name, text_at, text_if_at, url_at, receipt_handle_at, arn_at, arn_if, arn_if_at, named_task, is_empty, has_members_at, amount_at, amount_if_at};
 
 use serde_json::{Map, Value};
 use sq_base::handle::{Handle, read_handle};
 use sq_base::name::QueueName;
 use sq_base::refusal::Refusal;
+use sq_calls::task_handle::read_task_handle;
+use sq_model::item::TaskNo;
 use sq_policy::amount::{Amount, amount_of};
-use sq_policy::arn::name_behind;
+use sq_policy::arn::{name_behind, queue_of_arn};
 
 /// What a queue's URL begins with, before its name.
 const URL_START: &str = "http://localhost/000000000000/";
@@ -66,6 +68,42 @@ pub fn receipt_handle_at(value: &Value) -> Result<Option<Handle>, Refusal>
 {
     let handle = text_at(value, "ReceiptHandle")?;
     Ok(read_handle(handle.as_bytes()))
+}
+
+/// The queue of a member that must be an ARN; none where its text is none.
+#[tactic(auto, unfolding(crate::specs::Members::arn_at))]
+pub fn arn_at(value: &Value, name: &str) -> Result<Option<QueueName>, Refusal>
+    ensures { result ≡ arn_at name.now (view value.now) }
+{
+    let arn = text_at(value, name)?;
+    Ok(queue_of_arn(arn))
+}
+
+fn arn_if(arn: Option<&str>) -> Option<Option<QueueName>>
+    ensures { result ≡ arn_if (option_map (λ t. t.now) arn.entry) }
+{
+    match arn {
+        Some(arn) => Some(queue_of_arn(arn)),
+        None => None,
+    }
+}
+
+/// The same of a member that may be there.
+#[tactic(auto, unfolding(crate::specs::Members::arn_if_at))]
+pub fn arn_if_at(value: &Value, name: &str) -> Result<Option<Option<QueueName>>, Refusal>
+    ensures { result ≡ arn_if_at name.now (view value.now) }
+{
+    let arn = text_if_at(value, name)?;
+    Ok(arn_if(arn))
+}
+
+/// The task of the member `TaskHandle`; none where that is the handle of none.
+#[tactic(auto, unfolding(crate::specs::Members::named_task))]
+pub fn named_task(value: &Value) -> Result<Option<TaskNo>, Refusal>
+    ensures { result ≡ named_task (view value.now) }
+{
+    let handle = text_at(value, "TaskHandle")?;
+    Ok(read_task_handle(handle.as_bytes()))
 }
 
 fn has_members(members: &Map<String, Value>) -> bool

@@ -10,7 +10,8 @@ use crate::members::text_at;
 use crate::queues::{
     create_of, delete_queue_of, get_of, get_url_of, list_of, list_sources_of, purge_of, set_of,
 };
-use crate::turns::dead_turn_of;
+use crate::tasks::{cancel_move_of, list_moves_of, start_move_of};
+use crate::turns::{dead_turn_of, task_turn_of};
 use serde_json::Value;
 use sq_base::refusal::Refusal;
 use sq_calls::calls::{Asked, Call};
@@ -66,6 +67,9 @@ fn call_of(alloc: Global, value: &Value, action: &str) -> Result<Call, Refusal>
         "ReceiveMessage" => receive_of(value),
         "DeleteMessage" => delete_of(value),
         "ChangeMessageVisibility" => change_of(value),
+        "StartMessageMoveTask" => start_move_of(value),
+        "CancelMessageMoveTask" => cancel_move_of(value),
+        "ListMessageMoveTasks" => list_moves_of(value),
         _ => Err(Refusal::UnsupportedOperation),
     }
 }
@@ -79,6 +83,7 @@ fn call_or_turn_of(alloc: Global, value: &Value, action: &str) -> Result<Asked, 
     match action {
         "DeadTurn" => Ok(Asked::Turn(dead_turn_of(value)?)),
         "EnterTurn" => Ok(Asked::Turn(Turn::EnterTurn)),
+        "TaskTurn" => Ok(Asked::Turn(task_turn_of(value)?)),
         _ => Ok(Asked::Call(call_of(alloc, value, action)?)),
     }
 }

@@ -1,12 +1,12 @@
 -- Messages that leave a home or come in, as the home sees it.
-use Rattle.std.specs.Prelude.{◌≡◌, ℕ, ◌+◌, ◌&&◌, ◌==◌, Bool, true, not, List, [], ◌∷◌, ◌++◌, Option, Some, None}
-use Rattle.std.specs.List.{Contains}
+use Rattle.std.specs.Prelude.{◌≡◌, ℕ, ◌+◌, ◌&&◌, ◌==◌, Bool, true, false, not, List, [], ◌∷◌, ◌++◌, Option, Some, None}
+use Rattle.std.specs.List.{Contains, list_any}
 use Rattle.sq_base.specs.declared.refusal.Refusal.{Refusal}
 use Rattle.sq_base.specs.declared.refusal.Refusal.TheVariants.{QueueDoesNotExist, UnsupportedOperation}
 use Rattle.sq_base.specs.declared.row.Row.{Row}
 use Rattle.sq_model.specs.declared.place.Site.{Site}
 use Rattle.sq_model.specs.Homes.{Home, Unopened, Serving, Closed, HasPlace, dead_target, place_refusal, refused_if}
-use Rattle.sq_model.specs.Rows.{trimmed, is_dead, Takes}
+use Rattle.sq_model.specs.Rows.{trimmed, is_dead, is_live, Takes}
 use Rattle.sq_model.specs.declared.item.Item.{Item}
 use Rattle.sq_model.specs.declared.shared.ItemAct.{ItemAct}
 use Rattle.sq_model.specs.declared.shared.ItemAct.TheVariants.{Enter, TurnBack, GiveBack, GiveUp}
@@ -26,6 +26,30 @@ abbrev pub IsDeadAt : Home → ℕ → Row → Type 0
 IsDeadAt (Serving s v n rows) m row = IsOneOf (is_dead s m) (trimmed s m rows) row
 IsDeadAt Unopened m row = ⊥
 IsDeadAt Closed m row = ⊥
+
+-- a live row of the home at m
+abbrev pub IsLiveAt : Home → ℕ → Row → Type 0
+IsLiveAt (Serving s v n rows) m row = IsOneOf (is_live s m) (trimmed s m rows) row
+IsLiveAt Unopened m row = ⊥
+IsLiveAt Closed m row = ⊥
+
+-- one is there
+abbrev pub has_live_row : Home → ℕ → Bool
+has_live_row (Serving s v n rows) m = list_any (is_live s m) (trimmed s m rows)
+has_live_row Unopened m = false
+has_live_row Closed m = false
+
+-- it serves, or is closed
+abbrev pub is_opened : Home → Bool
+is_opened (Serving s v n rows) = true
+is_opened Unopened = false
+is_opened Closed = true
+
+-- without its expired rows
+abbrev pub trimmed_home : Home → ℕ → Home
+trimmed_home (Serving s v n rows) m = Serving s v n (trimmed s m rows)
+trimmed_home Unopened m = Unopened
+trimmed_home Closed m = Closed
 
 -- the queue that a dead row leaves for
 abbrev pub target_at : Home → Option ℕ

@@ -7,7 +7,7 @@ ghost use Rattle.sq_model.specs.declared.replies.HomeReply.TheVariants.{Entered}
 ghost use Rattle.sq_model.specs.Homes.{HomeStep, IsIdle, home_refusal, may_enter, may_return};
 ghost use Rattle.sq_model.specs.ItemActs.{call_with, is_its, may_act, replied_by};
 ghost use Rattle.sq_model.specs.Homes.{Closed as Gone};
-ghost use Rattle.sq_shard.specs.Moves.{IsDeadAt, HasRow, GoesWithout, IsFor, target_at, coming_refusal, closed_refusal, item_refusal};
+ghost use Rattle.sq_shard.specs.Moves.{IsDeadAt, IsLiveAt, HasRow, GoesWithout, IsFor, has_live_row, is_opened, target_at, trimmed_home, coming_refusal, closed_refusal, item_refusal};
 
 use crate::rows;
 use crate::shard::{Shard, Status};
@@ -48,6 +48,38 @@ impl<S: Store> Shard<S> {
             return Err(Refusal::QueueDoesNotExist);
         };
         Ok(self.store.find_dead(&self.settings, moment))
+    }
+
+    /// A live message, any of them, as it stands; none where none is live.
+    pub fn find_live(&self, moment: u64) -> Option<&Row>
+        ensures found { IfSome result (λ row. IsLiveAt self.now.home moment row.now) }
+        ensures none { IfNone result (has_live_row self.now.home moment ≡ false) }
+    {
+        match self.status {
+            Status::Serving => self.store.find_live(&self.settings, moment),
+            Status::Unopened | Status::Closed => None,
+        }
+    }
+
+    /// Whether the home was opened: it serves, or is closed.
+    pub fn is_opened(&self) -> bool
+        ensures { result ≡ is_opened self.now.home }
+    {
+        !matches!(self.status, Status::Unopened)
+    }
+
+    /// Lets go of the messages past their retention, and changes nothing else.
+    #[tactic(auto, using(sq_model::proofs::RowLaws::rises_trimmed, crate::proofs::Few::few_trimmed))]
+    pub fn trim(&mut self, moment: u64)
+        ensures home { self.new.home ≡ trimmed_home self.old.home moment }
+        ensures site { self.new.site ≡ self.old.site }
+    {
+        let Shard {
+            store,
+            settings,
+            ..
+        } = self;
+        store.trim(settings, moment);
     }
 
     /// The queue that dead messages leave for.

@@ -51,6 +51,10 @@ impl Store for PlainStore {
         rows::find_dead(&self.rows, settings, moment)
     }
 
+    fn find_live(&self, settings: &Settings, moment: u64) -> Option<&Row> {
+        rows::find_live(&self.rows, settings, moment)
+    }
+
     fn has_held(&self, settings: &Settings, moment: u64, receipt: &Receipt) -> bool {
         rows::has_held(&self.rows, settings, moment, receipt)
     }

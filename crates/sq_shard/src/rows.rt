@@ -289,6 +289,24 @@ pub fn find_dead<'a>(rows: &'a [Row], settings: &Settings, moment: u64) -> Optio
     }
 }
 
+// Where the first live one of the kept rows is.
+fn first_live(rows: &[Row], settings: &Settings, moment: u64) -> Option<usize>
+    ensures { result ≡ position (λ row. not (model.is_expired settings.now moment row) && model.is_live settings.now moment row) rows.now }
+{
+    rows.iter().position(|row| is_kept(settings, moment, row) && is_live(settings, moment, row))
+}
+
+/// A live one of the kept rows: the first.
+pub fn find_live<'a>(rows: &'a [Row], settings: &Settings, moment: u64) -> Option<&'a Row>
+    ensures one { IfSome result (λ row. moves.IsOneOf (model.is_live settings.now moment) (model.trimmed settings.now moment rows.now) row.now) }
+    ensures none { IfNone result (list_any (model.is_live settings.now moment) (model.trimmed settings.now moment rows.now) ≡ false) }
+{
+    match first_live(rows, settings, moment) {
+        Some(place) => Some(&rows[place]),
+        None => None,
+    }
+}
+
 fn is_at(slot: u32, serial: Serial, row: &Row) -> bool
     ensures { result ≡ moves.is_at slot serial row.now }
 {

@@ -41,6 +41,11 @@ pub trait Store: Drop {
         ensures one { IfSome result (λ row. IsOneOf (is_dead settings.now moment) (trimmed settings.now moment (rows self.now)) row.now) }
         ensures none { IfNone result (list_any (is_dead settings.now moment) (trimmed settings.now moment (rows self.now)) ≡ false) };
 
+    /// A live one of these, any of them.
+    fn find_live(&self, settings: &Settings, moment: u64) -> Option<&Row>
+        ensures one { IfSome result (λ row. IsOneOf (is_live settings.now moment) (trimmed settings.now moment (rows self.now)) row.now) }
+        ensures none { IfNone result (list_any (is_live settings.now moment) (trimmed settings.now moment (rows self.now)) ≡ false) };
+
     /// Whether one of these is the row of a receipt, and in flight.
     fn has_held(&self, settings: &Settings, moment: u64, receipt: &Receipt) -> bool
         ensures { result ≡ list_any (is_held moment receipt.now) (trimmed settings.now moment (rows self.now)) };

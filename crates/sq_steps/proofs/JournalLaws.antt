@@ -10,7 +10,8 @@ use Rattle.sq_base.specs.Stamps.{Below, stamp_cmp}
 use Rattle.sq_base.proofs.StampLaws.{stamps_total, after_above_second, below_or, below_less, below_not_less}
 use Rattle.sq_model.specs.declared.calls.HomeCall.{HomeCall}
 use Rattle.sq_model.specs.declared.directory.DirectoryCall.{DirectoryCall}
-use Rattle.sq_model.specs.RecordValues.{HomeRecordValue, DirectoryRecordValue, RecordValue, OfDirectory, OfHome, place_of_record, stamp_of, Journal, actor_of, RecordsRise}
+use Rattle.sq_model.specs.declared.ledger.LedgerCall.{LedgerCall}
+use Rattle.sq_model.specs.RecordValues.{HomeRecordValue, DirectoryRecordValue, LedgerRecordValue, RecordValue, OfDirectory, OfLedger, OfHome, place_of_record, stamp_of, Journal, actor_of, RecordsRise}
 use Rattle.sq_history.specs.HistoryValue.{HistoryValue}
 use Rattle.sq_history.specs.Histories.{RecordsStep}
 use Rattle.sq_directory.specs.DirectoryHistory.{DirectoryHistory}
@@ -19,6 +20,7 @@ use Rattle.sq_directory.specs.Makers.{IsSeen}
 use Rattle.sq_model.specs.declared.replies.HomeReply.{HomeReply}
 use Rattle.sq_model.specs.declared.shared.SharedAct.{SharedAct}
 use Rattle.sq_ledger.specs.LedgerHistory.{LedgerHistory}
+use Rattle.sq_ledger.specs.LedgerHistories.{LedgerRecords}
 use Rattle.sq_steps.specs.SharedSteps.{BothDo}
 use Rattle.sq_steps.specs.Journals.{later, IsJournal, with_record}
 use Rattle.sq_directory.proofs.MakerLaws.{seen_below}
@@ -91,6 +93,12 @@ pub directory_journal_more : (old new : DirectoryHistory) (journal : Journal) (n
     → IsJournal journal → DirectoryRecords old new (actor_of journal) now call its_record → IsJournal (with_record journal (OfDirectory its_record) room)
 directory_journal_more old new journal now call its_record room is more =
     journal_more journal (OfDirectory its_record) room is (ap (λ (n : DirectoryRecordValue). n.place) more.record_is) (after_above_second old.last journal.seen now its_record.stamp more.stamped)
+
+-- and of one of the ledger alone
+pub ledger_journal_more : (old new : LedgerHistory) (journal : Journal) (now : ℕ) (call : LedgerCall) (its_record : LedgerRecordValue) (room : ℕ)
+    → IsJournal journal → LedgerRecords old new (actor_of journal) now call its_record → IsJournal (with_record journal (OfLedger its_record) room)
+ledger_journal_more old new journal now call its_record room is more =
+    journal_more journal (OfLedger its_record) room is (ap (λ (n : LedgerRecordValue). n.place) more.record_is) (after_above_second old.last journal.seen now its_record.stamp more.stamped)
 
 -- of two stamps the later is not below either
 pub later_first : (a b : StampValue) → IsSeen a (later a b)

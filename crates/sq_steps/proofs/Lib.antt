@@ -3,3 +3,4 @@ pub mod JournalListLaws
 pub mod DropLaws
 pub mod FilterLaws
 pub mod SharedLaws
+pub mod TaskLeaveLaws

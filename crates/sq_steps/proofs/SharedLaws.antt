@@ -1,6 +1,5 @@
 -- The halves of a step that a home and the ledger do together, and why neither is done.
 use Rattle.std.proofs.Common.{◌≡◌, ◌⊎◌, ℕ, true, false, List, Option, Some, None, Result, Ok, Err, refl, sym, ◌∙◌, ap, subst, inl, inr}
-use Rattle.std.specs.List.{list_any}
 use Rattle.sq_base.specs.declared.refusal.Refusal.{Refusal}
 use Rattle.sq_base.specs.declared.refusal.Refusal.TheVariants.{NoMemory}
 use Rattle.sq_base.specs.StampValue.{StampValue}
@@ -9,23 +8,23 @@ use Rattle.sq_model.specs.declared.calls.HomeCall.{HomeCall}
 use Rattle.sq_model.specs.declared.calls.HomeCall.TheVariants as call
 use Rattle.sq_model.specs.declared.event.Actor.{Actor}
 use Rattle.sq_model.specs.declared.item.Item.{Item}
+use Rattle.sq_model.specs.declared.item.Reason.TheVariants.{DeadLetter}
 use Rattle.sq_model.specs.declared.place.Site.{Site}
 use Rattle.sq_model.specs.declared.replies.HomeReply.{HomeReply}
 use Rattle.sq_model.specs.declared.replies.HomeReply.TheVariants.{Done, Entered}
 use Rattle.sq_model.specs.declared.shared.ItemAct.{ItemAct}
 use Rattle.sq_model.specs.declared.shared.ItemAct.TheVariants.{Enter, TurnBack, GiveBack, GiveUp}
 use Rattle.sq_model.specs.declared.shared.SharedAct.TheVariants as asks
-use Rattle.sq_model.specs.Homes.{Home, Unopened, Serving, Closed, HomeStep, home_refusal}
+use Rattle.sq_model.specs.Homes.{Home, Unopened, Serving, Closed, HomeStep, IsFrom, home_refusal}
 use Rattle.sq_model.specs.ItemActs.{asked_with, call_with}
 use Rattle.sq_model.specs.Ledgers.{Ledger, item_of, room_refusal}
 use Rattle.sq_model.specs.RecordValues.{HomeRecordValue}
-use Rattle.sq_model.specs.Rows.{trimmed, is_dead}
 use Rattle.sq_model.specs.Shared.{IsUnrecorded, shared_refusal}
 use Rattle.sq_history.specs.Halves.{item_refusal, DoesHalf, HasDead, IsItemRefused, IsLeaveRefused}
 use Rattle.sq_history.specs.declared.shared.HomeHalf.{HomeHalf}
 use Rattle.sq_history.specs.HistoryValue.{HistoryValue}
-use Rattle.sq_ledger.specs.LedgerHistories.{DoesItem}
-use Rattle.sq_steps.specs.SharedSteps.{IsPairRefused}
+use Rattle.sq_ledger.specs.LedgerHistories.{DoesItem, IsLeaving}
+use Rattle.sq_steps.specs.SharedSteps.{HasMessage, IsPairRefused}
 
 -- ---- what the reply of a home says
 
@@ -53,13 +52,16 @@ recorded act site Closed l m number h = h
 recorded act site (Serving s v n rows) l m number h =
     elim act as (λ a. IsUnrecorded site (Serving s v n rows) l m (asked_with a number) → ⊥) [ Enter ↦ (λ k. k) | TurnBack ↦ (λ k. k) | GiveBack ↦ (λ k. k) | GiveUp ↦ (λ k. k) ] h
 
+copies_item : (act : ItemAct) (home : Home) (m number : ℕ) → HasMessage home m (asked_with act number)
+copies_item act home m number = elim act as (λ a. HasMessage home m (asked_with a number)) [ Enter ↦ tt | TurnBack ↦ tt | GiveBack ↦ tt | GiveUp ↦ tt ]
+
 -- why a home does not do it is why neither half is done
 pub item_out : (act : ItemAct) (old : HistoryValue) (l : Ledger) (m number : ℕ) (item : Option Item) (e : Refusal) → item ≡ item_of number l
     → IsItemRefused old (item_refusal act old.site old.home m item) e → IsPairRefused old l m (asked_with act number) e
 item_out act old l m number item e is h =
     let same = ap (λ (it : Option Item). item_refusal act old.site old.home m it) is ∙ item_first act old.site old.home l m number in
     elim h [
-      | inl out ↦ inl (out.0, elim out.1 [ inl full ↦ inl full | inr none ↦ inr (sym same ∙ none, recorded act old.site old.home l m number) ])
+      | inl out ↦ inl (out.0, elim out.1 [ inl full ↦ inl full | inr none ↦ inr (sym same ∙ none, recorded act old.site old.home l m number, copies_item act old.home m number) ])
       | inr first ↦ inr (sym same ∙ first)
     ]
 
@@ -98,10 +100,15 @@ pub leave_refused : (old : HistoryValue) (l : Ledger) (m reserved : ℕ) (number
     → ((r : Refusal) → number ≡ Err r → (room_refusal l ≡ Some r) ⊎ ((room_refusal l ≡ None) × (r ≡ NoMemory) × (reserved ≡ 0)))
     → IsLeaveRefused old m number e → IsPairRefused old l m asks.LeaveDead e
 leave_refused old l m reserved number e passes refuses (inl (out, inl full)) = inl (out, inl full)
-leave_refused old l m reserved number e passes refuses (inl (out, inr (dead, ok))) = inl (out, inr (leave_passes old.site old.home l m dead ∙ passes ok.0 ok.1, leaves_recorded old.site old.home l m dead))
+leave_refused old l m reserved number e passes refuses (inl (out, inr (dead, ok))) = inl (out, inr (leave_passes old.site old.home l m dead ∙ passes ok.0 ok.1, leaves_recorded old.site old.home l m dead, tt))
 leave_refused old l m reserved number e passes refuses (inr (inl h)) = inr (home_first old.site old.home l m e h)
 leave_refused old l m reserved number e passes refuses (inr (inr (dead, is))) =
     elim (refuses e is) [
       | inl full ↦ inr (leave_passes old.site old.home l m dead ∙ full)
-      | inr out ↦ inl (out.1, inr (leave_passes old.site old.home l m dead ∙ out.0, leaves_recorded old.site old.home l m dead))
+      | inr out ↦ inl (out.1, inr (leave_passes old.site old.home l m dead ∙ out.0, leaves_recorded old.site old.home l m dead, tt))
     ]
+
+-- ---- what the ledger is told of a dead message
+
+pub leaving_dead : (l : Ledger) (m : ℕ) (home : HomeId) (c : HomeCall) (item : Item) → c ≡ call.LeaveDead → IsFrom home DeadLetter item → IsLeaving l m home c item
+leaving_dead l m home c item is from = rw is from

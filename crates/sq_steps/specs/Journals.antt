@@ -10,13 +10,17 @@ use Rattle.sq_model.specs.declared.calls.HomeCall.{HomeCall}
 use Rattle.sq_model.specs.declared.replies.HomeReply.{HomeReply}
 use Rattle.sq_model.specs.declared.directory.DirectoryCall.{DirectoryCall}
 use Rattle.sq_model.specs.declared.directory.DirectoryReply.{DirectoryReply}
-use Rattle.sq_model.specs.RecordValues.{HomeRecordValue, DirectoryRecordValue, RecordValue, OfDirectory, OfHome, place_of_record, stamp_of, Journal, actor_of, RecordsRise}
+use Rattle.sq_model.specs.declared.ledger.LedgerCall.{LedgerCall}
+use Rattle.sq_model.specs.declared.ledger.LedgerReply.{LedgerReply}
+use Rattle.sq_model.specs.RecordValues.{HomeRecordValue, DirectoryRecordValue, LedgerRecordValue, RecordValue, OfDirectory, OfLedger, OfHome, place_of_record, stamp_of, Journal, actor_of, RecordsRise}
 use Rattle.sq_history.specs.Rooms.{KeepsRoom}
 use Rattle.sq_history.specs.HistoryValue.{HistoryValue}
 use Rattle.sq_history.specs.Histories as home
 use Rattle.sq_directory.specs.DirectoryHistory.{DirectoryHistory}
 use Rattle.sq_directory.specs.DirectoryHistories as directory
 use Rattle.sq_directory.specs.Makers.{IsSeen}
+use Rattle.sq_ledger.specs.LedgerHistory.{LedgerHistory}
+use Rattle.sq_ledger.specs.LedgerHistories as ledger
 
 -- the number of no step
 abbrev pub last_place : ℕ
@@ -64,6 +68,14 @@ pub record DirectoryMoves (old new : DirectoryHistory) (journal recorded_in : Jo
   pub recorded_as : recorded_in ≡ with_record journal (OfDirectory its_record) recorded_in.room
   pub room : KeepsRoom journal.room recorded_in.room
 
+-- The ledger goes on alone by one event of the actor, that has the record of it and gets its reply.
+pub record LedgerMoves (old new : LedgerHistory) (journal recorded_in : Journal) (now : ℕ) (call : LedgerCall) (reply : LedgerReply) : Type 0 where
+  pub its_record : LedgerRecordValue
+  pub does : ledger.LedgerRecords old new (actor_of journal) now call its_record
+  pub answered : its_record.reply ≡ reply
+  pub recorded_as : recorded_in ≡ with_record journal (OfLedger its_record) recorded_in.room
+  pub room : KeepsRoom journal.room recorded_in.room
+
 -- an actor whose count of steps is at its end does no step
 abbrev pub worn_at : ℕ → Refusal
 worn_at now = if nat_le stamp_end now then ClockRange else Worn
@@ -79,6 +91,10 @@ IsHomeRefused old journal now call e = IsNotReady journal now e ⊎ ((journal.ne
 -- why an actor's step of the directory is refused
 abbrev pub IsDirectoryStepRefused : DirectoryHistory → Journal → ℕ → DirectoryCall → Refusal → Type 0
 IsDirectoryStepRefused old journal now call e = IsNotReady journal now e ⊎ ((journal.next ≢ last_place) × directory.IsDirectoryRefused old (actor_of journal) now call e)
+
+-- why an actor's step of the ledger alone is refused
+abbrev pub IsLedgerStepRefused : LedgerHistory → Journal → ℕ → LedgerCall → Refusal → Type 0
+IsLedgerStepRefused old journal now call e = IsNotReady journal now e ⊎ ((journal.next ≢ last_place) × ledger.IsLedgerRefused old (actor_of journal) now call e)
 
 -- this is the actor's of this number
 abbrev pub is_of : ℕ → Journal → Bool

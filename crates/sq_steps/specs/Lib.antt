@@ -1,3 +1,4 @@
 pub mod Records
 pub mod Journals
 pub mod SharedSteps
+pub mod TaskActs

@@ -1,32 +1,43 @@
 -- A step that a home and the ledger do together.
-use Rattle.std.specs.Prelude.{◌≡◌, ◌≢◌, ◌⊎◌, ℕ, List, Option, Some, None, Ok, Err}
+use Rattle.std.specs.Prelude.{◌≡◌, ◌≢◌, ◌⊎◌, ℕ, true, List, Option, Some, None, Ok, Err}
 use Rattle.sq_base.specs.StampValue.{StampValue}
 use Rattle.sq_base.specs.declared.refusal.Refusal.{Refusal}
 use Rattle.sq_base.specs.declared.refusal.Refusal.TheVariants.{NoMemory}
+use Rattle.sq_base.specs.declared.ids.HomeId.{HomeId}
+use Rattle.sq_model.specs.declared.calls.HomeCall.{HomeCall}
 use Rattle.sq_model.specs.declared.event.Actor.{Actor}
+use Rattle.sq_model.specs.declared.item.Item.{Item}
 use Rattle.sq_model.specs.declared.place.Site.{Site}
 use Rattle.sq_model.specs.declared.replies.HomeReply.{HomeReply}
+use Rattle.sq_model.specs.declared.replies.HomeReply.TheVariants.{Left}
 use Rattle.sq_model.specs.declared.shared.SharedAct.{SharedAct}
 use Rattle.sq_model.specs.declared.shared.SharedAct.TheVariants as asks
 use Rattle.sq_model.specs.Homes.{Home}
-use Rattle.sq_model.specs.Ledgers.{Ledger}
+use Rattle.sq_model.specs.Ledgers.{HasRoom, Ledger}
 use Rattle.sq_model.specs.RecordValues.{HomeRecordValue, OfHome, Journal, actor_of}
 use Rattle.sq_model.specs.Shared.{IsCallOf, IsUnrecorded, shared_refusal, shared_stamp}
+use Rattle.sq_history.specs.Halves.{has_live_row}
 use Rattle.sq_history.specs.Rooms.{KeepsRoom}
 use Rattle.sq_history.specs.HistoryValue.{HistoryValue}
 use Rattle.sq_history.specs.Histories.{RecordsShared}
 use Rattle.sq_ledger.specs.LedgerHistory.{LedgerHistory}
-use Rattle.sq_ledger.specs.LedgerHistories.{LedgerShares}
+use Rattle.sq_ledger.specs.LedgerHistories.{IsLeaving, IsNoneLeft, LedgerShares}
 use Rattle.sq_steps.specs.Journals.{IsNotReady, last_place, with_record}
 use Rattle.sq_steps.specs.declared.act.Move.{Move}
-use Rattle.sq_steps.specs.declared.act.Move.TheVariants.{LeaveDead, Enter, TurnBack, GiveBack, GiveUp}
+use Rattle.sq_steps.specs.declared.act.Move.TheVariants.{LeaveDead, LeaveTask, Enter, TurnBack, GiveBack, GiveUp}
 
 abbrev pub asked_as : Move → SharedAct
 asked_as LeaveDead = asks.LeaveDead
+asked_as (LeaveTask number) = asks.LeaveTask number
 asked_as (Enter number) = asks.Enter number
 asked_as (TurnBack number) = asks.TurnBack number
 asked_as (GiveBack number) = asks.GiveBack number
 asked_as (GiveUp number) = asks.GiveUp number
+
+-- what the ledger is told of a leave for a task: the item that left, or that none did
+abbrev pub IsToldLeft : Ledger → ℕ → HomeId → ℕ → HomeCall → HomeReply → Option Item → Type 0
+IsToldLeft l m home number call reply (Some item) = HasRoom l × (item.number ≡ l.next_item) × IsLeaving l m home call item × (reply ≡ Left item)
+IsToldLeft l m home number call reply None = IsNoneLeft l m home number call reply
 
 -- Each half added one event, both with this stamp, call and reply. The record is one for both, and what is answered is what it says.
 pub record BothDo (old new : HistoryValue) (ledger after : LedgerHistory) (by : Actor) (stamp : StampValue) (name : Option (List ℕ)) (act : SharedAct) (told : HomeReply × HomeRecordValue) : Type 0 where
@@ -50,9 +61,18 @@ pub record IsUnmoved (old : HistoryValue) (ledger : LedgerHistory) (journal : Jo
   pub stamped : shared_stamp old.last ledger.last journal.seen now ≡ Ok stamp
   pub unrecorded : IsUnrecorded old.site old.home ledger.ledger stamp.moment act
 
+-- a leave for a task has a message to copy where one is live; a closed home, or one without a live message, answers with none
+abbrev pub HasMessage : Home → ℕ → SharedAct → Type 0
+HasMessage home m asks.LeaveDead = Unit {0}
+HasMessage home m (asks.LeaveTask number) = has_live_row home m ≡ true
+HasMessage home m (asks.Enter number) = Unit {0}
+HasMessage home m (asks.TurnBack number) = Unit {0}
+HasMessage home m (asks.GiveBack number) = Unit {0}
+HasMessage home m (asks.GiveUp number) = Unit {0}
+
 -- a message is copied, and where it leaves it becomes an item: nothing refuses the step, and something is there for it
 abbrev pub CopiesMessage : Site → Home → Ledger → ℕ → SharedAct → Type 0
-CopiesMessage site home l m act = (shared_refusal site home l m act ≡ None) × (IsUnrecorded site home l m act → ⊥)
+CopiesMessage site home l m act = (shared_refusal site home l m act ≡ None) × (IsUnrecorded site home l m act → ⊥) × HasMessage home m act
 
 -- Why neither half is done at m: no memory was found, for the home's event or for copies of a message; or the first check that fails.
 abbrev pub IsPairRefused : HistoryValue → Ledger → ℕ → SharedAct → Refusal → Type 0

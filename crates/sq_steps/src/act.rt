@@ -1,18 +1,23 @@
 //! What an actor does in one step, and its outcome.
 use sq_base::ids::{HomeId, QueueNo};
 use sq_base::name::QueueName;
+use sq_base::ranges::MaxResults;
 pub use sq_history::act::HomeAct;
+pub use sq_ledger::task_calls::TaskStart;
 use sq_model::directory::{DirectoryCall, DirectoryReply};
-use sq_model::item::ItemNo;
+use sq_model::item::{ItemNo, TaskNo};
+use sq_model::ledger::LedgerReply;
 use sq_model::listed::Listed;
 use sq_model::replies::HomeReply;
-use sq_model::task::NamedQueue;
+use sq_model::task::{NamedQueue, Task};
 
 /// What a home and the ledger of messages in transit do together.
 #[derive(Clone, Copy, PartialEq, Eq, Debug)]
 pub enum Move {
     /// A dead message leaves for its dead-letter queue.
     LeaveDead,
+    /// A live message leaves for the task of this number.
+    LeaveTask(TaskNo),
     /// The message of this item comes in at its target.
     Enter(ItemNo),
     /// It is sent back, since its target is closed.
@@ -21,6 +26,16 @@ pub enum Move {
     GiveBack(ItemNo),
     /// It is given up, since its source is closed too.
     GiveUp(ItemNo),
+}
+
+/// What the ledger does with tasks by itself.
+#[derive(Clone, Copy, PartialEq, Eq, Debug)]
+pub enum TaskAct {
+    Start(TaskStart),
+    Cancel(TaskNo),
+    /// Lists the tasks of a source, so many at most.
+    List(QueueNo, MaxResults),
+    Finish(TaskNo),
 }
 
 /// Where the next item in transit goes.
@@ -40,11 +55,19 @@ pub enum Act {
     Resolve(QueueName),
     /// Reads the names and numbers of all queues; it is no event.
     Names,
+    /// Reads between which queues a task may move messages: the source, and the destination if any; it is no event.
+    CanRedrive(QueueName, Option<QueueName>),
     Home(HomeId, HomeAct),
     /// A step that this home shares with the ledger.
     Shared(HomeId, Move),
+    /// A step of the ledger alone.
+    Ledger(TaskAct),
     /// Reads which item in transit comes after a number, the first again after the last; it is no event.
     Peek(u64),
+    /// Reads the task of a number; it is no event.
+    ReadTask(TaskNo),
+    /// Reads the most recent task of a source; it is no event.
+    LastTask(QueueNo),
 }
 
 /// Who does what, at a clock reading in ms.
@@ -63,9 +86,16 @@ pub enum Outcome {
     Resolved(QueueNo),
     /// All queues, in order of creation.
     Named(Listed<NamedQueue>),
+    /// The source of a task that may be started, and its destination, where one was given.
+    Redriven(NamedQueue, Option<NamedQueue>),
     Home(HomeReply),
     /// Nothing was there to leave; it is no event.
     Nothing,
+    Ledger(LedgerReply),
     /// The next item in transit, where there is any.
     Peeked(Option<NextItem>),
+    /// The task of a number.
+    Task(Task),
+    /// The most recent task of a source, where there is any.
+    LastTask(Option<Task>),
 }

@@ -6,9 +6,11 @@ ghost use Rattle.sq_history.specs.Acts.{call_of};
 ghost use Rattle.sq_history.specs.Rooms.{IsReady, KeepsRoom};
 ghost use Rattle.sq_directory.specs.Makers.{IsAnsweredByName};
 ghost use Rattle.sq_steps.specs.Records.{value_of_record, values_of_records};
-ghost use Rattle.sq_steps.specs.Journals.{new_journal, having_seen, without_record, last_place, worn_at, HomeMoves, DirectoryMoves, IsHomeRefused, IsDirectoryStepRefused};
+ghost use Rattle.sq_steps.specs.Journals.{new_journal, having_seen, without_record, last_place, worn_at, HomeMoves, DirectoryMoves, LedgerMoves, IsHomeRefused, IsDirectoryStepRefused, IsLedgerStepRefused};
+ghost use Rattle.sq_ledger.specs.LedgerHistories.{IsLedgerRefused, LedgerRecords};
+ghost use Rattle.sq_steps.specs.TaskActs.{task_call};
 
-use crate::act::HomeAct;
+use crate::act::{HomeAct, TaskAct};
 use crate::record::Record;
 use sq_base::name::QueueName;
 use sq_base::refusal::Refusal;
@@ -16,8 +18,11 @@ use sq_base::stamp::{STAMP_END, Stamp};
 use sq_directory::directory::Directory;
 use sq_history::growing::Growing;
 use sq_history::recorded::Home;
+use sq_ledger::ledger::TransitLedger;
+use sq_ledger::record::LedgerRecord;
 use sq_model::directory::{DirectoryCall, DirectoryReply};
 use sq_model::event::Actor;
+use sq_model::ledger::LedgerReply;
 use sq_model::replies::HomeReply;
 use std::alloc::Global;
 use std::marker::Model;
@@ -183,6 +188,64 @@ pub fn directory_step(
         &mut journal.by,
         &mut journal.records,
         Record::Directory(record),
+    );
+    Ok(reply)
+}
+
+// What the ledger does alone, with its record.
+fn task_step(
+    alloc: Global,
+    ledger: &mut TransitLedger,
+    by: &Actor,
+    now: u64,
+    act: &TaskAct,
+) -> Result<(LedgerReply, LedgerRecord), Refusal>
+    ensures recorded { IfOk result (λ r. LedgerRecords ledger.old.history ledger.new.history by.now now (task_call act.now) r.1) }
+    ensures answered { IfOk result (λ r. r.1.reply ≡ r.0) }
+    ensures refusal { IfErr result (IsLedgerRefused ledger.old.history by.now now (task_call act.now)) }
+    ensures err { OnErr result (ledger.new.history ≡ ledger.old.history) }
+{
+    match act {
+        TaskAct::Start(asked) => {
+            let (number, record) = ledger.start_task(by, now, asked)?;
+            Ok((LedgerReply::Started(number), record))
+        }
+        TaskAct::Cancel(number) => {
+            let (moved, record) = ledger.cancel_task(by, now, *number)?;
+            Ok((LedgerReply::Cancelled(moved), record))
+        }
+        TaskAct::List(source, most) => {
+            let (listed, record) = ledger.list_tasks(alloc, by, now, *source, *most)?;
+            Ok((LedgerReply::Listed(listed), record))
+        }
+        TaskAct::Finish(number) => {
+            let record = ledger.finish_task(by, now, *number)?;
+            Ok((LedgerReply::Finished, record))
+        }
+    }
+}
+
+/// A step of the ledger alone, which is lent, by an actor that is lent; all that grows does so before it. A clock reading is
+/// in ms. Refused as NoMemory (the actor's records, the ledger's history or its tasks have room for none, a task is the first
+/// one of its source, or tasks are copied), ClockRange, Worn, and then as the ledger's call.
+pub fn ledger_step(
+    alloc: Global,
+    ledger: &mut TransitLedger,
+    journal: &mut Journal,
+    now: u64,
+    act: &TaskAct,
+) -> Result<LedgerReply, Refusal>
+    ensures step { IfOk result (λ reply. LedgerMoves ledger.old.history ledger.new.history journal.old journal.new now (task_call act.now) reply) }
+    ensures refusal { IfErr result (IsLedgerStepRefused ledger.old.history journal.old now (task_call act.now)) }
+    ensures ledger_err { OnErr result (ledger.new.history ≡ ledger.old.history) }
+    ensures journal_err { OnErr result (journal.new ≡ journal.old) }
+{
+    ready(&journal.by, &mut journal.records, now)?;
+    let (reply, record) = task_step(alloc, ledger, &journal.by, now, act)?;
+    keep(
+        &mut journal.by,
+        &mut journal.records,
+        Record::Ledger(record),
     );
     Ok(reply)
 }

@@ -6,11 +6,14 @@ ghost use Rattle.sq_steps.specs.Records.{value_of_record};
 use sq_base::stamp::Stamp;
 use sq_directory::record::DirectoryRecord;
 use sq_history::record::HomeRecord;
+use sq_ledger::record::LedgerRecord;
 
 /// An actor's record of one step.
 #[derive(Drop)]
 pub enum Record {
     Directory(DirectoryRecord),
+    /// Of a step of the ledger alone; one that it shares with a home has a record of the home.
+    Ledger(LedgerRecord),
     Home(HomeRecord),
 }
 
@@ -21,6 +24,7 @@ impl Record {
     {
         match self {
             Record::Directory(record) => record.step().place,
+            Record::Ledger(record) => record.step().place,
             Record::Home(record) => record.step().place,
         }
     }
@@ -31,6 +35,7 @@ impl Record {
     {
         match self {
             Record::Directory(record) => record.step().stamp,
+            Record::Ledger(record) => record.step().stamp,
             Record::Home(record) => record.step().stamp,
         }
     }

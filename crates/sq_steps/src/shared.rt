@@ -1,15 +1,16 @@
 //! The steps that a home and the ledger do together, each half over what is lent.
-ghost use Rattle.std.specs.Prelude.{◌≡◌, Ok, IfOk, IfErr, IfSome, IfNone, OnErr};
+ghost use Rattle.std.specs.Prelude.{◌≡◌, ◌<◌, Ok, IfOk, IfErr, IfSome, IfNone, OnErr};
 ghost use Rattle.sq_base.specs.Stamps.{Below};
 ghost use Rattle.sq_model.specs.declared.shared.SharedAct.TheVariants as asks;
 ghost use Rattle.sq_model.specs.ItemActs.{asked_with};
 ghost use Rattle.sq_model.specs.Shared.{IsUnrecorded, shared_stamp};
-ghost use Rattle.sq_ledger.specs.LedgerHistories.{IsPrepared};
-ghost use Rattle.sq_steps.specs.SharedSteps.{asked_as, BothDo, SharedMoves, IsUnmoved, IsPairRefused, IsSharedRefused};
+ghost use Rattle.sq_ledger.specs.LedgerHistories.{IsPrepared, LedgerShares};
+ghost use Rattle.sq_steps.specs.SharedSteps.{asked_as, BothDo, IsToldLeft, SharedMoves, IsUnmoved, IsPairRefused, IsSharedRefused};
 
 use crate::act::Move;
 use crate::journal::{Journal, keep, ready};
 use crate::record::Record;
+use sq_base::ids::HomeId;
 use sq_base::name::QueueName;
 use sq_base::refusal::Refusal;
 use sq_base::stamp::Stamp;
@@ -17,8 +18,9 @@ use sq_history::record::HomeRecord;
 use sq_history::recorded::Home;
 use sq_history::shared::HomeHalf;
 use sq_ledger::ledger::TransitLedger;
+use sq_model::calls::HomeCall;
 use sq_model::event::Actor;
-use sq_model::item::ItemNo;
+use sq_model::item::{Item, ItemNo, TaskNo};
 use sq_model::replies::HomeReply;
 use sq_model::shared::ItemAct;
 use std::alloc::Global;
@@ -66,6 +68,72 @@ fn leave_dead(
     } = half;
     ledger.take_in(by, stamp, its_record.home(), for_ledger, item);
     Ok(Some((answered, its_record)))
+}
+
+// A live message leaves the home for a task, and is an item of the ledger; or the ledger notes that none left. None where
+// the task is at its rate.
+fn leave_task(
+    alloc: Global,
+    home: &mut Home,
+    ledger: &mut TransitLedger,
+    by: &Actor,
+    stamp: Stamp,
+    name: Option<QueueName>,
+    number: TaskNo,
+) -> Result<Option<(HomeReply, HomeRecord)>, Refusal>
+    requires prepared { IsPrepared ledger.old }
+    requires above_home { Below home.old.last stamp }
+    requires above_ledger { Below ledger.old.history.last stamp }
+    requires above_seen { Below by.now.seen stamp }
+    ensures does { IfOk result (λ told. IfSome told (BothDo home.old home.new ledger.old.history ledger.new.history by.now stamp name (asks.LeaveTask number))) }
+    ensures none { IfOk result (λ told. IfNone told (IsUnrecorded home.old.site home.old.home ledger.old.history.ledger stamp.moment (asks.LeaveTask number))) }
+    ensures none_home { IfOk result (λ told. IfNone told (home.new ≡ home.old)) }
+    ensures none_ledger { IfOk result (λ told. IfNone told (ledger.new.history ≡ ledger.old.history)) }
+    ensures refusal { IfErr result (IsPairRefused home.old ledger.old.history.ledger stamp.moment (asks.LeaveTask number)) }
+    ensures home_err { OnErr result (home.new ≡ home.old) }
+    ensures ledger_err { OnErr result (ledger.new.history ≡ ledger.old.history) }
+{
+    let asked = ledger.task_leave(&home.id(), number, stamp.moment);
+    let Some((half, left)) = home.leave_task(alloc, by, stamp, name, &asked)? else {
+        return Ok(None);
+    };
+    let HomeHalf {
+        answered,
+        for_ledger,
+        its_record,
+    } = half;
+    tell_left(
+        ledger,
+        by,
+        stamp,
+        its_record.home(),
+        for_ledger,
+        left,
+        number,
+    );
+    Ok(Some((answered, its_record)))
+}
+
+// The ledger takes in the item that left for a task of a number, or notes that none did.
+fn tell_left(
+    ledger: &mut TransitLedger,
+    by: &Actor,
+    stamp: Stamp,
+    home: &HomeId,
+    kept: (HomeCall, HomeReply),
+    left: Option<Item>,
+    number: TaskNo,
+)
+    requires prepared { IsPrepared ledger.old }
+    requires above { Below ledger.old.history.last stamp }
+    requires told { IsToldLeft ledger.old.history.ledger stamp.moment home.now number kept.0 kept.1 left }
+    requires ready { IfSome left (λ _. 0 < ledger.old.item_reserved) }
+    ensures shares { LedgerShares ledger.old.history ledger.new.history by.now stamp home.now kept.0 kept.1 }
+{
+    match left {
+        Some(item) => ledger.take_in(by, stamp, home, kept, item),
+        None => ledger.take_none(by, stamp, home, kept, number),
+    }
 }
 
 // This is done with the item of a number.
@@ -121,6 +189,9 @@ fn both_halves(
 {
     let (act, number) = match act {
         Move::LeaveDead => return leave_dead(alloc, home, ledger, by, stamp, name),
+        Move::LeaveTask(number) => {
+            return leave_task(alloc, home, ledger, by, stamp, name, number);
+        }
         Move::Enter(number) => (ItemAct::Enter, number),
         Move::TurnBack(number) => (ItemAct::TurnBack, number),
         Move::GiveBack(number) => (ItemAct::GiveBack, number),
@@ -131,11 +202,13 @@ fn both_halves(
 
 /// A step of a home and the ledger that are lent, by an actor that is lent. All that grows in the ledger and in the
 /// actor's records does so first, and then all that grows in the home; then the message moves, and one event stands in
-/// each history, with one stamp. None where nothing was there to leave, which is no event and changes nothing. A clock
-/// reading is in ms.
-/// Refused as NoMemory (the actor's records or either history have room for none, or a message is copied), ClockRange, Worn, and then as the home and the ledger: QueueDoesNotExist (not serving; never opened, where an item is
-/// sent back or given up), Worn and OverLimit (a home or the ledger has no number left, or is full), UnsupportedOperation
-/// (no item of this number, not one for this home, or a home that serves where it is to be closed).
+/// each history, with one stamp. None where nothing was there to leave, or a task is at its rate, which is no event and
+/// changes nothing. A clock reading is in ms.
+/// Refused as NoMemory (the actor's records or either history have room for none, or a message is copied), ClockRange, Worn,
+/// and then as the home and the ledger: QueueDoesNotExist (not serving; never opened, where an item is sent back or given
+/// up, or one is to leave for a task), ResourceNotFoundException (no such task), UnsupportedOperation (a task that does not
+/// run, or is of another queue), Worn and OverLimit (a home or the ledger has no number left, or is full),
+/// UnsupportedOperation (no item of this number, not one for this home, or a home that serves where it is to be closed).
 pub fn shared_step(
     alloc: Global,
     home: &mut Home,

@@ -11,5 +11,6 @@ mod queues;
 mod samples;
 mod setup;
 mod streams;
+mod tasks;
 mod values;
 mod worlds;

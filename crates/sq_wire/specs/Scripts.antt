@@ -5,9 +5,9 @@ use Rattle.sq_base.specs.declared.refusal.Refusal.TheVariants.{NoMemory}
 use Rattle.sq_merge.specs.WorldValue.{WorldValue}
 use Rattle.sq_requests.specs.Requests.{line_request}
 use Rattle.sq_merge.specs.Acting.{counts_of, ActorStepped}
-use Rattle.sq_merge.specs.Fits.{CallFits}
-use Rattle.sq_merge.specs.Performs.{Performs}
-use Rattle.sq_merge.specs.Turns.{TurnFits}
+use Rattle.sq_client.specs.Fits.{CallFits}
+use Rattle.sq_client.specs.Performs.{Performs}
+use Rattle.sq_client.specs.Turns.{TurnFits}
 use Rattle.sq_replies.specs.Replies.{reply_text_of}
 use Rattle.sq_calls.specs.declared.calls.Answer.{Answer}
 use Rattle.sq_calls.specs.declared.calls.Answered.{Answered}

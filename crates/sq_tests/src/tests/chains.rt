@@ -8,7 +8,7 @@ use sq_audit::merge::merge;
 use sq_audit::parts::Parts;
 use sq_base::ids::{HomeId, HomeNo, QueueNo};
 use sq_base::message_id::MessageId;
-use sq_base::ranges::{MaxMessages, MaxReceives, Retention, Timeout};
+use sq_base::ranges::{MaxMessages, MaxReceives, MaxResults, Rate, Retention, Timeout};
 use sq_base::refusal::Refusal;
 use sq_base::row::Row;
 use sq_base::stamp::Stamp;
@@ -17,12 +17,14 @@ use sq_merge::options::Options;
 use sq_merge::world::World;
 use sq_model::calls::Receipt;
 use sq_model::directory::{Attributes, DirectoryCall, DirectoryReply, QueueSettings};
-use sq_model::item::ItemNo;
+use sq_model::item::{ItemNo, TaskNo};
+use sq_model::ledger::LedgerReply;
 use sq_model::place::Place;
 use sq_model::policy::RedrivePolicy;
 use sq_model::replies::HomeReply;
+use sq_model::task::NamedQueue;
 use sq_places::places::places_of;
-use sq_steps::act::{Act, HomeAct, Move, NextItem, Outcome, Step};
+use sq_steps::act::{Act, HomeAct, Move, NextItem, Outcome, Step, TaskAct, TaskStart};
 use std::alloc::Global;
 use std::mem::swap;
 use std::process::Abort;
@@ -73,10 +75,10 @@ struct Seen {
     // How many events each actor has.
     places: [u64; 8],
     // How many moves there were of each kind.
-    moves: [u64; 5],
+    moves: [u64; 7],
     // Who did the last event, and what it moved, if anything.
     actor: u32,
-    moved: Option<Turned>,
+    moved: Option<Moved>,
     // Each queue as it was last made or set.
     queues: [Option<QueueSettings>; 8],
     // The queue that was deleted last.
@@ -86,27 +88,53 @@ struct Seen {
     receipt: Receipt,
     // The last item in transit that was looked at.
     item: Option<NextItem>,
+    // The last task that was started, and the queue that it takes messages from.
+    task: u64,
+    source: QueueNo,
+}
+
+// What becomes of a message by a step that stands in two histories. Of one that has nowhere to go its task fails.
+#[derive(Clone, Copy, PartialEq, Eq, Debug)]
+enum Moved {
+    Left,
+    LeftForTask,
+    Failed,
+    Entered,
+    Turned,
+    Back,
+    Dropped,
 }
 
 // The number of a kind of move.
-fn kind(word: Turned) -> usize {
-    match word {
-        Turned::Left => 0,
-        Turned::Entered => 1,
-        Turned::Turned => 2,
-        Turned::Back => 3,
-        _ => 4,
+fn kind(moved: Moved) -> usize {
+    match moved {
+        Moved::Left => 0,
+        Moved::LeftForTask => 1,
+        Moved::Failed => 2,
+        Moved::Entered => 3,
+        Moved::Turned => 4,
+        Moved::Back => 5,
+        Moved::Dropped => 6,
     }
 }
 
-// What a step at a home moves, if it is done.
-fn moved_by(act: &Act) -> Option<Turned> {
+fn moved_for_task(reply: &HomeReply) -> Option<Moved> {
+    match reply {
+        HomeReply::Left(_) => Some(Moved::LeftForTask),
+        HomeReply::NoOrigin(_) | HomeReply::SourceClosed => Some(Moved::Failed),
+        _ => None,
+    }
+}
+
+// What a step at a home moved.
+fn moved_by(act: &Act, reply: &HomeReply) -> Option<Moved> {
     match act {
-        Act::Shared(_, Move::LeaveDead) => Some(Turned::Left),
-        Act::Shared(_, Move::Enter(_)) => Some(Turned::Entered),
-        Act::Shared(_, Move::TurnBack(_)) => Some(Turned::Turned),
-        Act::Shared(_, Move::GiveBack(_)) => Some(Turned::Back),
-        Act::Shared(_, Move::GiveUp(_)) => Some(Turned::Dropped),
+        Act::Shared(_, Move::LeaveDead) => Some(Moved::Left),
+        Act::Shared(_, Move::LeaveTask(_)) => moved_for_task(reply),
+        Act::Shared(_, Move::Enter(_)) => Some(Moved::Entered),
+        Act::Shared(_, Move::TurnBack(_)) => Some(Moved::Turned),
+        Act::Shared(_, Move::GiveBack(_)) => Some(Moved::Back),
+        Act::Shared(_, Move::GiveUp(_)) => Some(Moved::Dropped),
         _ => None,
     }
 }
@@ -117,7 +145,7 @@ impl Seen {
             events: 0,
             sends: 0,
             places: [0; 8],
-            moves: [0; 5],
+            moves: [0; 7],
             actor: 0,
             moved: None,
             queues: [None; 8],
@@ -125,27 +153,44 @@ impl Seen {
             home: home(0),
             receipt: receipt(0, 0, 1),
             item: None,
+            task: 0,
+            source: QueueNo::following(0),
         }
     }
 
-    fn count(&mut self, actor: u32, moved: Option<Turned>) {
+    fn count(&mut self, actor: u32, moved: Option<Moved>) {
         self.events = self.events.saturating_add(1);
         self.actor = actor;
         self.moved = moved;
         if let Some(place) = self.places.get_mut(actor as usize) {
             *place = place.saturating_add(1);
         }
-        if let Some(word) = moved {
-            if let Some(count) = self.moves.get_mut(kind(word)) {
+        if let Some(moved) = moved {
+            if let Some(count) = self.moves.get_mut(kind(moved)) {
                 *count = count.saturating_add(1);
             }
         }
     }
 
-    fn keep_turn(&mut self, actor: u32, word: Turned) {
-        match word {
-            Turned::Nothing | Turned::Full => {}
-            _ => self.count(actor, Some(word)),
+    // A turn of a task that found no message is an event of the home; one of dead letters is none.
+    fn keep_turn(&mut self, actor: u32, turn: &Turn, word: Turned) {
+        match (turn, word) {
+            (Turn::TaskTurn(_), Turned::Left) => self.count(actor, Some(Moved::LeftForTask)),
+            (Turn::TaskTurn(_), Turned::Failed) => self.count(actor, Some(Moved::Failed)),
+            (Turn::TaskTurn(_), Turned::Nothing | Turned::Finished) => self.count(actor, None),
+            (_, Turned::Left) => self.count(actor, Some(Moved::Left)),
+            (_, Turned::Entered) => self.count(actor, Some(Moved::Entered)),
+            (_, Turned::Turned) => self.count(actor, Some(Moved::Turned)),
+            (_, Turned::Back) => self.count(actor, Some(Moved::Back)),
+            (_, Turned::Dropped) => self.count(actor, Some(Moved::Dropped)),
+            _ => {}
+        }
+    }
+
+    fn keep_task(&mut self, act: &Act, reply: &LedgerReply) {
+        if let (Act::Ledger(TaskAct::Start(start)), LedgerReply::Started(number)) = (act, reply) {
+            self.task = number.get();
+            self.source = start.source.number;
         }
     }
 
@@ -186,7 +231,11 @@ impl Seen {
             }
             Outcome::Home(reply) => {
                 self.keep_reply(act, reply);
-                self.count(actor, moved_by(act));
+                self.count(actor, moved_by(act, reply));
+            }
+            Outcome::Ledger(reply) => {
+                self.keep_task(act, reply);
+                self.count(actor, None);
             }
             Outcome::Peeked(Some(next)) => self.item = Some(*next),
             _ => {}
@@ -265,12 +314,53 @@ fn item_move(choices: &mut Choices, seen: &Seen) -> Move {
     }
 }
 
+// The task that was started last, or one of the two before it.
+fn near_task(choices: &mut Choices, seen: &Seen) -> TaskNo {
+    TaskNo::new(seen.task.saturating_sub(choices.below(3))).unwrap_or(TaskNo::first())
+}
+
 fn shared_act(choices: &mut Choices, seen: &Seen, place: usize) -> Act {
-    if choices.below(3) != 0 {
-        return Act::Shared(chosen_home(choices, seen, place), Move::LeaveDead);
+    match choices.below(16) {
+        0..8 => Act::Shared(chosen_home(choices, seen, place), Move::LeaveDead),
+        8..11 => {
+            let task = near_task(choices, seen);
+            Act::Shared(any_home(choices, seen.source), Move::LeaveTask(task))
+        }
+        _ => Act::Shared(home_ahead(choices, seen), item_move(choices, seen)),
     }
-    let at = home_ahead(choices, seen);
-    Act::Shared(at, item_move(choices, seen))
+}
+
+// A queue by its name, also where it is deleted.
+fn queue_named(seen: &Seen, place: u64) -> Result<NamedQueue, Refusal> {
+    Ok(NamedQueue {
+        number: queue_at(seen, place.min(7) as usize),
+        name: named(name_at(place))?,
+    })
+}
+
+// With a destination or without, and at one or two messages in a second, or at the rate of a task without one.
+fn starting(choices: &mut Choices, seen: &Seen, place: u64) -> Result<TaskAct, Refusal> {
+    let source = queue_named(seen, place)?;
+    let other = queue_named(seen, choices.below(8))?;
+    let destination = Some(other).filter(|_| choices.below(2) == 0);
+    Ok(TaskAct::Start(TaskStart {
+        source,
+        destination,
+        rate: Rate::new(choices.below(3)),
+    }))
+}
+
+fn task_act(choices: &mut Choices, seen: &Seen, place: u64) -> Result<Act, Refusal> {
+    let source = queue_at(seen, place.min(7) as usize);
+    Ok(match choices.below(16) {
+        0..7 => Act::Ledger(starting(choices, seen, place)?),
+        7 => Act::Ledger(TaskAct::Cancel(near_task(choices, seen))),
+        8..10 => Act::Ledger(TaskAct::List(source, MaxResults::of(3))),
+        10..13 => Act::Ledger(TaskAct::Finish(near_task(choices, seen))),
+        13 => Act::ReadTask(near_task(choices, seen)),
+        14 => Act::LastTask(source),
+        _ => Act::CanRedrive(named(name_at(place))?, None),
+    })
 }
 
 // Hands on the settings of a queue as it was last made or set.
@@ -345,11 +435,12 @@ fn act(choices: &mut Choices, alloc: Global, seen: &Seen, place: u64) -> Result<
             Ok(configuring(seen, at, home.home))
         }
         16..19 => Ok(closing(choices, seen)),
-        19..72 => {
+        19..66 => {
             let home = chosen_home(choices, seen, at);
             Ok(Act::Home(home, home_act(choices, alloc, seen)?))
         }
-        72..94 => Ok(shared_act(choices, seen, at)),
+        66..90 => Ok(shared_act(choices, seen, at)),
+        90..95 => task_act(choices, seen, place),
         _ => Ok(Act::Peek(choices.below(1000))),
     }
 }
@@ -415,13 +506,13 @@ impl Course {
 
     fn turn(&mut self, rt: &impl Abort, alloc: Global, actor: u32, clock: u64) {
         let name = named(name_at(self.choices.below(8))).expect(rt, "a name");
-        let turn = if self.choices.below(5) < 3 {
-            Turn::DeadTurn(name)
-        } else {
-            Turn::EnterTurn
+        let turn = match self.choices.below(8) {
+            0..3 => Turn::DeadTurn(name),
+            3..6 => Turn::EnterTurn,
+            _ => Turn::TaskTurn(Some(near_task(&mut self.choices, &self.seen))),
         };
         if let Ok(word) = self.world.turn(alloc, actor, clock, &turn) {
-            self.seen.keep_turn(actor, word);
+            self.seen.keep_turn(actor, &turn, word);
         }
     }
 
@@ -515,7 +606,7 @@ fn audited(
     queues: u32,
     seed: u64,
     steps: u64,
-) -> ([usize; 5], [usize; 5], [u64; 5]) {
+) -> ([usize; 5], [usize; 5], [u64; 7]) {
     let mut course = ran(rt, alloc, queues, seed, steps);
     let rows = rows_in(alloc, &mut course, queues);
     let Course { world, seen, .. } = course;
@@ -569,13 +660,13 @@ struct MoveSeen {
     number: u64,
     actor: u32,
     place: u64,
-    word: Turned,
+    moved: Moved,
 }
 
-// The first three moves of each kind in so many steps.
-fn first_moves(rt: &impl Abort, alloc: Global, steps: u64) -> [Option<MoveSeen>; 15] {
+// The first two moves of each kind in so many steps.
+fn first_moves(rt: &impl Abort, alloc: Global, steps: u64) -> [Option<MoveSeen>; 14] {
     let mut course = Course::new(rt, alloc, 64, 1);
-    let mut firsts = [None; 15];
+    let mut firsts = [None; 14];
     for number in 0..steps {
         course.go_on(rt, alloc, number);
         note(&mut firsts, &course.seen, number);
@@ -583,20 +674,22 @@ fn first_moves(rt: &impl Abort, alloc: Global, steps: u64) -> [Option<MoveSeen>;
     firsts
 }
 
-// Keeps the last step where it is one of the first three moves of its kind.
-fn note(firsts: &mut [Option<MoveSeen>; 15], seen: &Seen, number: u64) {
-    let Some(word) = seen.moved else {
+// Keeps the last step where it is one of the first two moves of its kind.
+fn note(firsts: &mut [Option<MoveSeen>; 14], seen: &Seen, number: u64) {
+    let Some(moved) = seen.moved else {
         return;
     };
-    let so_far = seen.moves.get(kind(word)).copied().unwrap_or(0);
-    if so_far <= 3 {
-        let at = kind(word).saturating_mul(3).saturating_add(so_far as usize);
+    let so_far = seen.moves.get(kind(moved)).copied().unwrap_or(0);
+    if so_far <= 2 {
+        let at = kind(moved)
+            .saturating_mul(2)
+            .saturating_add(so_far as usize);
         if let Some(first) = firsts.get_mut(at.saturating_sub(1)) {
             *first = Some(MoveSeen {
                 number,
                 actor: seen.actor,
                 place: events_of(seen, seen.actor).saturating_sub(1),
-                word,
+                moved,
             });
         }
     }
@@ -651,9 +744,9 @@ fn last_of(rt: &impl Abort, alloc: Global, steps: u64) -> Stamp {
 }
 
 // What is wrong where a step stands in one history of two, and its record agrees with the homes.
-fn unmatched(word: Turned, stamp: &Stamp) -> AuditFault {
-    match word {
-        Turned::Left => AuditFault::LeaveUnmatched(*stamp),
+fn unmatched(moved: Moved, stamp: &Stamp) -> AuditFault {
+    match moved {
+        Moved::Left | Moved::LeftForTask | Moved::Failed => AuditFault::LeaveUnmatched(*stamp),
         _ => AuditFault::EnterUnmatched(*stamp),
     }
 }
@@ -663,13 +756,13 @@ fn wrong(seen: MoveSeen, stamp: &Stamp, mix: Mix) -> Option<AuditFault> {
     if mix.homes == mix.ledger && mix.homes == mix.records {
         None
     } else if mix.homes == mix.records {
-        Some(unmatched(seen.word, stamp))
+        Some(unmatched(seen.moved, stamp))
     } else {
         Some(AuditFault::RecordMissing(seen.actor, seen.place))
     }
 }
 
-// Each of the five moves is found three times in these steps.
+// Each of the seven moves is found twice in these steps.
 #[test]
 fn a_move_that_is_not_everywhere_is_reported(rt: HostRuntime) {
     for found in first_moves(&rt, rt.alloc(), 10_000) {

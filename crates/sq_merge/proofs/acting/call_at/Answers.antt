@@ -1,5 +1,5 @@
 use Rattle.sq_merge.specs.Acting.{counts_of}
-use Rattle.sq_merge.specs.Fits.{CallFits}
+use Rattle.sq_client.specs.Fits.{CallFits}
 use Rattle.sq_merge.proofs.BorrowedLaws.{at_world}
 use Rattle.sq_merge.proofs.acting.call_at.Goals as goal
 

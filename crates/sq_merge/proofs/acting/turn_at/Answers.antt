@@ -1,5 +1,5 @@
 use Rattle.sq_merge.specs.Acting.{counts_of}
-use Rattle.sq_merge.specs.Turns.{TurnFits}
+use Rattle.sq_client.specs.Turns.{TurnFits}
 use Rattle.sq_merge.proofs.BorrowedLaws.{at_world}
 use Rattle.sq_merge.proofs.acting.turn_at.Goals as goal
 

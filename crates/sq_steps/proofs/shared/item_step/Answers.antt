@@ -1,4 +1,4 @@
-use Rattle.std.proofs.Common.{rules, ◌≡◌}
+use Rattle.std.proofs.Common.{rules}
 use Rattle.sq_steps.proofs.SharedLaws.{half_does, item_out}
 use Rattle.sq_steps.proofs.shared.item_step.Goals as goal
 

@@ -3,7 +3,7 @@ use Rattle.std.specs.Prelude.{IfErr, OnOk}
 use Rattle.sq_base.specs.declared.refusal.Refusal.{Refusal}
 use Rattle.sq_base.specs.declared.refusal.Refusal.TheVariants.{NoMemory}
 use Rattle.sq_model.specs.Ledgers.{room_refusal}
-use Rattle.sq_steps.proofs.SharedLaws.{leave_refused}
+use Rattle.sq_steps.proofs.SharedLaws.{leave_refused, leaving_dead}
 use Rattle.sq_steps.proofs.shared.leave_dead.Goals as goal
 
 pub returns-in_err-half-clause-refusal : goal.returns-in_err-half-clause-refusal
@@ -15,3 +15,6 @@ returns-in_err-half-clause-refusal c =
     (λ n is. subst (λ (r : Result ℕ Refusal). OnOk r (room_refusal l ≡ None)) is room.passes)
     (λ e is. subst (λ (r : Result ℕ Refusal). IfErr r (λ x. (room_refusal l ≡ Some x) ⊎ ((room_refusal l ≡ None) × (x ≡ NoMemory) × (c.args.ledger.now.item_reserved ≡ 0)))) is room.refused) c.in_err-half.ensures.refusal in
     search rules
+
+pub take_in-requires-clause-leaves : goal.take_in-requires-clause-leaves
+take_in-requires-clause-leaves c = rw c.home.ensures (leaving_dead _ _ _ _ _ (search rules) (search rules))

@@ -1,4 +1,4 @@
-use Rattle.std.proofs.Common.{rules, ◌≡◌}
+use Rattle.std.proofs.Common.{rules}
 use Rattle.std.proofs.lemmas.List.{map-append}
 use Rattle.sq_steps.specs.Records.{value_of_record}
 use Rattle.sq_steps.specs.SharedSteps.{asked_as, BothDo}

@@ -1,4 +1,4 @@
-use Rattle.sq_merge.specs.Calls.{home_numbered}
+use Rattle.sq_client.specs.Calls.{home_numbered}
 use Rattle.sq_merge.proofs.ActingLaws.{answered_reply, answered_home, still_known}
 use Rattle.sq_merge.proofs.acting.ActingLockSteps.at_home.Goals as goal
 

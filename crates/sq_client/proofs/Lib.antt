@@ -1,0 +1,3 @@
+pub mod PathLaws
+pub mod ClientLaws
+pub mod TurnLaws

@@ -1,0 +1,8 @@
+use Rattle.std.proofs.Common.{rules}
+use Rattle.sq_model.specs.declared.calls.HomeCall.TheVariants.{LeaveTask}
+use Rattle.sq_history.proofs.HistoryLaws.{kept_shared}
+use Rattle.sq_history.proofs.recorded.Recorded.leave_task.Goals as goal
+
+pub invariant_of-self-2 : goal.invariant_of-self-2
+invariant_of-self-2 g c =
+    kept_shared _ _ c.args.by.now c.args.stamp c.args.name (LeaveTask c.args.asked.now.number) c.note-done.result.its_record c.self.invariant c.note-done.ensures.rising (search rules)

@@ -1,0 +1,157 @@
+//! What a home makes of a leave for a move task: whether a message leaves, and where to.
+ghost use Rattle.std.specs.Prelude.{◌≡◌, true, false, None, Some, Ok, IfErr, IfOk, IfNone, IfSome, OnErr};
+ghost use Rattle.sq_model.specs.declared.calls.HomeCall.TheVariants.{LeaveTask};
+ghost use Rattle.sq_model.specs.declared.item.Reason.TheVariants.{Task as ForTask};
+ghost use Rattle.sq_model.specs.declared.task.Task.{Task as Taking};
+ghost use Rattle.sq_model.specs.Homes.{HomeStep};
+ghost use Rattle.sq_model.specs.Tasks.{target_of};
+ghost use Rattle.sq_history.specs.Halves.{IsServing, IsTaker, IsTaskAnswer, IsTaskRefused, IsThrottled};
+
+use crate::act::Answer;
+use crate::shared::answer_left;
+use sq_base::ids::QueueNo;
+use sq_base::refusal::Refusal;
+use sq_base::row::Row;
+use sq_model::item::{Item, ItemNo, Reason, TaskNo};
+use sq_model::replies::HomeReply;
+use sq_model::rows::copy_row;
+use sq_model::task::Task;
+use sq_shard::shard::Shard;
+use sq_shard::store::Store;
+use std::alloc::Global;
+
+/// A leave for a move task, with what the ledger says of it.
+#[derive(Drop)]
+pub struct TaskLeave {
+    /// The number of the task, as it was asked.
+    pub number: TaskNo,
+    /// The task, or why it takes no message of this home's queue.
+    pub task: Result<Task, Refusal>,
+    /// Whether its rate allows one at the stamp's moment.
+    pub allowed: bool,
+    /// The number of the next item, or why the ledger takes none in.
+    pub item: Result<ItemNo, Refusal>,
+}
+
+/// What a home answers, what the ledger is told, and the item that left.
+#[derive(Drop)]
+pub(crate) struct TaskAnswer {
+    pub(crate) answer: Answer,
+    pub(crate) for_ledger: HomeReply,
+    pub(crate) left: Option<Item>,
+}
+
+impl TaskAnswer {
+    // No message leaves.
+    fn none(answer: Answer, for_ledger: HomeReply) -> TaskAnswer
+        ensures { result ≡ record { answer = answer; for_ledger = for_ledger; left = None } }
+    {
+        TaskAnswer {
+            answer,
+            for_ledger,
+            left: None,
+        }
+    }
+}
+
+// A message on its way for a task.
+fn task_item(number: ItemNo, row: Row, source: QueueNo, target: QueueNo, task: TaskNo) -> Item
+    ensures { result ≡ record { number = number; row = row; source = source; target = target; reason = ForTask task; homeward = false } }
+{
+    Item {
+        number,
+        row,
+        source,
+        target,
+        reason: Reason::Task(task),
+        homeward: false,
+    }
+}
+
+// Where a message goes: to the task's destination, or without one to the queue that it came from.
+fn target_of(task: &Task, row: &Row) -> Option<QueueNo>
+    ensures { result ≡ target_of task.now row.now }
+{
+    match &task.destination {
+        Some(queue) => Some(queue.number),
+        None => row.origin,
+    }
+}
+
+/// What a leave for a task is answered here, at a moment in ms, with the item that leaves. None where the task is at its
+/// rate, which changes nothing.
+/// Refused as NoMemory (the message that leaves is copied), QueueDoesNotExist (never opened), then as the ledger says of
+/// the task, and where a message is live as it says of the next item.
+#[tactic(auto, using(crate::proofs::TaskLaws::never_opened, crate::proofs::TaskLaws::opened, crate::proofs::TaskLaws::closed_at, crate::proofs::TaskLaws::serves))]
+pub(crate) fn leave_for_task<S: Store>(
+    alloc: Global,
+    shard: &mut Shard<S>,
+    moment: u64,
+    asked: &TaskLeave,
+) -> Result<Option<TaskAnswer>, Refusal>
+    ensures step { IfOk result (λ told. IfSome told (λ t. HomeStep shard.old.site shard.old.home moment (LeaveTask asked.now.number) t.answer shard.new.home)) }
+    ensures answer { IfOk result (λ told. IfSome told (λ t. (task : Taking) × IsTaker asked.now task × IsTaskAnswer asked.now task t.answer t.left)) }
+    ensures for_ledger { IfOk result (λ told. IfSome told (λ t. t.for_ledger ≡ t.answer)) }
+    ensures throttled { IfOk result (λ told. IfNone told (IsThrottled shard.old.home asked.now × (shard.new ≡ shard.old))) }
+    ensures site { shard.new.site ≡ shard.old.site }
+    ensures refusal { IfErr result (IsTaskRefused shard.old.site shard.old.home moment asked.now) }
+    ensures err { OnErr result (shard.new ≡ shard.old) }
+{
+    if !shard.is_opened() {
+        return Err(Refusal::QueueDoesNotExist);
+    }
+    let task = match &asked.task {
+        Ok(task) => task,
+        Err(refusal) => return Err(*refusal),
+    };
+    if shard.is_closed() {
+        return Ok(Some(TaskAnswer::none(Answer::source_closed(), HomeReply::SourceClosed)));
+    }
+    if !asked.allowed {
+        return Ok(None);
+    }
+    Ok(Some(take_for_task(alloc, shard, moment, asked, task)?))
+}
+
+// The same of a home that serves, for a task whose rate allows a leave.
+#[tactic(auto, using(crate::proofs::TaskLaws::none_at, crate::proofs::TaskLaws::no_origin_at, crate::proofs::TaskLaws::no_destination, crate::proofs::TaskLaws::serving, crate::proofs::TaskLaws::left_for, crate::proofs::TaskLaws::is_there, crate::proofs::TaskLaws::one_live))]
+fn take_for_task<S: Store>(
+    alloc: Global,
+    shard: &mut Shard<S>,
+    moment: u64,
+    asked: &TaskLeave,
+    task: &Task,
+) -> Result<TaskAnswer, Refusal>
+    requires serves { IsServing shard.old.home }
+    requires allowed { asked.now.allowed ≡ true }
+    requires task { asked.now.task ≡ Ok task.now }
+    ensures step { IfOk result (λ t. HomeStep shard.old.site shard.old.home moment (LeaveTask asked.now.number) t.answer shard.new.home) }
+    ensures answer { IfOk result (λ t. IsTaskAnswer asked.now task.now t.answer t.left) }
+    ensures for_ledger { IfOk result (λ t. t.for_ledger ≡ t.answer) }
+    ensures site { shard.new.site ≡ shard.old.site }
+    ensures refusal { IfErr result (IsTaskRefused shard.old.site shard.old.home moment asked.now) }
+    ensures err { OnErr result (shard.new ≡ shard.old) }
+{
+    let Some(row) = shard.find_live(moment) else {
+        shard.trim(moment);
+        return Ok(TaskAnswer::none(Answer::no_live_row(), HomeReply::NoLiveRow));
+    };
+    let number = match asked.item {
+        Ok(number) => number,
+        Err(refusal) => return Err(refusal),
+    };
+    let Some(target) = target_of(task, row) else {
+        let serial = row.serial;
+        shard.trim(moment);
+        return Ok(TaskAnswer::none(Answer::no_origin(serial), HomeReply::NoOrigin(serial)));
+    };
+    let source = shard.site().home.queue;
+    let item = task_item(number, copy_row(row)?, source, target, asked.number);
+    let (answer, for_ledger) = answer_left(alloc, &item)?;
+    let _row = shard.take_out(moment, &item.row);
+    Ok(TaskAnswer {
+        answer,
+        for_ledger,
+        left: Some(item),
+    })
+}

@@ -1,0 +1,27 @@
+use Rattle.std.proofs.Common.{rules, refl}
+use Rattle.sq_model.specs.declared.ledger.LedgerCall.TheVariants as asks
+use Rattle.sq_ledger.specs.LedgerHistory.{history_of}
+use Rattle.sq_ledger.specs.LedgerHistories.{IsLedgerRefused}
+use Rattle.sq_ledger.proofs.LedgerLaws.{own_kept}
+use Rattle.sq_ledger.proofs.TaskCallLaws.{finished, finishes_as, may_be_finished, recorded_as, refused_as}
+use Rattle.sq_ledger.proofs.ledger.TransitLedger.finish_task.Goals as goal
+
+pub returns-clause-recorded : goal.returns-clause-recorded
+returns-clause-recorded c =
+    let t = c.self.inside in
+    let step = finished t.items.items t.next t.tasks.items t.limit c.in_ok-stamp.stamp.moment c.args.number c.in_ok-may_finish.ensures.may in
+    rw (← c.self.view_is) (recorded_as t.items.items t.next t.tasks c.change.new.self t.limit t.log c.begin.new.self c.add_own.new.log c.args.by.now c.args.now c.in_ok-stamp.stamp (asks.FinishTask c.args.number) _ c.add_own.result c.in_ok-stamp.ensures.stamped (rw c.change.ensures.items step) c.begin.ensures.events c.begin.ensures.room c.add_own.ensures.last c.add_own.ensures.events c.add_own.ensures.room c.change.ensures.room c.add_own.ensures.for_record)
+
+pub invariant_of-self-3 : goal.invariant_of-self-3
+invariant_of-self-3 c = own_kept _ _ c.args.by.now c.args.now (asks.FinishTask c.args.number) c.add_own.result c.self.invariant refl refl c.add_own.ensures.rising (rw (← c.self.view_is) at (returns-clause-recorded c))
+
+pub returns-in_err-may_finish-clause-refusal : goal.returns-in_err-may_finish-clause-refusal
+returns-in_err-may_finish-clause-refusal c =
+    let t = c.self.inside in
+    let h = history_of t.items.items t.next t.tasks t.limit t.log in
+    let call = asks.FinishTask c.args.number in
+    let refused : IsLedgerRefused c.args.self.now.history c.args.by.now c.args.now call c.in_err-may_finish.field-0.0 = rw (← c.self.view_is) (refused_as h c.args.by.now c.args.now call c.in_ok-stamp.stamp c.in_err-may_finish.field-0.0 c.in_ok-stamp.ensures.stamped (finishes_as h.ledger c.in_ok-stamp.stamp.moment c.args.number c.in_err-may_finish.field-0.0 c.in_err-may_finish.ensures.refused)) in
+    search rules
+
+pub change-requires : goal.change-requires
+change-requires c = record { may = may_be_finished _ c.self.invariant c.args.number c.in_ok-may_finish.ensures.may }

@@ -1,0 +1,8 @@
+use Rattle.std.proofs.Common.{arith}
+use Rattle.sq_ledger.proofs.TaskCallLaws.{next_in_range}
+use Rattle.sq_ledger.proofs.ledger.TransitLedger.next_task.Goals as goal
+
+pub overflow_add-len : goal.overflow_add-len
+overflow_add-len c =
+    let last = next_in_range _ c.self.invariant in
+    omega (arith, last, c.len.ensures.length)

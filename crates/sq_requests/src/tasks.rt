@@ -1,0 +1,99 @@
+//! What the actions on message move tasks ask.
+ghost use Rattle.std.specs.Prelude.{◌≡◌};
+ghost use Rattle.serde_json.specs.View.{view};
+ghost use Rattle.sq_requests.specs.Tasks.{move_members, destination_of, is_destination, start_move_of, cancel_move_of, list_moves_of};
+
+use crate::members::{amount_if_at, arn_at, arn_if_at, named_task};
+use serde_json::Value;
+use sq_base::name::QueueName;
+use sq_base::ranges::MaxResults;
+use sq_base::refusal::Refusal;
+use sq_calls::calls::{Call, ListMessageMoveTasks, StartMessageMoveTask};
+use sq_policy::amount::{Amount, in_range_if};
+
+/// The members of a StartMessageMoveTask.
+#[derive(Drop)]
+pub struct MoveMembers {
+    /// None where the text is no ARN.
+    pub source: Option<QueueName>,
+    /// The same of the destination, where it is given.
+    pub destination: Option<Option<QueueName>>,
+    pub rate: Option<Amount>,
+}
+
+#[tactic(auto, unfolding(crate::specs::Tasks::move_members))]
+fn move_members(value: &Value) -> Result<MoveMembers, Refusal>
+    ensures { result ≡ move_members (view value.now) }
+{
+    Ok(MoveMembers {
+        source: arn_at(value, "SourceArn")?,
+        destination: arn_if_at(value, "DestinationArn")?,
+        rate: amount_if_at(value, "MaxNumberOfMessagesPerSecond")?,
+    })
+}
+
+// The destination, where it is given.
+fn destination_of(destination: Option<Option<QueueName>>) -> Result<Option<QueueName>, Refusal>
+    ensures { result ≡ destination_of destination }
+{
+    match destination {
+        Some(Some(name)) => Ok(Some(name)),
+        Some(None) => Err(Refusal::InvalidAddress),
+        None => Ok(None),
+    }
+}
+
+// Whether a queue is the destination.
+fn is_destination(source: &QueueName, destination: &Option<QueueName>) -> bool
+    ensures { result ≡ is_destination source.now destination.now }
+{
+    match destination {
+        Some(name) => source.as_bytes() == name.as_bytes(),
+        None => false,
+    }
+}
+
+/// What a StartMessageMoveTask asks (SQS API Reference, StartMessageMoveTask). A text that is no ARN is InvalidAddress; and
+/// then a rate out of its range, or a source that is the destination too, is InvalidParameterValue.
+#[tactic(auto, unfolding(crate::specs::Tasks::start_move_of))]
+pub fn start_move_of(value: &Value) -> Result<Call, Refusal>
+    ensures { result ≡ start_move_of (view value.now) }
+{
+    let members = move_members(value)?;
+    let source = members.source.ok_or(Refusal::InvalidAddress)?;
+    let destination = destination_of(members.destination)?;
+    let rate = in_range_if(members.rate, Refusal::InvalidParameterValue)?;
+    if is_destination(&source, &destination) {
+        return Err(Refusal::InvalidParameterValue);
+    }
+    Ok(Call::StartMessageMoveTask(StartMessageMoveTask {
+        source,
+        destination,
+        rate,
+    }))
+}
+
+/// What a CancelMessageMoveTask asks (SQS API Reference, CancelMessageMoveTask).
+#[tactic(auto, unfolding(crate::specs::Tasks::cancel_move_of))]
+pub fn cancel_move_of(value: &Value) -> Result<Call, Refusal>
+    ensures { result ≡ cancel_move_of (view value.now) }
+{
+    let task = named_task(value)?;
+    Ok(Call::CancelMessageMoveTask(task))
+}
+
+/// What a ListMessageMoveTasks asks (SQS API Reference, ListMessageMoveTasks); one task without a number. A text that is no
+/// ARN is InvalidAddress, and then a number out of its range is InvalidParameterValue.
+#[tactic(auto, unfolding(crate::specs::Tasks::list_moves_of))]
+pub fn list_moves_of(value: &Value) -> Result<Call, Refusal>
+    ensures { result ≡ list_moves_of (view value.now) }
+{
+    let arn = arn_at(value, "SourceArn")?;
+    let amount = amount_if_at(value, "MaxResults")?;
+    let source = arn.ok_or(Refusal::InvalidAddress)?;
+    let max = in_range_if(amount, Refusal::InvalidParameterValue)?;
+    Ok(Call::ListMessageMoveTasks(ListMessageMoveTasks {
+        source,
+        max: max.unwrap_or(MaxResults::of(1)),
+    }))
+}

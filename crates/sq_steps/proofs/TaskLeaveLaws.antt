@@ -1,0 +1,183 @@
+-- A leave for a task: what the ledger is told, and why neither half is done.
+use Rattle.std.proofs.Common.{◌≡◌, ◌⊎◌, ℕ, Bool, true, false, not, List, Option, Some, None, Result, Ok, Err, refl, sym, ◌∙◌, ap, subst, inl, inr}
+use Rattle.std.specs.Prelude.{◌<◌, IfErr, IfOk, IfSome, OnOk, ◌&&◌}
+use Rattle.sq_base.specs.StampValue.{StampValue}
+use Rattle.sq_base.specs.declared.ids.HomeId.{HomeId}
+use Rattle.sq_base.specs.declared.refusal.Refusal.{Refusal}
+use Rattle.sq_base.specs.declared.refusal.Refusal.TheVariants.{NoMemory, UnsupportedOperation}
+use Rattle.sq_model.specs.declared.calls.HomeCall.{HomeCall}
+use Rattle.sq_model.specs.declared.calls.HomeCall.TheVariants as call
+use Rattle.sq_model.specs.declared.event.Actor.{Actor}
+use Rattle.sq_model.specs.declared.item.Item.{Item}
+use Rattle.sq_model.specs.declared.item.Reason.TheVariants.{Task as ForTask}
+use Rattle.sq_model.specs.declared.place.Site.{Site}
+use Rattle.sq_model.specs.declared.replies.HomeReply.{HomeReply}
+use Rattle.sq_model.specs.declared.replies.HomeReply.TheVariants.{Left, NoLiveRow, NoOrigin, SourceClosed}
+use Rattle.sq_model.specs.declared.shared.SharedAct.TheVariants as asks
+use Rattle.sq_model.specs.declared.task.Task.{Task}
+use Rattle.sq_model.specs.Homes.{Home, Unopened, Serving, Closed, HomeStep, IsFrom, home_refusal, refused_if}
+use Rattle.sq_model.specs.Ledgers.{HasRoom, Ledger, MayTake, is_of_source, room_refusal, task_of}
+use Rattle.sq_model.specs.RecordValues.{HomeRecordValue}
+use Rattle.sq_model.specs.Shared.{IsUnrecorded, is_throttled, shared_refusal, task_refusal}
+use Rattle.sq_model.specs.Tasks.{is_running, may_leave}
+use Rattle.sq_history.specs.Halves.{has_live_row, DoesHalf, IsTaker, IsTaskAnswer, IsTaskRefused, IsThrottled}
+use Rattle.sq_history.specs.HistoryValue.{HistoryValue}
+use Rattle.sq_history.specs.declared.shared.HomeHalf.{HomeHalf}
+use Rattle.sq_history.specs.declared.task_leave.TaskLeave.{TaskLeave}
+use Rattle.sq_history.proofs.TaskLaws.{one_live}
+use Rattle.sq_ledger.specs.LedgerHistories.{IsLeaving}
+use Rattle.sq_steps.specs.SharedSteps.{IsPairRefused, IsToldLeft}
+
+-- what the ledger said of the task at m, with memory for so many items before and after
+pub record IsSaid (l : Ledger) (old reserved m : ℕ) (home : HomeId) (number : ℕ) (said : TaskLeave) : Type 0 where
+  pub of_number : said.number ≡ number
+  pub task : IfOk said.task (λ task. MayTake l home.queue number task)
+  pub no_task : IfErr said.task (λ e. task_refusal home (task_of number l) None ≡ Some e)
+  pub allowed : said.allowed ≡ not (is_throttled m (task_of number l))
+  pub item : IfOk said.item (λ item. item ≡ l.next_item)
+  pub has_room : OnOk said.item (HasRoom l)
+  pub passes : OnOk said.item (room_refusal l ≡ None)
+  pub ready : OnOk said.item (0 < reserved)
+  pub no_room : IfErr said.item (λ e. (room_refusal l ≡ Some e) ⊎ ((room_refusal l ≡ None) × (e ≡ NoMemory) × (old ≡ 0)))
+
+not_not : (b : Bool) → not (not b) ≡ b
+not_not true = refl
+not_not false = refl
+
+-- where the task is there, it is allowed as its rate says
+allowed_as : (l : Ledger) (old reserved m : ℕ) (home : HomeId) (number : ℕ) (said : TaskLeave) (task : Task) → IsSaid l old reserved m home number said → task_of number l ≡ Some task → may_leave m task ≡ said.allowed
+allowed_as l old reserved m home number said task is found = sym (is.allowed ∙ ap (λ (o : Option Task). not (is_throttled m o)) found ∙ not_not (may_leave m task))
+
+takes : (l : Ledger) (old reserved m : ℕ) (home : HomeId) (number : ℕ) (said : TaskLeave) (task : Task) → IsSaid l old reserved m home number said → IsTaker said task → MayTake l home.queue number task
+takes l old reserved m home number said task is taker = subst (λ (r : Result Task Refusal). IfOk r (λ t. MayTake l home.queue number t)) taker is.task
+
+has_room : (l : Ledger) (old reserved m : ℕ) (home : HomeId) (number n : ℕ) (said : TaskLeave) → IsSaid l old reserved m home number said → said.item ≡ Ok n → HasRoom l
+has_room l old reserved m home number n said is ok = subst (λ (r : Result ℕ Refusal). OnOk r (HasRoom l)) ok is.has_room
+
+next_is : (l : Ledger) (old reserved m : ℕ) (home : HomeId) (number n : ℕ) (said : TaskLeave) → IsSaid l old reserved m home number said → said.item ≡ Ok n → n ≡ l.next_item
+next_is l old reserved m home number n said is ok = subst (λ (r : Result ℕ Refusal). IfOk r (λ item. item ≡ l.next_item)) ok is.item
+
+room_passes : (l : Ledger) (old reserved m : ℕ) (home : HomeId) (number n : ℕ) (said : TaskLeave) → IsSaid l old reserved m home number said → said.item ≡ Ok n → room_refusal l ≡ None
+room_passes l old reserved m home number n said is ok = subst (λ (r : Result ℕ Refusal). OnOk r (room_refusal l ≡ None)) ok is.passes
+
+room_refuses : (l : Ledger) (old reserved m : ℕ) (home : HomeId) (number : ℕ) (e : Refusal) (said : TaskLeave) → IsSaid l old reserved m home number said → said.item ≡ Err e → (room_refusal l ≡ Some e) ⊎ ((room_refusal l ≡ None) × (e ≡ NoMemory) × (old ≡ 0))
+room_refuses l old reserved m home number e said is err = subst (λ (r : Result ℕ Refusal). IfErr r (λ x. (room_refusal l ≡ Some x) ⊎ ((room_refusal l ≡ None) × (x ≡ NoMemory) × (old ≡ 0)))) err is.no_room
+
+task_refuses : (l : Ledger) (old reserved m : ℕ) (home : HomeId) (number : ℕ) (e : Refusal) (said : TaskLeave) → IsSaid l old reserved m home number said → said.task ≡ Err e → task_refusal home (task_of number l) None ≡ Some e
+task_refuses l old reserved m home number e said is err = subst (λ (r : Result Task Refusal). IfErr r (λ x. task_refusal home (task_of number l) None ≡ Some x)) err is.no_task
+
+-- ---- what the ledger is told
+
+from_home : (site : Site) (home : Home) (m number : ℕ) (item : Item) (after : Home) → HomeStep site home m (call.LeaveTask number) (Left item) after → IsFrom site.home (ForTask number) item
+unfolding HomeStep
+from_home site (Serving s v n rows) m number item after h = h.0
+from_home site home m number item after h = elim h [ ]
+
+pub told_left : (l : Ledger) (old reserved m : ℕ) (site : Site) (home after : Home) (number : ℕ) (said : TaskLeave) (task : Task) (reply : HomeReply) (left : Option Item) → IsSaid l old reserved m site.home number said
+    → HomeStep site home m (call.LeaveTask number) reply after → IsTaker said task → IsTaskAnswer said task reply left → IsToldLeft l m site.home number (call.LeaveTask number) reply left
+told_left l old reserved m site home after number said task (Left item) left is step taker a =
+    let may = takes l old reserved m site.home number said task is taker in
+    let leaving : IsLeaving l m site.home (call.LeaveTask number) item
+    = (from_home site home m number item after step, (task, may, allowed_as l old reserved m site.home number said task is may.found ∙ a.0.0, a.1)) in
+    rw a.2 (has_room l old reserved m site.home number item.number said is a.0.1, next_is l old reserved m site.home number item.number said is a.0.1, leaving, refl)
+told_left l old reserved m site home after number said task NoLiveRow left is step taker a =
+    let may = takes l old reserved m site.home number said task is taker in
+    rw a.1 (refl, (task, may, allowed_as l old reserved m site.home number said task is may.found ∙ a.0))
+told_left l old reserved m site home after number said task (NoOrigin serial) left is step taker a =
+    let may = takes l old reserved m site.home number said task is taker in
+    rw a.2 (refl, (task, may, allowed_as l old reserved m site.home number said task is may.found ∙ a.0.1.0, a.1), has_room l old reserved m site.home number a.0.0 said is a.0.1.1)
+told_left l old reserved m site home after number said task SourceClosed left is step taker a =
+    rw a (refl, (task, takes l old reserved m site.home number said task is taker))
+told_left l old reserved m site home after number said task reply left is step taker a = elim a [ ]
+
+room_ready : (l : Ledger) (old reserved m : ℕ) (home : HomeId) (number n : ℕ) (said : TaskLeave) → IsSaid l old reserved m home number said → said.item ≡ Ok n → 0 < reserved
+room_ready l old reserved m home number n said is ok = subst (λ (r : Result ℕ Refusal). OnOk r (0 < reserved)) ok is.ready
+
+-- what the home's half says to it
+pub half_told : (old new : HistoryValue) (l : Ledger) (had reserved : ℕ) (by : Actor) (stamp : StampValue) (name : Option (List ℕ)) (number : ℕ) (said : TaskLeave) (task : Task) (half : HomeHalf) (left : Option Item)
+    → IsSaid l had reserved stamp.moment old.site.home number said → DoesHalf old new by stamp name (call.LeaveTask said.number) half → IsTaker said task → IsTaskAnswer said task half.its_record.reply left
+    → IsToldLeft l stamp.moment half.its_record.home number half.for_ledger.0 half.for_ledger.1 left
+half_told old new l had reserved by stamp name number said task half left is does taker a =
+    let told = told_left l had reserved stamp.moment old.site old.home new.home number said task half.its_record.reply left is
+    (subst (λ (n : ℕ). HomeStep old.site old.home stamp.moment (call.LeaveTask n) half.its_record.reply new.home) is.of_number does.does.step) taker a in
+    subst (λ (h : HomeId). IsToldLeft l stamp.moment h number half.for_ledger.0 half.for_ledger.1 left) (sym (ap (λ (r : HomeRecordValue). r.home) does.does.record_is))
+    (subst (λ (c : HomeCall). IsToldLeft l stamp.moment old.site.home number c half.for_ledger.1 left) (sym (does.ledger_call ∙ ap call.LeaveTask is.of_number))
+    (subst (λ (r : HomeReply). IsToldLeft l stamp.moment old.site.home number (call.LeaveTask number) r left) (sym does.ledger_reply) told))
+
+-- where one left there is memory for the item
+pub left_ready : (l : Ledger) (old reserved m : ℕ) (home : HomeId) (number : ℕ) (said : TaskLeave) (task : Task) (reply : HomeReply) (left : Option Item) → IsSaid l old reserved m home number said → IsTaskAnswer said task reply left
+    → IfSome left (λ _. 0 < reserved)
+left_ready l old reserved m home number said task (Left item) left is a = rw a.2 (room_ready l old reserved m home number item.number said is a.0.1)
+left_ready l old reserved m home number said task NoLiveRow left is a = rw a.1 tt
+left_ready l old reserved m home number said task (NoOrigin serial) left is a = rw a.2 tt
+left_ready l old reserved m home number said task SourceClosed left is a = rw a tt
+left_ready l old reserved m home number said task reply left is a = elim a [ ]
+
+-- ---- why neither half is done
+
+passed_task : (home : HomeId) (found : Option Task) (task : Task) (later : Option Refusal) → found ≡ Some task → is_running task.status ≡ true → is_of_source home.queue task ≡ true → task_refusal home found later ≡ later
+passed_task home found task later is running own = rw (is, running, own) refl
+
+refused_first : (b : Bool) (r e : Refusal) (later : Option Refusal) → refused_if b r None ≡ Some e → refused_if b r later ≡ Some e
+refused_first true r e later h = h
+refused_first false r e later h = absurd cc
+
+task_first : (home : HomeId) (found : Option Task) (later : Option Refusal) (e : Refusal) → task_refusal home found None ≡ Some e → task_refusal home found later ≡ Some e
+task_first home None later e h = h
+task_first home (Some task) later e h = refused_first (not (is_running task.status && is_of_source home.queue task)) UnsupportedOperation e later h
+
+home_first : (site : Site) (home : Home) (l : Ledger) (m number : ℕ) (e : Refusal) → home_refusal site home m (call.LeaveTask number) ≡ Some e → shared_refusal site home l m (asks.LeaveTask number) ≡ Some e
+unfolding shared_refusal home_refusal
+home_first site Unopened l m number e h = h
+home_first site Closed l m number e h = absurd cc
+home_first site (Serving s v n rows) l m number e h = absurd cc
+
+then_task : (site : Site) (home : Home) (l : Ledger) (m number : ℕ) (e : Refusal) → home_refusal site home m (call.LeaveTask number) ≡ None → task_refusal site.home (task_of number l) None ≡ Some e
+    → shared_refusal site home l m (asks.LeaveTask number) ≡ Some e
+unfolding shared_refusal home_refusal
+then_task site Unopened l m number e none h = absurd cc
+then_task site Closed l m number e none h = h
+then_task site (Serving s v n rows) l m number e none h = task_first site.home (task_of number l) _ e h
+
+-- where a live message may leave for the task, only the ledger's room is left to check
+then_room : (site : Site) (home : Home) (l : Ledger) (old reserved m number : ℕ) (said : TaskLeave) (task : Task) → IsSaid l old reserved m site.home number said → IsTaker said task → said.allowed ≡ true → has_live_row home m ≡ true
+    → shared_refusal site home l m (asks.LeaveTask number) ≡ room_refusal l
+unfolding shared_refusal
+then_room site Unopened l old reserved m number said task is taker ok live = absurd cc
+then_room site Closed l old reserved m number said task is taker ok live = absurd cc
+then_room site (Serving s v n rows) l old reserved m number said task is taker ok live =
+    let may = takes l old reserved m site.home number said task is taker in
+    let allowed : not (is_throttled m (task_of number l)) ≡ true = sym is.allowed ∙ ok in
+    passed_task site.home (task_of number l) task _ may.found may.running may.of_source ∙ rw (allowed, live) refl
+
+is_recorded : (site : Site) (home : Home) (l : Ledger) (old reserved m number : ℕ) (said : TaskLeave) → IsSaid l old reserved m site.home number said → said.allowed ≡ true → IsUnrecorded site home l m (asks.LeaveTask number) → ⊥
+is_recorded site Unopened l old reserved m number said is ok h = h
+is_recorded site Closed l old reserved m number said is ok h = h
+is_recorded site (Serving s v n rows) l old reserved m number said is ok h =
+    let k : true ≡ false = sym ok ∙ sym (allowed_as l old reserved m site.home number said h.0 is h.1.found) ∙ h.2 in cc
+
+pub task_refused : (old : HistoryValue) (l : Ledger) (had reserved m number : ℕ) (said : TaskLeave) (e : Refusal) → IsSaid l had reserved m old.site.home number said
+    → ((e ≡ NoMemory) × (old.room ≡ 0)) ⊎ IsTaskRefused old.site old.home m said e → IsPairRefused old l m (asks.LeaveTask number) e
+task_refused old l had reserved m number said e is (inl (out, full)) = inl (out, inl full)
+task_refused old l had reserved m number said e is (inr (inl (out, leaving))) =
+    let ok = leaving.6.0 in
+    let live = one_live old.home m leaving.1 leaving.5 in
+    inl (out, inr (then_room old.site old.home l had reserved m number said leaving.0 is leaving.4 ok live ∙ room_passes l had reserved m old.site.home number leaving.2 said is leaving.6.1, is_recorded old.site old.home l had reserved m number said is ok, live))
+task_refused old l had reserved m number said e is (inr (inr (inl h))) = inr (home_first old.site old.home l m number e (subst (λ (n : ℕ). home_refusal old.site old.home m (call.LeaveTask n) ≡ Some e) is.of_number h))
+task_refused old l had reserved m number said e is (inr (inr (inr (inl (none, err))))) =
+    inr (then_task old.site old.home l m number e (subst (λ (n : ℕ). home_refusal old.site old.home m (call.LeaveTask n) ≡ None) is.of_number none) (task_refuses l had reserved m old.site.home number e said is err))
+task_refused old l had reserved m number said e is (inr (inr (inr (inr (taker, ok, live, err))))) =
+    let room = then_room old.site old.home l had reserved m number said taker.0 is taker.1 ok live in
+    elim (room_refuses l had reserved m old.site.home number e said is err) [
+      | inl full ↦ inr (room ∙ full)
+      | inr out ↦ inl (out.1, inr (room ∙ out.0, is_recorded old.site old.home l had reserved m number said is ok, live))
+    ]
+
+-- ---- a task at its rate
+
+pub at_its_rate : (site : Site) (home : Home) (l : Ledger) (old reserved m number : ℕ) (said : TaskLeave) → IsSaid l old reserved m site.home number said → IsThrottled home said → IsUnrecorded site home l m (asks.LeaveTask number)
+at_its_rate site Unopened l old reserved m number said is h = h.0
+at_its_rate site Closed l old reserved m number said is h = h.0
+at_its_rate site (Serving s v n rows) l old reserved m number said is h =
+    let may = takes l old reserved m site.home number said h.1.0 is h.1.1 in
+    (h.1.0, may, allowed_as l old reserved m site.home number said h.1.0 is may.found ∙ h.2)
