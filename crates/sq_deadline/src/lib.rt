@@ -1,0 +1,4 @@
+//! What is due when: moments with slots, in order.
+#![tactic(auto)]
+
+pub mod index;
