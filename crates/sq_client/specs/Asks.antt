@@ -27,8 +27,8 @@ use Rattle.sq_history.specs.Acts.{call_of}
 use Rattle.sq_directory.specs.Makers.{IsSeen}
 use Rattle.sq_history.specs.Rooms.{KeepsRoom}
 use Rattle.sq_steps.specs.Journals.{having_seen, with_record}
-use Rattle.sq_steps.specs.declared.act.Move.{Move}
-use Rattle.sq_steps.specs.declared.act.Move.TheVariants as move
+use Rattle.sq_model.specs.declared.shared.SharedAct.{SharedAct}
+use Rattle.sq_model.specs.declared.shared.SharedAct.TheVariants as move
 use Rattle.sq_steps.specs.declared.act.NextItem.{NextItem}
 use Rattle.sq_steps.specs.declared.act.TaskAct.{TaskAct}
 use Rattle.sq_steps.specs.declared.act.TaskAct.TheVariants as task
@@ -44,7 +44,7 @@ pub data Ask : Type 0 where
   Resolve : (name : List ℕ) → Ask
   Directed : (call : DirectoryCall) → Ask
   AtHome : (name : List ℕ) (home : HomeId) (act : HomeAct) → Ask
-  Moving : (name : Option (List ℕ)) (home : HomeId) (what : Move) → Ask
+  Moving : (name : Option (List ℕ)) (home : HomeId) (what : SharedAct) → Ask
   Next : Ask
   Redriven : (source : List ℕ) (destination : Option (List ℕ)) → Ask
   Ledgered : (what : TaskAct) → Ask
@@ -167,7 +167,7 @@ IsOfDirectory (asks.Sources name) e = e ≡ QueueDoesNotExist
 IsOfDirectory (asks.Read name) e = e ≡ QueueDoesNotExist
 
 -- and what may refuse this step of a home and the ledger
-abbrev pub IsOfMove : Move → Refusal → Type 0
+abbrev pub IsOfMove : SharedAct → Refusal → Type 0
 IsOfMove move.LeaveDead e = e ≡ OverLimit
 IsOfMove (move.LeaveTask number) e = (e ≡ ResourceNotFoundException) ⊎ (e ≡ UnsupportedOperation) ⊎ (e ≡ OverLimit)
 IsOfMove (move.Enter number) e = (e ≡ OverLimit) ⊎ (e ≡ UnsupportedOperation)
@@ -176,7 +176,7 @@ IsOfMove (move.GiveBack number) e = (e ≡ OverLimit) ⊎ (e ≡ UnsupportedOper
 IsOfMove (move.GiveUp number) e = e ≡ UnsupportedOperation
 
 -- what may refuse a step of a home and the ledger
-abbrev pub MayRefuseMove : Move → Refusal → Type 0
+abbrev pub MayRefuseMove : SharedAct → Refusal → Type 0
 MayRefuseMove what e = IsOfAnyStep e ⊎ (e ≡ QueueDoesNotExist) ⊎ IsOfMove what e
 
 -- and what may refuse this step of the ledger alone
@@ -213,7 +213,7 @@ pub record IsLedgerRecord (what : TaskAct) (answered : LedgerReply) (n : RecordV
   pub replied : its_record.reply ≡ answered
 
 -- the call of a step of a home and the ledger: for the task, or with the item, of this number
-abbrev pub IsCallFor : Move → HomeCall → Type 0
+abbrev pub IsCallFor : SharedAct → HomeCall → Type 0
 IsCallFor move.LeaveDead call = call ≡ at_home.LeaveDead
 IsCallFor (move.LeaveTask number) call = call ≡ at_home.LeaveTask number
 IsCallFor (move.Enter number) call = (item : Item) × (item.number ≡ number) × (call ≡ at_home.Enter item)
@@ -235,7 +235,7 @@ abbrev pub IsHomeRecord : List ℕ → HomeId → HomeAct → HomeReply → Reco
 IsHomeRecord name home what answered n = IsStepRecord (Some name) home (λ call. call ≡ call_of what) answered n
 
 -- a record of a step of a home and the ledger; it is the home's
-abbrev pub IsMoveRecord : Option (List ℕ) → HomeId → Move → HomeReply → RecordValue → Type 0
+abbrev pub IsMoveRecord : Option (List ℕ) → HomeId → SharedAct → HomeReply → RecordValue → Type 0
 IsMoveRecord name home what answered n = IsStepRecord name home (IsCallFor what) answered n
 
 -- the records of a step that was done: its own, and none of a read, nor where nothing was there to leave, nor of how far a walk is

@@ -13,8 +13,8 @@ use Rattle.sq_calls.specs.declared.turns.Turn.{Turn}
 use Rattle.sq_calls.specs.declared.turns.Turn.TheVariants as turn
 use Rattle.sq_calls.specs.declared.turns.Turned.{Turned}
 use Rattle.sq_calls.specs.declared.turns.Turned.TheVariants as word
-use Rattle.sq_steps.specs.declared.act.Move.{Move}
-use Rattle.sq_steps.specs.declared.act.Move.TheVariants.{LeaveDead, LeaveTask, Enter, TurnBack, GiveBack, GiveUp}
+use Rattle.sq_model.specs.declared.shared.SharedAct.{SharedAct}
+use Rattle.sq_model.specs.declared.shared.SharedAct.TheVariants.{LeaveDead, LeaveTask, Enter, TurnBack, GiveBack, GiveUp}
 use Rattle.sq_steps.specs.declared.act.NextItem.{NextItem}
 use Rattle.sq_steps.specs.declared.act.TaskAct.TheVariants.{Finish}
 use Rattle.sq_client.specs.declared.walk.Walk.{Walk}
@@ -24,7 +24,7 @@ use Rattle.sq_client.specs.Fits.{ledgered, named}
 use Rattle.sq_client.specs.Walks.{after_nothing, after_other, row_again}
 
 -- a home and the ledger are asked; the item that is tried next is read
-abbrev pub moving : Option (List ℕ) → HomeId → Move → Result Gave Refusal → Done
+abbrev pub moving : Option (List ℕ) → HomeId → SharedAct → Result Gave Refusal → Done
 moving name home what answered = record { ask = Moving name home what; answered = answered }
 
 abbrev pub trying : Result Gave Refusal → Done
@@ -51,7 +51,7 @@ left_word reply.SourceClosed = word.Failed
 left_word (reply.Entered entered) = word.Left
 
 -- the word for a step that was done
-abbrev pub word_of : Move → HomeReply → Turned
+abbrev pub word_of : SharedAct → HomeReply → Turned
 word_of LeaveDead reply = word.Left
 word_of (LeaveTask number) reply = left_word reply
 word_of (Enter number) reply = word.Entered
@@ -60,7 +60,7 @@ word_of (GiveBack number) reply = word.Back
 word_of (GiveUp number) reply = word.Dropped
 
 -- Two words of a step: where nothing was done and nothing is wrong, since the task is at its rate, or no dead letter is there to leave; and where it cannot be done any more, since the task takes no messages now, or the item is not there for it.
-abbrev pub words_apart : Move → Turned × Turned
+abbrev pub words_apart : SharedAct → Turned × Turned
 words_apart LeaveDead = (word.Nothing, word.Nothing)
 words_apart (LeaveTask number) = (word.Throttled, word.Ended)
 words_apart (Enter number) = (word.Nothing, word.Nothing)
@@ -68,14 +68,14 @@ words_apart (TurnBack number) = (word.Nothing, word.Nothing)
 words_apart (GiveBack number) = (word.Nothing, word.Nothing)
 words_apart (GiveUp number) = (word.Nothing, word.Nothing)
 
-abbrev pub none_word : Move → Turned
+abbrev pub none_word : SharedAct → Turned
 none_word what = (words_apart what).0
 
-abbrev pub over_word : Move → Turned
+abbrev pub over_word : SharedAct → Turned
 over_word what = (words_apart what).1
 
 -- what is refused as it is: what each step may be refused as, and a task that is not there
-abbrev pub IsTold : Move → Refusal → Type 0
+abbrev pub IsTold : SharedAct → Refusal → Type 0
 IsTold LeaveDead e = IsOfAnyStep e
 IsTold (LeaveTask number) e = IsOfAnyStep e ⊎ (e ≡ ResourceNotFoundException)
 IsTold (Enter number) e = IsOfAnyStep e
@@ -84,7 +84,7 @@ IsTold (GiveBack number) e = IsOfAnyStep e
 IsTold (GiveUp number) e = IsOfAnyStep e
 
 -- The word for a step that moves a message: its own where it was done, the one for nothing, `full` where there is no room, and the one for a step that cannot be done any more.
-abbrev pub WordFor : Move → Result Gave Refusal → Result Turned Refusal → Type 0
+abbrev pub WordFor : SharedAct → Result Gave Refusal → Result Turned Refusal → Type 0
 WordFor what by answered =
     ((reply : HomeReply) × (by ≡ Ok (Replied reply)) × (answered ≡ Ok (word_of what reply)))
     ⊎ ((by ≡ Ok Nothing) × (answered ≡ Ok (none_word what)))
@@ -105,10 +105,10 @@ abbrev pub home_ahead : NextItem → ℕ → HomeId
 home_ahead next home = home_numbered (if next.homeward then next.source else next.target) home
 
 -- how it comes in there, and what becomes of it where that home is closed
-abbrev pub comes_in : NextItem → Move
+abbrev pub comes_in : NextItem → SharedAct
 comes_in next = if next.homeward then GiveBack next.number else Enter next.number
 
-abbrev pub goes_back : NextItem → Move
+abbrev pub goes_back : NextItem → SharedAct
 goes_back next = if next.homeward then GiveUp next.number else TurnBack next.number
 
 -- An item comes in at a home. A home that refuses it as not serving is asked to send it back, or to give it up; one that refuses this so as well was never opened, or is not there.

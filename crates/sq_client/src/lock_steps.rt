@@ -18,7 +18,7 @@ use sq_model::ledger::LedgerReply;
 use sq_model::replies::HomeReply;
 use sq_model::task::{NamedQueue, Task};
 use sq_sample::sampler::HomeCount;
-use sq_steps::act::{Move, NextItem, TaskAct};
+use sq_steps::act::{NextItem, SharedAct, TaskAct};
 use std::alloc::Global;
 
 /// Does the steps of one actor's calls. A home that the queue does not have refuses its step.
@@ -75,7 +75,7 @@ pub trait LockSteps {
         &mut self,
         name: Option<QueueName>,
         home: &HomeId,
-        what: Move,
+        what: SharedAct,
     ) -> Result<Option<HomeReply>, Refusal>
         requires known { IfSome name (λ name. knows self.old name home.now.queue) }
         ensures did { stepped self.old (Moving name home.now what) (moved_of result) self.new }

@@ -16,7 +16,7 @@ use sq_model::ledger::LedgerReply;
 use sq_model::replies::HomeReply;
 use sq_model::task::{Task, TaskStatus};
 use sq_sample::sampler::HomeCount;
-use sq_steps::act::{Move, NextItem, TaskAct};
+use sq_steps::act::{NextItem, SharedAct, TaskAct};
 
 /// Does a turn.
 pub fn turn<S: LockSteps>(steps: &mut S, turn: &Turn) -> Result<Turned, Refusal>
@@ -46,8 +46,8 @@ fn leave<S: LockSteps>(steps: &mut S, name: &QueueName) -> Result<Turned, Refusa
         queue: of.number,
         home: steps.pick(),
     };
-    let answered = steps.moving(Some(of.name), &home, Move::LeaveDead);
-    match word_for(Move::LeaveDead, answered)? {
+    let answered = steps.moving(Some(of.name), &home, SharedAct::LeaveDead);
+    match word_for(SharedAct::LeaveDead, answered)? {
         Some(word) => Ok(word),
         None => Err(Refusal::QueueDoesNotExist),
     }
@@ -126,9 +126,9 @@ fn leave_for<S: LockSteps>(
         home: walk.home,
     };
     let homes = steps.homes();
-    let answered = steps.moving(None, &home, Move::LeaveTask(number));
+    let answered = steps.moving(None, &home, SharedAct::LeaveTask(number));
     steps.walked(walk_after(homes, walk, &answered));
-    match word_for(Move::LeaveTask(number), answered)? {
+    match word_for(SharedAct::LeaveTask(number), answered)? {
         Some(word) => Ok(word),
         None => Err(Refusal::QueueDoesNotExist),
     }
@@ -209,21 +209,21 @@ fn home_ahead(next: &NextItem, home: HomeNo) -> HomeId
 }
 
 // What is asked of a home that an item goes to: that it comes in, or what becomes of it where the home is closed.
-fn move_of(next: &NextItem, closed: bool) -> Move
+fn move_of(next: &NextItem, closed: bool) -> SharedAct
     ensures { result ≡ (if closed then goes_back next.now else comes_in next.now) }
 {
     let number = next.number;
     match (next.homeward, closed) {
-        (false, false) => Move::Enter(number),
-        (false, true) => Move::TurnBack(number),
-        (true, false) => Move::GiveBack(number),
-        (true, true) => Move::GiveUp(number),
+        (false, false) => SharedAct::Enter(number),
+        (false, true) => SharedAct::TurnBack(number),
+        (true, false) => SharedAct::GiveBack(number),
+        (true, true) => SharedAct::GiveUp(number),
     }
 }
 
 // The word for a step that moves a message; none where the home does not serve.
 fn word_for(
-    what: Move,
+    what: SharedAct,
     answered: Result<Option<HomeReply>, Refusal>,
 ) -> Result<Option<Turned>, Refusal>
     requires { IfErr answered (MayRefuseMove what) }
@@ -242,16 +242,16 @@ fn word_for(
 }
 
 // The word for a step that was done.
-fn word_of(what: Move, reply: &HomeReply) -> Turned
+fn word_of(what: SharedAct, reply: &HomeReply) -> Turned
     ensures { result ≡ word_of what reply.now }
 {
     match what {
-        Move::LeaveDead => Turned::Left,
-        Move::LeaveTask(_) => left_word(reply),
-        Move::Enter(_) => Turned::Entered,
-        Move::TurnBack(_) => Turned::Turned,
-        Move::GiveBack(_) => Turned::Back,
-        Move::GiveUp(_) => Turned::Dropped,
+        SharedAct::LeaveDead => Turned::Left,
+        SharedAct::LeaveTask(_) => left_word(reply),
+        SharedAct::Enter(_) => Turned::Entered,
+        SharedAct::TurnBack(_) => Turned::Turned,
+        SharedAct::GiveBack(_) => Turned::Back,
+        SharedAct::GiveUp(_) => Turned::Dropped,
     }
 }
 
@@ -267,21 +267,21 @@ fn left_word(reply: &HomeReply) -> Turned
 }
 
 // The word where nothing was done and nothing is wrong.
-fn none_word(what: Move) -> Turned
+fn none_word(what: SharedAct) -> Turned
     ensures { result ≡ none_word what }
 {
     match what {
-        Move::LeaveTask(_) => Turned::Throttled,
+        SharedAct::LeaveTask(_) => Turned::Throttled,
         _ => Turned::Nothing,
     }
 }
 
 // The word where the step cannot be done any more.
-fn over_word(what: Move) -> Turned
+fn over_word(what: SharedAct) -> Turned
     ensures { result ≡ over_word what }
 {
     match what {
-        Move::LeaveTask(_) => Turned::Ended,
+        SharedAct::LeaveTask(_) => Turned::Ended,
         _ => Turned::Nothing,
     }
 }

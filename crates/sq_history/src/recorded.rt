@@ -14,14 +14,14 @@ use sq_model::calls::HomeCall;
 use sq_model::event::{Actor, Event};
 use sq_model::place::Component;
 use sq_model::replies::HomeReply;
-use sq_shard::plain::PlainStore;
 use sq_shard::shard::Shard;
+use sq_shard::slots::SlotStore;
 use sq_shard::store::Store;
 use std::alloc::Global;
 use std::marker::Model;
 
 /// The home that the service uses.
-pub type Home = Recorded<PlainStore>;
+pub type Home = Recorded<SlotStore>;
 
 /// A home with its history: it is always the replay of its events.
 ///

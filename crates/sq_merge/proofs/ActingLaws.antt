@@ -27,9 +27,8 @@ use Rattle.sq_model.specs.declared.task.Task.{Task}
 use Rattle.sq_model.specs.Tasks.{is_running}
 use Rattle.sq_model.specs.Ledgers.{Ledger, LedgerStep, cancel_refusal, finish_refusal, in_transit, is_of_source, item_of, last_number, ledger_refusal, room_refusal, task_of}
 use Rattle.sq_model.specs.Shared.{after_given, is_entering, is_returning, is_throttled, shared_refusal, task_refusal}
-use Rattle.sq_steps.specs.SharedSteps.{asked_as}
-use Rattle.sq_steps.specs.declared.act.Move.{Move}
-use Rattle.sq_steps.specs.declared.act.Move.TheVariants as move
+use Rattle.sq_model.specs.declared.shared.SharedAct.{SharedAct}
+use Rattle.sq_model.specs.declared.shared.SharedAct.TheVariants as move
 use Rattle.sq_model.specs.Homes.{Home, Unopened, Serving, Closed, last_serial, slots, HomeStep, home_refusal, place_refusal, refused_if}
 use Rattle.sq_model.specs.declared.place.Site.{Site}
 use Rattle.sq_model.specs.declared.replies.HomeReply.{HomeReply}
@@ -167,7 +166,7 @@ arrival_is : (site : Site) (n : ℕ) (rows : List Row) (other : Bool) (e : Refus
 arrival_is site n rows other e h =
     elim (three_cases (nat_le last_serial n || nat_le slots (length rows)) (nat_le site.limits.rows (length rows)) other Worn OverLimit UnsupportedOperation e h) [ inl worn ↦ inl (inr (inr worn)) | inr rest ↦ inr (inr rest) ]
 
-shared_is : (site : Site) (home : Home) (l : Ledger) (m : ℕ) (what : Move) (e : Refusal) → shared_refusal site home l m (asked_as what) ≡ Some e → IsOfAnyStep e ⊎ (e ≡ QueueDoesNotExist) ⊎ IsOfMove what e
+shared_is : (site : Site) (home : Home) (l : Ledger) (m : ℕ) (what : SharedAct) (e : Refusal) → shared_refusal site home l m what ≡ Some e → IsOfAnyStep e ⊎ (e ≡ QueueDoesNotExist) ⊎ IsOfMove what e
 unfolding shared_refusal
 shared_is site Unopened l m what e h = inr (inl cc)
 shared_is site (Serving s v n rows) l m move.LeaveDead e h = elim (dead_cases l (list_any (is_dead s m) (trimmed s m rows)) e h) [ inl any ↦ inl any | inr over ↦ inr (inr over) ]
@@ -201,13 +200,13 @@ at_home_may {P} w actor now id e Own h own = elim h [
   | inr in_list ↦ elim in_list.3 [ inl unready ↦ inl (not_ready (journal_of actor w.journals) now e unready) | inr step ↦ own in_list.1 step.1 ]
 ]
 
-pub moving_may : (w : WorldValue) (actor now : ℕ) (name : Option (List ℕ)) (id : HomeId) (what : Move) (e : Refusal) → SharedRefused w actor now id (asked_as what) e → MayRefuse (Moving name id what) e
+pub moving_may : (w : WorldValue) (actor now : ℕ) (name : Option (List ℕ)) (id : HomeId) (what : SharedAct) (e : Refusal) → SharedRefused w actor now id what e → MayRefuse (Moving name id what) e
 moving_may w actor now name id what e h =
     at_home_may {P = IsOfMove what e} w actor now id e _ h
     (λ b step. step_may e step (λ clock. given_refused _ _ now e (λ x given. after_refused _ _ now x given) clock) (λ own. elim own.2 [ inl copied ↦ inl (inl copied.0) | inr refused ↦ shared_is _ _ _ _ what e refused ]))
 
 -- the same of an answer
-pub answered_moving : (w : WorldValue) (actor now : ℕ) (name : Option (List ℕ)) (id : HomeId) (what : Move) (answered : Result (Option HomeReply) Refusal) → IfErr answered (SharedRefused w actor now id (asked_as what)) → IfErr answered (MayRefuse (Moving name id what))
+pub answered_moving : (w : WorldValue) (actor now : ℕ) (name : Option (List ℕ)) (id : HomeId) (what : SharedAct) (answered : Result (Option HomeReply) Refusal) → IfErr answered (SharedRefused w actor now id what) → IfErr answered (MayRefuse (Moving name id what))
 answered_moving w actor now name id what (Ok told) h = tt
 answered_moving w actor now name id what (Err e) h = moving_may w actor now name id what e h
 

@@ -4,7 +4,6 @@ use Rattle.sq_base.specs.declared.refusal.Refusal.{Refusal}
 use Rattle.sq_model.specs.Directories.{number_named}
 use Rattle.sq_history.specs.Acts.{call_of}
 use Rattle.sq_steps.specs.Journals.{journal_of}
-use Rattle.sq_steps.specs.SharedSteps.{asked_as}
 use Rattle.sq_client.specs.Asks.{Ask, Resolve, Directed, AtHome, Moving, Next, Redriven, Ledgered, Walking, Walked, Gave, Found, Answered, Replied, Nothing, Peeked, Ends, Told, Walks, Noted, HomeCounts}
 use Rattle.sq_merge.specs.WorldValue.{WorldValue}
 use Rattle.sq_merge.specs.Worlds.{IsKnown, HomeStepped, HomeRefused, DirectoryStepped, DirectoryRefused, NameRefused, having_read, SharedStepped, NothingLeaves, SharedRefused, having_tried, next_tried, NextRefused, EndsRead, EndsUnread, LedgerStepped, LedgerRefused, WalkRead, WalkUnread, having_walked}
@@ -21,8 +20,8 @@ abbrev pub ActorDoes : ℕ → ℕ → WorldValue → Ask → Gave → WorldValu
 ActorDoes actor now w (Resolve name) (Found queue) t = (number_named name w.directory.directory.queues ≡ Some queue) × (t ≡ having_read w actor)
 ActorDoes actor now w (Directed call) (Answered reply) t = DirectoryStepped w t actor now call reply
 ActorDoes actor now w (AtHome name id act) (Replied reply) t = HomeStepped w t actor now (Some name) id (call_of act) reply
-ActorDoes actor now w (Moving name id what) (Replied reply) t = SharedStepped w t actor now name id (asked_as what) reply
-ActorDoes actor now w (Moving name id what) Nothing t = NothingLeaves w t actor now id (asked_as what)
+ActorDoes actor now w (Moving name id what) (Replied reply) t = SharedStepped w t actor now name id what reply
+ActorDoes actor now w (Moving name id what) Nothing t = NothingLeaves w t actor now id what
 ActorDoes actor now w Next (Peeked next) t = (next ≡ next_tried w actor) × (t ≡ having_tried w actor next)
 ActorDoes actor now w (Redriven source destination) (Ends ends) t = EndsRead w t actor source destination ends
 ActorDoes actor now w (Ledgered what) (Told reply) t = LedgerStepped w t actor now what reply
@@ -35,7 +34,7 @@ abbrev pub ActorRefused : ℕ → ℕ → WorldValue → Ask → Refusal → Typ
 ActorRefused actor now w (Resolve name) e = NameRefused w actor name e
 ActorRefused actor now w (Directed call) e = DirectoryRefused w actor now call e
 ActorRefused actor now w (AtHome name id act) e = HomeRefused w actor now id (call_of act) e
-ActorRefused actor now w (Moving name id what) e = SharedRefused w actor now id (asked_as what) e
+ActorRefused actor now w (Moving name id what) e = SharedRefused w actor now id what e
 ActorRefused actor now w Next e = NextRefused w actor e
 ActorRefused actor now w (Redriven source destination) e = EndsUnread w actor source destination e
 ActorRefused actor now w (Ledgered what) e = LedgerRefused w actor now what e

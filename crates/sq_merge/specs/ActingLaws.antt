@@ -16,9 +16,8 @@ use Rattle.sq_history.specs.Histories.{new_record}
 use Rattle.sq_history.specs.HistoryValue.{HistoryValue}
 use Rattle.sq_history.specs.Rooms.{KeepsRoom}
 use Rattle.sq_steps.specs.Journals.{journal_of, put_journal, having_seen, with_record}
-use Rattle.sq_steps.specs.SharedSteps.{asked_as}
-use Rattle.sq_steps.specs.declared.act.Move.{Move}
-use Rattle.sq_steps.specs.declared.act.Move.TheVariants as move
+use Rattle.sq_model.specs.declared.shared.SharedAct.{SharedAct}
+use Rattle.sq_model.specs.declared.shared.SharedAct.TheVariants as move
 use Rattle.sq_steps.proofs.JournalListLaws.{journal_own, journal_put}
 use Rattle.sq_merge.specs.Acting.{ActorDoes, ActorStepped}
 use Rattle.sq_client.specs.Asks.{Ask, Resolve, Directed, AtHome, Moving, Next, Redriven, Ledgered, Walking, Walked, Gave, Found, Answered, Replied, Nothing, Peeked, Ends, Told, Walks, Noted, IsCallFor, IsStepRecord, IsNext, LeavesOf}
@@ -37,7 +36,7 @@ next_is actor s t n b place above more room journals =
     (place, above, subst (λ (x : Journal). x ≡ with_record (journal_of actor s.journals) n x.room) (sym after) more, subst (λ (x : Journal). KeepsRoom (journal_of actor s.journals).room x.room) (sym after) room)
 
 -- the call of a step of both has the item that was asked
-call_is : (l : Ledger) (what : Move) (call : HomeCall) → IsCallOf l (asked_as what) call → IsCallFor what call
+call_is : (l : Ledger) (what : SharedAct) (call : HomeCall) → IsCallOf l what call → IsCallFor what call
 call_is l move.LeaveDead call h = h
 call_is l (move.LeaveTask number) call h = h
 call_is l (move.Enter number) call h = (h.0, found_number (λ i. i.number) number l.items h.0 h.1, h.2)

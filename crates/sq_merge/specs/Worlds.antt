@@ -18,7 +18,7 @@ use Rattle.sq_model.specs.Ledgers.{LedgerEvent, is_own, last_task, peek, task_of
 use Rattle.sq_model.specs.Replays.{HomeEvent}
 use Rattle.sq_ledger.specs.LedgerHistory.{LedgerHistory}
 use Rattle.sq_steps.specs.declared.act.NextItem.{NextItem}
-use Rattle.sq_steps.specs.SharedSteps.{asked_as, SharedMoves, IsUnmoved, IsSharedRefused}
+use Rattle.sq_steps.specs.SharedSteps.{SharedMoves, IsUnmoved, IsSharedRefused}
 use Rattle.sq_model.specs.Systems.{DirectoryEvent}
 use Rattle.sq_model.specs.RecordValues.{RecordValue, place_of_record, Journal}
 use Rattle.sq_model.specs.Matches.{HomeHistory, IsRecordAt, IsHomeEvent, HasItsEvent, IsRecorded, IsOfDirectory, IsOfLedger, IsOfHome, IsPaired}
@@ -187,8 +187,8 @@ StepDone old new actor now (act.Directory call) (answered.Directory reply) = Dir
 StepDone old new actor now (act.Resolve name) (answered.Resolved queue) = (number_named name old.directory.directory.queues ≡ Some queue) × (new ≡ having_read old actor)
 StepDone old new actor now act.Names (answered.Named names) = (names ≡ all_named old.directory.directory) × (new ≡ having_read old actor)
 StepDone old new actor now (act.Home id what) (answered.Home reply) = HomeStepped old new actor now None id (call_of what) reply
-StepDone old new actor now (act.Shared id what) (answered.Home reply) = SharedStepped old new actor now None id (asked_as what) reply
-StepDone old new actor now (act.Shared id what) answered.Nothing = NothingLeaves old new actor now id (asked_as what)
+StepDone old new actor now (act.Shared id what) (answered.Home reply) = SharedStepped old new actor now None id what reply
+StepDone old new actor now (act.Shared id what) answered.Nothing = NothingLeaves old new actor now id what
 StepDone old new actor now (act.Peek number) (answered.Peeked next) = (next ≡ option_map next_of (peek number old.ledger.ledger)) × (new ≡ having_peeked old actor)
 StepDone old new actor now (act.Ledger what) (answered.Ledger reply) = LedgerStepped old new actor now what reply
 StepDone old new actor now (act.ReadTask number) (answered.Task task) = TaskRead old new actor number task
@@ -212,7 +212,7 @@ StepRefused w actor now (act.Directory call) e = DirectoryRefused w actor now ca
 StepRefused w actor now (act.Resolve name) e = NameRefused w actor name e
 StepRefused w actor now act.Names e = e ≡ NoMemory
 StepRefused w actor now (act.Home id what) e = ((e ≡ NoMemory) × IsSentTo w id what) ⊎ HomeRefused w actor now id (call_of what) e
-StepRefused w actor now (act.Shared id what) e = SharedRefused w actor now id (asked_as what) e
+StepRefused w actor now (act.Shared id what) e = SharedRefused w actor now id what e
 StepRefused w actor now (act.Peek number) e = IsUnread w actor e
 StepRefused w actor now (act.Ledger what) e = LedgerRefused w actor now what e
 StepRefused w actor now (act.ReadTask number) e = TaskUnread w actor number e

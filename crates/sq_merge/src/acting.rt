@@ -23,7 +23,7 @@ use sq_model::ledger::LedgerReply;
 use sq_model::replies::HomeReply;
 use sq_model::task::{NamedQueue, Task};
 use sq_sample::sampler::HomeCount;
-use sq_steps::act::{Move, NextItem, TaskAct};
+use sq_steps::act::{NextItem, SharedAct, TaskAct};
 use std::alloc::Global;
 
 /// Does the steps of an actor's calls at a world. A clock reading is in ms.
@@ -83,7 +83,7 @@ impl<'a> LockSteps for Acting<'a> {
         &mut self,
         name: Option<QueueName>,
         home: &HomeId,
-        what: Move,
+        what: SharedAct,
     ) -> Result<Option<HomeReply>, Refusal> {
         self.world
             .shared(self.alloc, self.actor, self.clock, name, home, what)

@@ -11,8 +11,8 @@ use sq_base::stamp::STAMP_END;
 use sq_history::recorded::{Home, Recorded};
 use sq_model::place::{Limits, Site};
 use sq_sample::sampler::HomeCount;
-use sq_shard::plain::PlainStore;
 use sq_shard::shard::Shard;
+use sq_shard::slots::SlotStore;
 use std::alloc::Global;
 
 /// Why a step of a home that is not there is refused.
@@ -38,7 +38,7 @@ fn never_opened(alloc: Global, per_queue: HomeCount, limits: &Limits, index: u32
         },
         limits: *limits,
     };
-    Recorded::unopened(alloc, Shard::unopened(site, PlainStore::new(alloc)))
+    Recorded::unopened(alloc, Shard::unopened(site, SlotStore::new(alloc)))
 }
 
 /// The homes of so many queues; none is opened yet.

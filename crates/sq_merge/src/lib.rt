@@ -14,4 +14,4 @@ pub use sq_audit::run::Run;
 pub use sq_audit::tagged::Tagged;
 pub use sq_places::message_pass::place_of;
 pub use sq_places::places::places_of;
-pub use sq_steps::act::{Act, HomeAct, Move, NextItem, Outcome, Step, TaskAct, TaskStart};
+pub use sq_steps::act::{Act, HomeAct, NextItem, Outcome, SharedAct, Step, TaskAct, TaskStart};

@@ -16,7 +16,6 @@ ghost use Rattle.sq_merge.specs.Openings.{IsServed, new_world};
 ghost use Rattle.sq_merge.specs.PartsValue.{ArePartsOf};
 ghost use Rattle.sq_model.specs.Ledgers.{last_task, peek};
 ghost use Rattle.sq_model.specs.Matches.{IsMatched, IsPaired};
-ghost use Rattle.sq_steps.specs.SharedSteps.{asked_as};
 
 use crate::acting::{Acting, call_at, turn_at};
 use crate::homes::{never_opened_homes, no_such_home};
@@ -42,7 +41,7 @@ use sq_model::place::Limits;
 use sq_model::replies::HomeReply;
 use sq_model::task::{NamedQueue, Task};
 use sq_sample::sampler::{HomeCount, Sampler};
-use sq_steps::act::{Act, HomeAct, Move, NextItem, Outcome, Step, TaskAct};
+use sq_steps::act::{Act, HomeAct, NextItem, Outcome, SharedAct, Step, TaskAct};
 use sq_steps::journal::{Journal, directory_step, home_step, ledger_step};
 use sq_steps::journals::{Journals, open};
 use sq_steps::shared::shared_step;
@@ -413,12 +412,12 @@ impl World {
         now: u64,
         name: Option<QueueName>,
         id: &HomeId,
-        act: Move,
+        act: SharedAct,
     ) -> Result<Option<HomeReply>, Refusal>
         requires known { IsKnownTo actor self.old name id.now.queue }
-        ensures stepped { IfOk result (λ told. IfSome told (SharedStepped self.old self.new actor now name id.now (asked_as act))) }
-        ensures none { IfOk result (λ told. IfNone told (NothingLeaves self.old self.new actor now id.now (asked_as act))) }
-        ensures refusal { IfErr result (SharedRefused self.old actor now id.now (asked_as act)) }
+        ensures stepped { IfOk result (λ told. IfSome told (SharedStepped self.old self.new actor now name id.now act)) }
+        ensures none { IfOk result (λ told. IfNone told (NothingLeaves self.old self.new actor now id.now act)) }
+        ensures refusal { IfErr result (SharedRefused self.old actor now id.now act) }
         ensures err { OnErr result (self.new ≡ self.old) }
     {
         let Some(index) = home_index(self.per_queue, self.homes.len(), id) else {

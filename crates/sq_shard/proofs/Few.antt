@@ -3,7 +3,7 @@ use Rattle.std.proofs.Common.{◌≡◌, ℕ, ◌+◌, ◌<◌, ◌≤◌, List,
 use Rattle.std.specs.Prelude.{filter, count_by, nat_le}
 use Rattle.std.proofs.lemmas.Grind.{common_steps}
 use Rattle.std.proofs.lemmas.List.{length-map}
-use Rattle.std.proofs.lemmas.List.Sums.{length-filter}
+use Rattle.std.proofs.lemmas.List.Sums.{count_by-le-length}
 use Rattle.sq_base.specs.declared.refusal.Refusal.{Refusal}
 use Rattle.sq_base.specs.declared.refusal.Refusal.TheVariants.{OverLimit}
 use Rattle.sq_base.specs.declared.row.Row.{Row}
@@ -32,11 +32,8 @@ pub few_pushed : (rows : List Row) (row : Row) (most : ℕ) → length rows < mo
 few_pushed [] row most lt = omega (arith, lt)
 few_pushed (x ∷ rows) row most lt = let rest = few_pushed rows row (length rows + 1) (omega arith) in omega (arith, lt, rest)
 
-pub few_counted : (p : Row → Bool) (s : Settings) (m : ℕ) (rows : List Row) (end : ℕ) → length rows < end → count_by p (trimmed s m rows) < end
-few_counted p s m rows end lt =
-    let kept = few_trimmed s m rows (length rows) (omega arith) in
-    let counted = few_filtered p (trimmed s m rows) (length (trimmed s m rows)) (omega arith) in
-    subst (λ n. n < end) (length-filter p (trimmed s m rows)) (omega (arith, lt, kept, counted))
+pub few_counted : (p : Row → Bool) (rows : List Row) (end : ℕ) → length rows < end → count_by p rows < end
+few_counted p rows end lt = let counted = count_by-le-length p rows in omega (arith, lt, counted)
 
 above : (a b : ℕ) → a < b → nat_le b a ≡ false
 above a b h = grind (arith, common_steps)

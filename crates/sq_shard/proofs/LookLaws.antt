@@ -1,17 +1,20 @@
--- A look gives no row where none is live.
-use Rattle.std.proofs.Common.{◌≡◌, ℕ, Bool, true, false, cond, List, [], ◌∷◌, length, Option, Some, refl, sym, ◌∙◌, subst, arith}
+-- What a look gives: no row where none is live, and rows with the slots that they have.
+use Rattle.std.proofs.Common.{◌≡◌, ℕ, ◌+◌, ◌<◌, ◌≤◌, Bool, true, false, cond, List, [], ◌∷◌, length, map, Option, Some, refl, sym, ap, ◌∙◌, subst, arith}
 use Rattle.std.specs.Prelude.{filter, count_by, ◌||◌}
-use Rattle.std.specs.List.{list_any}
+use Rattle.std.specs.List.{All, Contains, list_any}
 use Rattle.std.proofs.lemmas.List.Sums.{length-filter}
-use Rattle.std.proofs.lemmas.List.Elements.{All-nil}
+use Rattle.std.proofs.lemmas.List.Elements.{All-cons, All-contains, All-contains_itself, All-filter, All-map, All-nil, All-weaker}
 use Rattle.sq_base.specs.declared.row.Row.{Row}
 use Rattle.sq_base.specs.declared.settings.Settings.{Settings}
 use Rattle.sq_model.specs.declared.calls.HomeCall.TheVariants.{Look}
 use Rattle.sq_model.specs.declared.place.Site.{Site}
 use Rattle.sq_model.specs.declared.replies.HomeReply.TheVariants.{Looked}
 use Rattle.sq_model.specs.Homes.{Serving, HomeStep}
-use Rattle.sq_model.specs.Rows.{is_live, trimmed, IsLook}
-use Rattle.sq_shard.specs.Looks.{look_after}
+use Rattle.sq_model.specs.Rows.{is_live, received, trimmed, IsLook, RisesFrom}
+use Rattle.sq_model.proofs.RowLaws.{rises_trimmed}
+use Rattle.sq_slots.specs.Slots.{Rise}
+use Rattle.sq_slots.proofs.RowLists.{same_serial}
+use Rattle.sq_shard.specs.Looks.{look_after, AreTheirs, HasItsSlot}
 
 none_filtered : (p : Row → Bool) (rows : List Row) → list_any p rows ≡ false → length (filter p rows) ≡ 0
 none_filtered p [] h = refl
@@ -30,3 +33,25 @@ pub nothing_given : (site : Site) (s : Settings) (v n m max : ℕ) (timeout : Op
     → HomeStep site (Serving s v n rows) m (Look max timeout) (Looked []) (look_after (Serving s v n rows) m timeout (Some []))
 unfolding HomeStep
 nothing_given site s v n m max timeout rows none = ((λ live. let k : true ≡ false = sym live ∙ none in cc), empty_look s m _ _ (trimmed s m rows) none, refl)
+
+pub rises_rise : (low : ℕ) (rows : List Row) (next : ℕ) → RisesFrom low rows next → Rise low rows
+rises_rise low [] next h = tt
+rises_rise low (row ∷ rows) next h = (h.0, rises_rise (row.serial + 1) rows next h.1)
+
+-- what a look gives are rows that are there
+pub looked_are_theirs : (s : Settings) (m until n : ℕ) (rows : List Row) (next : ℕ) (picked : List Row) → RisesFrom 0 rows next → IsLook s m until n rows picked → AreTheirs rows picked
+looked_are_theirs s m until n rows next picked rises look =
+    let mine : Row → Type 0 = λ row. HasItsSlot rows (received m until row) in
+    let each : All mine rows = All-weaker (Contains rows) mine (λ row there other in_rows same. ap (λ (r : Row). r.slot) (same_serial 0 rows (rises_rise 0 rows next rises) other row in_rows there same)) rows (All-contains_itself rows) in
+    let given : List Row = map (received m until) (filter (is_live s m) rows) in
+    let all_given : All (HasItsSlot rows) given = All-map (HasItsSlot rows) (received m until) (filter (is_live s m) rows) (All-filter (is_live s m) mine rows each) in
+    record { distinct = look.distinct; slots = All-weaker (Contains given) (HasItsSlot rows) (λ row there. All-contains (HasItsSlot rows) given row all_given there) picked look.each }
+
+rises_upto : (low : ℕ) (rows : List Row) (next : ℕ) → RisesFrom low rows next → low ≤ next
+rises_upto low [] next h = h
+rises_upto low (row ∷ rows) next h = omega (arith, h.0, rises_upto (row.serial + 1) rows next h.1)
+
+-- each serial is below the next one
+pub rises_below : (low : ℕ) (rows : List Row) (next : ℕ) → RisesFrom low rows next → All (λ (row : Row). row.serial < next) rows
+rises_below low [] next h = All-nil (λ (row : Row). row.serial < next)
+rises_below low (row ∷ rows) next h = All-cons (λ (r : Row). r.serial < next) row rows (omega (arith, rises_upto (row.serial + 1) rows next h.1)) (rises_below (row.serial + 1) rows next h.1)

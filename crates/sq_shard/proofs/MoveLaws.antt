@@ -24,7 +24,8 @@ use Rattle.sq_model.specs.Rows.{RisesFrom, Takes, trimmed, is_dead, is_visible}
 use Rattle.sq_model.proofs.RowLaws.{rises_weaker, rises_trimmed}
 use Rattle.sq_shard.specs.declared.shard.Status.{Status}
 use Rattle.sq_shard.specs.declared.shard.Status.TheVariants.{Unopened, Serving, Closed}
-use Rattle.sq_shard.specs.Moves.{IsOneOf, IsNextOf, IsPut, HasRow, GoesWithout, is_at, coming_refusal}
+use Rattle.sq_shard.specs.Moves.{IsOneOf, IsNextOf, IsPut, HasRow, GoesWithout, coming_refusal}
+use Rattle.sq_slots.specs.Slots.{is_at}
 use Rattle.sq_shard.specs.ShardValue.{home_with}
 
 -- where no place passes, none does

@@ -1,5 +1,5 @@
 -- Messages that leave a home or come in, as the home sees it.
-use Rattle.std.specs.Prelude.{◌≡◌, ℕ, ◌+◌, ◌&&◌, ◌==◌, Bool, true, false, not, List, [], ◌∷◌, ◌++◌, Option, Some, None}
+use Rattle.std.specs.Prelude.{◌≡◌, ℕ, ◌+◌, Bool, true, false, not, List, [], ◌∷◌, ◌++◌, Option, Some, None}
 use Rattle.std.specs.List.{Contains, list_any}
 use Rattle.sq_base.specs.declared.refusal.Refusal.{Refusal}
 use Rattle.sq_base.specs.declared.refusal.Refusal.TheVariants.{QueueDoesNotExist, UnsupportedOperation}
@@ -16,10 +16,6 @@ use Rattle.sq_model.specs.ItemActs.{is_its}
 pub record IsOneOf (p : Row → Bool) (rows : List Row) (row : Row) : Type 0 where
   pub passes : p row ≡ true
   pub there : Contains rows row
-
--- the row of a slot and a serial
-abbrev pub is_at : ℕ → ℕ → Row → Bool
-is_at slot serial row = (row.slot == slot) && (row.serial == serial)
 
 -- a dead row of the home at m
 abbrev pub IsDeadAt : Home → ℕ → Row → Type 0

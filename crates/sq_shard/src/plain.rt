@@ -69,8 +69,8 @@ impl Store for PlainStore {
         rows::has_late(&self.rows, settings, moment, receipt, timeout)
     }
 
-    fn count(&self, settings: &Settings, moment: u64) -> Counts {
-        rows::count(&self.rows, settings, moment)
+    fn count(&self, moment: u64) -> Counts {
+        rows::count(&self.rows, moment)
     }
 
     fn pick(

@@ -1,10 +1,13 @@
 //! Work on a list of rows.
-ghost use Rattle.std.specs.Prelude.{◌≡◌, ◌+◌, ℕ, ◌<◌, ◌≤◌, List, length, count_by, filter, map, not, position, true, false, IfOk, IfSome, IfNone, take, vec_len, vec_capacity, IfErr, ◌==◌, ◌&&◌};
+ghost use Rattle.std.specs.Prelude.{◌≡◌, ◌+◌, ℕ, ◌<◌, ◌≤◌, List, length, count_by, filter, map, nat_le, not, position, true, false, IfOk, IfSome, IfNone, take, vec_len, vec_capacity, IfErr, ◌==◌, ◌&&◌};
 ghost use Rattle.std.specs.List.{list_any};
 ghost use Rattle.sq_model.specs.Rows as model;
 ghost use Rattle.sq_model.specs.Homes as homes;
 ghost use Rattle.sq_model.specs.ItemActs as acts;
+ghost use Rattle.sq_base.specs.declared.row.Row.{Row as RowValue};
+ghost use Rattle.sq_shard.specs.Due as due;
 ghost use Rattle.sq_shard.specs.Moves as moves;
+ghost use Rattle.sq_slots.specs.Slots as slots;
 
 use sq_base::body::Body;
 use sq_base::ids::{HomeId, Serial};
@@ -25,6 +28,24 @@ pub fn is_kept(settings: &Settings, moment: u64, row: &Row) -> bool
 {
     let retention = settings.retention.get() as u64 * 1000;
     moment < retention || moment - retention < row.enqueued
+}
+
+/// The last moment since which a row past its retention may be in the queue; none where no row is past it.
+pub fn expired_bound(settings: &Settings, moment: u64) -> Option<u64>
+    ensures some { IfSome result (λ bound. (row : RowValue) → model.is_expired settings.now moment row ≡ nat_le row.enqueued bound) }
+    ensures none { IfNone result ((row : RowValue) → model.is_expired settings.now moment row ≡ false) }
+{
+    moment.checked_sub(settings.retention.get() as u64 * 1000)
+}
+
+/// How often a row is received until a look gives it no more: as the policy says, or as often as can be counted.
+pub fn most_under(policy: &Option<Redrive>) -> u32
+    ensures { result ≡ due.most_under policy.now }
+{
+    match policy {
+        None => u32::MAX,
+        Some(redrive) => redrive.max_receives.get(),
+    }
 }
 
 pub fn is_flying(moment: u64, row: &Row) -> bool
@@ -167,14 +188,14 @@ fn is_delayed(moment: u64, row: &Row) -> bool
     row.receives == 0 && moment < row.visible_from
 }
 
-fn is_held(moment: u64, receipt: &Receipt, row: &Row) -> bool
+pub fn is_held(moment: u64, receipt: &Receipt, row: &Row) -> bool
     ensures { result ≡ model.is_held moment receipt.now row.now }
 {
     is_named(receipt, row) && is_flying(moment, row)
 }
 
-// Whether so many seconds after the moment are more than 12 hours after the last receive.
-fn is_late(moment: u64, timeout: Timeout, last_receive: Option<u64>) -> bool
+/// Whether so many seconds after the moment are more than 12 hours after the last receive.
+pub fn is_late(moment: u64, timeout: Timeout, last_receive: Option<u64>) -> bool
     ensures { result ≡ model.is_late (moment + model.ms timeout) last_receive }
 {
     let hidden = timeout.get() as u64 * 1000;
@@ -184,34 +205,34 @@ fn is_late(moment: u64, timeout: Timeout, last_receive: Option<u64>) -> bool
     }
 }
 
-fn count_visible(rows: &[Row], settings: &Settings, moment: u64) -> usize
-    ensures { result ≡ count_by (model.is_visible moment) (model.trimmed settings.now moment rows.now) }
+fn count_visible(rows: &[Row], moment: u64) -> usize
+    ensures { result ≡ count_by (model.is_visible moment) rows.now }
 {
-    rows.iter()
-        .filter(|row| is_kept(settings, moment, row))
-        .filter(|row| row.visible_from <= moment)
-        .count()
+    rows.iter().filter(|row| row.visible_from <= moment).count()
 }
 
-fn count_delayed(rows: &[Row], settings: &Settings, moment: u64) -> usize
-    ensures { result ≡ count_by (model.is_delayed moment) (model.trimmed settings.now moment rows.now) }
+fn count_hidden(rows: &[Row], moment: u64) -> usize
+    ensures { result ≡ count_by (model.is_flying moment) rows.now }
 {
-    rows.iter()
-        .filter(|row| is_kept(settings, moment, row))
-        .filter(|row| is_delayed(moment, row))
-        .count()
+    rows.iter().filter(|row| is_flying(moment, row)).count()
 }
 
-/// How many of the kept rows are in which state.
+fn count_delayed(rows: &[Row], moment: u64) -> usize
+    ensures { result ≡ count_by (model.is_delayed moment) rows.now }
+{
+    rows.iter().filter(|row| is_delayed(moment, row)).count()
+}
+
+/// How many rows are in which state.
 #[tactic(auto, using(crate::proofs::Few::few_counted))]
-pub fn count(rows: &[Row], settings: &Settings, moment: u64) -> Counts
+pub fn count(rows: &[Row], moment: u64) -> Counts
     requires { length rows.now < 4294967296 }
-    ensures { result ≡ homes.counts_of moment (model.trimmed settings.now moment rows.now) }
+    ensures { result ≡ homes.counts_of moment rows.now }
 {
     Counts {
-        visible: count_visible(rows, settings, moment) as u32,
-        flying: count_flying(rows, settings, moment) as u32,
-        delayed: count_delayed(rows, settings, moment) as u32,
+        visible: count_visible(rows, moment) as u32,
+        flying: count_hidden(rows, moment) as u32,
+        delayed: count_delayed(rows, moment) as u32,
     }
 }
 
@@ -266,7 +287,7 @@ pub fn has_live(rows: &[Row], settings: &Settings, moment: u64) -> bool
 
 // Where the row of a slot and a serial is.
 fn index_at(rows: &[Row], slot: u32, serial: Serial) -> Option<usize>
-    ensures { result ≡ position (moves.is_at slot serial) rows.now }
+    ensures { result ≡ position (slots.is_at slot serial) rows.now }
 {
     rows.iter().position(|row| is_at(slot, serial, row))
 }
@@ -308,15 +329,15 @@ pub fn find_live<'a>(rows: &'a [Row], settings: &Settings, moment: u64) -> Optio
 }
 
 fn is_at(slot: u32, serial: Serial, row: &Row) -> bool
-    ensures { result ≡ moves.is_at slot serial row.now }
+    ensures { result ≡ slots.is_at slot serial row.now }
 {
     row.slot == slot && row.serial == serial
 }
 
 /// Takes out the row of a slot and a serial, and hands it over.
 pub fn take_out(rows: &mut Vec<Row>, slot: u32, serial: Serial) -> Option<Row>
-    ensures taken { IfSome result (λ row. (moves.is_at slot serial row ≡ true) × model.Takes row rows.old.items rows.new.items) }
-    ensures none { IfNone result (list_any (moves.is_at slot serial) rows.old.items ≡ false) }
+    ensures taken { IfSome result (λ row. (slots.is_at slot serial row ≡ true) × model.Takes row rows.old.items rows.new.items) }
+    ensures none { IfNone result (list_any (slots.is_at slot serial) rows.old.items ≡ false) }
     ensures kept { IfNone result (rows.new.items ≡ rows.old.items) }
     ensures len { vec_len rows.new ≤ vec_len rows.old }
     ensures capacity { vec_capacity rows.new ≡ vec_capacity rows.old }
@@ -343,8 +364,8 @@ pub fn take(rows: &mut Vec<Row>, receipt: &Receipt)
     rows.retain(|row| !is_named(receipt, row))
 }
 
-// The same row after a receive.
-fn received_copy(row: &Row, moment: u64, until: u64) -> Result<Row, Refusal>
+/// The same row after a receive.
+pub fn received_copy(row: &Row, moment: u64, until: u64) -> Result<Row, Refusal>
     requires { row.now.receives < 4294967295 }
     ensures copy { IfOk result (λ copy. copy ≡ model.received moment until row.now) }
     ensures err { IfErr result (λ e. e ≡ Refusal.NoMemory) }

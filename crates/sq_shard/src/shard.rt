@@ -6,7 +6,7 @@ ghost use Rattle.sq_model.specs.Homes.{Unopened as Never, Closed as Gone};
 ghost use Rattle.sq_model.specs.declared.calls.HomeCall.TheVariants.{Configure, Close, Send, Look, Delete, Change, Purge, Count};
 ghost use Rattle.sq_model.specs.declared.replies.HomeReply.TheVariants.{Done, Sent, Counted};
 ghost use Rattle.sq_base.specs.declared.refusal.Refusal.{Refusal as Refused};
-ghost use Rattle.sq_shard.specs.Looks.{look_reply, look_after, GivesAny, GivesRows};
+ghost use Rattle.sq_shard.specs.Looks.{look_reply, look_after, GivesAny, GivesRows, MayBeGiven};
 ghost use Rattle.sq_shard.specs.Moves.{IsPut, coming_refusal};
 ghost use Rattle.sq_model.specs.Rows.{ms};
 
@@ -201,6 +201,7 @@ impl<S: Store> Shard<S> {
         requires { moment < stamp_end }
         ensures step { IfOk result (λ picked. HomeStep self.now.site self.now.home moment (Look max timeout) (look_reply picked) (look_after self.now.home moment timeout picked)) }
         ensures live { IfOk result (λ picked. GivesRows picked → GivesAny self.now.site self.now.home moment) }
+        ensures theirs { IfOk result (MayBeGiven self.now.home moment) }
         ensures refusal { IfErr result (λ e. ((e ≡ Refusal.NoMemory) × GivesAny self.now.site self.now.home moment) ⊎ (home_refusal self.now.site self.now.home moment (Look max timeout) ≡ Some e)) }
     {
         // The status is checked before a look asks for memory.
@@ -225,7 +226,8 @@ impl<S: Store> Shard<S> {
     /// Receives the live rows that were chosen; without a timeout the home's is taken.
     #[tactic(auto, using(sq_model::proofs::RowLaws::rises_trimmed, crate::proofs::Few::few_trimmed, sq_model::proofs::RowLaws::rises_received, crate::proofs::Few::few_mapped))]
     pub fn give(&mut self, moment: u64, timeout: Option<Timeout>, picked: &Option<Rows>)
-        requires { moment < stamp_end }
+        requires moment { moment < stamp_end }
+        requires picked { MayBeGiven self.old.home moment picked.now }
         ensures home { self.new.home ≡ look_after self.old.home moment timeout picked.now }
         ensures site { self.new.site ≡ self.old.site }
     {
@@ -345,9 +347,8 @@ impl<S: Store> Shard<S> {
         let Status::Serving = self.status else {
             return Err(Refusal::QueueDoesNotExist);
         };
-        let counts = self.store.count(&self.settings, moment);
         self.store.trim(&self.settings, moment);
-        Ok(counts)
+        Ok(self.store.count(moment))
     }
 
     /// Closes the home for good, and lets go of its messages.

@@ -4,7 +4,9 @@ ghost use Rattle.std.specs.List.{list_any};
 ghost use Rattle.sq_base.specs.declared.row.Row.{Row};
 ghost use Rattle.sq_model.specs.Homes.{counts_of};
 ghost use Rattle.sq_model.specs.Rows.{ms, trimmed, is_flying, is_live, is_dead, is_held, is_late, changed_if, IsLook, RisesFrom, serials_of, received_if, without, is_free, Takes};
-ghost use Rattle.sq_shard.specs.Moves.{IsOneOf, is_at};
+ghost use Rattle.sq_shard.specs.Moves.{IsOneOf};
+ghost use Rattle.sq_slots.specs.Slots.{is_at};
+ghost use Rattle.sq_shard.specs.Looks.{AreTheirs};
 
 use sq_base::ids::Serial;
 use sq_base::ranges::Timeout;
@@ -61,10 +63,10 @@ pub trait Store: Drop {
     ) -> bool
         ensures { result ≡ list_any (λ row. is_held moment receipt.now row && is_late (moment + ms timeout) row.last_receive) (trimmed settings.now moment (rows self.now)) };
 
-    /// How many of these are in which state.
-    fn count(&self, settings: &Settings, moment: u64) -> Counts
+    /// How many rows are in which state, of those that are there.
+    fn count(&self, moment: u64) -> Counts
         requires { length (rows self.now) < 4294967296 }
-        ensures { result ≡ counts_of moment (trimmed settings.now moment (rows self.now)) };
+        ensures { result ≡ counts_of moment (rows self.now) };
 
     /// Up to `max` of the live ones, as they stand after a receive that hides them until a moment.
     fn pick(
@@ -91,16 +93,18 @@ pub trait Store: Drop {
         ensures rows { rows self.new ≡ trimmed settings.now moment (rows self.old) }
         ensures reserved { reserved self.old ≤ reserved self.new };
 
-    /// Puts a row last, in a slot that no row has, and gives the slot.
+    /// Puts a row last, whose serial is above all, in a slot that no row has, and gives the slot.
     fn insert(&mut self, row: Row) -> u32
         requires reserved { 0 < reserved self.old }
+        requires rising { RisesFrom 0 (rows self.old) row.serial }
         requires slot { length (rows self.old) < 4294967296 }
         ensures free { is_free result (rows self.old) ≡ true }
         ensures rows { rows self.new ≡ rows self.old ++ record row { slot = result } ∷ [] }
         ensures reserved { reserved self.old ≤ reserved self.new + 1 };
 
-    /// Receives the live rows with the serials of these.
+    /// Receives the live rows with the serials of these, which have the slots that they have here.
     fn receive(&mut self, settings: &Settings, picked: &[Row], moment: u64, until: u64)
+        requires picked { AreTheirs (rows self.old) picked.now }
         ensures rows { rows self.new ≡ map (received_if settings.now (serials_of picked.now) moment until) (rows self.old) }
         ensures reserved { reserved self.old ≤ reserved self.new };
 

@@ -23,16 +23,6 @@ use Rattle.sq_history.specs.Histories.{RecordsShared}
 use Rattle.sq_ledger.specs.LedgerHistory.{LedgerHistory}
 use Rattle.sq_ledger.specs.LedgerHistories.{IsLeaving, IsNoneLeft, LedgerShares}
 use Rattle.sq_steps.specs.Journals.{IsNotReady, last_place, with_record}
-use Rattle.sq_steps.specs.declared.act.Move.{Move}
-use Rattle.sq_steps.specs.declared.act.Move.TheVariants.{LeaveDead, LeaveTask, Enter, TurnBack, GiveBack, GiveUp}
-
-abbrev pub asked_as : Move → SharedAct
-asked_as LeaveDead = asks.LeaveDead
-asked_as (LeaveTask number) = asks.LeaveTask number
-asked_as (Enter number) = asks.Enter number
-asked_as (TurnBack number) = asks.TurnBack number
-asked_as (GiveBack number) = asks.GiveBack number
-asked_as (GiveUp number) = asks.GiveUp number
 
 -- what the ledger is told of a leave for a task: the item that left, or that none did
 abbrev pub IsToldLeft : Ledger → ℕ → HomeId → ℕ → HomeCall → HomeReply → Option Item → Type 0

@@ -9,24 +9,8 @@ use sq_model::item::{ItemNo, TaskNo};
 use sq_model::ledger::LedgerReply;
 use sq_model::listed::Listed;
 use sq_model::replies::HomeReply;
+pub use sq_model::shared::SharedAct;
 use sq_model::task::{NamedQueue, Task};
-
-/// What a home and the ledger of messages in transit do together.
-#[derive(Clone, Copy, PartialEq, Eq, Debug)]
-pub enum Move {
-    /// A dead message leaves for its dead-letter queue.
-    LeaveDead,
-    /// A live message leaves for the task of this number.
-    LeaveTask(TaskNo),
-    /// The message of this item comes in at its target.
-    Enter(ItemNo),
-    /// It is sent back, since its target is closed.
-    TurnBack(ItemNo),
-    /// It comes back to its source.
-    GiveBack(ItemNo),
-    /// It is given up, since its source is closed too.
-    GiveUp(ItemNo),
-}
 
 /// What the ledger does with tasks by itself.
 #[derive(Clone, Copy, PartialEq, Eq, Debug)]
@@ -59,7 +43,7 @@ pub enum Act {
     CanRedrive(QueueName, Option<QueueName>),
     Home(HomeId, HomeAct),
     /// A step that this home shares with the ledger.
-    Shared(HomeId, Move),
+    Shared(HomeId, SharedAct),
     /// A step of the ledger alone.
     Ledger(TaskAct),
     /// Reads which item in transit comes after a number, the first again after the last; it is no event.

@@ -5,9 +5,9 @@ ghost use Rattle.sq_model.specs.declared.shared.SharedAct.TheVariants as asks;
 ghost use Rattle.sq_model.specs.ItemActs.{asked_with};
 ghost use Rattle.sq_model.specs.Shared.{IsUnrecorded, shared_stamp};
 ghost use Rattle.sq_ledger.specs.LedgerHistories.{IsPrepared, LedgerShares};
-ghost use Rattle.sq_steps.specs.SharedSteps.{asked_as, BothDo, IsToldLeft, SharedMoves, IsUnmoved, IsPairRefused, IsSharedRefused};
+ghost use Rattle.sq_steps.specs.SharedSteps.{BothDo, IsToldLeft, SharedMoves, IsUnmoved, IsPairRefused, IsSharedRefused};
 
-use crate::act::Move;
+use crate::act::SharedAct;
 use crate::journal::{Journal, keep, ready};
 use crate::record::Record;
 use sq_base::ids::HomeId;
@@ -173,29 +173,29 @@ fn both_halves(
     by: &Actor,
     stamp: Stamp,
     name: Option<QueueName>,
-    act: Move,
+    act: SharedAct,
 ) -> Result<Option<(HomeReply, HomeRecord)>, Refusal>
     requires prepared { IsPrepared ledger.old }
     requires above_home { Below home.old.last stamp }
     requires above_ledger { Below ledger.old.history.last stamp }
     requires above_seen { Below by.now.seen stamp }
-    ensures does { IfOk result (λ told. IfSome told (BothDo home.old home.new ledger.old.history ledger.new.history by.now stamp name (asked_as act))) }
-    ensures none { IfOk result (λ told. IfNone told (IsUnrecorded home.old.site home.old.home ledger.old.history.ledger stamp.moment (asked_as act))) }
+    ensures does { IfOk result (λ told. IfSome told (BothDo home.old home.new ledger.old.history ledger.new.history by.now stamp name act)) }
+    ensures none { IfOk result (λ told. IfNone told (IsUnrecorded home.old.site home.old.home ledger.old.history.ledger stamp.moment act)) }
     ensures none_home { IfOk result (λ told. IfNone told (home.new ≡ home.old)) }
     ensures none_ledger { IfOk result (λ told. IfNone told (ledger.new.history ≡ ledger.old.history)) }
-    ensures refusal { IfErr result (IsPairRefused home.old ledger.old.history.ledger stamp.moment (asked_as act)) }
+    ensures refusal { IfErr result (IsPairRefused home.old ledger.old.history.ledger stamp.moment act) }
     ensures home_err { OnErr result (home.new ≡ home.old) }
     ensures ledger_err { OnErr result (ledger.new.history ≡ ledger.old.history) }
 {
     let (act, number) = match act {
-        Move::LeaveDead => return leave_dead(alloc, home, ledger, by, stamp, name),
-        Move::LeaveTask(number) => {
+        SharedAct::LeaveDead => return leave_dead(alloc, home, ledger, by, stamp, name),
+        SharedAct::LeaveTask(number) => {
             return leave_task(alloc, home, ledger, by, stamp, name, number);
         }
-        Move::Enter(number) => (ItemAct::Enter, number),
-        Move::TurnBack(number) => (ItemAct::TurnBack, number),
-        Move::GiveBack(number) => (ItemAct::GiveBack, number),
-        Move::GiveUp(number) => (ItemAct::GiveUp, number),
+        SharedAct::Enter(number) => (ItemAct::Enter, number),
+        SharedAct::TurnBack(number) => (ItemAct::TurnBack, number),
+        SharedAct::GiveBack(number) => (ItemAct::GiveBack, number),
+        SharedAct::GiveUp(number) => (ItemAct::GiveUp, number),
     };
     Ok(Some(item_step(alloc, home, ledger, by, stamp, name, act, number)?))
 }
@@ -216,14 +216,14 @@ pub fn shared_step(
     journal: &mut Journal,
     now: u64,
     name: Option<QueueName>,
-    act: Move,
+    act: SharedAct,
 ) -> Result<Option<HomeReply>, Refusal>
-    ensures step { IfOk result (λ told. IfSome told (SharedMoves home.old home.new ledger.old.history ledger.new.history journal.old journal.new now name (asked_as act))) }
-    ensures none { IfOk result (λ told. IfNone told (IsUnmoved home.old ledger.old.history journal.old now (asked_as act))) }
+    ensures step { IfOk result (λ told. IfSome told (SharedMoves home.old home.new ledger.old.history ledger.new.history journal.old journal.new now name act)) }
+    ensures none { IfOk result (λ told. IfNone told (IsUnmoved home.old ledger.old.history journal.old now act)) }
     ensures none_home { IfOk result (λ told. IfNone told (home.new ≡ home.old)) }
     ensures none_ledger { IfOk result (λ told. IfNone told (ledger.new.history ≡ ledger.old.history)) }
     ensures none_journal { IfOk result (λ told. IfNone told (journal.new ≡ journal.old)) }
-    ensures refusal { IfErr result (IsSharedRefused home.old ledger.old.history journal.old now (asked_as act)) }
+    ensures refusal { IfErr result (IsSharedRefused home.old ledger.old.history journal.old now act) }
     ensures home_err { OnErr result (home.new ≡ home.old) }
     ensures ledger_err { OnErr result (ledger.new.history ≡ ledger.old.history) }
     ensures journal_err { OnErr result (journal.new ≡ journal.old) }

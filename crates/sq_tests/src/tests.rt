@@ -10,6 +10,7 @@ mod places;
 mod queues;
 mod samples;
 mod setup;
+mod stores;
 mod streams;
 mod tasks;
 mod values;

@@ -24,7 +24,7 @@ use sq_model::policy::RedrivePolicy;
 use sq_model::replies::HomeReply;
 use sq_model::task::NamedQueue;
 use sq_places::places::places_of;
-use sq_steps::act::{Act, HomeAct, Move, NextItem, Outcome, Step, TaskAct, TaskStart};
+use sq_steps::act::{Act, HomeAct, NextItem, Outcome, SharedAct, Step, TaskAct, TaskStart};
 use std::alloc::Global;
 use std::mem::swap;
 use std::process::Abort;
@@ -129,12 +129,12 @@ fn moved_for_task(reply: &HomeReply) -> Option<Moved> {
 // What a step at a home moved.
 fn moved_by(act: &Act, reply: &HomeReply) -> Option<Moved> {
     match act {
-        Act::Shared(_, Move::LeaveDead) => Some(Moved::Left),
-        Act::Shared(_, Move::LeaveTask(_)) => moved_for_task(reply),
-        Act::Shared(_, Move::Enter(_)) => Some(Moved::Entered),
-        Act::Shared(_, Move::TurnBack(_)) => Some(Moved::Turned),
-        Act::Shared(_, Move::GiveBack(_)) => Some(Moved::Back),
-        Act::Shared(_, Move::GiveUp(_)) => Some(Moved::Dropped),
+        Act::Shared(_, SharedAct::LeaveDead) => Some(Moved::Left),
+        Act::Shared(_, SharedAct::LeaveTask(_)) => moved_for_task(reply),
+        Act::Shared(_, SharedAct::Enter(_)) => Some(Moved::Entered),
+        Act::Shared(_, SharedAct::TurnBack(_)) => Some(Moved::Turned),
+        Act::Shared(_, SharedAct::GiveBack(_)) => Some(Moved::Back),
+        Act::Shared(_, SharedAct::GiveUp(_)) => Some(Moved::Dropped),
         _ => None,
     }
 }
@@ -296,21 +296,21 @@ fn near(choices: &mut Choices, seen: &Seen) -> ItemNo {
 }
 
 // Mostly what fits the way of the item.
-fn item_move(choices: &mut Choices, seen: &Seen) -> Move {
+fn item_move(choices: &mut Choices, seen: &Seen) -> SharedAct {
     let number = near(choices, seen);
     let homeward = match seen.item {
         Some(next) => next.homeward,
         None => false,
     };
     match (choices.below(10), homeward) {
-        (0, _) => Move::Enter(number),
-        (1, _) => Move::TurnBack(number),
-        (2, _) => Move::GiveBack(number),
-        (3, _) => Move::GiveUp(number),
-        (4..8, false) => Move::Enter(number),
-        (4..8, true) => Move::GiveBack(number),
-        (_, false) => Move::TurnBack(number),
-        (_, true) => Move::GiveUp(number),
+        (0, _) => SharedAct::Enter(number),
+        (1, _) => SharedAct::TurnBack(number),
+        (2, _) => SharedAct::GiveBack(number),
+        (3, _) => SharedAct::GiveUp(number),
+        (4..8, false) => SharedAct::Enter(number),
+        (4..8, true) => SharedAct::GiveBack(number),
+        (_, false) => SharedAct::TurnBack(number),
+        (_, true) => SharedAct::GiveUp(number),
     }
 }
 
@@ -321,10 +321,10 @@ fn near_task(choices: &mut Choices, seen: &Seen) -> TaskNo {
 
 fn shared_act(choices: &mut Choices, seen: &Seen, place: usize) -> Act {
     match choices.below(16) {
-        0..8 => Act::Shared(chosen_home(choices, seen, place), Move::LeaveDead),
+        0..8 => Act::Shared(chosen_home(choices, seen, place), SharedAct::LeaveDead),
         8..11 => {
             let task = near_task(choices, seen);
-            Act::Shared(any_home(choices, seen.source), Move::LeaveTask(task))
+            Act::Shared(any_home(choices, seen.source), SharedAct::LeaveTask(task))
         }
         _ => Act::Shared(home_ahead(choices, seen), item_move(choices, seen)),
     }

@@ -11,8 +11,8 @@ use sq_history::recorded::{Home, Recorded};
 use sq_model::event::Actor;
 use sq_model::place::{Limits, Site};
 use sq_model::same::{is_same_call, is_same_reply};
-use sq_shard::plain::PlainStore;
 use sq_shard::shard::Shard;
+use sq_shard::slots::SlotStore;
 use std::alloc::Global;
 
 // What a look tells that gives no message.
@@ -133,7 +133,7 @@ fn unopened(alloc: Global) -> Home {
         home: home(0),
         limits,
     };
-    Recorded::unopened(alloc, Shard::unopened(site, PlainStore::new(alloc)))
+    Recorded::unopened(alloc, Shard::unopened(site, SlotStore::new(alloc)))
 }
 
 // Whether the record is of this home's last event, with no name and the number of the actor's step.

@@ -15,7 +15,7 @@ use sq_merge::options::Options;
 use sq_merge::world::World;
 use sq_model::directory::{Attributes, DirectoryCall};
 use sq_model::item::ItemNo;
-use sq_steps::act::{Act, Move, Outcome, Step};
+use sq_steps::act::{Act, Outcome, SharedAct, Step};
 use std::alloc::Global;
 use std::process::Abort;
 
@@ -302,7 +302,7 @@ fn item(number: u64) -> ItemNo {
 }
 
 // What a step at the first home of a queue tells, by its place in order of creation.
-fn moved(alloc: Global, world: &mut World, clock: u64, queue: u32, what: Move) -> Told {
+fn moved(alloc: Global, world: &mut World, clock: u64, queue: u32, what: SharedAct) -> Told {
     let step = Step {
         actor: 5,
         clock,
@@ -332,7 +332,7 @@ fn unopened(alloc: Global, world: &mut World, name: &str) -> Told {
 }
 
 // Queues, and what a move at the first home of each tells.
-type Row<'a> = (Move, &'a [(u32, Told)]);
+type Row<'a> = (SharedAct, &'a [(u32, Told)]);
 
 // The first of these moves, at 1000 ms, that tells something else, by its row and its queue.
 fn first_other(alloc: Global, world: &mut World, rows: &[Row<'_>]) -> Option<(usize, u32, Told)> {
@@ -347,7 +347,7 @@ fn first_other(alloc: Global, world: &mut World, rows: &[Row<'_>]) -> Option<(us
 fn other_told(
     alloc: Global,
     world: &mut World,
-    what: &Move,
+    what: &SharedAct,
     wants: &[(u32, Told)],
 ) -> Option<(u32, Told)> {
     for (queue, want) in wants {
@@ -389,7 +389,7 @@ fn moves_are_refused_in_order(rt: HostRuntime) {
     let one = item(1);
     let mut world = crossing(&rt, alloc);
     for queue in [0, 4] {
-        let told = moved(alloc, &mut world, CLOCK_END, queue, Move::LeaveDead);
+        let told = moved(alloc, &mut world, CLOCK_END, queue, SharedAct::LeaveDead);
         assert_eq!(rt; told, late);
     }
     let left = [
@@ -400,19 +400,22 @@ fn moves_are_refused_in_order(rt: HostRuntime) {
         (4, no_queue),
     ];
     let rows: [Row<'_>; 6] = [
-        (Move::LeaveDead, &left),
-        (Move::Enter(item(2)), &[(0, not_so)]),
-        (Move::Enter(one), &[(1, full), (2, no_queue), (3, no_queue)]),
+        (SharedAct::LeaveDead, &left),
+        (SharedAct::Enter(item(2)), &[(0, not_so)]),
         (
-            Move::GiveBack(one),
+            SharedAct::Enter(one),
+            &[(1, full), (2, no_queue), (3, no_queue)],
+        ),
+        (
+            SharedAct::GiveBack(one),
             &[(0, not_so), (1, full), (3, no_queue)],
         ),
         (
-            Move::TurnBack(one),
+            SharedAct::TurnBack(one),
             &[(0, not_so), (2, not_so), (3, no_queue)],
         ),
         (
-            Move::GiveUp(one),
+            SharedAct::GiveUp(one),
             &[(1, not_so), (2, not_so), (3, no_queue)],
         ),
     ];
@@ -422,23 +425,23 @@ fn moves_are_refused_in_order(rt: HostRuntime) {
         last_told(alloc, &mut world, &[(0, 1000, Request::Receive("q"))]),
         Told::Done
     );
-    let rows: [Row<'_>; 1] = [(Move::LeaveDead, &[(1, full)])];
+    let rows: [Row<'_>; 1] = [(SharedAct::LeaveDead, &[(1, full)])];
     assert_eq!(rt; first_other(alloc, &mut world, &rows), None);
     let _ = last_told(alloc, &mut world, &[(0, 1000, Request::Remove("d"))]);
     let rows: [Row<'_>; 6] = [
-        (Move::Enter(one), &[(0, no_queue)]),
-        (Move::GiveUp(one), &[(0, not_so)]),
-        (Move::TurnBack(item(2)), &[(0, not_so)]),
-        (Move::TurnBack(one), &[(0, Told::Done), (0, not_so)]),
-        (Move::GiveBack(one), &[(1, full)]),
-        (Move::GiveUp(one), &[(1, not_so)]),
+        (SharedAct::Enter(one), &[(0, no_queue)]),
+        (SharedAct::GiveUp(one), &[(0, not_so)]),
+        (SharedAct::TurnBack(item(2)), &[(0, not_so)]),
+        (SharedAct::TurnBack(one), &[(0, Told::Done), (0, not_so)]),
+        (SharedAct::GiveBack(one), &[(1, full)]),
+        (SharedAct::GiveUp(one), &[(1, not_so)]),
     ];
     assert_eq!(rt; first_other(alloc, &mut world, &rows), None);
     let _ = last_told(alloc, &mut world, &[(0, 1000, Request::Remove("q"))]);
     let rows: [Row<'_>; 3] = [
-        (Move::GiveBack(one), &[(1, no_queue)]),
-        (Move::TurnBack(one), &[(1, not_so)]),
-        (Move::GiveUp(one), &[(1, Told::Done), (1, not_so)]),
+        (SharedAct::GiveBack(one), &[(1, no_queue)]),
+        (SharedAct::TurnBack(one), &[(1, not_so)]),
+        (SharedAct::GiveUp(one), &[(1, Told::Done), (1, not_so)]),
     ];
     assert_eq!(rt; first_other(alloc, &mut world, &rows), None);
     assert_eq!(rt; fault(alloc, &world.parts()), None);

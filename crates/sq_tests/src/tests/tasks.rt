@@ -13,8 +13,8 @@ use sq_model::ledger::LedgerReply;
 use sq_model::place::{Limits, Site};
 use sq_model::replies::HomeReply;
 use sq_model::task::{FailureReason, NamedQueue, TaskStatus};
-use sq_shard::plain::PlainStore;
 use sq_shard::shard::Shard;
+use sq_shard::slots::SlotStore;
 use sq_steps::act::{Act, Outcome, Step, TaskAct, TaskStart};
 use sq_task::task::MoveTask;
 use std::alloc::Global;
@@ -177,7 +177,7 @@ fn new_home(alloc: Global) -> Home {
             flights: 2,
         },
     };
-    Recorded::unopened(alloc, Shard::unopened(site, PlainStore::new(alloc)))
+    Recorded::unopened(alloc, Shard::unopened(site, SlotStore::new(alloc)))
 }
 
 // One message is sent to the source. Without a destination it has no queue to go to, and stays; past the rate it stays too.

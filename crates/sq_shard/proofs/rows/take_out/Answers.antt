@@ -1,5 +1,5 @@
 use Rattle.std.proofs.Common.{rules}
-use Rattle.sq_shard.specs.Moves.{is_at}
+use Rattle.sq_slots.specs.Slots.{is_at}
 use Rattle.sq_shard.proofs.MoveLaws.{taken_first, none_passes}
 use Rattle.sq_shard.proofs.rows.take_out.Goals as goal
 

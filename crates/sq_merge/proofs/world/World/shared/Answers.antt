@@ -2,7 +2,7 @@ use Rattle.std.proofs.Common.{rules, ◌≡◌, length, Err, arith, inl, slice_s
 use Rattle.std.proofs.lemmas.List.{length-set}
 use Rattle.sq_base.specs.declared.refusal.Refusal.TheVariants.{NoMemory}
 use Rattle.sq_steps.specs.Journals.{index_in, opened}
-use Rattle.sq_steps.specs.SharedSteps.{asked_as, IsSharedRefused}
+use Rattle.sq_steps.specs.SharedSteps.{IsSharedRefused}
 use Rattle.sq_merge.specs.Acting.{IsKnownTo}
 use Rattle.sq_merge.proofs.StepLaws.{IsOpened, as_fields, opened_here, shared_opened, nothing_opened, closed_opened, refused_nowhere, refused_opened, refused_unmade}
 use Rattle.sq_merge.proofs.WorldLaws.{kept_shared}
@@ -11,13 +11,13 @@ use Rattle.sq_merge.proofs.world.World.shared.Goals as goal
 
 pub returns-in_default-clause-refusal : goal.returns-in_default-clause-refusal
 returns-in_default-clause-refusal c =
-    rw (← c.self.view_is) (refused_nowhere (as_fields c.self.view_is) c.args.actor c.args.now c.args.id.now c.no_such_home.result (λ h b. IsSharedRefused h c.self.inside.ledger.history b c.args.now (asked_as c.args.act) c.no_such_home.result) c.self.invariant.kept.numbered c.home_index.ensures.homes (search rules) c.no_such_home.ensures)
+    rw (← c.self.view_is) (refused_nowhere (as_fields c.self.view_is) c.args.actor c.args.now c.args.id.now c.no_such_home.result (λ h b. IsSharedRefused h c.self.inside.ledger.history b c.args.now c.args.act c.no_such_home.result) c.self.invariant.kept.numbered c.home_index.ensures.homes (search rules) c.no_such_home.ensures)
 
 pub returns-in_err-at-clause-refusal : goal.returns-in_err-at-clause-refusal
 returns-in_err-at-clause-refusal c =
     let refused : c.from_residual.result ≡ Err c.in_err-at.field-0.0 = search rules in
     rw (refused, c.in_err-at.ensures.refused.0, ← c.self.view_is)
-    (refused_unmade (as_fields c.self.view_is) c.args.actor c.args.now c.args.id.now c.in-Some.index (λ h b. IsSharedRefused h c.self.inside.ledger.history b c.args.now (asked_as c.args.act) NoMemory) c.self.invariant.kept.numbered c.home_index.ensures.queue (search rules) c.in_err-at.ensures.refused.1 (λ h b unready. inl unready))
+    (refused_unmade (as_fields c.self.view_is) c.args.actor c.args.now c.args.id.now c.in-Some.index (λ h b. IsSharedRefused h c.self.inside.ledger.history b c.args.now c.args.act NoMemory) c.self.invariant.kept.numbered c.home_index.ensures.queue (search rules) c.in_err-at.ensures.refused.1 (λ h b unready. inl unready))
 
 -- the home and what the actor has, as the step finds them
 found : (c : After-shared_step) → IsOpened (as_fields c.self.view_is) c.args.actor c.args.id.now c.in-Some.index c.index_mut-home.result.now c.index_mut-journal.result.now
@@ -30,7 +30,7 @@ invariant_of-self-in-Ok-Some c =
     let known : IsKnownTo c.args.actor old c.args.name c.args.id.now.queue = rw (← c.self.view_is) at c.requires.known in
     record {
       kept = rw (c.in_ok-at.ensures.opened, c.in_ok-at.ensures.index)
-          (kept_shared old c.args.actor c.args.now c.args.name c.args.id.now (asked_as c.args.act) c.in-Ok-Some.reply _ c.self.invariant.kept known
+          (kept_shared old c.args.actor c.args.now c.args.name c.args.id.now c.args.act c.in-Ok-Some.reply _ c.self.invariant.kept known
           (shared_opened (found (goal.at.invariant_of-self-in-Ok-Some c).After-shared_step) c.args.now (rw c.in-Ok-Some.field-0-is at c.in-Ok-Some.ensures.step)));
       sample = c.self.invariant.sample;
       few = rw length-set c.self.invariant.few;
@@ -62,7 +62,7 @@ returns-in-Ok-None-clause-none c =
     let none = c.in-Ok-None.ensures in
     let same = kept step (rw c.in-Ok-None.field-0-is at none.none_home) (rw c.in-Ok-None.field-0-is at none.none_journal) in
     let ledger : c.shared_step.new.ledger.history ≡ c.self.inside.ledger.history = rw c.in-Ok-None.field-0-is at none.none_ledger in
-    rw (← c.self.view_is, same.0, c.truncate.ensures.items, c.in_ok-at.ensures.opened, c.in_ok-at.ensures.index, same.1, ledger) (nothing_opened (found step) c.args.now (asked_as c.args.act) (rw c.in-Ok-None.field-0-is at none.none))
+    rw (← c.self.view_is, same.0, c.truncate.ensures.items, c.in_ok-at.ensures.opened, c.in_ok-at.ensures.index, same.1, ledger) (nothing_opened (found step) c.args.now c.args.act (rw c.in-Ok-None.field-0-is at none.none))
 
 pub invariant_of-self-in-Err : goal.invariant_of-self-in-Err
 invariant_of-self-in-Err c =
@@ -71,7 +71,7 @@ invariant_of-self-in-Err c =
 
 pub returns-in-Err-clause-refusal : goal.returns-in-Err-clause-refusal
 returns-in-Err-clause-refusal c =
-    rw (← c.self.view_is) (refused_opened (found (goal.at.returns-in-Err-clause-refusal c).After-shared_step) c.args.now c.in-Err.refusal (λ h b. IsSharedRefused h c.self.inside.ledger.history b c.args.now (asked_as c.args.act) c.in-Err.refusal) c.in-Err.ensures.refusal)
+    rw (← c.self.view_is) (refused_opened (found (goal.at.returns-in-Err-clause-refusal c).After-shared_step) c.args.now c.in-Err.refusal (λ h b. IsSharedRefused h c.self.inside.ledger.history b c.args.now c.args.act c.in-Err.refusal) c.in-Err.ensures.refusal)
 
 pub returns-in-Err-clause-err : goal.returns-in-Err-clause-err
 returns-in-Err-clause-err c =

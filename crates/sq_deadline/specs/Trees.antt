@@ -1,0 +1,37 @@
+-- Deadlines in a tree, from left to right. Own.
+use Rattle.std.specs.Prelude.{ℕ, ◌+◌, ◌*◌, ◌≤◌, Bool, true, ◌&&◌, ◌==◌, nat_le, nat_lt, if◌then◌else◌, List, [], ◌∷◌, ◌++◌, length}
+use Rattle.sq_deadline.specs.declared.deadline.Deadline.{Deadline}
+use Rattle.sq_deadline.specs.declared.tree.Tree.{Tree}
+use Rattle.sq_deadline.specs.declared.tree.Tree.TheVariants.{Empty, Full'}
+use Rattle.sq_deadline.specs.Deadlines.{key_of}
+
+abbrev pub listed : Tree → List Deadline
+listed Empty = []
+listed (Full' p left deadline count right) = listed left ++ deadline ∷ listed right
+
+-- how heavy a side is
+abbrev pub weight : Tree → ℕ
+weight t = length (listed t) + 1
+
+-- no side is more than three times as heavy as the other
+abbrev pub is_level : Tree → Tree → Bool
+is_level left right = nat_le (weight left) (3 * weight right) && nat_le (weight right) (3 * weight left)
+
+-- nor would be, if one deadline came to the lighter side
+pub record IsNearlyLevel (left right : Tree) : Type 0 where
+  pub left_fits : weight left ≤ 3 * (weight right + 1)
+  pub right_fits : weight right ≤ 3 * (weight left + 1)
+
+-- each node has level sides, and knows how many there are at it and below it
+abbrev pub is_kept : Tree → Bool
+is_kept Empty = true
+is_kept (Full' p left deadline count right) = count == length (listed left) + 1 + length (listed right) && is_level left right && is_kept left && is_kept right
+
+-- how many nodes the longest way down passes
+abbrev pub depth : Tree → ℕ
+depth Empty = 0
+depth (Full' p left deadline count right) = (if nat_le (depth left) (depth right) then depth right else depth left) + 1
+
+-- below a key
+abbrev pub is_below : ℕ → Deadline → Bool
+is_below key d = nat_lt (key_of d) key

@@ -1,0 +1,3 @@
+pub mod RowLists
+pub mod SplitLaws
+pub mod TableLaws

@@ -1,0 +1,4 @@
+//! Rows in slots, each found by its slot and its serial.
+#![tactic(auto)]
+
+pub mod table;
