@@ -34,7 +34,8 @@ impl Model for DeadlineIndex {
 impl DeadlineIndex {
     /// No deadline, and memory for none.
     pub fn new(alloc: Global) -> DeadlineIndex
-        ensures { result.deadlines ≡ [] }
+        ensures deadlines { result.deadlines ≡ [] }
+        ensures reserved { result.reserved ≡ 0 }
     {
         DeadlineIndex {
             tree: Tree::Empty,

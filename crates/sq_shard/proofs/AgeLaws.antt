@@ -12,9 +12,9 @@ use Rattle.sq_deadline.specs.declared.deadline.Deadline.{Deadline}
 use Rattle.sq_deadline.specs.Deadlines.{is_due}
 use Rattle.sq_deadline.proofs.SetLaws.{found, none_found}
 use Rattle.sq_model.specs.Rows.{is_expired, trimmed}
-use Rattle.sq_slots.specs.Slots.{AreApart, is_away, is_in}
+use Rattle.sq_slots.specs.Slots.{AreApart, IsBetween, is_away, is_in}
 use Rattle.sq_slots.proofs.RowLists.{is_same, is_this, one_found}
-use Rattle.sq_slots.proofs.SplitLaws.{IsBetween, stands_between}
+use Rattle.sq_slots.proofs.SplitLaws.{stands_between}
 use Rattle.sq_shard.specs.Due.{Holds, enqueued_at}
 use Rattle.sq_shard.specs.SlotStores.{IsFromBefore, any_row}
 use Rattle.sq_shard.proofs.AtLaws.{found_at}

@@ -7,9 +7,8 @@ use Rattle.std.proofs.lemmas.List.Elements.{All-head, All-tail}
 use Rattle.sq_base.specs.declared.row.Row.{Row}
 use Rattle.sq_model.specs.declared.calls.Receipt.{Receipt}
 use Rattle.sq_model.specs.Rows.{Takes, changed_if, is_held, is_named}
-use Rattle.sq_slots.specs.Slots.{is_at, is_away, is_in}
+use Rattle.sq_slots.specs.Slots.{IsBetween, is_at, is_away, is_in}
 use Rattle.sq_slots.proofs.RowLists.{any_is_found}
-use Rattle.sq_slots.proofs.SplitLaws.{IsBetween}
 
 -- ---- where the row is there
 

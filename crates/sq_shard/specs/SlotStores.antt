@@ -1,22 +1,21 @@
 -- What a store of rows in slots keeps. Own.
-use Rattle.std.specs.Prelude.{◌≡◌, ℕ, ◌-◌, ◌≤◌, ◌&&◌, Bool, true, false, not, ◌==◌, List, [], length, min, find, nat_le, nat_lt, if◌then◌else◌, Option, Some, None}
-use Rattle.std.specs.List.{All, Contains}
+use Rattle.std.specs.Prelude.{◌≡◌, ℕ, ◌-◌, ◌≤◌, ◌&&◌, Bool, true, List, length, min, nat_le, if◌then◌else◌}
 use Rattle.sq_base.specs.declared.row.Row.{Row}
 use Rattle.sq_base.specs.declared.settings.Settings.{Settings}
-use Rattle.sq_deadline.specs.declared.deadline.Deadline.{Deadline}
 use Rattle.sq_deadline.specs.Deadlines.{IndexValue}
-use Rattle.sq_model.specs.Rows.{is_distinct, is_expired, is_live, received, serials_of}
-use Rattle.sq_slots.specs.Slots.{TableValue, is_at, is_in}
-use Rattle.sq_slots.proofs.SplitLaws.{IsBetween}
+use Rattle.sq_model.specs.Rows.{is_live, received}
+use Rattle.sq_slots.specs.Slots.{IsBetween, TableValue, is_at}
 use Rattle.sq_shard.specs.declared.visible.VisibleFrom.{VisibleFrom}
 use Rattle.sq_shard.specs.Due.{Holds, enqueued_at, is_again, is_fresh, is_spent, space, visible_at}
 use Rattle.sq_shard.specs.Visible.{HasSpace}
 
+-- what a store is seen as: its rows in slots, from when they are visible, and since when they are in the queue
 pub record SlotValue : Type 0 where
   pub table : TableValue
   pub visible : VisibleFrom
   pub ages : IndexValue
 
+-- the classes of rows, by the list that each stands in
 abbrev pub any_row : Row → Bool
 any_row row = true
 

@@ -1,7 +1,7 @@
 -- The moments from when rows are visible, and memory for them. Own.
-use Rattle.std.specs.Prelude.{◌≡◌, ℕ, ◌≤◌, ◌<◌, ◌⊎◌, true}
+use Rattle.std.specs.Prelude.{◌≡◌, ℕ, ◌≤◌, ◌<◌, ◌⊎◌, Bool, true, false, find, nat_lt, Option, Some, None, if◌then◌else◌}
 use Rattle.sq_deadline.specs.declared.deadline.Deadline.{Deadline}
-use Rattle.sq_deadline.specs.Deadlines.{IndexValue, Rise}
+use Rattle.sq_deadline.specs.Deadlines.{IndexValue, Rise, is_due}
 use Rattle.sq_shard.specs.declared.visible.VisibleFrom.{VisibleFrom}
 use Rattle.sq_shard.specs.Due.{is_again, is_fresh, is_spent, space, with_if, without_if}
 
@@ -45,3 +45,13 @@ pub record IsCleared (receives : ℕ) (d : Deadline) (old new : VisibleFrom) : T
 -- the lists of the rows that are not spent, in one order or the other
 abbrev pub AreBoth : VisibleFrom → IndexValue → IndexValue → Type 0
 AreBoth v first second = ((first ≡ v.fresh) × (second ≡ v.again)) ⊎ ((first ≡ v.again) × (second ≡ v.fresh))
+
+-- one has been visible for longer than the other, where both are
+abbrev pub is_visible_longer : Option Deadline → Option Deadline → Bool
+is_visible_longer (Some d) (Some e) = nat_lt d.moment e.moment
+is_visible_longer (Some d) None = false
+is_visible_longer None e = false
+
+-- which of the two comes first: that of the rows that came back, where its first one has been visible for longer
+abbrev pub first_list : ℕ → VisibleFrom → IndexValue
+first_list m v = if is_visible_longer (find (is_due m) v.again.deadlines) (find (is_due m) v.fresh.deadlines) then v.again else v.fresh

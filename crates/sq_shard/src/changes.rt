@@ -1,5 +1,5 @@
 //! What is done to rows in slots, each found by its slot.
-ghost use Rattle.std.specs.Prelude.{◌≡◌, ◌+◌, ◌&&◌, ◌<◌, ◌≤◌, [], true, false, map, nat_le, IfErr, IfNone, IfSome, OnErr, OnOk};
+ghost use Rattle.std.specs.Prelude.{◌≡◌, ◌+◌, ◌&&◌, ◌<◌, ◌≤◌, [], false, map, nat_le, IfErr, IfNone, IfSome, OnErr, OnOk};
 ghost use Rattle.std.specs.List.{list_any};
 ghost use Rattle.sq_model.specs.Rows as model;
 ghost use Rattle.sq_shard.specs.Looks.{AreTheirs};
@@ -15,7 +15,7 @@ use sq_base::settings::Settings;
 use sq_model::calls::Receipt;
 
 impl SlotStore {
-    /// Whether a kept row is that of the receipt, and in flight.
+    /// Whether a kept row is that of the receipt, and in flight. It is found by its slot, in no time that grows.
     pub(crate) fn holds(&self, settings: &Settings, moment: u64, receipt: &Receipt) -> bool
         ensures { result ≡ list_any (model.is_held moment receipt.now) (model.trimmed settings.now moment self.now.table.rows) }
     {
@@ -28,7 +28,7 @@ impl SlotStore {
     }
 
     /// Whether that row would be hidden for more than 12 hours after its last receive, if it were hidden for so many
-    /// seconds from the moment on.
+    /// seconds from the moment on. It is found by its slot, in no time that grows.
     pub(crate) fn holds_late(
         &self,
         settings: &Settings,
@@ -44,7 +44,8 @@ impl SlotStore {
         self.holds(settings, moment, receipt) && rows::is_late(moment, timeout, row.last_receive)
     }
 
-    /// Makes room for one more row, in the table and in every list. Refused as NoMemory where there is none.
+    /// Makes room for one more row, in the table and in every list, in time by the memory that it lacks. Refused as NoMemory,
+    /// only where there is room for none.
     pub(crate) fn make_room(&mut self) -> Result<(), Refusal>
         ensures rows { self.new.table.rows ≡ self.old.table.rows }
         ensures reserved { OnOk result (0 < reserved_in self.new) }
@@ -53,26 +54,30 @@ impl SlotStore {
     {
         self.table.reserve()?;
         let count = self.table.len() + 1;
+        self.gone.make_room(count);
         self.visible.reserve(count)?;
         self.ages.reserve(count.saturating_sub(self.ages.len()))
     }
 
-    /// Leaves out the rows past their retention, one after another. It takes time by these alone, and keeps the rows apart
-    /// that these settings make spent.
+    /// Leaves out the rows past their retention, one after another, and keeps the rows apart that these settings make spent. It
+    /// takes time by the rows that it leaves out; and by all rows, where the number of receives that makes a row spent has changed.
     pub(crate) fn trim_rows(&mut self, settings: &Settings, moment: u64)
         ensures rows { self.new.table.rows ≡ model.trimmed settings.now moment self.old.table.rows }
         ensures reserved { reserved_in self.old ≤ reserved_in self.new }
     {
+        self.gone.give_back();
         self.split(rows::most_under(&settings.redrive));
         let Some(bound) = rows::expired_bound(settings, moment) else {
             return;
         };
-        while let Some(serial) = self.oldest(bound) {
-            self.remove(serial.0, serial.1);
+        while let Some(at) = self.oldest(bound) {
+            if let Some(row) = self.remove(at.0, at.1) {
+                self.gone.keep(row.body);
+            }
         }
     }
 
-    // The slot and the serial of the row that is there longest, where it came at this moment or before it.
+    // The slot and the serial of the row that is there longest, where it came at this moment or before it, found by search.
     fn oldest(&self, bound: u64) -> Option<(u32, Serial)>
         ensures row { IfSome result (λ at. IsFromBefore bound self.now.table.rows at.0 at.1) }
         ensures none { IfNone result (list_any (λ row. nat_le row.enqueued bound) self.now.table.rows ≡ false) }
@@ -82,7 +87,7 @@ impl SlotStore {
         Some((slot, row.serial))
     }
 
-    /// Receives the live rows with the serials of these.
+    /// Receives the live rows with the serials of these, in time by these, each found by its slot.
     pub(crate) fn receive_rows(
         &mut self,
         settings: &Settings,
@@ -120,7 +125,7 @@ impl SlotStore {
         }
     }
 
-    /// Takes out the row on which slot, serial and receive number agree.
+    /// Takes out the row on which slot, serial and receive number agree. It is found by its slot.
     pub(crate) fn take_row(&mut self, receipt: &Receipt)
         ensures rows { self.new.table.rows ≡ model.without receipt.now self.old.table.rows }
         ensures reserved { reserved_in self.old ≤ reserved_in self.new }
@@ -133,7 +138,7 @@ impl SlotStore {
         }
     }
 
-    /// Hides the row of a receipt until another moment, where it is in flight.
+    /// Hides the row of a receipt until another moment, where it is in flight. It is found by its slot.
     pub(crate) fn change_row(&mut self, receipt: &Receipt, moment: u64, until: u64)
         ensures rows { self.new.table.rows ≡ map (model.changed_if moment receipt.now until) self.old.table.rows }
         ensures reserved { reserved_in self.old ≤ reserved_in self.new }
@@ -147,7 +152,7 @@ impl SlotStore {
         }
     }
 
-    /// Takes out all rows.
+    /// Takes out all rows, in time by their number.
     pub(crate) fn clear_rows(&mut self)
         ensures rows { self.new.table.rows ≡ [] }
         ensures reserved { reserved_in self.old ≤ reserved_in self.new }
@@ -155,5 +160,6 @@ impl SlotStore {
         self.table.clear();
         self.visible.empty();
         self.ages.empty();
+        self.gone.empty();
     }
 }

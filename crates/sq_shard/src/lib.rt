@@ -3,6 +3,7 @@
 
 mod changes;
 mod due;
+mod gone;
 pub mod moves;
 pub mod plain;
 pub mod rows;

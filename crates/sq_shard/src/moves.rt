@@ -1,7 +1,5 @@
 //! Messages that leave a home or come in, as the home sees it.
-ghost use Rattle.std.specs.Prelude.{◌≡◌, ◌<◌, Bool, true, false, not, Some, None, option_map, IfOk, IfErr, IfSome, IfNone, OnErr, OnOk};
-ghost use Rattle.sq_base.specs.Stamps.{stamp_end};
-ghost use Rattle.sq_model.specs.declared.item.Item.{Item as Moved};
+ghost use Rattle.std.specs.Prelude.{◌≡◌, ◌<◌, Bool, true, false, Some, None, option_map, IfOk, IfErr, IfSome, IfNone, OnErr, OnOk};
 ghost use Rattle.sq_model.specs.declared.calls.HomeCall.TheVariants.{LeaveDead, Enter, GiveBack};
 ghost use Rattle.sq_model.specs.declared.replies.HomeReply.TheVariants.{Entered};
 ghost use Rattle.sq_model.specs.Homes.{HomeStep, IsIdle, home_refusal, may_enter, may_return};

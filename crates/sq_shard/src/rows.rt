@@ -1,5 +1,5 @@
 //! Work on a list of rows.
-ghost use Rattle.std.specs.Prelude.{◌≡◌, ◌+◌, ℕ, ◌<◌, ◌≤◌, List, length, count_by, filter, map, nat_le, not, position, true, false, IfOk, IfSome, IfNone, take, vec_len, vec_capacity, IfErr, ◌==◌, ◌&&◌};
+ghost use Rattle.std.specs.Prelude.{◌≡◌, ◌+◌, ℕ, ◌<◌, ◌≤◌, length, count_by, filter, map, nat_le, not, position, true, false, IfOk, IfSome, IfNone, take, vec_len, vec_capacity, IfErr, ◌==◌, ◌&&◌};
 ghost use Rattle.std.specs.List.{list_any};
 ghost use Rattle.sq_model.specs.Rows as model;
 ghost use Rattle.sq_model.specs.Homes as homes;
@@ -23,6 +23,7 @@ use sq_model::rows::{Rows, copy_row};
 use sq_model::shared::ItemAct;
 use std::alloc::Global;
 
+/// Whether a row is not past its retention.
 pub fn is_kept(settings: &Settings, moment: u64, row: &Row) -> bool
     ensures { result ≡ not (model.is_expired settings.now moment row.now) }
 {
@@ -30,7 +31,7 @@ pub fn is_kept(settings: &Settings, moment: u64, row: &Row) -> bool
     moment < retention || moment - retention < row.enqueued
 }
 
-/// The last moment since which a row past its retention may be in the queue; none where no row is past it.
+/// The last moment at which a row that is past its retention now came in; none where no row can be past it.
 pub fn expired_bound(settings: &Settings, moment: u64) -> Option<u64>
     ensures some { IfSome result (λ bound. (row : RowValue) → model.is_expired settings.now moment row ≡ nat_le row.enqueued bound) }
     ensures none { IfNone result ((row : RowValue) → model.is_expired settings.now moment row ≡ false) }
@@ -48,6 +49,7 @@ pub fn most_under(policy: &Option<Redrive>) -> u32
     }
 }
 
+/// Whether a row is in flight: received, and hidden.
 pub fn is_flying(moment: u64, row: &Row) -> bool
     ensures { result ≡ model.is_flying moment row.now }
 {
@@ -63,12 +65,14 @@ fn is_spent(policy: &Option<Redrive>, row: &Row) -> bool
     }
 }
 
+/// Whether a row is dead: visible, and received as often as the policy lets it be.
 pub fn is_dead(settings: &Settings, moment: u64, row: &Row) -> bool
     ensures { result ≡ model.is_dead settings.now moment row.now }
 {
     row.visible_from <= moment && is_spent(&settings.redrive, row)
 }
 
+/// Whether a look may give a row: visible, not dead, and received less often than can be counted.
 pub fn is_live(settings: &Settings, moment: u64, row: &Row) -> bool
     ensures { result ≡ model.is_live settings.now moment row.now }
 {
@@ -165,6 +169,7 @@ pub fn may_act(act: ItemAct, home: &HomeId, item: &Item) -> bool
     }
 }
 
+/// How many rows a trim at this moment keeps.
 pub fn count_kept(rows: &[Row], settings: &Settings, moment: u64) -> usize
     ensures { result ≡ length (model.trimmed settings.now moment rows.now) }
 {
@@ -173,6 +178,7 @@ pub fn count_kept(rows: &[Row], settings: &Settings, moment: u64) -> usize
         .count()
 }
 
+/// How many of them are in flight.
 pub fn count_flying(rows: &[Row], settings: &Settings, moment: u64) -> usize
     ensures { result ≡ count_by (model.is_flying moment) (model.trimmed settings.now moment rows.now) }
 {
@@ -188,6 +194,7 @@ fn is_delayed(moment: u64, row: &Row) -> bool
     row.receives == 0 && moment < row.visible_from
 }
 
+/// Whether a row is that of a receipt, and in flight.
 pub fn is_held(moment: u64, receipt: &Receipt, row: &Row) -> bool
     ensures { result ≡ model.is_held moment receipt.now row.now }
 {
@@ -277,6 +284,7 @@ fn change_row(row: &mut Row, receipt: &Receipt, moment: u64, until: u64)
     }
 }
 
+/// Whether one of the kept rows is live.
 pub fn has_live(rows: &[Row], settings: &Settings, moment: u64) -> bool
     ensures { result ≡ list_any (model.is_live settings.now moment) (model.trimmed settings.now moment rows.now) }
 {
@@ -348,6 +356,7 @@ pub fn take_out(rows: &mut Vec<Row>, slot: u32, serial: Serial) -> Option<Row>
     }
 }
 
+/// Leaves out the rows past their retention.
 pub fn trim(rows: &mut Vec<Row>, settings: &Settings, moment: u64)
     ensures rows { rows.new.items ≡ model.trimmed settings.now moment rows.old.items }
     ensures len { vec_len rows.new ≤ vec_len rows.old }
@@ -356,6 +365,7 @@ pub fn trim(rows: &mut Vec<Row>, settings: &Settings, moment: u64)
     rows.retain(|row| is_kept(settings, moment, row))
 }
 
+/// Takes out the row on which slot, serial and receive number agree.
 pub fn take(rows: &mut Vec<Row>, receipt: &Receipt)
     ensures rows { rows.new.items ≡ model.without receipt.now rows.old.items }
     ensures len { vec_len rows.new ≤ vec_len rows.old }
@@ -364,7 +374,7 @@ pub fn take(rows: &mut Vec<Row>, receipt: &Receipt)
     rows.retain(|row| !is_named(receipt, row))
 }
 
-/// The same row after a receive.
+/// The same row after a receive. Refused as NoMemory.
 pub fn received_copy(row: &Row, moment: u64, until: u64) -> Result<Row, Refusal>
     requires { row.now.receives < 4294967295 }
     ensures copy { IfOk result (λ copy. copy ≡ model.received moment until row.now) }
@@ -377,7 +387,7 @@ pub fn received_copy(row: &Row, moment: u64, until: u64) -> Result<Row, Refusal>
     Ok(copy)
 }
 
-/// The first live rows, as they stand after a receive.
+/// The first live rows, up to `max`, as they stand after a receive. Refused as NoMemory.
 pub fn pick(
     alloc: Global,
     rows: &[Row],

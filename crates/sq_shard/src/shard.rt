@@ -54,7 +54,7 @@ pub struct Shard<S: Store> {
 }
 
 impl<S: Store> Model for Shard<S> {
-    ghost use Rattle.std.specs.Prelude.{◌≡◌, ◌≤◌, List, [], length};
+    ghost use Rattle.std.specs.Prelude.{◌≡◌, ◌≤◌, [], length};
     ghost use Rattle.sq_model.specs.Rows.{RisesFrom};
     ghost use Rattle.sq_shard.specs.ShardValue.{ShardValue, home_with};
 
@@ -187,8 +187,8 @@ impl<S: Store> Shard<S> {
         Ok(slot)
     }
 
-    /// What a look at this moment gives, as it stands after it, and nothing is changed yet: up to `max` messages,
-    /// or none where live messages are there and too many are in flight.
+    /// What a look at this moment gives, as it stands after it, and nothing is changed yet: up to `max` messages, which are none
+    /// where none is live; `None` where live messages are there and too many are in flight.
     /// Refused as QueueDoesNotExist (not serving), NoMemory (where it gives a message).
     #[tactic(auto, unfolding(sq_model::specs::Homes::HomeStep, sq_model::specs::Homes::home_refusal), using(sq_model::proofs::RowLaws::rises_trimmed, crate::proofs::Few::few_trimmed, sq_model::proofs::RowLaws::rises_received, crate::proofs::Few::few_mapped, crate::proofs::LookLaws::nothing_given))]
     pub fn choose(
@@ -223,7 +223,8 @@ impl<S: Store> Shard<S> {
         Ok(Some(picked))
     }
 
-    /// Receives the live rows that were chosen; without a timeout the home's is taken.
+    /// Trims, and receives the live rows that were chosen; without a timeout the home's is taken. A home that does not serve
+    /// stays as it was.
     #[tactic(auto, using(sq_model::proofs::RowLaws::rises_trimmed, crate::proofs::Few::few_trimmed, sq_model::proofs::RowLaws::rises_received, crate::proofs::Few::few_mapped))]
     pub fn give(&mut self, moment: u64, timeout: Option<Timeout>, picked: &Option<Rows>)
         requires moment { moment < stamp_end }

@@ -1,10 +1,10 @@
 //! Rows in slots, found by what is due.
 ghost use Rattle.std.specs.Prelude.{◌≡◌, ◌+◌, ◌++◌, ◌∷◌, ◌==◌, ◌<◌, ◌≤◌, [], false, filter, find, map, IfSome};
 ghost use Rattle.std.specs.List.{All, list_any};
-ghost use Rattle.sq_slots.specs.Slots.{in_slot, is_at, is_away, updated_at};
-ghost use Rattle.sq_slots.proofs.SplitLaws.{IsBetween};
+ghost use Rattle.sq_slots.specs.Slots.{IsBetween, in_slot, is_at, is_away, updated_at};
 ghost use Rattle.sq_shard.specs.SlotStores.{reserved_in};
 
+use crate::gone::GoneBodies;
 use crate::store::Store;
 use crate::visible::VisibleFrom;
 use sq_base::ids::Serial;
@@ -21,13 +21,16 @@ use sq_slots::table::SlotTable;
 use std::alloc::Global;
 use std::marker::Model;
 
-/// The store of a home: rows in slots, and in order from when each is visible and since when it is in the queue. No call
-/// walks a row that is neither due nor asked for.
+/// The store of a home: rows in slots, and in order from when each is visible and since when it is in the queue.
+///
+/// A call takes time by the logarithm of the rows that are there, for each row that it says that it walks; those that say none walk
+/// none. No call walks a row that is neither due nor asked for, but a trim under another maxReceiveCount, and one that takes out all.
 #[derive(Drop)]
 pub struct SlotStore {
     pub(crate) table: SlotTable,
     pub(crate) visible: VisibleFrom,
     pub(crate) ages: DeadlineIndex,
+    pub(crate) gone: GoneBodies,
 }
 
 impl Model for SlotStore {
@@ -49,6 +52,7 @@ impl SlotStore {
             table: SlotTable::new(alloc),
             visible: VisibleFrom::new(alloc),
             ages: DeadlineIndex::new(alloc),
+            gone: GoneBodies::new(alloc),
         }
     }
 

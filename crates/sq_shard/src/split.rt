@@ -52,6 +52,7 @@ impl SlotStore {
             table,
             visible,
             ages,
+            ..
         } = self;
         visible.empty();
         visible.most = most;

@@ -30,25 +30,25 @@ pub trait Store: Drop {
     fn count_kept(&self, settings: &Settings, moment: u64) -> usize
         ensures { result ≡ length (trimmed settings.now moment (rows self.now)) };
 
-    /// How many of these are in flight.
+    /// How many of the rows that a trim at this moment keeps are in flight.
     fn count_flying(&self, settings: &Settings, moment: u64) -> usize
         ensures { result ≡ count_by (is_flying moment) (trimmed settings.now moment (rows self.now)) };
 
-    /// Whether one of these is live.
+    /// Whether one of them is live.
     fn has_live(&self, settings: &Settings, moment: u64) -> bool
         ensures { result ≡ list_any (is_live settings.now moment) (trimmed settings.now moment (rows self.now)) };
 
-    /// A dead one of these, any of them.
+    /// A dead one of them, any.
     fn find_dead(&self, settings: &Settings, moment: u64) -> Option<&Row>
         ensures one { IfSome result (λ row. IsOneOf (is_dead settings.now moment) (trimmed settings.now moment (rows self.now)) row.now) }
         ensures none { IfNone result (list_any (is_dead settings.now moment) (trimmed settings.now moment (rows self.now)) ≡ false) };
 
-    /// A live one of these, any of them.
+    /// A live one of them, any.
     fn find_live(&self, settings: &Settings, moment: u64) -> Option<&Row>
         ensures one { IfSome result (λ row. IsOneOf (is_live settings.now moment) (trimmed settings.now moment (rows self.now)) row.now) }
         ensures none { IfNone result (list_any (is_live settings.now moment) (trimmed settings.now moment (rows self.now)) ≡ false) };
 
-    /// Whether one of these is the row of a receipt, and in flight.
+    /// Whether one of them is the row of a receipt, and in flight.
     fn has_held(&self, settings: &Settings, moment: u64, receipt: &Receipt) -> bool
         ensures { result ≡ list_any (is_held moment receipt.now) (trimmed settings.now moment (rows self.now)) };
 
@@ -68,7 +68,7 @@ pub trait Store: Drop {
         requires { length (rows self.now) < 4294967296 }
         ensures { result ≡ counts_of moment (rows self.now) };
 
-    /// Up to `max` of the live ones, as they stand after a receive that hides them until a moment.
+    /// Up to `max` of the live ones, as they stand after a receive that hides them until a moment. Refused as NoMemory.
     fn pick(
         &self,
         alloc: Global,
@@ -81,7 +81,7 @@ pub trait Store: Drop {
         ensures look { IfOk result (λ picked. IsLook settings.now moment until max (trimmed settings.now moment (rows self.now)) picked) }
         ensures err { IfErr result (λ e. e ≡ Refusal.NoMemory) };
 
-    /// Makes room for one more row; refused only where there is none.
+    /// Makes room for one more row. Refused as NoMemory, only where there is room for none.
     fn reserve(&mut self) -> Result<(), Refusal>
         ensures rows { rows self.new ≡ rows self.old }
         ensures reserved { OnOk result (0 < reserved self.new) }
@@ -102,7 +102,8 @@ pub trait Store: Drop {
         ensures rows { rows self.new ≡ rows self.old ++ record row { slot = result } ∷ [] }
         ensures reserved { reserved self.old ≤ reserved self.new + 1 };
 
-    /// Receives the live rows with the serials of these, which have the slots that they have here.
+    /// Receives at a moment the live rows with the serials of these, which have the slots that they have here, and hides them
+    /// until another.
     fn receive(&mut self, settings: &Settings, picked: &[Row], moment: u64, until: u64)
         requires picked { AreTheirs (rows self.old) picked.now }
         ensures rows { rows self.new ≡ map (received_if settings.now (serials_of picked.now) moment until) (rows self.old) }

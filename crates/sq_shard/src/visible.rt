@@ -1,7 +1,7 @@
 //! From when the rows of a home are visible.
-ghost use Rattle.std.specs.Prelude.{◌≡◌, ◌⊎◌, ◌<◌, ◌≤◌, [], true, OnOk, IfErr};
-ghost use Rattle.sq_shard.specs.Visible.{AreBoth, HasSpace, IsCleared, IsOrdered, IsSet, KeepsSpace, LacksSpace};
-ghost use Rattle.sq_shard.specs.Due.{is_again, is_fresh, is_spent, space};
+ghost use Rattle.std.specs.Prelude.{◌≡◌, ◌<◌, [], true, OnOk, IfErr};
+ghost use Rattle.sq_shard.specs.Visible.{first_list, AreBoth, HasSpace, IsCleared, IsOrdered, IsSet, KeepsSpace, LacksSpace};
+ghost use Rattle.sq_shard.specs.Due.{is_again, is_fresh, is_spent};
 
 use sq_base::refusal::Refusal;
 use sq_deadline::deadline::Deadline;
@@ -20,11 +20,13 @@ pub(crate) struct VisibleFrom {
 }
 
 impl VisibleFrom {
-    /// No row, and memory for none.
+    /// No row, and memory for none. No number of receives makes a row spent yet.
     pub(crate) fn new(alloc: Global) -> VisibleFrom
         ensures fresh { result.fresh.deadlines ≡ [] }
         ensures again { result.again.deadlines ≡ [] }
         ensures spent { result.spent.deadlines ≡ [] }
+        ensures memory { (result.fresh.reserved ≡ 0) × (result.again.reserved ≡ 0) × (result.spent.reserved ≡ 0) }
+        ensures most { result.most ≡ 4294967295 }
     {
         VisibleFrom {
             fresh: DeadlineIndex::new(alloc),
@@ -34,7 +36,7 @@ impl VisibleFrom {
         }
     }
 
-    /// Gets memory for so many rows, whatever becomes of them. Refused as NoMemory where there was less.
+    /// Gets memory for so many rows in all, whatever becomes of them. Refused as NoMemory, only where there was memory for fewer.
     pub(crate) fn reserve(&mut self, count: usize) -> Result<(), Refusal>
         ensures fresh { self.new.fresh.deadlines ≡ self.old.fresh.deadlines }
         ensures again { self.new.again.deadlines ≡ self.old.again.deadlines }
@@ -83,7 +85,8 @@ impl VisibleFrom {
     /// The lists of the rows that a look may give, the one first whose oldest row has been visible longer: so none of their rows
     /// waits for ever while others come in.
     pub(crate) fn in_turn(&self, moment: u64) -> (&DeadlineIndex, &DeadlineIndex)
-        ensures { AreBoth self.now result.0.now result.1.now }
+        ensures both { AreBoth self.now result.0.now result.1.now }
+        ensures first { result.0.now ≡ first_list moment self.now }
     {
         match (self.again.due(moment), self.fresh.due(moment)) {
             (Some(again), Some(fresh)) if again.moment < fresh.moment => (&self.again, &self.fresh),

@@ -6,20 +6,8 @@ use Rattle.std.proofs.lemmas.Grind.{common_steps}
 use Rattle.std.proofs.lemmas.List.Elements.{All-contains_itself, All-cons, All-weaker}
 use Rattle.slab.proofs.SlabLemmas.{Contains-cons}
 use Rattle.sq_base.specs.declared.row.Row.{Row}
-use Rattle.sq_slots.specs.Slots.{HaveOwnSlots, Rise, is_at, is_away, updated, updated_at}
+use Rattle.sq_slots.specs.Slots.{HaveOwnSlots, IsBetween, Rise, is_at, is_away, updated, updated_at}
 use Rattle.sq_slots.proofs.RowLists.{contains_first, is_other, not_below}
-
--- the row of a slot and a serial stands between others, of other slots
-pub record IsBetween (slot serial : ℕ) (rows : List Row) (row : Row) : Type 0 where
-  pub before : List Row
-  pub after : List Row
-  pub whole : rows ≡ before ++ row ∷ after
-  pub there : Contains rows row
-  pub at : is_at slot serial row ≡ true
-  pub slot_is : row.slot ≡ slot
-  pub others : All (λ (r : Row). r.slot ≢ slot) (before ++ after)
-  pub away : filter (is_away slot serial) rows ≡ before ++ after
-  pub changed : (receives visible_from : ℕ) (last_receive : Option ℕ) → map (updated_at slot serial receives visible_from last_receive) rows ≡ before ++ updated receives visible_from last_receive row ∷ after
 
 not_at : (slot serial : ℕ) (row : Row) → row.slot ≢ slot → is_at slot serial row ≡ false
 not_at slot serial row other = rw (is_other row.slot slot other) refl

@@ -1,6 +1,6 @@
 -- Rows in slots, seen by rising serial. Own.
-use Rattle.std.specs.Prelude.{◌≡◌, ℕ, ◌+◌, ◌-◌, ◌≤◌, Bool, not, ◌&&◌, ◌==◌, nat_le, nat_lt, List, [], ◌∷◌, Option, Some, if◌then◌else◌}
-use Rattle.std.specs.List.{Contains}
+use Rattle.std.specs.Prelude.{◌≡◌, ◌≢◌, ℕ, ◌+◌, ◌-◌, ◌≤◌, Bool, true, not, ◌&&◌, ◌==◌, nat_le, nat_lt, List, [], ◌∷◌, ◌++◌, filter, map, Option, Some, if◌then◌else◌}
+use Rattle.std.specs.List.{All, Contains}
 use Rattle.slab.specs.Slab.{Slab, get, slab_len, values}
 use Rattle.sq_base.specs.declared.row.Row.{Row}
 
@@ -57,6 +57,18 @@ updated receives visible_from last_receive row = record row { receives = receive
 -- the row of this slot and this serial so changed, and another as it is
 abbrev pub updated_at : ℕ → ℕ → ℕ → ℕ → Option ℕ → Row → Row
 updated_at slot serial receives visible_from last_receive row = if is_at slot serial row then updated receives visible_from last_receive row else row
+
+-- the row of a slot and a serial stands between others, of other slots
+pub record IsBetween (slot serial : ℕ) (rows : List Row) (row : Row) : Type 0 where
+  pub before : List Row
+  pub after : List Row
+  pub whole : rows ≡ before ++ row ∷ after
+  pub there : Contains rows row
+  pub at : is_at slot serial row ≡ true
+  pub slot_is : row.slot ≡ slot
+  pub others : All (λ (r : Row). r.slot ≢ slot) (before ++ after)
+  pub away : filter (is_away slot serial) rows ≡ before ++ after
+  pub changed : (receives visible_from : ℕ) (last_receive : Option ℕ) → map (updated_at slot serial receives visible_from last_receive) rows ≡ before ++ updated receives visible_from last_receive row ∷ after
 
 -- for how many more rows there is memory, where all slots are below 2^32
 abbrev pub reserved_of : Slab Row → ℕ

@@ -5,6 +5,7 @@ mod calls;
 mod chains;
 mod examples;
 mod homes;
+mod many;
 mod moves;
 mod places;
 mod queues;

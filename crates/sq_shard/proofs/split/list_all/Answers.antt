@@ -1,9 +1,8 @@
-use Rattle.std.proofs.Common.{rules, ◌≡◌, ◌+◌, ◌<◌, ◌≤◌, ◌∙◌, ℕ, Some, None, List, length, take, subst, sym, ap, arith}
+use Rattle.std.proofs.Common.{rules, ◌≡◌, ◌<◌, ◌∙◌, Some, None, List, take, subst, arith}
 use Rattle.std.specs.Prelude.{slice_get}
 use Rattle.std.proofs.lemmas.List.{take_all}
 use Rattle.sq_deadline.specs.declared.deadline.Deadline.{Deadline}
 use Rattle.sq_shard.specs.Found.{found, row_of}
-use Rattle.sq_shard.specs.Visible.{KeepsSpace}
 use Rattle.sq_shard.specs.SlotStores.{AreVisible, any_row}
 use Rattle.sq_shard.proofs.ListLaws.{all_listed, its_slot, listed_more, none_is_past, none_more, room_for_next, slot_fits}
 use Rattle.sq_shard.proofs.MemoryLaws.{HasRoom, keeps_on}

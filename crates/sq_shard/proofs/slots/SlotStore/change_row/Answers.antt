@@ -1,9 +1,8 @@
-use Rattle.std.proofs.Common.{rules, ◌≡◌, ◌∙◌, ◌∷◌, ◌++◌, Some, None, true, false, refl, sym, ap, map}
+use Rattle.std.proofs.Common.{rules, ◌≡◌, ◌∙◌, Some, None, true, false, refl, sym}
 use Rattle.std.specs.Prelude.{find}
-use Rattle.sq_base.specs.declared.row.Row.{Row}
 use Rattle.sq_model.specs.Rows.{changed_if, is_held}
-use Rattle.sq_slots.specs.Slots.{is_at}
-use Rattle.sq_slots.proofs.SplitLaws.{IsBetween, stands_between}
+use Rattle.sq_slots.specs.Slots.{IsBetween, is_at}
+use Rattle.sq_slots.proofs.SplitLaws.{stands_between}
 use Rattle.sq_shard.proofs.AtLaws.{changed_none, changed_there, map_at, map_none}
 use Rattle.sq_shard.proofs.slots.SlotStore.change_row.Goals as goal
 use Rattle.sq_shard.proofs.slots.SlotStore.change_row.Goals.{After-is_held}

@@ -1,4 +1,4 @@
-use Rattle.std.proofs.Common.{rules, ◌≡◌, ◌∙◌, Some, None, true, false, not, sym}
+use Rattle.std.proofs.Common.{rules, ◌≡◌, Some, None, true, false, not, sym}
 use Rattle.std.specs.Prelude.{find}
 use Rattle.sq_model.specs.Rows.{is_expired, is_held}
 use Rattle.sq_slots.specs.Slots.{is_at}

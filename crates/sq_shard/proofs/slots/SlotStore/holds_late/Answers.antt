@@ -1,10 +1,9 @@
-use Rattle.std.proofs.Common.{rules, ◌≡◌, ◌≢◌, ◌+◌, ◌∙◌, Bool, Some, None, true, false, not, refl, sym, ap}
+use Rattle.std.proofs.Common.{rules, ◌≡◌, ◌+◌, ◌∙◌, Some, None, true, false, not, refl, sym}
 use Rattle.std.specs.Prelude.{◌&&◌, find}
 use Rattle.std.specs.List.{list_any}
-use Rattle.sq_base.specs.declared.row.Row.{Row}
 use Rattle.sq_model.specs.Rows.{is_expired, is_held, is_late, ms, trimmed}
-use Rattle.sq_slots.specs.Slots.{is_at}
-use Rattle.sq_slots.proofs.SplitLaws.{IsBetween, stands_between}
+use Rattle.sq_slots.specs.Slots.{IsBetween, is_at}
+use Rattle.sq_slots.proofs.SplitLaws.{stands_between}
 use Rattle.sq_shard.proofs.AtLaws.{any_left_at, any_left_none, both_and, held_at, held_there, not_both_and}
 use Rattle.sq_shard.proofs.slots.SlotStore.holds_late.Goals as goal
 use Rattle.sq_shard.proofs.slots.SlotStore.holds_late.Goals.{After-holds}

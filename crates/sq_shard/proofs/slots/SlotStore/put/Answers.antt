@@ -1,4 +1,4 @@
-use Rattle.std.proofs.Common.{rules, ◌≡◌, ◌+◌, ◌≤◌, length, arith}
+use Rattle.std.proofs.Common.{◌≡◌, ◌+◌, length, arith}
 use Rattle.std.proofs.lemmas.List.{length_push}
 use Rattle.sq_slots.specs.Slots.{in_slot}
 use Rattle.sq_shard.specs.SlotStores.{SlotValue}

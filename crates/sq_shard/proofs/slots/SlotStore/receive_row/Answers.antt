@@ -1,9 +1,8 @@
-use Rattle.std.proofs.Common.{rules, ◌≡◌, ◌≢◌, ◌∙◌, ◌∷◌, ◌++◌, ◌+◌, Some, None, true, false, refl, sym, ap, map}
-use Rattle.std.specs.Prelude.{◌&&◌, find}
-use Rattle.sq_base.specs.declared.row.Row.{Row}
+use Rattle.std.proofs.Common.{rules, ◌≡◌, ◌∙◌, ◌∷◌, ◌++◌, ◌+◌, Some, None, true, false, refl, sym, map}
+use Rattle.std.specs.Prelude.{find}
 use Rattle.sq_model.specs.Rows.{is_live}
-use Rattle.sq_slots.specs.Slots.{is_at}
-use Rattle.sq_slots.proofs.SplitLaws.{IsBetween, stands_between}
+use Rattle.sq_slots.specs.Slots.{IsBetween, is_at}
+use Rattle.sq_slots.proofs.SplitLaws.{stands_between}
 use Rattle.sq_shard.specs.SlotStores.{received_at}
 use Rattle.sq_shard.proofs.AtLaws.{map_at, map_none, not_there}
 use Rattle.sq_shard.proofs.slots.SlotStore.receive_row.Goals as goal

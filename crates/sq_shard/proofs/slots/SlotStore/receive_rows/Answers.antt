@@ -1,8 +1,6 @@
-use Rattle.std.proofs.Common.{rules, ℕ, List, ◌≡◌, ◌≤◌, ◌<◌, ◌+◌, ◌++◌, ◌∷◌, [], ◌∙◌, length, take, map, sym, ap, arith}
-use Rattle.sq_base.specs.declared.row.Row.{Row}
+use Rattle.std.proofs.Common.{ℕ, List, ◌<◌, ◌∙◌, length, take, map, sym, ap, arith}
 use Rattle.sq_model.specs.Rows.{received_if, serials_of}
 use Rattle.sq_shard.proofs.ReceiveLaws.{none_received, receives_on, serials_before, serials_more}
-use Rattle.std.specs.List.{All, Contains}
 use Rattle.std.proofs.lemmas.List.Elements.{All-contains}
 use Rattle.sq_shard.specs.Looks.{HasItsSlot}
 use Rattle.sq_shard.specs.SlotStores.{received_at}

@@ -1,9 +1,8 @@
-use Rattle.std.proofs.Common.{rules, ◌≡◌, ◌+◌, ◌≤◌, ◌∙◌, ◌++◌, ◌∷◌, Some, length, filter, sym, subst, arith}
+use Rattle.std.proofs.Common.{rules, ◌≡◌, ◌≤◌, ◌++◌, ◌∷◌, Some, length, arith}
 use Rattle.std.specs.Prelude.{find}
 use Rattle.std.proofs.lemmas.List.Sums.{length-filter, count_by-le-length}
-use Rattle.sq_slots.specs.Slots.{is_at, is_away}
-use Rattle.sq_slots.proofs.SplitLaws.{IsBetween, stands_between}
-use Rattle.sq_shard.specs.Due.{enqueued_at, visible_at}
+use Rattle.sq_slots.specs.Slots.{IsBetween, is_at, is_away}
+use Rattle.sq_slots.proofs.SplitLaws.{stands_between}
 use Rattle.sq_shard.specs.SlotStores.{IsIndexed, SlotValue}
 use Rattle.sq_shard.proofs.MemoryLaws.{keeps_places}
 use Rattle.sq_shard.proofs.SlotLaws.{indexed_out}

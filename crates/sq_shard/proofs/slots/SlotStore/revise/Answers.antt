@@ -1,14 +1,12 @@
 use Rattle.std.specs.List.{All}
 use Rattle.sq_base.specs.declared.row.Row.{Row}
-use Rattle.std.proofs.Common.{rules, ◌≡◌, ◌≢◌, ℕ, ◌+◌, ◌<◌, ◌≤◌, ◌∙◌, ◌++◌, ◌∷◌, Some, None, length, map, filter, sym, subst, arith}
+use Rattle.std.proofs.Common.{rules, ◌≡◌, ◌≢◌, ℕ, ◌<◌, ◌++◌, ◌∷◌, Some, None, sym, subst}
 use Rattle.std.specs.Prelude.{find}
-use Rattle.sq_slots.specs.Slots.{is_at, updated, updated_at}
-use Rattle.sq_slots.proofs.SplitLaws.{IsBetween, none_changes, stands_between}
-use Rattle.sq_shard.specs.Due.{enqueued_at, visible_at}
-use Rattle.sq_shard.specs.SlotStores.{AreVisible, IsIndexed, SlotValue}
-use Rattle.sq_shard.specs.Visible.{HasSpace}
-use Rattle.sq_shard.proofs.MemoryLaws.{HasRoom, has_more, has_room}
-use Rattle.sq_shard.proofs.SlotLaws.{goes_out, indexed_changed, room_beside}
+use Rattle.sq_slots.specs.Slots.{IsBetween, is_at}
+use Rattle.sq_slots.proofs.SplitLaws.{none_changes, stands_between}
+use Rattle.sq_shard.specs.SlotStores.{IsIndexed}
+use Rattle.sq_shard.proofs.MemoryLaws.{HasRoom}
+use Rattle.sq_shard.proofs.SlotLaws.{indexed_changed, room_beside}
 use Rattle.sq_shard.proofs.slots.SlotStore.revise.Goals as goal
 use Rattle.sq_shard.proofs.slots.SlotStore.revise.Goals.{After-clear}
 

@@ -1,9 +1,8 @@
-use Rattle.std.proofs.Common.{rules, ◌≡◌, ◌∙◌, ◌∷◌, ◌++◌, Some, None, true, false, not, refl, sym, ap, filter}
+use Rattle.std.proofs.Common.{rules, ◌≡◌, ◌∙◌, Some, None, true, false, not, refl, sym}
 use Rattle.std.specs.Prelude.{◌==◌, find}
-use Rattle.sq_base.specs.declared.row.Row.{Row}
 use Rattle.sq_model.specs.Rows.{is_named}
 use Rattle.sq_slots.specs.Slots.{is_at}
-use Rattle.sq_slots.proofs.SplitLaws.{IsBetween, stands_between}
+use Rattle.sq_slots.proofs.SplitLaws.{stands_between}
 use Rattle.sq_shard.proofs.AtLaws.{filter_at, filter_none, named_at, named_is, named_there}
 use Rattle.sq_shard.proofs.slots.SlotStore.take_row.Goals as goal
 

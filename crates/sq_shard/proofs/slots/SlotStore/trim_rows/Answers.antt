@@ -9,7 +9,7 @@ use Rattle.sq_shard.proofs.slots.SlotStore.trim_rows.Goals as goal
 use Rattle.sq_shard.proofs.slots.SlotStore.trim_rows.Goals.{After-remove}
 
 pub returns-in_default-clause-rows : goal.returns-in_default-clause-rows
-returns-in_default-clause-rows c = c.split.ensures.rows ∙ sym (none_goes c.args.settings.now c.args.moment (search rules) c.args.self.now.table.rows)
+returns-in_default-clause-rows c = rw (← c.self.view_is) (c.split.ensures.rows ∙ sym (none_goes c.args.settings.now c.args.moment (search rules) c.self.inside.table.rows))
 
 -- the row that goes out is past its retention
 trimmed_on : (c : After-remove) → (trimmed c.args.settings.now c.args.moment c.remove.new.self.table.rows ≡ trimmed c.args.settings.now c.args.moment c.split.new.self.table.rows) × (reserved_in c.split.new.self ≤ reserved_in c.remove.new.self)
@@ -17,20 +17,20 @@ trimmed_on c =
     let s = c.args.settings.now in
     let from = c.in-Some-oldest.ensures.row in
     let expired : is_expired s c.args.moment from.row ≡ true = c.in-Some.ensures.some from.row ∙ from.due in (
-      ap (trimmed s c.args.moment) c.remove.ensures.rows ∙ trimmed_without s c.args.moment c.in-Some-oldest.serial.0 c.in-Some-oldest.serial.1 c.loop-serial.self.table.rows from.row from.there expired ∙ c.loop-serial.invariant.0,
-      omega (arith, c.loop-serial.invariant.1, c.remove.ensures.reserved),
+      ap (trimmed s c.args.moment) c.remove.ensures.rows ∙ trimmed_without s c.args.moment c.in-Some-oldest.at.0 c.in-Some-oldest.at.1 c.loop-at.self.table.rows from.row from.there expired ∙ c.loop-at.invariant.0,
+      omega (arith, c.loop-at.invariant.1, c.remove.ensures.reserved),
     )
 
-pub loop-serial-preserved-in-Some-oldest : goal.loop-serial-preserved-in-Some-oldest
-loop-serial-preserved-in-Some-oldest c = trimmed_on (goal.at.loop-serial-preserved-in-Some-oldest c).After-remove
+pub loop-at-preserved-in-Some-remove : goal.loop-at-preserved-in-Some-remove
+loop-at-preserved-in-Some-remove c = rw (← c.self-in-Some-oldest.view_is) at (trimmed_on (goal.at.loop-at-preserved-in-Some-remove c).After-remove)
 
-pub loop-serial-preserved : goal.loop-serial-preserved
-loop-serial-preserved c = trimmed_on (goal.at.loop-serial-preserved c).After-remove
+pub loop-at-preserved : goal.loop-at-preserved
+loop-at-preserved c = trimmed_on (goal.at.loop-at-preserved c).After-remove
 
 pub returns-clause-rows : goal.returns-clause-rows
 returns-clause-rows c =
     let s = c.args.settings.now in
-    let rows = c.loop-serial.self.table.rows in
+    let rows = c.loop-at.self.table.rows in
     let none : list_any (is_expired s c.args.moment) rows ≡ false =
     any_same (is_expired s c.args.moment) (λ row. nat_le row.enqueued c.in-Some.bound) c.in-Some.ensures.some rows ∙ c.in_default-oldest.ensures.none in
-    sym (all_are_kept s c.args.moment rows none) ∙ c.loop-serial.invariant.0 ∙ ap (trimmed s c.args.moment) c.split.ensures.rows
+    rw (← c.self.view_is) (sym (all_are_kept s c.args.moment rows none) ∙ c.loop-at.invariant.0 ∙ ap (trimmed s c.args.moment) c.split.ensures.rows)

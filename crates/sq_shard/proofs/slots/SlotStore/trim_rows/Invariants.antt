@@ -3,8 +3,8 @@ use Rattle.sq_model.specs.Rows.{trimmed}
 use Rattle.sq_shard.specs.SlotStores.{reserved_in}
 use Rattle.sq_shard.proofs.slots.SlotStore.trim_rows.Given as goal
 
-abbrev pub invariant-loop-serial : goal.invariant-loop-serial
-invariant-loop-serial l = (trimmed l.settings l.moment l.self.table.rows ≡ trimmed l.settings l.moment l.initial.self.table.rows) × (reserved_in l.initial.self ≤ reserved_in l.self)
+abbrev pub invariant-loop-at : goal.invariant-loop-at
+invariant-loop-at l = (trimmed l.settings l.moment l.self.table.rows ≡ trimmed l.settings l.moment l.initial.self.table.rows) × (reserved_in l.initial.self ≤ reserved_in l.self)
 
-abbrev pub decreases-loop-serial : goal.decreases-loop-serial
-decreases-loop-serial l = length l.self.table.rows
+abbrev pub decreases-loop-at : goal.decreases-loop-at
+decreases-loop-at l = length l.self.table.rows
