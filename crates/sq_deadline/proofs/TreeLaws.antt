@@ -5,7 +5,7 @@ use Rattle.std.specs.List.{insert, position_or_len, remove}
 use Rattle.std.proofs.Math.Nat.{mul_assoc, mul-le-mul_left, mul_left_comm, pow-succ'}
 use Rattle.std.proofs.lemmas.Grind.{common_steps}
 use Rattle.std.proofs.lemmas.List.{length-append}
-use Rattle.std.proofs.lemmas.List.Edits.{insert-append_right, remove-append_right}
+use Rattle.std.proofs.lemmas.List.Edits.{insert-append_right, remove-append_left, remove-append_right}
 use Rattle.sq_deadline.specs.declared.deadline.Deadline.{Deadline}
 use Rattle.sq_deadline.specs.Deadlines.{Rise, is_above, is_due, is_not_below, key_of}
 use Rattle.sq_deadline.specs.declared.tree.Tree.{Tree}
@@ -84,9 +84,8 @@ no_further a b is = omega (arith, is)
 pub goes_out_between : (left : List Deadline) (d : Deadline) (right : List Deadline) (place : ℕ) → length left ≡ place → remove (left ++ d ∷ right) place ≡ left ++ right
 goes_out_between left d right place is = remove-append_right left (d ∷ right) (length left) place refl (omega (arith, is)) ∙ ap (λ (n : ℕ). left ++ remove (d ∷ right) n) (no_further (length left) place is)
 
-pub is_empty : (ds : List Deadline) → slice_get ds 0 ≡ None → ds ≡ []
-is_empty [] h = refl
-is_empty (x ∷ ds) h = absurd cc
+-- what is left where one goes out of a node's left side, of the node, or of its right side
+pub ruleset goes_out = (remove-append_left, goes_out_between, goes_out_right)
 
 -- ---- where the first is that is not below a key
 

@@ -17,10 +17,20 @@ weight t = length (listed t) + 1
 abbrev pub is_level : Tree → Tree → Bool
 is_level left right = nat_le (weight left) (3 * weight right) && nat_le (weight right) (3 * weight left)
 
+-- the same, as bounds
+pub record IsLevel (left right : Tree) : Type 0 where
+  pub left_fits : weight left ≤ 3 * weight right
+  pub right_fits : weight right ≤ 3 * weight left
+
 -- nor would be, if one deadline came to the lighter side
 pub record IsNearlyLevel (left right : Tree) : Type 0 where
   pub left_fits : weight left ≤ 3 * (weight right + 1)
   pub right_fits : weight right ≤ 3 * (weight left + 1)
+
+-- a tree is twice to four times as heavy as one beside it
+pub record IsTwiceOrMore (side middle : Tree) : Type 0 where
+  pub least : 2 * weight side ≤ weight middle
+  pub most : weight middle ≤ 4 * weight side
 
 -- each node has level sides, and knows how many there are at it and below it
 abbrev pub is_kept : Tree → Bool

@@ -3,7 +3,7 @@ ghost use Rattle.std.specs.Prelude.{◌≡◌, ◌+◌, ◌*◌, ◌^◌, ◌++�
 ghost use Rattle.std.specs.List.{insert, remove};
 ghost use Rattle.std.specs.Vec.{vec_capacity, vec_len};
 ghost use Rattle.sq_deadline.specs.Deadlines.{Rise};
-ghost use Rattle.sq_deadline.specs.Trees.{IsNearlyLevel, depth, is_below, is_kept, is_level, listed, weight};
+ghost use Rattle.sq_deadline.specs.Trees.{IsLevel, IsNearlyLevel, IsTwiceOrMore, depth, is_below, is_kept, listed, weight};
 
 use crate::deadline::Deadline;
 use std::mem;
@@ -45,11 +45,20 @@ pub(crate) fn ways_are_short()
     ensures { (t : Tree) → is_kept t ≡ true → 4 ^ depth t ≤ 3 ^ depth t * weight t }
 {}
 
+// A node out of its tree: its memory, its deadline, and what was to either side.
+#[derive(Drop)]
+struct Parts {
+    node: Box<Node>,
+    left: Tree,
+    deadline: Deadline,
+    right: Tree,
+}
+
 // These as one tree, in the memory of a node.
 fn made(mut node: Box<Node>, left: Tree, deadline: Deadline, right: Tree) -> Tree
     requires left { is_kept left ≡ true }
     requires right { is_kept right ≡ true }
-    requires level { is_level left right ≡ true }
+    requires level { IsLevel left right }
     requires fits { length (listed left) + length (listed right) < 18446744073709551615 }
     ensures listed { listed result ≡ listed left ++ deadline ∷ listed right }
     ensures kept { is_kept result ≡ true }
@@ -64,7 +73,32 @@ fn made(mut node: Box<Node>, left: Tree, deadline: Deadline, right: Tree) -> Tre
     Tree::Full(node)
 }
 
-// The same, where the right side is too heavy: its inner part goes to the left, whole or in two.
+// Three as one tree, where the middle one is the heaviest: a part of it goes to either side.
+fn shared_out(
+    first: Box<Node>,
+    left: Tree,
+    before: Deadline,
+    middle: Tree,
+    after: Deadline,
+    right: Tree,
+    last: Box<Node>,
+) -> Tree
+    requires left { is_kept left ≡ true }
+    requires middle { is_kept middle ≡ true }
+    requires right { is_kept right ≡ true }
+    requires beside_left { IsTwiceOrMore left middle }
+    requires beside_right { IsTwiceOrMore right middle }
+    requires fits { length (listed left) + length (listed middle) + length (listed right) < 18446744073709551614 }
+    ensures listed { listed result ≡ listed left ++ before ∷ listed middle ++ after ∷ listed right }
+    ensures kept { is_kept result ≡ true }
+{
+    let top = middle.parts();
+    let left = made(first, left, before, top.left);
+    let right = made(last, top.right, after, right);
+    made(top.node, left, top.deadline, right)
+}
+
+// A node with a side on either hand as one tree, where the right one is too heavy: its inner part goes to the left, whole or in two.
 fn turned_left(node: Box<Node>, left: Tree, deadline: Deadline, right: Tree) -> Tree
     requires left { is_kept left ≡ true }
     requires right { is_kept right ≡ true }
@@ -74,33 +108,16 @@ fn turned_left(node: Box<Node>, left: Tree, deadline: Deadline, right: Tree) -> 
     ensures listed { listed result ≡ listed left ++ deadline ∷ listed right }
     ensures kept { is_kept result ≡ true }
 {
-    let Tree::Full(mut side) = right else {
-        return made(node, left, deadline, Tree::Empty);
-    };
-    let Node {
+    let Parts {
+        node: side,
         left: inner,
         deadline: next,
         right: outer,
-        ..
-    } = Box::replace(&mut side, Node::blank());
+    } = right.parts();
     if (inner.len() + 1) / 2 <= outer.len() {
         return made(side, made(node, left, deadline, inner), next, outer);
     }
-    let Tree::Full(mut top) = inner else {
-        return made(side, made(node, left, deadline, Tree::Empty), next, outer);
-    };
-    let Node {
-        left: first,
-        deadline: middle,
-        right: last,
-        ..
-    } = Box::replace(&mut top, Node::blank());
-    made(
-        top,
-        made(node, left, deadline, first),
-        middle,
-        made(side, last, next, outer),
-    )
+    shared_out(node, left, deadline, inner, next, outer, side)
 }
 
 // The same, where the left side is too heavy.
@@ -113,33 +130,16 @@ fn turned_right(node: Box<Node>, left: Tree, deadline: Deadline, right: Tree) ->
     ensures listed { listed result ≡ listed left ++ deadline ∷ listed right }
     ensures kept { is_kept result ≡ true }
 {
-    let Tree::Full(mut side) = left else {
-        return made(node, Tree::Empty, deadline, right);
-    };
-    let Node {
+    let Parts {
+        node: side,
         left: outer,
         deadline: last,
         right: inner,
-        ..
-    } = Box::replace(&mut side, Node::blank());
+    } = left.parts();
     if (inner.len() + 1) / 2 <= outer.len() {
         return made(side, outer, last, made(node, inner, deadline, right));
     }
-    let Tree::Full(mut top) = inner else {
-        return made(side, outer, last, made(node, Tree::Empty, deadline, right));
-    };
-    let Node {
-        left: first,
-        deadline: middle,
-        right: next,
-        ..
-    } = Box::replace(&mut top, Node::blank());
-    made(
-        top,
-        made(side, outer, last, first),
-        middle,
-        made(node, next, deadline, right),
-    )
+    shared_out(side, outer, last, inner, deadline, right, node)
 }
 
 // The same, turned where one side has become too heavy by one.
@@ -159,6 +159,26 @@ fn levelled(node: Box<Node>, left: Tree, deadline: Deadline, right: Tree) -> Tre
     } else {
         made(node, left, deadline, right)
     }
+}
+
+// Two sides as one tree. The memory of the node between them, or that of the first to its right, is kept.
+fn joined(node: Box<Node>, left: Tree, right: Tree, spare: &mut Vec<Box<Node>>) -> Tree
+    requires left { is_kept left ≡ true }
+    requires right { is_kept right ≡ true }
+    requires level { IsLevel left right }
+    requires fits { length (listed left) + length (listed right) < 18446744073709551615 }
+    requires room { vec_len spare.old < vec_capacity spare.old }
+    ensures listed { listed result ≡ listed left ++ listed right }
+    ensures kept { is_kept result ≡ true }
+    ensures spare { vec_len spare.new ≡ vec_len spare.old + 1 }
+    ensures capacity { vec_capacity spare.old ≤ vec_capacity spare.new }
+{
+    if right.len() == 0 {
+        let _ = spare.push(node);
+        return left;
+    }
+    let (next, rest) = right.first_out(spare);
+    levelled(node, left, next, rest)
 }
 
 impl Tree {
@@ -247,7 +267,38 @@ impl Tree {
         mem::replace(self, Tree::Empty).given_up(spare);
     }
 
+    // The node at the top, and what is to either side.
+    fn parts(self) -> Parts
+        requires kept { is_kept self ≡ true }
+        requires some { 0 < length (listed self) }
+        ensures listed { listed self ≡ listed result.left ++ result.deadline ∷ listed result.right }
+        ensures count { length (listed self) ≡ length (listed result.left) + 1 + length (listed result.right) }
+        ensures left { is_kept result.left ≡ true }
+        ensures right { is_kept result.right ≡ true }
+        ensures level { IsLevel result.left result.right }
+        ensures fits { length (listed result.left) + length (listed result.right) < 18446744073709551615 }
+    {
+        match self {
+            Tree::Empty => unreachable!(),
+            Tree::Full(mut node) => {
+                let Node {
+                    left,
+                    deadline,
+                    right,
+                    ..
+                } = Box::replace(&mut node, Node::blank());
+                Parts {
+                    node,
+                    left,
+                    deadline,
+                    right,
+                }
+            }
+        }
+    }
+
     // These and one more at a place, in the memory of a node.
+    #[tactic(auto, using(crate::proofs::TreeLaws::comes_in_right))]
     fn with(self, place: usize, deadline: Deadline, node: Box<Node>) -> Tree
         requires kept { is_kept self ≡ true }
         requires within { place ≤ length (listed self) }
@@ -255,15 +306,15 @@ impl Tree {
         ensures listed { listed result ≡ insert (listed self) place deadline }
         ensures kept { is_kept result ≡ true }
     {
-        let Tree::Full(mut here) = self else {
+        if self.len() == 0 {
             return made(node, Tree::Empty, deadline, Tree::Empty);
-        };
-        let Node {
+        }
+        let Parts {
+            node: here,
             left,
             deadline: middle,
             right,
-            ..
-        } = Box::replace(&mut here, Node::blank());
+        } = self.parts();
         let before = left.len();
         if place <= before {
             levelled(here, left.with(place, deadline, node), middle, right)
@@ -274,6 +325,7 @@ impl Tree {
     }
 
     // These without the one at a place. The memory of a node is kept.
+    #[tactic(auto, using(crate::proofs::TreeLaws::goes_out))]
     fn without(self, place: usize, spare: &mut Vec<Box<Node>>) -> Tree
         requires kept { is_kept self ≡ true }
         requires within { place < length (listed self) }
@@ -283,15 +335,12 @@ impl Tree {
         ensures spare { vec_len spare.new ≡ vec_len spare.old + 1 }
         ensures capacity { vec_capacity spare.old ≤ vec_capacity spare.new }
     {
-        let Tree::Full(mut here) = self else {
-            return Tree::Empty;
-        };
-        let Node {
+        let Parts {
+            node: here,
             left,
             deadline: middle,
             right,
-            ..
-        } = Box::replace(&mut here, Node::blank());
+        } = self.parts();
         let before = left.len();
         if place < before {
             return levelled(here, left.without(place, spare), middle, right);
@@ -300,12 +349,26 @@ impl Tree {
             let side = right.without(place - before - 1, spare);
             return levelled(here, left, middle, side);
         }
-        let Some(next) = right.get(0).copied() else {
-            let _ = spare.push(here);
-            return left;
-        };
-        let side = right.without(0, spare);
-        levelled(here, left, next, side)
+        joined(here, left, right, spare)
+    }
+
+    // The first, and these without it. The memory of a node is kept.
+    fn first_out(self, spare: &mut Vec<Box<Node>>) -> (Deadline, Tree)
+        requires kept { is_kept self ≡ true }
+        requires some { 0 < length (listed self) }
+        requires room { vec_len spare.old < vec_capacity spare.old }
+        ensures listed { listed self ≡ result.0 ∷ listed result.1 }
+        ensures kept { is_kept result.1 ≡ true }
+        ensures spare { vec_len spare.new ≡ vec_len spare.old + 1 }
+        ensures capacity { vec_capacity spare.old ≤ vec_capacity spare.new }
+    {
+        let here = self.parts();
+        if here.left.len() == 0 {
+            let _ = spare.push(here.node);
+            return (here.deadline, here.right);
+        }
+        let (first, rest) = here.left.first_out(spare);
+        (first, levelled(here.node, rest, here.deadline, here.right))
     }
 
     // Gives all up. The memory of their nodes is kept.

@@ -1,8 +1,11 @@
 //! Rows in slots, found by what is due.
-ghost use Rattle.std.specs.Prelude.{◌≡◌, ◌+◌, ◌++◌, ◌∷◌, ◌==◌, ◌<◌, ◌≤◌, [], false, filter, find, map, IfSome};
+ghost use Rattle.std.specs.Prelude.{◌≡◌, ◌+◌, ◌++◌, ◌∷◌, ◌==◌, ◌<◌, ◌≤◌, [], false, filter, find, length, map, IfSome};
 ghost use Rattle.std.specs.List.{All, list_any};
+ghost use Rattle.sq_deadline.specs.Deadlines.{Rise, is_other};
 ghost use Rattle.sq_slots.specs.Slots.{IsBetween, in_slot, is_at, is_away, updated_at};
+ghost use Rattle.sq_shard.specs.Due.{enqueued_at, visible_at};
 ghost use Rattle.sq_shard.specs.SlotStores.{reserved_in};
+ghost use Rattle.sq_shard.specs.Visible.{IsCleared, IsOrdered};
 
 use crate::gone::GoneBodies;
 use crate::store::Store;
@@ -120,19 +123,30 @@ impl SlotStore {
         ensures reserved { reserved_in self.old ≤ reserved_in self.new }
     {
         let row = self.table.take(slot, serial)?;
-        self.visible.clear(
-            row.receives,
-            &Deadline {
-                moment: row.visible_from,
-                slot,
-            },
-        );
-        self.ages.clear(&Deadline {
-            moment: row.enqueued,
-            slot,
-        });
+        unlist(&row, &mut self.visible, &mut self.ages);
         Some(row)
     }
+}
+
+// Takes a row that left its slot out of the lists.
+fn unlist(row: &Row, visible: &mut VisibleFrom, ages: &mut DeadlineIndex)
+    ensures cleared { IsCleared row.now.receives (visible_at row.now) visible.old visible.new }
+    ensures ordered { IsOrdered row.now.receives visible.old }
+    ensures ages { ages.new.deadlines ≡ filter (is_other (enqueued_at row.now)) ages.old.deadlines }
+    ensures memory { length ages.old.deadlines + ages.old.reserved ≤ length ages.new.deadlines + ages.new.reserved }
+    ensures rise { Rise 0 ages.old.deadlines }
+{
+    visible.clear(
+        row.receives,
+        &Deadline {
+            moment: row.visible_from,
+            slot: row.slot,
+        },
+    );
+    ages.clear(&Deadline {
+        moment: row.enqueued,
+        slot: row.slot,
+    });
 }
 
 impl Store for SlotStore {
