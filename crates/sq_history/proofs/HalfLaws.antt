@@ -1,18 +1,18 @@
 -- A dead message that leaves its home.
-use Rattle.std.proofs.Common.{◌≡◌, ℕ, true, false, cond, List, [], ◌∷◌, refl, sym, Option, Some, None}
-use Rattle.std.specs.Prelude.{◌&&◌, ◌||◌}
-use Rattle.std.specs.List.{list_any}
+use Rattle.std.proofs.Common.{◌≡◌, ℕ, sym, inl, inr, Some, Result}
 use Rattle.std.proofs.lemmas.List.Folds.{list_any_at}
+use Rattle.sq_base.specs.declared.refusal.Refusal.{Refusal}
 use Rattle.sq_base.specs.declared.row.Row.{Row}
 use Rattle.sq_model.specs.declared.calls.HomeCall.TheVariants.{LeaveDead}
 use Rattle.sq_model.specs.declared.item.Item.{Item}
 use Rattle.sq_model.specs.declared.item.Reason.TheVariants.{DeadLetter}
 use Rattle.sq_model.specs.declared.place.Site.{Site}
 use Rattle.sq_model.specs.declared.replies.HomeReply.TheVariants.{Left}
-use Rattle.sq_model.specs.Homes.{Home, Unopened, Serving, Closed, HomeStep, IsFrom, IsIdle}
-use Rattle.sq_model.specs.Rows.{trimmed, is_dead, is_visible}
+use Rattle.sq_model.specs.Homes.{Home, Unopened, Serving, Closed, HomeStep, IsFrom}
+use Rattle.sq_model.specs.Rows.{trimmed, is_dead}
 use Rattle.sq_shard.specs.Moves.{IsDeadAt, GoesWithout, HasRow, target_at}
-use Rattle.sq_history.specs.Halves.{HasDead}
+use Rattle.sq_history.specs.Halves.{HasDead, IsDeadRefused, IsLeaveRefused}
+use Rattle.sq_history.specs.HistoryValue.{HistoryValue}
 
 -- where one is found, one is there
 pub has_dead : (home : Home) (m : ℕ) (row : Row) → IsDeadAt home m row → HasDead home m
@@ -25,6 +25,11 @@ pub has_row : (home : Home) (m : ℕ) (row : Row) → IsDeadAt home m row → Ha
 has_row Unopened m row dead = absurd dead
 has_row Closed m row dead = absurd dead
 has_row (Serving s v n rows) m row dead = dead.there
+
+-- why none leaves, with a history
+pub leave_refused : (old : HistoryValue) (m : ℕ) (number : Result ℕ Refusal) (e : Refusal) → IsDeadRefused old.site old.home m number e → IsLeaveRefused old m number e
+leave_refused old m number e (inl out) = inl (out.0, inr (out.1, out.2))
+leave_refused old m number e (inr later) = inr later
 
 -- one that goes out has left
 pub left_at : (site : Site) (home : Home) (m : ℕ) (item : Item) (after : Home) → IsFrom site.home DeadLetter item → IsDeadAt home m item.row → target_at home ≡ Some item.target → GoesWithout home m item.row after

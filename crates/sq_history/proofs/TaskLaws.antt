@@ -1,6 +1,6 @@
 -- A leave for a move task, at a home.
-use Rattle.std.proofs.Common.{◌≡◌, ℕ, zero, suc, ◌<◌, Bool, true, false, List, [], ◌∷◌, ◌++◌, length, refl, sym, ap, ◌∙◌, Option, Some, None, arith}
-use Rattle.std.specs.List.{list_any, Contains, slice_index_or}
+use Rattle.std.proofs.Common.{◌≡◌, ℕ, zero, suc, ◌<◌, true, false, List, [], ◌∷◌, length, refl, ap, Option, Some, None, arith}
+use Rattle.std.specs.List.{slice_index_or}
 use Rattle.std.proofs.lemmas.List.Folds.{list_any_at}
 use Rattle.sq_base.specs.declared.row.Row.{Row}
 use Rattle.sq_base.specs.declared.refusal.Refusal.TheVariants.{QueueDoesNotExist}
@@ -95,6 +95,11 @@ no_origin_at site Closed m number task row after live none left = absurd live
 no_origin_at site (Serving s v n rows) m number task row after live none left =
     let taken = taken_at (trimmed s m rows) row live.there.0 live.there.1 live.there.2 in
     ((row, taken.rest, taken.takes, live.passes, refl, no_queue task.destination row.origin none), left)
+
+-- the same of a serial that is its
+pub no_origin_of : (site : Site) (home : Home) (m number : ℕ) (task : Task) (row : Row) (serial : ℕ) (after : Home) → IsLiveAt home m row → target_of task row ≡ None → row.serial ≡ serial → after ≡ trimmed_home home m
+    → HomeStep site home m (LeaveTask number) (NoOrigin serial) after
+no_origin_of site home m number task row serial after live none is left = rw (← is) (no_origin_at site home m number task row after live none left)
 
 pub left_for : (site : Site) (home : Home) (m number : ℕ) (item : Item) (after : Home) → IsFrom site.home (ForTask number) item → IsLiveAt home m item.row → GoesWithout home m item.row after
     → HomeStep site home m (LeaveTask number) (Left item) after

@@ -1,5 +1,5 @@
 -- What a recorded call does, and what is true of every recorded home.
-use Rattle.std.specs.Prelude.{◌≡◌, ◌⊎◌, ℕ, true, false, List, [], ◌∷◌, ◌++◌, length, Option, Some, Ok, Err}
+use Rattle.std.specs.Prelude.{◌≡◌, ◌⊎◌, ℕ, false, List, [], ◌∷◌, ◌++◌, length, Option, Some, Ok, Err}
 use Rattle.std.specs.List.{All}
 use Rattle.sq_base.specs.StampValue.{StampValue}
 use Rattle.sq_base.specs.Stamps.{Below, start, after}
@@ -14,10 +14,12 @@ use Rattle.sq_model.specs.Homes.{Unopened, HomeStep, home_refusal}
 use Rattle.sq_model.specs.Replays.{HomeEvent, Replays, StampsRise}
 use Rattle.sq_model.specs.Systems.{is_alone}
 use Rattle.sq_model.specs.RecordValues.{HomeRecordValue}
-use Rattle.sq_history.specs.Acts.{CopiesBytes}
-use Rattle.sq_history.specs.Logs.{event_by}
+use Rattle.sq_history.specs.Acts.{CopiesBytes, HasBytes}
+use Rattle.sq_history.specs.Logs.{event_by, IsUnready}
 use Rattle.sq_history.specs.Rooms.{KeepsRoom}
 use Rattle.sq_history.specs.HistoryValue.{HistoryValue}
+use Rattle.sq_history.specs.LogValue.{LogValue}
+use Rattle.sq_history.specs.declared.act.HomeAct.{HomeAct}
 
 abbrev pub new_event : StampValue → Actor → HomeId → HomeCall → HomeReply → HomeEvent
 new_event stamp by home call reply = event_by stamp by (part.Home home) call reply
@@ -55,6 +57,11 @@ IsRefused old by now call e =
     ⊎ (after old.last by.seen now ≡ Err e)
     ⊎ ((stamp : StampValue) × (after old.last by.seen now ≡ Ok stamp)
     × (((e ≡ NoMemory) × CopiesBytes old.site old.home stamp.moment call) ⊎ (home_refusal old.site old.home stamp.moment call ≡ Some e)))
+
+-- No step of this act is begun: its event cannot be, or no memory was found for copies of its bytes.
+abbrev pub IsUnbegun : LogValue HomeCall HomeReply → Actor → ℕ → HomeAct → Refusal → Type 0
+IsUnbegun old by now act e =
+    IsUnready old by now e ⊎ ((e ≡ NoMemory) × HasBytes act × ((stamp : StampValue) × (after old.last by.seen now ≡ Ok stamp)))
 
 -- True of every recorded home: it is the replay of its events, whose stamps rise, and each event is one of it.
 pub record IsKept (h : HistoryValue) : Type 0 where

@@ -1,7 +1,7 @@
 //! Whether a history has the event of a record.
 ghost use Rattle.std.specs.Prelude.{◌≡◌, ◌↔◌, true, IfSome, IsSome, Some, option_map};
 ghost use Rattle.sq_model.specs.declared.event.Event.{Event as Done};
-ghost use Rattle.sq_history.specs.Events.{IsEventOf, IsEventAt, Rises, HasHomeEvent};
+ghost use Rattle.sq_history.specs.Events.{IsEventOf, IsEventAt, Rises, HasHomeEvent, is_before};
 
 use crate::record::HomeRecord;
 use crate::recorded::Home;
@@ -30,13 +30,20 @@ pub fn event_of<'a, K, R>(
     }
 }
 
+// Whether an event is before a stamp.
+fn is_before<K, R>(event: &Event<K, R>, stamp: Stamp) -> bool
+    ensures { result ≡ is_before stamp event.now }
+{
+    event.stamp < stamp
+}
+
 /// The event of a stamp, in a history whose stamps rise, by binary search.
 pub fn event_at<'a, K, R>(events: &'a [Event<K, R>], stamp: Stamp) -> Option<&'a Event<K, R>>
     requires rises { Rises events.now }
     ensures found { IfSome result (λ e. IsEventAt events.now stamp e.now) }
     ensures only { (e : Done K R) → IsEventAt events.now stamp e → option_map (λ d. d.now) result ≡ Some e }
 {
-    let event = events.get(events.partition_point(|event| event.stamp < stamp))?;
+    let event = events.get(events.partition_point(|event| is_before(event, stamp)))?;
     if event.stamp == stamp {
         Some(event)
     } else {

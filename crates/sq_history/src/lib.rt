@@ -2,6 +2,7 @@
 #![tactic(auto)]
 
 pub mod act;
+mod dead_leave;
 pub mod events;
 pub mod growing;
 pub mod log;

@@ -1,12 +1,16 @@
 //! A home, and all that was done to it.
-ghost use Rattle.std.specs.Prelude.{◌≡◌, ◌↔◌, true, [], IfOk, IfErr, OnErr};
-ghost use Rattle.sq_base.specs.Stamps.{start};
+ghost use Rattle.std.specs.Prelude.{◌≡◌, ◌↔◌, ◌++◌, ◌∷◌, true, [], length, Ok, IfOk, IfErr, OnOk, OnErr};
+ghost use Rattle.sq_base.specs.Stamps.{Below, after, start};
 ghost use Rattle.sq_model.specs.Homes.{Unopened as Never, Closed as Gone};
+ghost use Rattle.sq_model.specs.Replays.{StampsRise};
 ghost use Rattle.sq_history.specs.Acts.{call_of};
+ghost use Rattle.sq_history.specs.Histories.{IsUnbegun, new_event, new_record};
+ghost use Rattle.sq_history.specs.Rooms.{IsReady, KeepsRoom};
 
 use crate::act::{Answer, HomeAct};
 use crate::log::Log;
 use crate::record::HomeRecord;
+use sq_base::ids::HomeId;
 use sq_base::name::QueueName;
 use sq_base::refusal::Refusal;
 use sq_base::stamp::Stamp;
@@ -92,21 +96,10 @@ impl<S: Store> Recorded<S> {
         ensures refusal { IfErr result (IsRefused self.old by.now now (call_of act)) }
         ensures err { OnErr result (self.new ≡ self.old) }
     {
-        let stamp = self.log.begin(by, now)?;
-        let call = act.call()?;
-        let recorded_call = act.call()?;
-        let Answer {
-            kept,
-            for_record,
-            answered,
-        } = act.ask(alloc, &mut self.shard, stamp.moment)?;
+        let (stamp, calls) = begin(&mut self.log, by, now, &act)?;
+        let answer = act.ask(alloc, &mut self.shard, stamp.moment)?;
         let home = self.shard.site().home;
-        let part = Component::Home(home);
-        let step = self
-            .log
-            .add(stamp, by, part, (call, kept), (recorded_call, for_record));
-        let record = HomeRecord::new(step, &home, name);
-        Ok((answered, record))
+        Ok(add_step(&mut self.log, by, stamp, &home, name, calls, answer))
     }
 
     /// Whether the home is closed; it stays so.
@@ -115,4 +108,64 @@ impl<S: Store> Recorded<S> {
     {
         self.shard.is_closed()
     }
+}
+
+// Begins a step that does this: its stamp, and its call for the event and for the record.
+// Refused as NoMemory (the history has room for none, or the body of a send is copied), ClockRange, Worn.
+fn begin(
+    log: &mut Log<HomeCall, HomeReply>,
+    by: &Actor,
+    now: u64,
+    act: &HomeAct,
+) -> Result<(Stamp, (HomeCall, HomeCall)), Refusal>
+    ensures last { log.new.last ≡ log.old.last }
+    ensures events { log.new.events ≡ log.old.events }
+    ensures room { log.new.room ≡ log.old.room }
+    ensures ready { OnOk result (IsReady log.new.room log.new.reserved) }
+    ensures stamped { IfOk result (λ begun. after log.old.last by.now.seen now ≡ Ok begun.0) }
+    ensures above { IfOk result (λ begun. Below log.old.last begun.0) }
+    ensures kept_call { IfOk result (λ begun. begun.1.0 ≡ call_of act.now) }
+    ensures recorded_call { IfOk result (λ begun. begun.1.1 ≡ call_of act.now) }
+    ensures refused { IfErr result (IsUnbegun log.old by.now now act.now) }
+{
+    let stamp = log.begin(by, now)?;
+    let kept_call = act.call()?;
+    let recorded_call = act.call()?;
+    Ok((stamp, (kept_call, recorded_call)))
+}
+
+// Adds the event of a step that was done. Gives what is answered, and the actor's record.
+pub(crate) fn add_step(
+    log: &mut Log<HomeCall, HomeReply>,
+    by: &Actor,
+    stamp: Stamp,
+    home: &HomeId,
+    name: Option<QueueName>,
+    calls: (HomeCall, HomeCall),
+    answer: Answer,
+) -> (HomeReply, HomeRecord)
+    requires ready { IsReady log.old.room log.old.reserved }
+    requires above { Below log.old.last stamp }
+    ensures last { log.new.last ≡ stamp }
+    ensures events { log.new.events ≡ log.old.events ++ new_event stamp by.now home.now calls.0 answer ∷ [] }
+    ensures rising { StampsRise start log.new.events log.new.last }
+    ensures room { KeepsRoom log.old.room log.new.room }
+    ensures its_record { result.1 ≡ new_record stamp by.now home.now (length log.old.events) calls.1 answer name }
+    ensures answered { result.0 ≡ answer }
+{
+    let (kept_call, recorded_call) = calls;
+    let Answer {
+        kept,
+        for_record,
+        answered,
+    } = answer;
+    let part = Component::Home(*home);
+    let step = log.add(
+        stamp,
+        by,
+        part,
+        (kept_call, kept),
+        (recorded_call, for_record),
+    );
+    (answered, HomeRecord::new(step, home, name))
 }

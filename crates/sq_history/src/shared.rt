@@ -1,5 +1,5 @@
 //! The steps that a home shares with the ledger: the home's half, with its event and its record.
-ghost use Rattle.std.specs.Prelude.{◌≡◌, ◌⊎◌, ◌++◌, ◌∷◌, [], length, false, Some, Ok, option_map, IfOk, IfErr, IfSome, IfNone, OnErr};
+ghost use Rattle.std.specs.Prelude.{◌≡◌, ◌⊎◌, ◌++◌, ◌∷◌, [], length, Some, Ok, option_map, IfOk, IfErr, IfSome, IfNone, OnErr};
 ghost use Rattle.sq_base.specs.Stamps.{Below, start};
 ghost use Rattle.sq_model.specs.Replays.{StampsRise};
 ghost use Rattle.sq_model.specs.declared.item.Item.{Item as Moved};
@@ -7,30 +7,29 @@ ghost use Rattle.sq_model.specs.declared.item.Reason.TheVariants.{DeadLetter};
 ghost use Rattle.sq_model.specs.declared.task.Task.{Task as Taking};
 ghost use Rattle.sq_model.specs.declared.calls.HomeCall.TheVariants.{LeaveDead, LeaveTask};
 ghost use Rattle.sq_model.specs.declared.replies.HomeReply.TheVariants.{Left};
-ghost use Rattle.sq_model.specs.Homes.{IsFrom, IsIdle};
+ghost use Rattle.sq_model.specs.Homes.{HomeStep, IsFrom, IsIdle};
 ghost use Rattle.sq_model.specs.ItemActs.{call_with, replied_by};
 ghost use Rattle.sq_shard.specs.Moves.{item_refusal};
-ghost use Rattle.sq_history.specs.Halves.{DoesHalf, IsLeaveRefused, IsItemRefused, IsTaker, IsTaskAnswer, IsTaskRefused, IsThrottled};
+ghost use Rattle.sq_history.specs.Halves.{DoesHalf, IsActRefused, IsLeaveRefused, IsItemRefused, IsTaker, IsTaskAnswer, IsTaskRefused, IsThrottled};
 ghost use Rattle.sq_history.specs.Histories.{new_event, new_record};
 ghost use Rattle.sq_history.specs.Rooms.{IsReady, KeepsRoom};
 
 use crate::act::Answer;
+use crate::dead_leave::leave_dead;
 use crate::log::Log;
 use crate::record::HomeRecord;
-use crate::recorded::Recorded;
+use crate::recorded::{Recorded, add_step};
 use crate::task_leave::{TaskAnswer, TaskLeave, leave_for_task};
-use sq_base::ids::{HomeId, QueueNo};
+use sq_base::ids::HomeId;
 use sq_base::name::QueueName;
 use sq_base::refusal::Refusal;
-use sq_base::row::Row;
 use sq_base::stamp::Stamp;
 use sq_model::calls::HomeCall;
 use sq_model::event::Actor;
-use sq_model::item::{BoxedItem, Item, ItemNo, Reason};
-use sq_model::place::Component;
+use sq_model::item::{BoxedItem, Item, ItemNo};
 use sq_model::replies::{EnteredRow, HomeReply};
-use sq_model::rows::copy_row;
 use sq_model::shared::ItemAct;
+use sq_shard::shard::Shard;
 use sq_shard::store::Store;
 use std::alloc::Global;
 
@@ -43,20 +42,6 @@ pub struct HomeHalf {
     pub for_ledger: (HomeCall, HomeReply),
     /// The actor's record, one for both halves.
     pub its_record: HomeRecord,
-}
-
-// A dead letter on its way.
-fn dead_letter(number: ItemNo, row: Row, source: QueueNo, target: QueueNo) -> Item
-    ensures { result ≡ record { number = number; row = row; source = source; target = target; reason = DeadLetter; homeward = false } }
-{
-    Item {
-        number,
-        row,
-        source,
-        target,
-        reason: Reason::DeadLetter,
-        homeward: false,
-    }
 }
 
 // What is answered where this item leaves, and for the ledger. Refused as NoMemory.
@@ -96,23 +81,12 @@ fn note(
 {
     let (kept_call, recorded_call, ledger_call) = calls;
     let (answer, ledger_reply) = answers;
-    let Answer {
-        kept,
-        for_record,
-        answered,
-    } = answer;
-    let part = Component::Home(*home);
-    let step = log.add(
-        stamp,
-        by,
-        part,
-        (kept_call, kept),
-        (recorded_call, for_record),
-    );
+    let calls = (kept_call, recorded_call);
+    let (answered, its_record) = add_step(log, by, stamp, home, name, calls, answer);
     HomeHalf {
         answered,
         for_ledger: (ledger_call, ledger_reply),
-        its_record: HomeRecord::new(step, home, name),
+        its_record,
     }
 }
 
@@ -129,7 +103,7 @@ impl<S: Store> Recorded<S> {
     /// gives, or why it takes none in.
     /// Refused as NoMemory (the history has room for none, or a message is there, which is copied), QueueDoesNotExist
     /// (not serving), and then as the ledger.
-    #[tactic(auto, using(crate::proofs::HalfLaws::has_dead, crate::proofs::HalfLaws::has_row, crate::proofs::HalfLaws::left_at))]
+    #[tactic(auto, using(crate::proofs::HalfLaws::leave_refused))]
     pub fn leave_dead(
         &mut self,
         alloc: Global,
@@ -149,25 +123,17 @@ impl<S: Store> Recorded<S> {
         ensures err { OnErr result (self.new ≡ self.old) }
     {
         self.log.reserve()?;
+        let Some((item, answers)) = leave_dead(alloc, &mut self.shard, stamp.moment, number)? else {
+            return Ok(None);
+        };
         let home = self.shard.site().home;
-        let Some(row) = self.shard.find_dead(stamp.moment)? else {
-            return Ok(None);
-        };
-        // Where a message is dead, a policy is set.
-        let Some(target) = self.shard.dead_letter_queue() else {
-            return Ok(None);
-        };
-        let number = number?;
-        let item = dead_letter(number, copy_row(row)?, home.queue, target);
-        let answers = answer_left(alloc, &item)?;
-        let row = self.shard.take_out(stamp.moment, &item.row);
         let calls = (
             HomeCall::LeaveDead,
             HomeCall::LeaveDead,
             HomeCall::LeaveDead,
         );
         let half = note(&mut self.log, by, stamp, &home, name, calls, answers);
-        Ok(Some((half, dead_letter(number, row, home.queue, target))))
+        Ok(Some((half, item)))
     }
 
     /// A live message, any of them, leaves for a move task, at a stamp that was drawn: it is told with the item that it
@@ -176,7 +142,6 @@ impl<S: Store> Recorded<S> {
     /// event.
     /// Refused as NoMemory (the history has room for none, or the message that leaves is copied), QueueDoesNotExist
     /// (never opened), then as the ledger says of the task, and where a message is live as it says of the next item.
-    #[tactic(auto, using(crate::proofs::HistoryLaws::kept_shared))]
     pub fn leave_task(
         &mut self,
         alloc: Global,
@@ -218,7 +183,6 @@ impl<S: Store> Recorded<S> {
     /// QueueDoesNotExist (not serving), Worn (no serial is left), OverLimit (full). Where it is sent back or given up, as
     /// QueueDoesNotExist (never opened), UnsupportedOperation (serving). Then as UnsupportedOperation (no item, or not one
     /// for this home).
-    #[tactic(auto, using(crate::proofs::HistoryLaws::kept_shared))]
     pub fn item_step(
         &mut self,
         alloc: Global,
@@ -235,13 +199,42 @@ impl<S: Store> Recorded<S> {
         ensures err { OnErr result (self.new ≡ self.old) }
     {
         self.log.reserve()?;
-        let item = self.shard.check_item(act, stamp.moment, item)?;
-        let calls = calls_with(alloc, act, item)?;
-        let entered = self.shard.item_step(act, stamp.moment, item)?;
+        let (_, calls, answers) = act_on(alloc, &mut self.shard, act, stamp.moment, item)?;
         let home = self.shard.site().home;
-        let answers = replied_by(entered);
         Ok(note(&mut self.log, by, stamp, &home, name, calls, answers))
     }
+}
+
+// This is done with the item by a home's rows, at a moment in ms: the item, the calls, and what is answered.
+// Refused as the first check that fails, and then as NoMemory (the message is copied).
+fn act_on<'a, S: Store>(
+    alloc: Global,
+    shard: &mut Shard<S>,
+    act: ItemAct,
+    moment: u64,
+    item: Option<&'a Item>,
+) -> Result<
+    (
+        &'a Item,
+        (HomeCall, HomeCall, HomeCall),
+        (Answer, HomeReply),
+    ),
+    Refusal,
+>
+    ensures item { IfOk result (λ done. option_map (λ i. i.now) item.entry ≡ Some done.0.now) }
+    ensures kept_call { IfOk result (λ done. done.1.0 ≡ call_with act done.0.now) }
+    ensures recorded_call { IfOk result (λ done. done.1.1 ≡ call_with act done.0.now) }
+    ensures ledger_call { IfOk result (λ done. done.1.2 ≡ call_with act done.0.now) }
+    ensures ledger_reply { IfOk result (λ done. done.2.1 ≡ done.2.0) }
+    ensures step { IfOk result (λ done. HomeStep shard.old.site shard.old.home moment (call_with act done.0.now) done.2.0 shard.new.home) }
+    ensures site { shard.new.site ≡ shard.old.site }
+    ensures refusal { IfErr result (IsActRefused (item_refusal act shard.old.site shard.old.home moment (option_map (λ i. i.now) item.entry))) }
+    ensures err { OnErr result (shard.new ≡ shard.old) }
+{
+    let item = shard.check_item(act, moment, item)?;
+    let calls = calls_with(alloc, act, item)?;
+    let entered = shard.item_step(act, moment, item)?;
+    Ok((item, calls, replied_by(entered)))
 }
 
 // The calls that do this with an item: for the event, for its record, and for the ledger. Refused as NoMemory.

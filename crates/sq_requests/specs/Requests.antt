@@ -15,6 +15,7 @@ use Rattle.sq_requests.specs.Turns.{dead_turn_of, task_turn_of}
 use Rattle.sq_calls.specs.declared.calls.Asked.{Asked}
 use Rattle.sq_calls.specs.declared.calls.Asked.TheVariants as asked
 use Rattle.sq_calls.specs.declared.calls.Call.{Call}
+use Rattle.sq_calls.specs.declared.turns.Turn.{Turn}
 use Rattle.sq_calls.specs.declared.turns.Turn.TheVariants.{EnterTurn}
 use Rattle.sq_requests.specs.declared.request.Request.{Request}
 
@@ -63,6 +64,31 @@ call_of action d =
     else if bytes_eq action (codes "ListMessageMoveTasks") then list_moves_of d
     else Err UnsupportedOperation
 
+-- the calls for which no memory is asked: on move tasks, on messages that are there, and on queues
+unfoldable pub task_call_of : List ℕ → Data → Result Call Refusal
+task_call_of action d =
+    if bytes_eq action (codes "StartMessageMoveTask") then start_move_of d
+    else if bytes_eq action (codes "CancelMessageMoveTask") then cancel_move_of d
+    else if bytes_eq action (codes "ListMessageMoveTasks") then list_moves_of d
+    else Err UnsupportedOperation
+
+unfoldable pub message_call_of : List ℕ → Data → Result Call Refusal
+message_call_of action d =
+    if bytes_eq action (codes "ReceiveMessage") then receive_of d
+    else if bytes_eq action (codes "DeleteMessage") then delete_of d
+    else if bytes_eq action (codes "ChangeMessageVisibility") then change_of d
+    else task_call_of action d
+
+unfoldable pub plain_call_of : List ℕ → Data → Result Call Refusal
+plain_call_of action d =
+    if bytes_eq action (codes "GetQueueAttributes") then get_of d
+    else if bytes_eq action (codes "GetQueueUrl") then get_url_of d
+    else if bytes_eq action (codes "ListQueues") then list_of d
+    else if bytes_eq action (codes "PurgeQueue") then purge_of d
+    else if bytes_eq action (codes "DeleteQueue") then delete_queue_of d
+    else if bytes_eq action (codes "ListDeadLetterSourceQueues") then list_sources_of d
+    else message_call_of action d
+
 -- memory is asked for the text of a policy and for a body
 unfoldable pub call_asks : List ℕ → Data → Result Bool Refusal
 call_asks action d =
@@ -85,6 +111,14 @@ call_or_turn_asks action d =
     else if bytes_eq action (codes "EnterTurn") then Ok false
     else if bytes_eq action (codes "TaskTurn") then (task_turn_of d >>= λ turn. Ok false)
     else call_asks action d
+
+-- the turn that an action names, if it names one
+unfoldable pub turn_of : List ℕ → Data → Option (Result Turn Refusal)
+turn_of action d =
+    if bytes_eq action (codes "DeadTurn") then Some (dead_turn_of d)
+    else if bytes_eq action (codes "EnterTurn") then Some (Ok EnterTurn)
+    else if bytes_eq action (codes "TaskTurn") then Some (task_turn_of d)
+    else None
 
 abbrev pub request_in : Data → Result Request Refusal
 request_in d = do

@@ -19,7 +19,7 @@ use sq_policy::amount::{Amount, in_range, in_range_if};
 use std::alloc::Global;
 
 // Whether message attributes or message system attributes are given.
-#[tactic(auto, unfolding(crate::specs::Actions::has_attributes_at))]
+#[tactic(auto, using(crate::proofs::MemberLaws::either_given), unfolding(crate::specs::Actions::has_attributes_at))]
 fn has_attributes_at(value: &Value) -> Result<bool, Refusal>
     ensures { result ≡ has_attributes_at (view value.now) }
 {
@@ -82,7 +82,7 @@ fn addressed(members: &SendMembers, body: &str) -> Result<Addressee, Refusal>
 }
 
 /// SendMessage.
-#[tactic(auto, unfolding(crate::specs::Actions::send_of))]
+#[tactic(auto, using(crate::proofs::MemberLaws::sends), unfolding(crate::specs::Actions::send_of))]
 pub fn send_of(alloc: Global, value: &Value) -> Result<Call, Refusal>
     ensures { Reads result (send_of (view value.now)) }
 {
@@ -146,7 +146,7 @@ pub fn delete_of(value: &Value) -> Result<Call, Refusal>
 }
 
 /// ChangeMessageVisibility.
-#[tactic(auto, unfolding(crate::specs::Actions::change_of))]
+#[tactic(auto, using(crate::proofs::MemberLaws::changes), unfolding(crate::specs::Actions::change_of))]
 pub fn change_of(value: &Value) -> Result<Call, Refusal>
     ensures { result ≡ change_of (view value.now) }
 {

@@ -62,7 +62,7 @@ pub fn url_at(value: &Value) -> Result<Option<QueueName>, Refusal>
 }
 
 /// The handle of the member `ReceiptHandle`; none where that is no handle.
-#[tactic(auto, unfolding(crate::specs::Members::receipt_handle_at))]
+#[tactic(auto, using(crate::proofs::MemberLaws::names_receipt), unfolding(crate::specs::Members::receipt_handle_at))]
 pub fn receipt_handle_at(value: &Value) -> Result<Option<Handle>, Refusal>
     ensures { result ≡ receipt_handle_at (view value.now) }
 {
@@ -89,7 +89,7 @@ fn arn_if(arn: Option<&str>) -> Option<Option<QueueName>>
 }
 
 /// The same of a member that may be there.
-#[tactic(auto, unfolding(crate::specs::Members::arn_if_at))]
+#[tactic(auto, using(crate::proofs::MemberLaws::may_name), unfolding(crate::specs::Members::arn_if_at))]
 pub fn arn_if_at(value: &Value, name: &str) -> Result<Option<Option<QueueName>>, Refusal>
     ensures { result ≡ arn_if_at name.now (view value.now) }
 {
@@ -98,7 +98,7 @@ pub fn arn_if_at(value: &Value, name: &str) -> Result<Option<Option<QueueName>>,
 }
 
 /// The task of the member `TaskHandle`; none where that is the handle of none.
-#[tactic(auto, unfolding(crate::specs::Members::named_task))]
+#[tactic(auto, using(crate::proofs::MemberLaws::names_task), unfolding(crate::specs::Members::named_task))]
 pub fn named_task(value: &Value) -> Result<Option<TaskNo>, Refusal>
     ensures { result ≡ named_task (view value.now) }
 {

@@ -3,7 +3,7 @@ ghost use Rattle.std.specs.Prelude.{◌≡◌};
 ghost use Rattle.serde_json.specs.Find.{get};
 ghost use Rattle.serde_json.specs.View.{view};
 ghost use Rattle.sq_requests.specs.Memory.{ReadsAsking};
-ghost use Rattle.sq_requests.specs.Requests.{reading, actor_at, call_of, call_asks, call_or_turn_of, call_or_turn_asks, request_of, request_asks, line_request, ReadsLine};
+ghost use Rattle.sq_requests.specs.Requests.{reading, actor_at, task_call_of, message_call_of, plain_call_of, call_of, call_asks, call_or_turn_of, call_or_turn_asks, turn_of, request_of, request_asks, line_request, ReadsLine};
 
 use crate::actions::{change_of, delete_of, receive_of, send_of};
 use crate::members::text_at;
@@ -49,24 +49,12 @@ fn actor_at(value: &Value) -> Result<u32, Refusal>
     }
 }
 
-#[tactic(auto, unfolding(crate::specs::Requests::call_of, crate::specs::Requests::call_asks))]
-fn call_of(alloc: Global, value: &Value, action: &str) -> Result<Call, Refusal>
-    ensures { let d = view value.now in
-        ReadsAsking (call_asks action.now d) result (call_of action.now d) }
+// A call on move tasks.
+#[tactic(auto, unfolding(crate::specs::Requests::task_call_of))]
+fn task_call_of(value: &Value, action: &str) -> Result<Call, Refusal>
+    ensures { result ≡ task_call_of action.now (view value.now) }
 {
     match action {
-        "CreateQueue" => create_of(alloc, value),
-        "SetQueueAttributes" => set_of(alloc, value),
-        "GetQueueAttributes" => get_of(value),
-        "GetQueueUrl" => get_url_of(value),
-        "ListQueues" => list_of(value),
-        "PurgeQueue" => purge_of(value),
-        "DeleteQueue" => delete_queue_of(value),
-        "ListDeadLetterSourceQueues" => list_sources_of(value),
-        "SendMessage" => send_of(alloc, value),
-        "ReceiveMessage" => receive_of(value),
-        "DeleteMessage" => delete_of(value),
-        "ChangeMessageVisibility" => change_of(value),
         "StartMessageMoveTask" => start_move_of(value),
         "CancelMessageMoveTask" => cancel_move_of(value),
         "ListMessageMoveTasks" => list_moves_of(value),
@@ -74,17 +62,70 @@ fn call_of(alloc: Global, value: &Value, action: &str) -> Result<Call, Refusal>
     }
 }
 
+// A call on a message that is there, or else one on move tasks.
+#[tactic(auto, unfolding(crate::specs::Requests::message_call_of))]
+fn message_call_of(value: &Value, action: &str) -> Result<Call, Refusal>
+    ensures { result ≡ message_call_of action.now (view value.now) }
+{
+    match action {
+        "ReceiveMessage" => receive_of(value),
+        "DeleteMessage" => delete_of(value),
+        "ChangeMessageVisibility" => change_of(value),
+        _ => task_call_of(value, action),
+    }
+}
+
+// A call for which no memory is asked: on a queue, or else on messages or move tasks.
+#[tactic(auto, unfolding(crate::specs::Requests::plain_call_of))]
+fn plain_call_of(value: &Value, action: &str) -> Result<Call, Refusal>
+    ensures { result ≡ plain_call_of action.now (view value.now) }
+{
+    match action {
+        "GetQueueAttributes" => get_of(value),
+        "GetQueueUrl" => get_url_of(value),
+        "ListQueues" => list_of(value),
+        "PurgeQueue" => purge_of(value),
+        "DeleteQueue" => delete_queue_of(value),
+        "ListDeadLetterSourceQueues" => list_sources_of(value),
+        _ => message_call_of(value, action),
+    }
+}
+
+#[tactic(auto, using(crate::proofs::CallLaws::reads_create, crate::proofs::CallLaws::reads_set, crate::proofs::CallLaws::reads_send))]
+fn call_of(alloc: Global, value: &Value, action: &str) -> Result<Call, Refusal>
+    ensures { let d = view value.now in
+        ReadsAsking (call_asks action.now d) result (call_of action.now d) }
+{
+    match action {
+        "CreateQueue" => create_of(alloc, value),
+        "SetQueueAttributes" => set_of(alloc, value),
+        "SendMessage" => send_of(alloc, value),
+        _ => plain_call_of(value, action),
+    }
+}
+
+// The turn that an action names, if it names one.
+#[tactic(auto, unfolding(crate::specs::Requests::turn_of))]
+fn turn_of(value: &Value, action: &str) -> Option<Result<Turn, Refusal>>
+    ensures { result ≡ turn_of action.now (view value.now) }
+{
+    match action {
+        "DeadTurn" => Some(dead_turn_of(value)),
+        "EnterTurn" => Some(Ok(Turn::EnterTurn)),
+        "TaskTurn" => Some(task_turn_of(value)),
+        _ => None,
+    }
+}
+
 // A turn, or else a call.
-#[tactic(auto, unfolding(crate::specs::Requests::call_or_turn_of, crate::specs::Requests::call_or_turn_asks))]
+#[tactic(auto, using(crate::proofs::CallLaws::asks_a_turn, crate::proofs::CallLaws::refuses_a_turn, crate::proofs::CallLaws::asks_a_call, crate::proofs::CallLaws::refuses_a_call))]
 fn call_or_turn_of(alloc: Global, value: &Value, action: &str) -> Result<Asked, Refusal>
     ensures { let d = view value.now in
         ReadsAsking (call_or_turn_asks action.now d) result (call_or_turn_of action.now d) }
 {
-    match action {
-        "DeadTurn" => Ok(Asked::Turn(dead_turn_of(value)?)),
-        "EnterTurn" => Ok(Asked::Turn(Turn::EnterTurn)),
-        "TaskTurn" => Ok(Asked::Turn(task_turn_of(value)?)),
-        _ => Ok(Asked::Call(call_of(alloc, value, action)?)),
+    match turn_of(value, action) {
+        Some(turn) => Ok(Asked::Turn(turn?)),
+        None => Ok(Asked::Call(call_of(alloc, value, action)?)),
     }
 }
 

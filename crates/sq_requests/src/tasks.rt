@@ -21,7 +21,7 @@ pub struct MoveMembers {
     pub rate: Option<Amount>,
 }
 
-#[tactic(auto, unfolding(crate::specs::Tasks::move_members))]
+#[tactic(auto, using(crate::proofs::MemberLaws::moves), unfolding(crate::specs::Tasks::move_members))]
 fn move_members(value: &Value) -> Result<MoveMembers, Refusal>
     ensures { result ≡ move_members (view value.now) }
 {

@@ -1,4 +1,4 @@
-use Rattle.std.proofs.Common.{rules, refl}
+use Rattle.std.proofs.Common.{rules}
 use Rattle.sq_requests.specs.Actions.{change_of}
 use Rattle.sq_requests.proofs.actions.change_of.Goals as goal
 
@@ -13,7 +13,3 @@ returns-in_err-queue c = rw (← c.in_ok-url.ensures, ← c.in_ok-handle.ensures
 pub returns-in_err-timeout : goal.returns-in_err-timeout
 unfolding change_of
 returns-in_err-timeout c = rw (← c.in_ok-url.ensures, ← c.in_ok-handle.ensures, ← c.in_ok-amount.ensures, ← c.in_ok-queue.ensures.value, ← c.in_err-timeout.ensures) (search rules)
-
-pub returns : goal.returns
-unfolding change_of
-returns c = rw (← c.in_ok-url.ensures, ← c.in_ok-handle.ensures, ← c.in_ok-amount.ensures, ← c.in_ok-queue.ensures.value, ← c.in_ok-timeout.ensures) refl

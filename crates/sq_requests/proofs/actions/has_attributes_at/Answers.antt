@@ -9,11 +9,3 @@ returns-in_err-attributes c = rw (← c.in_err-attributes.ensures) (search rules
 pub returns-in_err-system_attributes : goal.returns-in_err-system_attributes
 unfolding has_attributes_at
 returns-in_err-system_attributes c = rw (← c.in_ok-attributes.ensures, ← c.in_err-system_attributes.ensures) (search rules)
-
-pub returns-then-attributes : goal.returns-then-attributes
-unfolding has_attributes_at
-returns-then-attributes c = rw (← c.in_ok-attributes.ensures, ← c.in_ok-system_attributes.ensures) (search rules)
-
-pub returns-else-attributes : goal.returns-else-attributes
-unfolding has_attributes_at
-returns-else-attributes c = rw (← c.in_ok-attributes.ensures, ← c.in_ok-system_attributes.ensures) (search rules)

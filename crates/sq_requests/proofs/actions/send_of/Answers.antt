@@ -20,7 +20,3 @@ unfolding send_of
 returns-in_err-queue c =
     let refused : c.from_residual-in_err-queue.result ≡ Err c.in_err-queue.field-0.0 = search rules in
     rw refused (reads_refused c.in_err-queue.field-0.0 _ (rw (← c.in_ok-body.ensures, ← c.in_ok-members.ensures, ← c.in_err-queue.ensures) refl))
-
-pub returns : goal.returns
-unfolding send_of
-returns c = rw (← c.in_ok-body.ensures, ← c.in_ok-members.ensures, ← c.in_ok-queue.ensures, c.in_ok-body-2.ensures.text) refl

@@ -7,7 +7,3 @@ unfolding arn_if_at
 returns-in_err-arn c =
     let refused : c.from_residual.result ≡ Err c.in_err-arn.field-0.0 = search rules in
     rw (refused, ← c.in_err-arn.ensures) refl
-
-pub returns : goal.returns
-unfolding arn_if_at
-returns c = rw (← c.in_ok-arn.ensures, c.arn_if.ensures) refl

@@ -1,11 +1,7 @@
-use Rattle.std.proofs.Common.{rules, refl}
+use Rattle.std.proofs.Common.{rules}
 use Rattle.sq_requests.specs.Members.{named_task}
 use Rattle.sq_requests.proofs.members.named_task.Goals as goal
 
 pub returns-in_err-handle : goal.returns-in_err-handle
 unfolding named_task
 returns-in_err-handle c = rw (← c.in_err-handle.ensures) (search rules)
-
-pub returns : goal.returns
-unfolding named_task
-returns c = rw (← c.in_ok-handle.ensures, c.read_task_handle.ensures.value, c.as_bytes.ensures.value) refl

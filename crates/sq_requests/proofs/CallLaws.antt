@@ -1,0 +1,106 @@
+-- What a call asks, by its action.
+use Rattle.std.proofs.Common.{◌≡◌, ℕ, Bool, true, false, List, Option, Some, None, Result, Ok, Err, refl, sym, subst, ◌∙◌}
+use Rattle.std.specs.Prelude.{codes, if◌then◌else◌}
+use Rattle.std.specs.Str.{bytes_eq}
+use Rattle.std.proofs.lemmas.Slice.Eq.{bytes_eq-Decides}
+use Rattle.serde_json.specs.Data.{Data}
+use Rattle.sq_base.specs.declared.refusal.Refusal.{Refusal}
+use Rattle.sq_base.specs.declared.refusal.Refusal.TheVariants.{NoMemory}
+use Rattle.sq_calls.specs.declared.calls.Asked.{Asked}
+use Rattle.sq_calls.specs.declared.calls.Asked.TheVariants as asked
+use Rattle.sq_calls.specs.declared.calls.Call.{Call}
+use Rattle.sq_calls.specs.declared.turns.Turn.{Turn}
+use Rattle.sq_calls.specs.declared.turns.Turn.TheVariants.{EnterTurn}
+use Rattle.sq_policy.specs.Reading.{IsUnrefused, Reads, ◌>>=◌}
+use Rattle.sq_requests.specs.Actions.{send_of}
+use Rattle.sq_requests.specs.Memory.{IsAsked, ReadsAsking}
+use Rattle.sq_requests.specs.Queues.{create_of, create_asks, set_of, set_asks}
+use Rattle.sq_requests.specs.Turns.{dead_turn_of, task_turn_of}
+use Rattle.sq_requests.specs.Requests.{task_call_of, message_call_of, plain_call_of, call_of, call_asks, call_or_turn_of, call_or_turn_asks, turn_of}
+
+pub reads_create : (action : List ℕ) (d : Data) (r : Result Call Refusal) → bytes_eq action (codes "CreateQueue") ≡ true → ReadsAsking (create_asks d) r (create_of d) → ReadsAsking (call_asks action d) r (call_of action d)
+unfolding call_of call_asks
+reads_create action d r is reads = rw is reads
+
+pub reads_set : (action : List ℕ) (d : Data) (r : Result Call Refusal) → bytes_eq action (codes "CreateQueue") ≡ false → bytes_eq action (codes "SetQueueAttributes") ≡ true → ReadsAsking (set_asks d) r (set_of d)
+    → ReadsAsking (call_asks action d) r (call_of action d)
+unfolding call_of call_asks
+reads_set action d r not is reads = rw (not, is) reads
+
+-- a send asks for memory where nothing refuses it
+asked_by : (read : Result Call Refusal) → IsUnrefused read → IsAsked (read >>= λ call. Ok true)
+asked_by (Ok call) h = refl
+asked_by (Err e) h = h
+
+sent : (d : Data) (r : Result Call Refusal) → Reads r (send_of d) → ReadsAsking (call_asks (codes "SendMessage") d) r (call_of (codes "SendMessage") d)
+unfolding call_of call_asks
+sent d (Ok call) reads = reads
+sent d (Err NoMemory) reads = asked_by (send_of d) reads
+sent d (Err e) reads = reads
+
+pub reads_send : (action : List ℕ) (d : Data) (r : Result Call Refusal) → bytes_eq action (codes "SendMessage") ≡ true → Reads r (send_of d) → ReadsAsking (call_asks action d) r (call_of action d)
+reads_send action d r is reads =
+    let same = (bytes_eq-Decides action (codes "SendMessage")).0 is in
+    subst (λ (a : List ℕ). ReadsAsking (call_asks a d) r (call_of a d)) (sym same) (sent d r reads)
+
+plain_reads : (asks : Bool) (r : Result Call Refusal) → ReadsAsking (r >>= λ call. Ok asks) r r
+plain_reads asks (Ok call) = refl
+plain_reads asks (Err NoMemory) = refl
+plain_reads asks (Err e) = refl
+
+pub reads_plain : (action : List ℕ) (d : Data) (r : Result Call Refusal) → bytes_eq action (codes "CreateQueue") ≡ false → bytes_eq action (codes "SetQueueAttributes") ≡ false → bytes_eq action (codes "SendMessage") ≡ false → r ≡ plain_call_of action d
+    → ReadsAsking (call_asks action d) r (call_of action d)
+unfolding call_of call_asks plain_call_of message_call_of task_call_of
+reads_plain action d r create set send is = rw is (rw (create, set, send) (plain_reads false (plain_call_of action d)))
+
+-- ---- a turn, or else a call
+
+-- what a line asks, by the turn that its action names
+abbrev turn_or : Option (Result Turn Refusal) → Result Call Refusal → Result Asked Refusal
+turn_or (Some turn) call = turn >>= λ turn. Ok (asked.Turn turn)
+turn_or None call = call >>= λ call. Ok (asked.Call call)
+
+abbrev asks_or : Option (Result Turn Refusal) → Result Bool Refusal → Result Bool Refusal
+asks_or (Some turn) asks = turn >>= λ turn. Ok false
+asks_or None asks = asks
+
+by_names : (dead enter task : Bool) (d t : Result Turn Refusal) (call : Result Call Refusal)
+    → (if dead then (d >>= λ turn. Ok (asked.Turn turn)) else if enter then Ok (asked.Turn EnterTurn) else if task then (t >>= λ turn. Ok (asked.Turn turn)) else call >>= λ call. Ok (asked.Call call))
+    ≡ turn_or (if dead then Some d else if enter then Some (Ok EnterTurn) else if task then Some t else None) call
+by_names true enter task d t call = refl
+by_names false true task d t call = refl
+by_names false false true d t call = refl
+by_names false false false d t call = refl
+
+asks_by_names : (dead enter task : Bool) (d t : Result Turn Refusal) (asks : Result Bool Refusal)
+    → (if dead then (d >>= λ turn. Ok false) else if enter then Ok false else if task then (t >>= λ turn. Ok false) else asks)
+    ≡ asks_or (if dead then Some d else if enter then Some (Ok EnterTurn) else if task then Some t else None) asks
+asks_by_names true enter task d t asks = refl
+asks_by_names false true task d t asks = refl
+asks_by_names false false true d t asks = refl
+asks_by_names false false false d t asks = refl
+
+by_turn : (action : List ℕ) (d : Data) → call_or_turn_of action d ≡ turn_or (turn_of action d) (call_of action d)
+unfolding call_or_turn_of turn_of
+by_turn action d = by_names (bytes_eq action (codes "DeadTurn")) (bytes_eq action (codes "EnterTurn")) (bytes_eq action (codes "TaskTurn")) (dead_turn_of d) (task_turn_of d) (call_of action d)
+
+asks_by_turn : (action : List ℕ) (d : Data) → call_or_turn_asks action d ≡ asks_or (turn_of action d) (call_asks action d)
+unfolding call_or_turn_asks turn_of
+asks_by_turn action d = asks_by_names (bytes_eq action (codes "DeadTurn")) (bytes_eq action (codes "EnterTurn")) (bytes_eq action (codes "TaskTurn")) (dead_turn_of d) (task_turn_of d) (call_asks action d)
+
+pub asks_a_turn : (action : List ℕ) (d : Data) (turn : Turn) → turn_of action d ≡ Some (Ok turn) → ReadsAsking (call_or_turn_asks action d) (Ok (asked.Turn turn)) (call_or_turn_of action d)
+asks_a_turn action d turn is = by_turn action d ∙ rw is refl
+
+reads_so : {A : Type 0} (asks : Result Bool Refusal) (read : Result A Refusal) (e : Refusal) → asks ≡ Err e → read ≡ Err e → ReadsAsking asks (Err e) read
+reads_so asks read NoMemory none is = rw none refl
+reads_so asks read e none is = is
+
+pub refuses_a_turn : (action : List ℕ) (d : Data) (e : Refusal) → turn_of action d ≡ Some (Err e) → ReadsAsking (call_or_turn_asks action d) (Err e) (call_or_turn_of action d)
+refuses_a_turn action d e is = reads_so _ _ e (asks_by_turn action d ∙ rw is refl) (by_turn action d ∙ rw is refl)
+
+pub asks_a_call : (action : List ℕ) (d : Data) (call : Call) → turn_of action d ≡ None → ReadsAsking (call_asks action d) (Ok call) (call_of action d) → ReadsAsking (call_or_turn_asks action d) (Ok (asked.Call call)) (call_or_turn_of action d)
+asks_a_call action d call none reads = by_turn action d ∙ rw none (rw reads refl)
+
+pub refuses_a_call : (action : List ℕ) (d : Data) (e : Refusal) → turn_of action d ≡ None → ReadsAsking (call_asks action d) (Err e) (call_of action d) → ReadsAsking (call_or_turn_asks action d) (Err e) (call_or_turn_of action d)
+refuses_a_call action d NoMemory none reads = rw (asks_by_turn action d) (rw none reads)
+refuses_a_call action d e none reads = by_turn action d ∙ rw none (rw reads refl)
