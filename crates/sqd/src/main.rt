@@ -4,11 +4,8 @@
 ghost use Rattle.std.specs.Prelude.{◌≤◌, IfOk};
 ghost use Rattle.std.specs.Process.{exit_status};
 
-mod flags;
-mod program;
-
-use crate::program::{no_memory, no_text, run};
 use sq_lines::counted::Counted;
+use sq_program::program::{no_memory, no_text, run};
 use std::env;
 use std::io::{self, BufWriter, ErrorKind};
 use std::process::ExitCode;

@@ -1,4 +1,4 @@
-use Rattle.sqd.proofs.EndingLaws.{status_within}
+use Rattle.sq_program.proofs.EndingLaws.{status_within}
 use Rattle.sqd.proofs.run_process.Goals as goal
 
 pub returns : goal.returns

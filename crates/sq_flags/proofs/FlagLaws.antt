@@ -1,0 +1,52 @@
+-- The flags that were found, and the words.
+use Rattle.std.proofs.Common.{◌≡◌, ◌∙◌, ℕ, Bool, Option, Some, None, Result, Ok, Err, IfErr, true, refl, sym, subst, ap, min, codes}
+use Rattle.clap.specs.Words.{Text, is_simple, is_simple_and_free}
+use Rattle.clap.proofs.OnLiterals.{clap_on_literals}
+use Rattle.sq_merge.specs.declared.options.Options.{Options}
+use Rattle.sq_merge.specs.declared.options.TheConstants.{MOST_HOMES}
+use Rattle.sq_flags.specs.CommandLine.{program_app}
+use Rattle.sq_flags.specs.Flags.{IsNumberOf, IsFlagOf, AreOptionsOf}
+
+pub program_is_simple : is_simple program_app ≡ true
+unfolding clap_on_literals
+program_is_simple = refl
+
+pub program_is_free : is_simple_and_free program_app ≡ true
+unfolding clap_on_literals
+program_is_free = refl
+
+same_number : (a b : Option Text) (least greatest default n : ℕ) → a ≡ b → IsNumberOf a least greatest default n → IsNumberOf b least greatest default n
+same_number a b least greatest default n e h = subst (λ (g : Option Text). IsNumberOf g least greatest default n) e h
+
+-- two ways to tell the text of a flag
+pub same_options : (f g : Text → Option Text) (o : Options) → ((name : Text) → f name ≡ g name) → AreOptionsOf f o → AreOptionsOf g o
+same_options f g o e h = record {
+  homes = same_number _ _ _ _ _ _ (e _) h.homes;
+  sample = same_number _ _ _ _ _ _ (e _) h.sample;
+  queues = same_number _ _ _ _ _ _ (e _) h.queues;
+  rows = same_number _ _ _ _ _ _ (e _) h.rows;
+  flights = same_number _ _ _ _ _ _ (e _) h.flights;
+  transit = same_number _ _ _ _ _ _ (e _) h.transit;
+  seed = same_number _ _ _ _ _ _ (e _) h.seed;
+}
+
+-- a text gives one number at most
+pub one_number : (of_flag : Option Text) (least greatest default n m : ℕ) → IsNumberOf of_flag least greatest default n → IsNumberOf of_flag least greatest default m → n ≡ m
+one_number None least greatest default n m a b = a.when_unset refl ∙ sym (b.when_unset refl)
+one_number (Some text) least greatest default n m a b = (a.when_set text refl).value ∙ sym ((b.when_set text refl).value)
+
+-- the sample has its default from the homes that are asked for
+pub no_sample : (text_of : Text → Option Text) (homes default : ℕ) → IsNumberOf (text_of (codes "homes")) 1 MOST_HOMES 4 homes → default ≡ min homes 2
+    → ((n : ℕ) → ¬ IsNumberOf (text_of (codes "sample")) 1 MOST_HOMES default n) → (o : Options) → ¬ AreOptionsOf text_of o
+no_sample text_of homes default found is refused o h =
+    let same : min o.homes 2 ≡ default = ap (λ x. min x 2) (one_number _ _ _ _ _ _ h.homes found) ∙ sym is in
+    refused o.sample (subst (λ (d : ℕ). IsNumberOf (text_of (codes "sample")) 1 MOST_HOMES d o.sample) same h.sample)
+
+-- two ways to tell the text of a flag without a value
+pub same_flag : (a b : Option Text) (is_set : Bool) → a ≡ b → IsFlagOf a is_set → IsFlagOf b is_set
+same_flag a b is_set e h = subst (λ (g : Option Text). IsFlagOf g is_set) e h
+
+-- no options at all are those of the flags
+pub no_options : {T E : Type 0} (text_of : Text → Option Text) → ((o : Options) → ¬ AreOptionsOf text_of o) → (r : Result T E) → IfErr r (λ _. (o : Options) → ¬ AreOptionsOf text_of o)
+no_options text_of none (Ok x) = tt
+no_options text_of none (Err e) = none

@@ -1,0 +1,130 @@
+-- What the words ask for, from what clap found in them.
+use Rattle.std.proofs.Common.{◌≡◌, ◌∙◌, ◌⊎◌, List, [], ◌∷◌, Option, Some, None, Result, Ok, Err, true, sym, subst, ap, ap₂, option_map, unwrap_or, codes, inl, inr}
+use Rattle.std.specs.Result.{IsErrAnd}
+use Rattle.clap.specs.Words.{App, HasKind, HasMatchesOf, IsAmong, Kinds, Row, Text, app_of, fault_of, first_of, first_value, found_of, is_simple, is_simple_and_free, kind_of, rows_of, subcommand_name_of, subcommand_of, subcommand_rows, subcommand_rows_of}
+use Rattle.clap.specs.declared.builder.command.Command.{Command}
+use Rattle.clap.specs.declared.error.Error.{Error}
+use Rattle.clap.specs.declared.error.kind.ErrorKind.{ErrorKind}
+use Rattle.clap.specs.declared.error.kind.ErrorKind.TheVariants.{DisplayHelp, DisplayVersion, OutOfMemory}
+use Rattle.clap.specs.declared.parser.matches.ArgMatches.{ArgMatches}
+use Rattle.clap.specs.declared.parser.matches.ArgMatches.TheViews.{out-ArgMatches, out-SubCommand}
+use Rattle.clap.specs.declared.parser.matches.SubCommand.{SubCommand}
+use Rattle.std.specs.Box.{box_value}
+use Rattle.std.specs.Prelude.{Box}
+use Rattle.clap.proofs.WalkLemmas.{first_value-rows}
+use Rattle.sq_merge.specs.declared.options.Options.{Options}
+use Rattle.sq_flags.specs.CommandLine.{program_app}
+use Rattle.sq_flags.specs.Flags.{AreOptionsOf, AsksForScript, ParsesTo, IsFlagOf, IsKindFor, IsMistake, IsRefusalOf}
+use Rattle.sq_flags.specs.declared.flags.ScriptMode.{ScriptMode}
+use Rattle.sq_flags.specs.declared.flags.Mode.{Mode}
+use Rattle.sq_flags.specs.declared.flags.Refused.{Refused}
+use Rattle.sq_flags.specs.declared.flags.Refused.TheVariants as refused
+use Rattle.sq_flags.proofs.FlagLaws.{program_is_free, program_is_simple, same_flag, same_options}
+
+-- ---- what clap says of the program's command
+
+pub no_fault : (command : Command) (words : List Text) → app_of command ≡ program_app
+    → (is_simple_and_free (app_of command) ≡ true → fault_of (app_of command) words ≡ []) → fault_of program_app words ≡ []
+no_fault command words e h = subst (λ (a : App). fault_of a words ≡ []) e (h (ap is_simple_and_free e ∙ program_is_free))
+
+pub a_fault : (command : Command) (words : List Text) (error : Error) → app_of command ≡ program_app
+    → (is_simple_and_free (app_of command) ≡ true → HasKind (fault_of (app_of command) words) error) → HasKind (fault_of program_app words) error
+a_fault command words error e h = subst (λ (a : App). HasKind (fault_of a words) error) e (h (ap is_simple_and_free e ∙ program_is_free))
+
+pub entered : (command : Command) (words : List Text) (m : ArgMatches) → app_of command ≡ program_app → HasMatchesOf (app_of command) words m
+    → subcommand_rows_of m ≡ subcommand_of program_app words
+entered command words m e h = (h (ap is_simple e ∙ program_is_simple)).1 ∙ ap (λ (a : App). subcommand_of a words) e
+
+-- ---- the subcommand
+
+some_same : {X : Type 0} (a b : X) → Some a ≡ Some b → a ≡ b
+some_same {X} a b e = ap (λ (o : Option X). unwrap_or o a) e
+
+none≢some : {X : Type 0} {x : X} → None ≡ Some x → ⊥
+none≢some {X} e = absurd (cc)
+
+module _ {Z : Type 0} where
+  named : (sub : Option (Box SubCommand Z)) (name : Text) (rows : List Row) → option_map (λ b. (out-SubCommand (box_value b)).name.now) sub ≡ Some name
+      → option_map (λ p. p.1) (subcommand_rows sub) ≡ Some rows → subcommand_rows sub ≡ Some (name, rows)
+  named None name rows n r = absurd (none≢some n)
+  named (Some b) name rows n r = ap₂ (λ (x : Text) (y : List Row). Some (x, y)) (some_same _ _ n) (some_same _ _ r)
+
+  unnamed : (sub : Option (Box SubCommand Z)) (name : Text) (rows : List Row) → subcommand_rows sub ≡ Some (name, rows)
+      → option_map (λ b. (out-SubCommand (box_value b)).name.now) sub ≡ Some name
+  unnamed None name rows e = absurd (none≢some e)
+  unnamed (Some b) name rows e = ap (option_map (λ p. p.0)) e
+
+-- clap found the subcommand with its flags
+pub parses : (words : List Text) (m found : ArgMatches) (mode : ScriptMode) → fault_of program_app words ≡ [] → subcommand_rows_of m ≡ subcommand_of program_app words
+    → subcommand_name_of m ≡ Some (codes "script") → option_map (λ p. p.1) (subcommand_rows_of m) ≡ Some (rows_of (found_of found))
+    → AreOptionsOf (first_value (found_of found)) mode.options → IsFlagOf (first_value (found_of found) (codes "audit")) mode.audit
+    → AsksForScript words mode
+parses words m found mode taken walked name rows options audit = record {
+  rows = rows_of (found_of found);
+  taken = taken;
+  named = sym walked ∙ named (out-ArgMatches m).subcommand (codes "script") (rows_of (found_of found)) name rows;
+  options = same_options (first_value (found_of found)) (λ id. first_of id (rows_of (found_of found))) mode.options (first_value-rows (found_of found)) options;
+  audit = same_flag _ _ mode.audit (first_value-rows (found_of found) (codes "audit")) audit;
+}
+
+-- clap found no such subcommand
+pub asks_for_no_script : (words : List Text) (m : ArgMatches) → subcommand_rows_of m ≡ subcommand_of program_app words
+    → (subcommand_name_of m ≡ Some (codes "script") → ⊥) → (mode : ScriptMode) → ¬ AsksForScript words mode
+asks_for_no_script words m walked other mode h = other (unnamed (out-ArgMatches m).subcommand (codes "script") h.rows (walked ∙ h.named))
+
+-- its flags give no options
+pub asks_for_no_options : (words : List Text) (m found : ArgMatches) → subcommand_rows_of m ≡ subcommand_of program_app words
+    → option_map (λ p. p.1) (subcommand_rows_of m) ≡ Some (rows_of (found_of found))
+    → ((o : Options) → ¬ AreOptionsOf (first_value (found_of found)) o) → (mode : ScriptMode) → ¬ AsksForScript words mode
+asks_for_no_options words m found walked rows none mode h =
+    let same : h.rows ≡ rows_of (found_of found) = some_same _ _ (sym (ap (option_map (λ p. p.1)) (walked ∙ h.named)) ∙ rows) in
+    let o = mode.options in
+    let picked : AreOptionsOf (λ id. first_of id (rows_of (found_of found))) o = subst (λ (r : List Row). AreOptionsOf (λ id. first_of id r) o) same h.options in
+    none o (same_options (λ id. first_of id (rows_of (found_of found))) (first_value (found_of found)) o (λ id. sym (first_value-rows (found_of found) id)) picked)
+
+-- ---- refusals
+
+no_kind : (kinds : Kinds) (kind : ErrorKind) → IsAmong kind kinds → kinds ≡ [] → ⊥
+no_kind kinds kind h e = subst (λ (ks : Kinds). IsAmong kind ks) e h
+
+found_kind : (kinds : Kinds) (kind : ErrorKind) → IsAmong kind kinds → IsKindFor kinds kind
+found_kind [] kind h = tt
+found_kind (k ∷ ks) kind h = h
+
+no_text : (kind : ErrorKind) → (kind ≡ DisplayHelp) ⊎ (kind ≡ DisplayVersion) → kind ≡ OutOfMemory → ⊥
+no_text kind (inl help) memory = absurd (cc)
+no_text kind (inr version) memory = absurd (cc)
+
+refuses_for_memory : (words : List Text) (e : Refused) → e ≡ refused.NoMemory → ParsesTo words (Err e)
+refuses_for_memory words e is = subst (λ (r : Refused). ParsesTo words (Err r)) (sym is) tt
+
+refuses_for_clap : (words : List Text) (error : Error) (e : Refused) → HasKind (fault_of program_app words) error → IsRefusalOf error e → ParsesTo words (Err e)
+refuses_for_clap words error refused.NoMemory h is = tt
+refuses_for_clap words error (refused.Text e) h is = rw is.0 (elim h [
+  | inl memory ↦ absurd (no_text (kind_of error) is.1 memory)
+  | inr kind ↦ (is.1, kind)
+])
+refuses_for_clap words error (refused.Mistake e) h is = rw is.0 (elim h [
+  | inl memory ↦ absurd (is.1 memory)
+  | inr kind ↦ (λ mode parsed. no_kind _ _ kind parsed.taken, is.2, found_kind _ _ kind)
+])
+
+pub refuses_for_own : (words : List Text) (error : Error) (e : Refused) → fault_of program_app words ≡ [] → IsMistake (kind_of error)
+    → ((mode : ScriptMode) → ¬ AsksForScript words mode) → IsRefusalOf error e → ParsesTo words (Err e)
+refuses_for_own words error refused.NoMemory taken mistake none is = tt
+refuses_for_own words error (refused.Text e) taken mistake none is = elim is.1 [
+  | inl help ↦ absurd (mistake.0 help)
+  | inr version ↦ absurd (mistake.1 version)
+]
+refuses_for_own words error (refused.Mistake e) taken mistake none is = rw is.0 (none, is.2, subst (λ (ks : Kinds). IsKindFor ks (kind_of error)) (sym taken) tt)
+
+-- an error that was passed up
+passed_up : (words : List Text) (P : Refused → Type 0) → ((e : Refused) → P e → ParsesTo words (Err e)) → (r : Result Mode Refused) → IsErrAnd r P → ParsesTo words r
+passed_up words P f (Ok mode) h = absurd h
+passed_up words P f (Err e) h = f e h
+
+pub passed_up_for_memory : (words : List Text) (r : Result Mode Refused) → IsErrAnd r (λ e. e ≡ refused.NoMemory) → ParsesTo words r
+passed_up_for_memory words r h = passed_up words (λ e. e ≡ refused.NoMemory) (refuses_for_memory words) r h
+
+pub passed_up_for_clap : (words : List Text) (error : Error) (r : Result Mode Refused) → HasKind (fault_of program_app words) error → IsErrAnd r (IsRefusalOf error) → ParsesTo words r
+passed_up_for_clap words error r fails h = passed_up words (IsRefusalOf error) (λ e. refuses_for_clap words error e fails) r h

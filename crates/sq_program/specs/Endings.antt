@@ -1,0 +1,135 @@
+-- How the program ends, by its exit status, over what its words ask for and what becomes of its input and its output.
+use Rattle.std.specs.Prelude.{ℕ, zero, suc, Bool, true, false, List, [], ◌∷◌, ◌++◌, ◌≡◌, ◌⊎◌, take, Option, IfSome, Result, Ok, Err}
+use Rattle.std.specs.Io.KnownBytes.{Appends}
+use Rattle.clap.specs.Words.{Text}
+use Rattle.sq_lines.specs.Lines.{lines_left, OneMore}
+use Rattle.sq_lines.specs.declared.counted.Counted.{Counted}
+use Rattle.sq_merge.specs.Openings.{new_world, IsServed}
+use Rattle.sq_merge.specs.WorldValue.{WorldValue}
+use Rattle.sq_merge.specs.declared.options.Options.{Options}
+use Rattle.sq_wire.specs.Audits.{IsAudit}
+use Rattle.sq_wire.specs.Runs.{Writes, StopsAt, IsOfCall}
+use Rattle.sq_wire.specs.Scripts.{ScriptValue, script_at}
+use Rattle.sq_wire.specs.declared.run.ServeFault.{ServeFault}
+use Rattle.sq_flags.specs.Flags.{ParsesTo}
+use Rattle.sq_flags.specs.declared.flags.Mode.{Mode}
+use Rattle.sq_flags.specs.declared.flags.Mode.TheVariants.{Script}
+use Rattle.sq_flags.specs.declared.flags.Refused.{Refused}
+use Rattle.sq_flags.specs.declared.flags.Refused.TheVariants as refused
+use Rattle.sq_program.specs.declared.program.TheConstants.{TITLE}
+
+-- A stream before and after: what tells its bytes, those to come of an input and those that went out of an output, and its
+-- value at both moments, which counts its failed calls.
+pub record Stream (T : Type 0) : Type 0 where
+  pub bytes : T → Option (List ℕ)
+  pub before : Counted T
+  pub after : Counted T
+
+abbrev pub stream : {T : Type 0} → (T → Option (List ℕ)) → Counted T → Counted T → Stream T
+stream bytes before after = record { bytes = bytes; before = before; after = after }
+
+-- it is as it was
+abbrev pub IsUntouched : {T : Type 0} → Stream T → Type 0
+IsUntouched s = s.after ≡ s.before
+
+-- none of its calls failed
+abbrev pub HasNoFault : {T : Type 0} → Stream T → Type 0
+HasNoFault s = s.after.failed ≡ s.before.failed
+
+-- one of its calls failed
+abbrev pub HasOneFault : {T : Type 0} → Stream T → Type 0
+HasOneFault s = OneMore s.before.failed s.after.failed
+
+-- these bytes went out, and no others
+abbrev pub PutsOut : {W : Type 0} → Stream W → List ℕ → Type 0
+PutsOut output text = Appends (output.bytes output.before.inner) (output.bytes output.after.inner) text
+
+-- the lines of an input, where they are known
+abbrev pub lines_in : {R : Type 0} → Stream R → Option (List (List ℕ))
+lines_in input = lines_left [] (input.bytes input.before.inner)
+
+-- a text of this kind went out
+abbrev pub WrittenWhole : {W : Type 0} → (List ℕ → Type 0) → Stream W → Type 0
+WrittenWhole IsText output = HasNoFault output × ((text : List ℕ) × IsText text × PutsOut output text)
+
+-- there was no memory for such a text and nothing went out, or a call failed and a front of it did
+abbrev pub WrittenInPart : {W : Type 0} → (List ℕ → Type 0) → Stream W → Type 0
+WrittenInPart IsText output = IsUntouched output ⊎ (HasOneFault output × ((text : List ℕ) × (part : ℕ) × IsText text × PutsOut output (take part text)))
+
+-- by the status, such a text was shown
+abbrev pub EndsWritten : {W : Type 0} → (List ℕ → Type 0) → Stream W → ℕ → Type 0
+EndsWritten IsText output zero = WrittenWhole IsText output
+EndsWritten IsText output (suc zero) = WrittenInPart IsText output
+EndsWritten IsText output (suc (suc n)) = ⊥
+
+-- the program's title, and what else clap tells
+abbrev pub IsHelp : List ℕ → Type 0
+IsHelp text = (answered : List ℕ) × (text ≡ TITLE.now ++ answered)
+
+-- the audit of a world, and a line feed
+abbrev pub IsAuditLine : WorldValue → List ℕ → Type 0
+IsAuditLine world text = (audit : List ℕ) × IsAudit world audit × (text ≡ audit ++ 10 ∷ [])
+
+-- after the replies comes the audit where it was asked for, and else nothing
+abbrev pub AuditWritten : {W : Type 0} → Bool → WorldValue → Stream W → Type 0
+AuditWritten true world output = WrittenWhole (IsAuditLine world) output
+AuditWritten false world output = IsUntouched output
+
+-- or it was asked for, and was not written whole
+abbrev pub AuditCut : {W : Type 0} → Bool → WorldValue → Stream W → Type 0
+AuditCut true world output = WrittenInPart (IsAuditLine world) output
+AuditCut false world output = ⊥
+
+-- each line, where they are known, has its reply, in order, of a world that began without queues and is this one now
+abbrev pub HasReplies : Options → Option (List (List ℕ)) → Option (List ℕ) → Option (List ℕ) → WorldValue → Type 0
+HasReplies options all old new world = IfSome all (λ lines. (clock : ℕ) × Writes old new (script_at (new_world options) 0) lines (script_at world clock))
+
+-- all lines have their replies, and no call failed up to there; then the output went on so
+abbrev pub AnswersAll : {R W : Type 0} → Options → Stream R → Stream W → (WorldValue → Stream W → Type 0) → Type 0
+AnswersAll {R} {W} options input output GoesOn =
+    (world : WorldValue) × (mid : Counted W) × HasNoFault input × HasNoFault (stream output.bytes output.before mid)
+    × HasReplies options (lines_in input) (output.bytes output.before.inner) (output.bytes mid.inner) world
+    × GoesOn world (stream output.bytes mid output.after)
+
+-- the lines before a fault have their replies, and the fault is of a call that failed, or of none
+abbrev pub StopsEarly : {R W : Type 0} → Options → Stream R → Stream W → Type 0
+StopsEarly options input output =
+    (fault : ServeFault) × IsOfCall fault input.before.failed input.after.failed output.before.failed output.after.failed × IfSome (lines_in input) (λ lines. (after : ScriptValue)
+    × StopsAt fault lines (input.bytes input.after.inner) (output.bytes output.before.inner) (output.bytes output.after.inner) (script_at (new_world options) 0) after)
+
+-- Status 0: what was asked for is done. A script has served options, a reply to each line, and its audit where one was asked
+-- for; a text was shown whole, and nothing was read.
+abbrev pub EndsWell : {R W : Type 0} → Result Mode Refused → Stream R → Stream W → Type 0
+EndsWell (Ok (Script mode)) input output = IsServed mode.options × AnswersAll mode.options input output (AuditWritten mode.audit)
+EndsWell (Err (refused.Text error)) input output = IsUntouched input × WrittenWhole IsHelp output
+EndsWell (Err (refused.Mistake error)) input output = ⊥
+EndsWell (Err refused.NoMemory) input output = ⊥
+
+-- Status 1: a fault. A script has served options, and there was no memory to begin it, or it stopped at a line, or its audit
+-- was cut short; a text was shown in part, and nothing was read; or there was no memory to see what the words ask for.
+abbrev pub EndsByFault : {R W : Type 0} → Result Mode Refused → Stream R → Stream W → Type 0
+EndsByFault (Ok (Script mode)) input output =
+    IsServed mode.options × ((IsUntouched input × IsUntouched output) ⊎ (StopsEarly mode.options input output ⊎ AnswersAll mode.options input output (AuditCut mode.audit)))
+EndsByFault (Err (refused.Text error)) input output = IsUntouched input × WrittenInPart IsHelp output
+EndsByFault (Err (refused.Mistake error)) input output = ⊥
+EndsByFault (Err refused.NoMemory) input output = IsUntouched input × IsUntouched output
+
+-- Status 2: what was asked for cannot be done, since the options are not served or the words are mistaken; nothing was touched.
+abbrev pub EndsRefused : {R W : Type 0} → Result Mode Refused → Stream R → Stream W → Type 0
+EndsRefused (Ok (Script mode)) input output = (¬ IsServed mode.options) × IsUntouched input × IsUntouched output
+EndsRefused (Err (refused.Text error)) input output = ⊥
+EndsRefused (Err (refused.Mistake error)) input output = IsUntouched input × IsUntouched output
+EndsRefused (Err refused.NoMemory) input output = ⊥
+
+-- no other status is there
+abbrev pub Ends : {R W : Type 0} → Result Mode Refused → Stream R → Stream W → ℕ → Type 0
+Ends parsed input output zero = EndsWell parsed input output
+Ends parsed input output (suc zero) = EndsByFault parsed input output
+Ends parsed input output (suc (suc zero)) = EndsRefused parsed input output
+Ends parsed input output (suc (suc (suc n))) = ⊥
+
+-- the words ask for something, and the program ends as is right for it
+pub record EndsFor {R W : Type 0} (words : List Text) (input : Stream R) (output : Stream W) (status : ℕ) : Type 0 where
+  pub parsed : Result Mode Refused
+  pub parses : ParsesTo words parsed
+  pub ends : Ends parsed input output status

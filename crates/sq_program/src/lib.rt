@@ -1,0 +1,4 @@
+//! The program, but for the process that it runs in.
+#![tactic(auto)]
+
+pub mod program;

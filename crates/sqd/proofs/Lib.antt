@@ -1,3 +1,0 @@
-pub mod EndingLaws
-pub mod FlagLaws
-pub mod ModeLaws

@@ -1,4 +1,0 @@
-use Rattle.sqd.proofs.program.run.Goals as goal
-
-pub returns : goal.returns
-returns g c = record { parsed = c.flags-parsed.result; parses = c.flags-parsed.ensures; ends = c.carry_out.ensures }

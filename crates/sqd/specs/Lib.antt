@@ -1,4 +1,0 @@
-pub mod CommandLine
-pub mod Endings
-pub mod Faults
-pub mod Flags
