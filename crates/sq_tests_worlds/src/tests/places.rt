@@ -1,11 +1,12 @@
-//! Where messages are after the events of a home, and the texts of that.
-use super::setup::{Answers, Ask, Line, first_wrong, id, options, stamp};
+//! Where a message is after some steps of a home, and the texts of that.
+use super::setup::{Line, make, options, play, world};
 use sq_audit::merge::merge;
 use sq_base::stamp::Stamp;
 use sq_merge::world::World;
 use sq_model::place::Place;
 use sq_places::message_pass::place_of;
-use sq_replies::text::Text;
+use sq_tests_homes::asks::{Answers, Ask};
+use sq_tests_values::setup::{id, stamp};
 use sq_wire::audit::{audit_world, place_name, stamp_text};
 use std::alloc::Global;
 use std::process::Abort;
@@ -13,9 +14,8 @@ use std::process::Abort;
 // Both messages are looked for, and the first is deleted; the second is looked for again, and not deleted by the receipt
 // of its first receive. A third is sent. They are counted 1 ms before the second expires, and purged when it does; then
 // a fourth is sent, and the home closed.
-fn lines() -> [Line; 13] {
+fn lines() -> [Line; 12] {
     [
-        (0, 0, 0, Ask::Create, Answers::Made(1)),
         (0, 0, 0, Ask::Open, Answers::Done),
         (0, 1000, 0, Ask::Send(None), Answers::Sent(0, 0)),
         (0, 1000, 0, Ask::Send(None), Answers::Sent(1, 1)),
@@ -31,52 +31,53 @@ fn lines() -> [Line; 13] {
     ]
 }
 
-// A world after so many of the lines, each of which is answered as it says.
+// A world after so many of the lines.
 fn lived(rt: &impl Abort, alloc: Global, count: usize) -> World {
-    let mut world = World::new(alloc, options(1, 10, 10)).expect(rt, "memory");
+    let mut world = world(rt, alloc, options(1, 10, 10));
+    assert!(rt; make(alloc, &mut world, 0, 0, "q") == Answers::Number(1));
     for line in lines().iter().take(count) {
-        assert_eq!(rt; first_wrong(alloc, &mut world, &[*line]), None);
+        play(rt, alloc, &mut world, &[*line]);
     }
     world
 }
 
-// Where a message is after so many of the lines.
-fn place(rt: &impl Abort, alloc: Global, count: usize, serial: u64) -> Option<Place> {
+// The word for where a message is after so many of the lines.
+fn place(rt: &impl Abort, alloc: Global, count: usize, serial: u64) -> &'static str {
     let parts = lived(rt, alloc, count).parts();
     let run = merge(alloc, &parts).expect(rt, "one run");
-    place_of(&run, &id(serial))
+    match place_of(&run, &id(serial)) {
+        Some(place) => place_name(place),
+        None => "nowhere",
+    }
 }
 
 #[test]
 fn places_are_those_of_the_events(rt: HostRuntime) {
     for (count, serial, want) in [
-        (2, 0, None),
-        (3, 0, Some(Place::InHome)),
-        (3, 1, None),
-        (5, 0, Some(Place::InHome)),
-        (6, 0, Some(Place::Deleted)),
-        (8, 1, Some(Place::InHome)),
-        (10, 1, Some(Place::InHome)),
-        (11, 0, Some(Place::Deleted)),
-        (11, 1, Some(Place::Expired)),
-        (11, 2, Some(Place::Purged)),
-        (11, 3, None),
-        (13, 3, Some(Place::ClosedAway)),
+        (1, 0, "nowhere"),
+        (2, 0, "home"),
+        (2, 1, "nowhere"),
+        (4, 0, "home"),
+        (5, 0, "deleted"),
+        (7, 1, "home"),
+        (9, 1, "home"),
+        (10, 0, "deleted"),
+        (10, 1, "expired"),
+        (10, 2, "purged"),
+        (10, 3, "nowhere"),
+        (12, 3, "closed"),
     ] {
         let place = place(&rt, rt.alloc(), count, serial);
         assert_eq!(rt; place, want, "{serial} after {count}");
     }
 }
 
-fn audited(rt: &impl Abort, alloc: Global) -> Text {
-    audit_world(alloc, lived(rt, alloc, 13)).expect(rt, "memory")
-}
-
 #[test]
 fn audits_have_their_words(rt: HostRuntime) {
     let want =
         r#"{"Merged":["0.1","0.2","1000.0","1000.1","2000.0","3000.0","32000.0","32000.1","33000.0","345600999.0","345601000.0","345601000.1","345601000.2"],"Places":[["00000000-0001-8000-8000-000000000000","deleted"],["00000000-0001-8000-8000-000000000001","expired"],["00000000-0001-8000-8000-000000000002","purged"],["00000000-0001-8000-8000-000000000003","closed"]]}"#;
-    assert_eq!(rt; audited(&rt, rt.alloc()).as_bytes(), want.as_bytes());
+    let audited = audit_world(rt.alloc(), lived(&rt, rt.alloc(), 12)).expect(&rt, "memory");
+    assert!(rt; audited.as_bytes() == want.as_bytes());
     for (place, want) in [
         (Place::InHome, "home"),
         (Place::InTransit, "transit"),

@@ -1,12 +1,14 @@
 //! Steps of several actors at several homes, and the one order of it all.
-use super::setup::{Answers, Ask, CLOCK_END, Line, first_wrong, home, options, played, step};
+use super::setup::{Line, make, options, play, world};
 use sq_audit::merge::merge;
 use sq_audit::parts::Parts;
 use sq_audit::run::Run;
 use sq_audit::tagged::Tagged;
 use sq_base::refusal::Refusal;
 use sq_merge::world::World;
-use sq_steps::act::Step;
+use sq_steps::act::{Act, Step};
+use sq_tests_homes::asks::{Answers, Ask, home_act};
+use sq_tests_values::setup::{CLOCK_END, home};
 use std::alloc::Global;
 use std::process::Abort;
 
@@ -33,10 +35,11 @@ fn order_of(rt: &impl Abort, alloc: Global, run: &Run<'_>) -> String {
     order
 }
 
-// Does the lines of a script, each of which is answered as it says, and leaves events in this order.
-fn leave(rt: &impl Abort, alloc: Global, lines: &[Line], order: &str) {
-    let mut world = World::new(alloc, options(2, 10, 16)).expect(rt, "memory");
-    assert_eq!(rt; first_wrong(alloc, &mut world, lines), None);
+// Makes a queue at this moment, and does the steps of a script, which leave events in this order.
+fn leave(rt: &impl Abort, alloc: Global, moment: u64, lines: &[Line], order: &str) {
+    let mut world = world(rt, alloc, options(2, 10, 16));
+    assert!(rt; make(alloc, &mut world, 0, moment, "q") == Answers::Number(1));
+    play(rt, alloc, &mut world, lines);
     let parts = world.parts();
     let run = merge(alloc, &parts).expect(rt, "one run");
     assert_eq!(rt; order_of(rt, alloc, &run).as_str(), order);
@@ -50,7 +53,6 @@ fn steps_of_three_actors_have_one_order(rt: HostRuntime) {
     let no_such_home = Answers::Refused(Refusal::QueueDoesNotExist);
     let late = Answers::Refused(Refusal::ClockRange);
     let lines = [
-        (0, 0, 0, Ask::Create, Answers::Made(1)),
         (0, 0, 0, Ask::Open, Answers::Done),
         (0, 0, 1, Ask::Open, Answers::Done),
         (5, 0, 2, Ask::Look(None), no_such_home),
@@ -62,14 +64,13 @@ fn steps_of_three_actors_have_one_order(rt: HostRuntime) {
         (2, 0, 0, Ask::Look(None), nothing),
     ];
     let order = " 0@0.1 1@0.2 1@0.3 2@0.3 2@0.4 1@0.5 2@0.5";
-    leave(&rt, rt.alloc(), &lines, order);
+    leave(&rt, rt.alloc(), 0, &lines, order);
 }
 
 // Each step is of another actor, so that a stamp follows from its part alone. A message is given where it is.
 #[test]
 fn events_are_listed_by_stamp(rt: HostRuntime) {
     let lines = [
-        (0, 1000, 0, Ask::Create, Answers::Made(1)),
         (1, 1000, 0, Ask::Open, Answers::Done),
         (2, 2000, 0, Ask::Purge, Answers::Done),
         (3, 2000, 0, Ask::Look(None), Answers::GaveAll(0)),
@@ -79,60 +80,66 @@ fn events_are_listed_by_stamp(rt: HostRuntime) {
         (7, 3000, 1, Ask::Look(None), Answers::GaveAll(0)),
     ];
     let order = " 0@1000.0 1@1000.0 2@1000.0 2@1500.0 1@2000.0 2@2000.0 1@2000.1 2@3000.0";
-    leave(&rt, rt.alloc(), &lines, order);
+    leave(&rt, rt.alloc(), 1000, &lines, order);
 }
 
 #[test]
 fn options_out_of_their_ranges_are_refused(rt: HostRuntime) {
     let mut options = options(2, 10, 16);
     options.sample = 3;
-    let refused = Answers::Refused(Refusal::InvalidParameterValue);
-    assert_eq!(rt; played(rt.alloc(), options, &[]), Some((0, refused)));
+    let refused = World::new(rt.alloc(), options).err();
+    assert!(rt; matches!(refused, Some(Refusal::InvalidParameterValue)));
 }
 
-// The stamp that an actor recorded of its step of this number.
-fn recorded(parts: &Parts, actor: u32, place: usize) -> Option<(u64, u64)> {
+// The stamp that an actor recorded of its step of this number; none where there is no such record.
+fn recorded(parts: &Parts, actor: u32, place: usize) -> [u64; 2] {
     for journal in parts.records.as_slice() {
         if journal.actor() == actor {
-            let stamp = journal.records().get(place)?.stamp();
-            return Some((stamp.moment, stamp.count));
+            return match journal.records().get(place) {
+                Some(record) => [record.stamp().moment, record.stamp().count],
+                None => NONE,
+            };
         }
     }
-    None
+    NONE
 }
+
+const NONE: [u64; 2] = [u64::MAX; 2];
 
 fn steps(rt: &impl Abort, alloc: Global, lines: &[(u32, u64, Ask)]) -> Vec<Step> {
     let mut steps = Vec::new(alloc);
     for (actor, number, ask) in lines {
-        let step = step(alloc, *actor, 0, home(*number), *ask).expect(rt, "memory");
+        let act = Act::Home(home(*number), home_act(alloc, *ask).expect(rt, "memory"));
+        let step = Step {
+            actor: *actor,
+            clock: 0,
+            act,
+        };
         steps.push(step).expect(rt, "memory");
     }
     steps
 }
 
+// Whether the actors recorded the steps that were not refused.
+fn are_recorded(parts: &Parts) -> bool {
+    recorded(parts, 1, 0) == [0, 1]
+        && recorded(parts, 1, 1) == [0, 3]
+        && recorded(parts, 1, 2) == NONE
+        && recorded(parts, 2, 0) == [0, 2]
+        && recorded(parts, 3, 0) == NONE
+}
+
 // The second step is at a home that is not there.
 #[test]
 fn a_run_goes_on_after_a_refusal(rt: HostRuntime) {
-    let steps = steps(
-        &rt,
-        rt.alloc(),
-        &[
-            (1, 0, Ask::Open),
-            (1, 2, Ask::Purge),
-            (2, 0, Ask::Purge),
-            (1, 0, Ask::Purge),
-        ],
-    );
-    let mut world = World::new(rt.alloc(), options(2, 10, 16)).expect(&rt, "memory");
+    let lines = [
+        (1, 0, Ask::Open),
+        (1, 2, Ask::Purge),
+        (2, 0, Ask::Purge),
+        (1, 0, Ask::Purge),
+    ];
+    let steps = steps(&rt, rt.alloc(), &lines);
+    let mut world = world(&rt, rt.alloc(), options(2, 10, 16));
     assert_eq!(rt; world.run(rt.alloc(), &steps), 3);
-    let parts = world.parts();
-    for (actor, place, want) in [
-        (1, 0, Some((0, 1))),
-        (1, 1, Some((0, 3))),
-        (1, 2, None),
-        (2, 0, Some((0, 2))),
-        (3, 0, None),
-    ] {
-        assert_eq!(rt; recorded(&parts, actor, place), want, "{place} of {actor}");
-    }
+    assert!(rt; are_recorded(&world.parts()));
 }

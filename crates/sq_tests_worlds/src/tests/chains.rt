@@ -1,13 +1,12 @@
 //! Runs of steps chosen at random over two chains of dead-letter queues, and what the audit says of them.
 ghost use Rattle.std.specs.Prelude.{◌≤◌};
 
-use super::audits::{Choices, directory_act, fault, taken_out};
-use super::setup::{hello, home, named, receipt};
-use sq_audit::check::AuditFault;
+use super::setup::{Fault, NO_FAULT, enter_at, fault, leave_at, missing, told};
 use sq_audit::merge::merge;
 use sq_audit::parts::Parts;
 use sq_base::ids::{HomeId, HomeNo, QueueNo};
 use sq_base::message_id::MessageId;
+use sq_base::name::QueueName;
 use sq_base::ranges::{MaxMessages, MaxReceives, MaxResults, Rate, Retention, Timeout};
 use sq_base::refusal::Refusal;
 use sq_base::row::Row;
@@ -16,7 +15,7 @@ use sq_calls::turns::{Turn, Turned};
 use sq_merge::options::Options;
 use sq_merge::world::World;
 use sq_model::calls::Receipt;
-use sq_model::directory::{Attributes, DirectoryCall, DirectoryReply, QueueSettings};
+use sq_model::directory::{Attributes, DirectoryCall, DirectoryReply, NamePrefix, QueueSettings};
 use sq_model::item::{ItemNo, TaskNo};
 use sq_model::ledger::LedgerReply;
 use sq_model::place::Place;
@@ -25,6 +24,9 @@ use sq_model::replies::HomeReply;
 use sq_model::task::NamedQueue;
 use sq_places::places::places_of;
 use sq_steps::act::{Act, HomeAct, NextItem, Outcome, SharedAct, Step, TaskAct, TaskStart};
+use sq_tests_homes::asks::Answers;
+use sq_tests_values::choices::Choices;
+use sq_tests_values::setup::{hello, home, named, receipt};
 use std::alloc::Global;
 use std::mem::swap;
 use std::process::Abort;
@@ -94,7 +96,7 @@ struct Seen {
 }
 
 // What becomes of a message by a step that stands in two histories. Of one that has nowhere to go its task fails.
-#[derive(Clone, Copy, PartialEq, Eq, Debug)]
+#[derive(Clone, Copy)]
 enum Moved {
     Left,
     LeftForTask,
@@ -401,9 +403,21 @@ fn queue_act(choices: &mut Choices, place: u64) -> Result<Act, Refusal> {
         0..16 => DirectoryCall::Create(name, attributes_at(place)?),
         16..32 => DirectoryCall::Set(name, attributes_at(place)?),
         32..37 => DirectoryCall::Remove(name),
-        other => return directory_act(name, 1 + other % 6),
+        other => return Ok(other_act(name, other % 6)),
     };
     Ok(Act::Directory(call))
+}
+
+// One of the other steps of the directory, or of its reads.
+fn other_act(name: QueueName, place: u64) -> Act {
+    match place {
+        0 => Act::Resolve(name),
+        1 => Act::Names,
+        2 => Act::Directory(DirectoryCall::Set(name, Attributes::none())),
+        3 => Act::Directory(DirectoryCall::PurgeTicket(name)),
+        4 => Act::Directory(DirectoryCall::Read(name)),
+        _ => Act::Directory(DirectoryCall::List(NamePrefix::Text(name))),
+    }
 }
 
 // At first the queues are made, and their homes opened.
@@ -530,31 +544,28 @@ impl Course {
     }
 }
 
-// The world after so many steps, and what was answered.
-fn ran(rt: &impl Abort, alloc: Global, queues: u32, seed: u64, steps: u64) -> Course {
-    let mut course = Course::new(rt, alloc, queues, seed);
+// Goes on for so many steps.
+fn go(rt: &impl Abort, alloc: Global, course: &mut Course, steps: u64) {
     for number in 0..steps {
         course.go_on(rt, alloc, number);
     }
+}
+
+// The world after so many steps, and what was answered.
+fn ran(rt: &impl Abort, alloc: Global, queues: u32, seed: u64, steps: u64) -> Course {
+    let mut course = Course::new(rt, alloc, queues, seed);
+    go(rt, alloc, &mut course, steps);
     course
 }
 
 // How many messages a home has; 0 where it refuses.
 fn rows_at(alloc: Global, course: &mut Course, at: HomeId) -> usize {
-    let step = Step {
-        actor: 0,
-        clock: 0,
-        act: Act::Home(at, HomeAct::Count),
-    };
-    let Ok(Outcome::Home(HomeReply::Counted(counts))) = course.world.step(alloc, &step) else {
+    let act = Act::Home(at, HomeAct::Count);
+    let Answers::Counts(visible, flying, delayed) = told(alloc, &mut course.world, 0, 0, act) else {
         return 0;
     };
     course.seen.count(0, None);
-    let rows = counts
-        .visible
-        .saturating_add(counts.flying)
-        .saturating_add(counts.delayed);
-    rows as usize
+    visible.saturating_add(flying).saturating_add(delayed) as usize
 }
 
 // How many messages all homes have.
@@ -634,6 +645,12 @@ fn each_message_is_in_one_place_at_any_length(rt: HostRuntime) {
 }
 
 #[test]
+fn a_long_run_is_audited(rt: HostRuntime) {
+    let (found, wanted, _) = audited(&rt, rt.alloc(), 700, 1, 100_000);
+    assert_eq!(rt; found, wanted);
+}
+
+#[test]
 fn each_message_is_in_one_place_at_each_thousandth_step(rt: HostRuntime) {
     for thousands in 1..=12u64 {
         let steps = thousands * 1_000;
@@ -706,7 +723,7 @@ fn parts_of(rt: &impl Abort, alloc: Global, steps: u64) -> Parts {
 }
 
 // Which parts are those after a step, in place of those before it. The list of queues is the same.
-#[derive(Clone, Copy, PartialEq, Eq, Debug)]
+#[derive(Clone, Copy)]
 struct Mix {
     homes: bool,
     ledger: bool,
@@ -722,10 +739,8 @@ fn mix_of(number: u32) -> Mix {
     }
 }
 
-// The parts before a step, some of them in place of which are those after it: what the audit says.
-fn mixed(rt: &impl Abort, alloc: Global, number: u64, mix: Mix) -> Option<AuditFault> {
-    let mut parts = parts_of(rt, alloc, number);
-    let mut later = parts_of(rt, alloc, number.saturating_add(1));
+// Puts some of the later parts in place of these.
+fn mix_in(parts: &mut Parts, later: &mut Parts, mix: Mix) {
     if mix.homes {
         swap(&mut parts.homes, &mut later.homes);
     }
@@ -735,6 +750,13 @@ fn mixed(rt: &impl Abort, alloc: Global, number: u64, mix: Mix) -> Option<AuditF
     if mix.records {
         swap(&mut parts.records, &mut later.records);
     }
+}
+
+// The parts before a step, some of them in place of which are those after it: what the audit says.
+fn mixed(rt: &impl Abort, alloc: Global, number: u64, mix: Mix) -> Fault {
+    let mut parts = parts_of(rt, alloc, number);
+    let mut later = parts_of(rt, alloc, number.saturating_add(1));
+    mix_in(&mut parts, &mut later, mix);
     fault(alloc, &parts)
 }
 
@@ -744,21 +766,21 @@ fn last_of(rt: &impl Abort, alloc: Global, steps: u64) -> Stamp {
 }
 
 // What is wrong where a step stands in one history of two, and its record agrees with the homes.
-fn unmatched(moved: Moved, stamp: &Stamp) -> AuditFault {
+fn unmatched(moved: Moved, stamp: Stamp) -> Fault {
     match moved {
-        Moved::Left | Moved::LeftForTask | Moved::Failed => AuditFault::LeaveUnmatched(*stamp),
-        _ => AuditFault::EnterUnmatched(*stamp),
+        Moved::Left | Moved::LeftForTask | Moved::Failed => leave_at(stamp.moment, stamp.count),
+        _ => enter_at(stamp.moment, stamp.count),
     }
 }
 
 // What the audit is to say of a step at this stamp that some parts have.
-fn wrong(seen: MoveSeen, stamp: &Stamp, mix: Mix) -> Option<AuditFault> {
+fn wrong(seen: MoveSeen, stamp: Stamp, mix: Mix) -> Fault {
     if mix.homes == mix.ledger && mix.homes == mix.records {
-        None
+        NO_FAULT
     } else if mix.homes == mix.records {
-        Some(unmatched(seen.moved, stamp))
+        unmatched(seen.moved, stamp)
     } else {
-        Some(AuditFault::RecordMissing(seen.actor, seen.place))
+        missing(seen.actor, seen.place)
     }
 }
 
@@ -773,39 +795,72 @@ fn a_move_that_is_not_everywhere_is_reported(rt: HostRuntime) {
             let fault = mixed(&rt, rt.alloc(), seen.number, mix);
             assert_eq!(rt;
                 fault,
-                wrong(seen, &stamp, mix),
-                "{mix:?} at {}",
+                wrong(seen, stamp, mix),
+                "{number} at {}",
                 seen.number
             );
         }
     }
 }
 
-// Those of the moves, and some of all others.
+// Takes a record out, and again: whether it was there.
+fn drop_twice(parts: &mut Parts, actor: u32, place: u64) -> [bool; 2] {
+    [
+        parts.drop_record(actor, place),
+        parts.drop_record(actor, place),
+    ]
+}
+
+// What the audit says after so many steps where a record is taken out, which may be there once.
+fn taken_out(
+    rt: &impl Abort,
+    alloc: Global,
+    steps: u64,
+    actor: u32,
+    place: u64,
+    is_there: bool,
+) -> Fault {
+    let mut parts = parts_of(rt, alloc, steps);
+    let was_there = drop_twice(&mut parts, actor, place);
+    assert_eq!(rt; was_there, [is_there, false], "{place} of {actor}");
+    fault(alloc, &parts)
+}
+
+// Takes out a record that is there: the audit says so.
+fn take_out(rt: &impl Abort, alloc: Global, steps: u64, actor: u32, place: u64) {
+    let found = taken_out(rt, alloc, steps, actor, place, true);
+    assert_eq!(rt; found, missing(actor, place), "after {steps}");
+}
+
+// Those of the moves.
 #[test]
-fn a_record_that_is_taken_out_among_moves_is_reported(rt: HostRuntime) {
+fn a_record_of_a_move_that_is_taken_out_is_reported(rt: HostRuntime) {
     for found in first_moves(&rt, rt.alloc(), 10_000) {
         let seen = found.expect(&rt, "a move");
         for steps in [1u64, 200] {
             let steps = seen.number.saturating_add(steps);
-            let parts = parts_of(&rt, rt.alloc(), steps);
-            let answered = taken_out(rt.alloc(), parts, seen.actor, seen.place);
-            let missing = Some(AuditFault::RecordMissing(seen.actor, seen.place));
-            assert_eq!(rt; answered, (true, false, missing), "{}", seen.number);
+            take_out(&rt, rt.alloc(), steps, seen.actor, seen.place);
         }
     }
-    let seen = ran(&rt, rt.alloc(), 64, 1, 1_000).seen;
-    for actor in 0..8u32 {
-        for tenth in 0..10u64 {
-            let place = tenth * 5;
-            let parts = parts_of(&rt, rt.alloc(), 1_000);
-            let answered = taken_out(rt.alloc(), parts, actor, place);
-            let wanted = if place < events_of(&seen, actor) {
-                (true, false, Some(AuditFault::RecordMissing(actor, place)))
-            } else {
-                (false, false, None)
-            };
-            assert_eq!(rt; answered, wanted, "{place} of {actor}");
+}
+
+// Each one after few steps, and each fifth after many. What is not there is not taken out.
+#[test]
+fn each_record_that_is_taken_out_is_reported(rt: HostRuntime) {
+    for (steps, apart) in [(150u64, 1usize), (1_000, 5)] {
+        let seen = ran(&rt, rt.alloc(), 64, 1, steps).seen;
+        let mut taken = 0usize;
+        for actor in 0..8u32 {
+            let count = events_of(&seen, actor);
+            for place in (0..count).step_by(apart) {
+                take_out(&rt, rt.alloc(), steps, actor, place);
+                taken = taken.saturating_add(1);
+            }
+            for place in [count, u64::MAX] {
+                let found = taken_out(&rt, rt.alloc(), steps, actor, place, false);
+                assert_eq!(rt; found, NO_FAULT, "{place} of {actor}");
+            }
         }
+        assert!(rt; 50 < taken, "{taken} after {steps}");
     }
 }

@@ -1,0 +1,6 @@
+//! A module a subject.
+
+mod lines;
+mod samples;
+mod tasks;
+mod values;

@@ -1,0 +1,100 @@
+//! Lines of clients: what no row shows, since it follows from the seed or from a home that is closed.
+use super::setup::{Line, NO_FAULT, answered, fault, is_answered, options, play, world};
+use sq_merge::options::Options;
+use sq_merge::world::World;
+use sq_tests_homes::asks::{Answers, Ask};
+use std::alloc::Global;
+use std::process::Abort;
+
+const MAKE: &str = r#"{"Action":"CreateQueue","QueueName":"q"}"#;
+
+const SEND: &str =
+    r#"{"Action":"SendMessage","QueueUrl":"http://localhost/000000000000/q","MessageBody":"hello"}"#;
+
+const RECEIVE: &str =
+    r#"{"Action":"ReceiveMessage","QueueUrl":"http://localhost/000000000000/q","MaxNumberOfMessages":10}"#;
+
+const MADE: &str = r#"{"QueueUrl":"http://localhost/000000000000/q"}"#;
+
+const NO_QUEUE: &str = r#"{"Error":{"Code":"QueueDoesNotExist","Number":9}}"#;
+
+// The digit of the home in the reply to a send, whose id begins with 00000000-0001-800 and it.
+fn home_in(reply: &[u8]) -> u8 {
+    reply.get(85).copied().unwrap_or(b' ')
+}
+
+// How many messages a reply has, each of which is an object in it.
+fn messages_in(reply: &[u8]) -> usize {
+    let mut objects = 0usize;
+    for byte in reply {
+        if *byte == b'{' {
+            objects = objects.saturating_add(1);
+        }
+    }
+    objects.saturating_sub(1)
+}
+
+// The homes that 40 messages are put at.
+fn sent(rt: &impl Abort, alloc: Global, world: &mut World) -> [u8; 40] {
+    let mut homes = [0; 40];
+    for home in &mut homes {
+        *home = home_in(answered(rt, alloc, world, SEND).inner().written.as_slice());
+    }
+    homes
+}
+
+// How many are given when they are asked for 60 times.
+fn given(rt: &impl Abort, alloc: Global, world: &mut World) -> usize {
+    let mut all = 0usize;
+    for _ in 0..60 {
+        let count = messages_in(
+            answered(rt, alloc, world, RECEIVE)
+                .inner()
+                .written
+                .as_slice(),
+        );
+        all = all.saturating_add(count);
+    }
+    all
+}
+
+// The homes that 40 messages are put at, all of which are given then.
+fn chosen(rt: &impl Abort, alloc: Global, options: Options) -> [u8; 40] {
+    let mut world = world(rt, alloc, options);
+    assert!(rt; is_answered(rt, alloc, &mut world, MAKE, MADE));
+    let homes = sent(rt, alloc, &mut world);
+    assert_eq!(rt; given(rt, alloc, &mut world), 40);
+    homes
+}
+
+// Messages are put at each of the homes, and found although only two of them are asked at a time.
+#[test]
+fn homes_are_chosen_from_the_seed_and_reached(rt: HostRuntime) {
+    let mut seven = options(4, 40, 160);
+    seven.sample = 2;
+    let mut eight = seven;
+    eight.seed = 8;
+    let homes = chosen(&rt, rt.alloc(), seven);
+    for digit in b"0123" {
+        assert!(rt; homes.contains(digit), "no message at {digit}");
+    }
+    assert_eq!(rt; chosen(&rt, rt.alloc(), seven), homes);
+    assert!(rt; chosen(&rt, rt.alloc(), eight) != homes, "{homes:?}");
+}
+
+// Both homes are closed. To make the queue again passes over them, and it all is one run.
+#[test]
+fn closed_homes_are_passed_over_and_refuse(rt: HostRuntime) {
+    let alloc = rt.alloc();
+    let mut world = world(&rt, alloc, options(2, 10, 2));
+    assert!(rt; is_answered(&rt, alloc, &mut world, MAKE, MADE));
+    let lines: [Line; 2] = [
+        (0, 0, 0, Ask::Close, Answers::Done),
+        (0, 0, 1, Ask::Close, Answers::Done),
+    ];
+    play(&rt, alloc, &mut world, &lines);
+    for (line, want) in [(MAKE, MADE), (SEND, NO_QUEUE), (RECEIVE, NO_QUEUE)] {
+        assert!(rt; is_answered(&rt, alloc, &mut world, line, want), "{line}");
+    }
+    assert_eq!(rt; fault(alloc, &world.parts()), NO_FAULT);
+}

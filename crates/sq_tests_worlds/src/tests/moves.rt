@@ -1,0 +1,377 @@
+//! Messages that move: what no row shows of them, and what the audit says where a home and the ledger do not agree.
+use super::setup::{
+    Fault, NO_FAULT, answered, enter_at, fault, is_answered, leave_at, make, options, told, world,
+};
+use sq_audit::parts::Parts;
+use sq_base::ids::{HomeId, HomeNo, QueueNo};
+use sq_base::refusal::Refusal;
+use sq_merge::options::Options;
+use sq_merge::world::World;
+use sq_model::item::ItemNo;
+use sq_steps::act::{Act, SharedAct};
+use sq_tests_homes::asks::Answers;
+use sq_tests_values::setup::CLOCK_END;
+use std::alloc::Global;
+use std::mem::swap;
+use std::process::Abort;
+
+const MAKE_C: &str = r#"{"Action":"CreateQueue","QueueName":"c"}"#;
+
+const MAKE_D: &str = r#"{"Action":"CreateQueue","QueueName":"d"}"#;
+
+const MAKE_E: &str = r#"{"Action":"CreateQueue","QueueName":"e"}"#;
+
+const MAKE_Q_FOR_D: &str =
+    r#"{"Action":"CreateQueue","QueueName":"q","Attributes":{"RedrivePolicy":"{\"deadLetterTargetArn\":\"arn:aws:sqs:local:000000000000:d\",\"maxReceiveCount\":1}"}}"#;
+
+const MAKE_Q_FOR_E: &str =
+    r#"{"Action":"CreateQueue","QueueName":"q","Attributes":{"RedrivePolicy":"{\"deadLetterTargetArn\":\"arn:aws:sqs:local:000000000000:e\",\"maxReceiveCount\":1}"}}"#;
+
+const SEND: &str =
+    r#"{"Action":"SendMessage","Now":1000,"QueueUrl":"http://localhost/000000000000/q","MessageBody":"hello"}"#;
+
+const SEND_OTHER: &str =
+    r#"{"Action":"SendMessage","Now":1000,"QueueUrl":"http://localhost/000000000000/q","MessageBody":"hallo"}"#;
+
+const RECEIVE: &str =
+    r#"{"Action":"ReceiveMessage","Now":1000,"QueueUrl":"http://localhost/000000000000/q","VisibilityTimeout":0}"#;
+
+const RECEIVE_LATER: &str =
+    r#"{"Action":"ReceiveMessage","Now":31000,"QueueUrl":"http://localhost/000000000000/q","VisibilityTimeout":0}"#;
+
+// A line of a client, and what it is answered.
+type Line = (&'static str, &'static str);
+
+const LEAVE: Line = (
+    r#"{"Action":"DeadTurn","Actor":1,"Now":31000,"QueueUrl":"http://localhost/000000000000/q"}"#,
+    r#"{"Turn":"left"}"#,
+);
+
+const LEAVE_LATER: Line = (
+    r#"{"Action":"DeadTurn","Actor":1,"Now":32000,"QueueUrl":"http://localhost/000000000000/q"}"#,
+    r#"{"Turn":"left"}"#,
+);
+
+const LEAVE_BY_ANOTHER: Line = (
+    r#"{"Action":"DeadTurn","Actor":2,"Now":31000,"QueueUrl":"http://localhost/000000000000/q"}"#,
+    r#"{"Turn":"left"}"#,
+);
+
+const ENTER: Line = (
+    r#"{"Action":"EnterTurn","Actor":1,"Now":31000}"#,
+    r#"{"Turn":"entered"}"#,
+);
+
+const ENTER_BY_ANOTHER: Line = (
+    r#"{"Action":"EnterTurn","Actor":2,"Now":31000}"#,
+    r#"{"Turn":"entered"}"#,
+);
+
+const TURN_BACK: Line = (
+    r#"{"Action":"EnterTurn","Actor":1,"Now":31000}"#,
+    r#"{"Turn":"turned"}"#,
+);
+
+const COME_BACK: Line = (
+    r#"{"Action":"EnterTurn","Actor":1,"Now":31000}"#,
+    r#"{"Turn":"back"}"#,
+);
+
+const DROP: Line = (
+    r#"{"Action":"EnterTurn","Actor":1,"Now":31000}"#,
+    r#"{"Turn":"dropped"}"#,
+);
+
+const REMOVE_D: Line = (
+    r#"{"Action":"DeleteQueue","Now":31000,"QueueUrl":"http://localhost/000000000000/d"}"#,
+    r#"{}"#,
+);
+
+const REMOVE_Q: Line = (
+    r#"{"Action":"DeleteQueue","Now":31000,"QueueUrl":"http://localhost/000000000000/q"}"#,
+    r#"{}"#,
+);
+
+// A message of this body is dead at 1000 ms, and found by nobody at 31,000.
+const DEAD: [&str; 5] = [MAKE_D, MAKE_Q_FOR_D, SEND, RECEIVE, RECEIVE_LATER];
+
+const OTHER_DEAD: [&str; 5] = [MAKE_D, MAKE_Q_FOR_D, SEND_OTHER, RECEIVE, RECEIVE_LATER];
+
+// The same with three queues, of which this one is for dead letters.
+const DEAD_FOR_D: [&str; 5] = [MAKE_D, MAKE_E, MAKE_Q_FOR_D, SEND, RECEIVE];
+
+const DEAD_FOR_E: [&str; 5] = [MAKE_D, MAKE_E, MAKE_Q_FOR_E, SEND, RECEIVE];
+
+// Four queues of one home.
+fn few(rows: u32, transit: u32) -> Options {
+    let mut options = options(1, rows, 10);
+    options.transit = transit;
+    options
+}
+
+// Lines that a story begins with, and others that follow.
+type Story<'a> = (&'a [&'static str], &'a [Line]);
+
+// Does these lines, whatever they are answered.
+fn begin(rt: &impl Abort, alloc: Global, world: &mut World, lines: &[&str]) {
+    for line in lines {
+        let _ = answered(rt, alloc, world, line);
+    }
+}
+
+// Does these lines, each of which is answered as it says.
+fn go_on(rt: &impl Abort, alloc: Global, world: &mut World, lines: &[Line]) {
+    for (line, want) in lines {
+        assert!(rt; is_answered(rt, alloc, world, line, want), "{line}");
+    }
+}
+
+// The parts that a story leaves.
+fn lived(rt: &impl Abort, alloc: Global, story: Story<'_>) -> Parts {
+    let (first, then) = story;
+    let mut world = world(rt, alloc, few(10, 10));
+    begin(rt, alloc, &mut world, first);
+    go_on(rt, alloc, &mut world, then);
+    world.parts()
+}
+
+// What the audit says of all that a story leaves, but for the ledger, which is another one's.
+fn with_ledger_of(rt: &impl Abort, alloc: Global, kept: Story<'_>, ledger: Story<'_>) -> Fault {
+    let mut parts = lived(rt, alloc, kept);
+    let mut other = lived(rt, alloc, ledger);
+    swap(&mut parts.ledger, &mut other.ledger);
+    fault(alloc, &parts)
+}
+
+// What the audit says where the ledger lacks the last of these lines, where nothing is wrong, and where all but the ledger lacks it.
+fn cut(rt: &impl Abort, alloc: Global, lines: &[Line]) -> [Fault; 3] {
+    let short = match lines {
+        [most @ .., _] => most,
+        [] => lines,
+    };
+    [
+        with_ledger_of(rt, alloc, (&DEAD, lines), (&DEAD, short)),
+        fault(alloc, &lived(rt, alloc, (&DEAD, lines))),
+        with_ledger_of(rt, alloc, (&DEAD, short), (&DEAD, lines)),
+    ]
+}
+
+#[test]
+fn what_stands_in_one_history_alone_is_a_fault(rt: HostRuntime) {
+    let left = leave_at(31_000, 2);
+    let came_in = enter_at(31_000, 4);
+    let came_back = enter_at(31_000, 6);
+    let stories: [(&[Line], Fault); 5] = [
+        (&[LEAVE], left),
+        (&[LEAVE, ENTER], came_in),
+        (&[LEAVE, REMOVE_D, TURN_BACK], came_in),
+        (&[LEAVE, REMOVE_D, TURN_BACK, COME_BACK], came_back),
+        (&[LEAVE, REMOVE_D, REMOVE_Q, TURN_BACK, DROP], came_back),
+    ];
+    for (place, (lines, wrong)) in stories.iter().enumerate() {
+        let faults = cut(&rt, rt.alloc(), lines);
+        assert!(rt; faults == [*wrong, NO_FAULT, *wrong], "story {place}");
+    }
+}
+
+// The ledger's step has the same stamp, and is of another message, actor or target; or it has another stamp.
+#[test]
+fn what_differs_between_two_histories_is_a_fault(rt: HostRuntime) {
+    let left = leave_at(31_000, 2);
+    let came_in = enter_at(31_000, 4);
+    let moved: &[Line] = &[LEAVE, ENTER];
+    let stories: [(Story<'_>, Story<'_>, [Fault; 2]); 7] = [
+        ((&DEAD, &[LEAVE]), (&OTHER_DEAD, &[LEAVE]), [left, left]),
+        ((&OTHER_DEAD, &[LEAVE]), (&DEAD, &[LEAVE]), [left, left]),
+        ((&DEAD, moved), (&OTHER_DEAD, moved), [left, came_in]),
+        (
+            (&DEAD, &[LEAVE]),
+            (&DEAD, &[LEAVE_BY_ANOTHER]),
+            [left, left],
+        ),
+        (
+            (&DEAD, moved),
+            (&DEAD, &[LEAVE, ENTER_BY_ANOTHER]),
+            [came_in, came_in],
+        ),
+        (
+            (&DEAD, &[LEAVE]),
+            (&DEAD, &[LEAVE_LATER]),
+            [left, leave_at(32_000, 1)],
+        ),
+        (
+            (&DEAD_FOR_D, &[LEAVE]),
+            (&DEAD_FOR_E, &[LEAVE]),
+            [leave_at(31_000, 1), leave_at(31_000, 1)],
+        ),
+    ];
+    for (place, (kept, ledger, wants)) in stories.iter().enumerate() {
+        let found = with_ledger_of(&rt, rt.alloc(), *kept, *ledger);
+        assert!(rt; wants.contains(&found), "{place}: {found:?}");
+    }
+}
+
+fn home_of(queue: u32) -> HomeId {
+    HomeId {
+        queue: QueueNo::following(queue),
+        home: HomeNo::first(),
+    }
+}
+
+fn item(number: u64) -> ItemNo {
+    ItemNo::new(number).unwrap_or(ItemNo::first())
+}
+
+// What a step at the first home of a queue tells, by its place in order of creation.
+fn moved(alloc: Global, world: &mut World, clock: u64, queue: u32, what: SharedAct) -> Answers {
+    told(alloc, world, 5, clock, Act::Shared(home_of(queue), what))
+}
+
+// Queues, and what a move at the first home of each tells at 1000 ms.
+type Row<'a> = (SharedAct, &'a [(u32, Answers)]);
+
+// Does these moves, each of which tells what it says.
+fn do_moves(rt: &impl Abort, alloc: Global, world: &mut World, rows: &[Row<'_>]) {
+    for (place, (what, wants)) in rows.iter().enumerate() {
+        for (queue, want) in wants.iter() {
+            let told = moved(alloc, world, 1000, *queue, *what);
+            assert!(rt; told == *want, "row {place} at {queue}");
+        }
+    }
+}
+
+const REMOVE_C: &str =
+    r#"{"Action":"DeleteQueue","Now":1000,"QueueUrl":"http://localhost/000000000000/c"}"#;
+
+const LEAVE_EARLY: Line = (
+    r#"{"Action":"DeadTurn","Actor":1,"Now":1000,"QueueUrl":"http://localhost/000000000000/q"}"#,
+    r#"{"Turn":"left"}"#,
+);
+
+const REMOVE_D_EARLY: Line = (
+    r#"{"Action":"DeleteQueue","Now":1000,"QueueUrl":"http://localhost/000000000000/d"}"#,
+    r#"{}"#,
+);
+
+const REMOVE_Q_EARLY: Line = (
+    r#"{"Action":"DeleteQueue","Now":1000,"QueueUrl":"http://localhost/000000000000/q"}"#,
+    r#"{}"#,
+);
+
+// The queues d, q, c and u, of one row a home: q has a message, another one of it is in transit to d, c is deleted, and u was never
+// opened. There is room for one item in transit, and no fifth queue.
+fn crossing(rt: &impl Abort, alloc: Global) -> World {
+    let mut world = world(rt, alloc, few(1, 1));
+    let lines = [MAKE_D, MAKE_Q_FOR_D, MAKE_C, REMOVE_C, SEND, RECEIVE];
+    begin(rt, alloc, &mut world, &lines);
+    go_on(rt, alloc, &mut world, &[LEAVE_EARLY]);
+    begin(rt, alloc, &mut world, &[SEND]);
+    assert!(rt; make(alloc, &mut world, 0, 0, "u") == Answers::Number(4));
+    world
+}
+
+const NO_QUEUE: Answers = Answers::Refused(Refusal::QueueDoesNotExist);
+
+const NOT_SO: Answers = Answers::Refused(Refusal::UnsupportedOperation);
+
+const FULL: Answers = Answers::Refused(Refusal::OverLimit);
+
+const LATE: Answers = Answers::Refused(Refusal::ClockRange);
+
+#[test]
+fn moves_are_refused_in_order(rt: HostRuntime) {
+    let alloc = rt.alloc();
+    let one = item(1);
+    let mut world = crossing(&rt, alloc);
+    for queue in [0, 4] {
+        let told = moved(alloc, &mut world, CLOCK_END, queue, SharedAct::LeaveDead);
+        assert!(rt; told == LATE);
+    }
+    let rows: [Row<'_>; 6] = [
+        (
+            SharedAct::LeaveDead,
+            &[
+                (0, Answers::Nothing),
+                (1, Answers::Nothing),
+                (2, NO_QUEUE),
+                (3, NO_QUEUE),
+                (4, NO_QUEUE),
+            ],
+        ),
+        (SharedAct::Enter(item(2)), &[(0, NOT_SO)]),
+        (
+            SharedAct::Enter(one),
+            &[(1, FULL), (2, NO_QUEUE), (3, NO_QUEUE)],
+        ),
+        (
+            SharedAct::GiveBack(one),
+            &[(0, NOT_SO), (1, FULL), (3, NO_QUEUE)],
+        ),
+        (
+            SharedAct::TurnBack(one),
+            &[(0, NOT_SO), (2, NOT_SO), (3, NO_QUEUE)],
+        ),
+        (
+            SharedAct::GiveUp(one),
+            &[(1, NOT_SO), (2, NOT_SO), (3, NO_QUEUE)],
+        ),
+    ];
+    do_moves(&rt, alloc, &mut world, &rows);
+    // The message that waits is dead too, and finds no room in transit.
+    begin(&rt, alloc, &mut world, &[RECEIVE]);
+    do_moves(
+        &rt,
+        alloc,
+        &mut world,
+        &[(SharedAct::LeaveDead, &[(1, FULL)])],
+    );
+    go_on(&rt, alloc, &mut world, &[REMOVE_D_EARLY]);
+    let rows: [Row<'_>; 6] = [
+        (SharedAct::Enter(one), &[(0, NO_QUEUE)]),
+        (SharedAct::GiveUp(one), &[(0, NOT_SO)]),
+        (SharedAct::TurnBack(item(2)), &[(0, NOT_SO)]),
+        (SharedAct::TurnBack(one), &[(0, Answers::Done), (0, NOT_SO)]),
+        (SharedAct::GiveBack(one), &[(1, FULL)]),
+        (SharedAct::GiveUp(one), &[(1, NOT_SO)]),
+    ];
+    do_moves(&rt, alloc, &mut world, &rows);
+    go_on(&rt, alloc, &mut world, &[REMOVE_Q_EARLY]);
+    let rows: [Row<'_>; 3] = [
+        (SharedAct::GiveBack(one), &[(1, NO_QUEUE)]),
+        (SharedAct::TurnBack(one), &[(1, NOT_SO)]),
+        (SharedAct::GiveUp(one), &[(1, Answers::Done), (1, NOT_SO)]),
+    ];
+    do_moves(&rt, alloc, &mut world, &rows);
+    assert_eq!(rt; fault(alloc, &world.parts()), NO_FAULT);
+}
+
+const FULL_TURN: Line = (
+    r#"{"Action":"EnterTurn","Actor":1,"Now":1000}"#,
+    r#"{"Turn":"full"}"#,
+);
+
+const LEAVE_D: Line = (
+    r#"{"Action":"DeadTurn","Actor":1,"Now":1000,"QueueUrl":"http://localhost/000000000000/d"}"#,
+    r#"{"Error":{"Code":"QueueDoesNotExist","Number":9}}"#,
+);
+
+const OPEN_D: Line = (
+    r#"{"Action":"CreateQueue","Now":1000,"QueueName":"d"}"#,
+    r#"{"QueueUrl":"http://localhost/000000000000/d"}"#,
+);
+
+const ENTER_EARLY: Line = (
+    r#"{"Action":"EnterTurn","Actor":1,"Now":1000}"#,
+    r#"{"Turn":"entered"}"#,
+);
+
+// No message leaves a home that was never opened, and none comes in, until it is.
+#[test]
+fn a_home_that_was_never_opened_is_as_full(rt: HostRuntime) {
+    let alloc = rt.alloc();
+    let mut world = world(&rt, alloc, few(10, 10));
+    assert!(rt; make(alloc, &mut world, 0, 0, "d") == Answers::Number(1));
+    begin(&rt, alloc, &mut world, &[MAKE_Q_FOR_D, SEND, RECEIVE]);
+    let lines = [LEAVE_EARLY, FULL_TURN, LEAVE_D, OPEN_D, ENTER_EARLY];
+    go_on(&rt, alloc, &mut world, &lines);
+}
