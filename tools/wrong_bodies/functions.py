@@ -1,0 +1,97 @@
+"""The functions of a source file, found by its layout."""
+import re
+from collections import namedtuple
+
+# A function: its path below the crate, where it and its body begin and end in the text of its file, and
+# whether it may stand there twice, under two names.
+Function = namedtuple("Function", "path begins opens closes is_copied")
+HEAD = re.compile(r"( *)(?:pub(?:\([\w ]+\))? )?(?:const )?fn (\w+)")
+IMPL = re.compile(r"impl(?:<.*?>)? (?:(\S.*?) for )?(\w+)")
+TRAIT = re.compile(r"(?:pub )?trait (\w+)")
+# A declaration of a proof: an answer to the goal of its name, or a lemma of its own.
+DECLARED = re.compile(r"(?m)^(?:abbrev |abstract )*(?:pub )?(\S+) :(?= |$)( goal\.)?")
+
+
+def functions_of(path, text):
+    """The functions of a file that `rt fmt` laid out: a body ends at a brace right below its `fn`."""
+    module = [it for it in path[len("src/") : -len(".rt")].split("/") if it not in ("lib", "main", "mod")]
+    found, owner, of_trait, head, begins, opens, at = [], "", False, None, None, None, 0
+    for line in text.splitlines(True):
+        if not head and IMPL.match(line):
+            trait, owner = IMPL.match(line).groups()
+            # A check names an impl by its type, and by the trait and its arguments.
+            owner, of_trait = owner + "".join(re.findall(r"[A-Z]\w+", trait or "")), bool(trait)
+        elif not head and TRAIT.match(line):
+            owner, of_trait = TRAIT.match(line)[1], True
+        elif not head and HEAD.match(line):
+            head, opens = HEAD.match(line), None
+            begins = at if begins is None else begins
+        elif not head:
+            # Attributes belong to the function below them.
+            begins = (at if begins is None else begins) if line.strip().startswith("#[") else None
+        if head and re.match(head[1] + r"\S", line):
+            if opens is None and line.endswith("{\n"):
+                opens = at + len(line) - 1
+            elif opens is None and line == head[1] + "{}\n":
+                head = begins = None
+            elif line == head[1] + "}\n":
+                names = [*module, owner, head[2]] if head[1] else [*module, head[2]]
+                is_copied = head[2] != "main" and not (head[1] and of_trait)
+                found.append(Function("::".join(names), begins, opens, at + len(head[1]), is_copied))
+                head = begins = None
+            elif opens is None and line.endswith((";\n", "}\n")):
+                head = begins = None
+        at += len(line)
+    return found
+
+
+def function_at(path, text, number):
+    """The function in whose body a line of a file is."""
+    at = len("".join(text.splitlines(True)[: number - 1]))
+    return next((it.path for it in functions_of(path, text) if it.opens <= at < it.closes), None)
+
+
+def is_in_a_cycle(crate, path):
+    """Whether a function calls itself: its proof then stands in a folder of the cycle, as `+name`."""
+    return any(f"/+{path.split('::')[-1]}/" in it for it in crate.files)
+
+
+def proof_of(crate, path):
+    """The folder of a function's proof, if one is written: of a method where its type stands."""
+    *_, owner, name = ["", *path.split("::")]
+    folders = {it.rpartition("/")[0] for it in crate.files if it.startswith("proofs/")}
+    at = f"proofs/{path.replace('::', '/')}"
+    found = [it for it in folders if it.endswith(f"/{owner}/{name}")] if owner[:1].isupper() else []
+    return at if at in folders else found[0] if len(found) == 1 else None
+
+
+def copy_proof(texts, folder, suffix):
+    """Puts a copy of a function's proof under the name of its copy."""
+    module = re.escape(folder[len("proofs/") :].replace("/", ".")) if folder else ""
+    for name in [it for it in texts if folder and it.startswith(f"{folder}/")]:
+        text = re.sub(rf"\bproofs\.{module}\b", rf"\g<0>{suffix}", texts[name])
+        texts[f"{folder}{suffix}{name[len(folder):]}"] = text
+
+
+def parts_of(text):
+    """The declarations of a proof, by their names, each with its text and whether it answers a goal."""
+    parts = [(it, DECLARED.findall(it)) for it in re.split(r"\n{2,}", text)]
+    return {name: (it, bool(is_answer)) for it, found in parts for name, is_answer in found}
+
+
+def goals_at(text, number):
+    """The goals whose answers a line of a proof belongs to: its own, or those of the answers that use the lemma that it is of."""
+    above = "\n".join(text.split("\n")[:number])
+    names, parts = {name for name, _ in DECLARED.findall(above)[-1:]}, parts_of(text)
+    while more := {it for it, (part, _) in parts.items() if it not in names and names & {*re.split(r"[\s(),]+", part)}}:
+        names |= more
+    return {it for it in names if parts.get(it, ("", False))[1]}
+
+
+def leave_out(texts, path, suffix, goals):
+    """Leaves the answers to some goals out of the stored proof of a function."""
+    name = path.split("::")[-1]
+    ends = tuple(f"/{it}{suffix}/Answers.antt" for it in (name, f"+{name}"))
+    for file in [it for it in texts if goals and it.endswith(ends)]:
+        parts = re.split(r"\n{2,}", texts[file])
+        texts[file] = "\n\n".join(it for it in parts if not goals & {name for name, _ in DECLARED.findall(it)})

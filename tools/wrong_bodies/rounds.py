@@ -1,0 +1,46 @@
+"""Which edits are tried by one check: a contract is all that a caller knows of a function, so one copy of a crate can hold many."""
+from collections import namedtuple
+
+from .functions import proof_of
+
+# An edit, or none, in a function; with a suffix it is in a copy of the function. Where its body is the function's own it is a control.
+# The stored answers to some of its goals may be left out.
+Try = namedtuple("Try", "edit function body suffix left_out", defaults=[frozenset()])
+
+
+def end_of(it):
+    """The end of the name of a try's function, as a check takes it: of a method its type and itself."""
+    path = it.function.path + it.suffix if it.function else it.edit.by or ""
+    return "::".join(path.split("::")[-2:])
+
+
+def is_control(it):
+    return it.edit.body != it.body
+
+
+def rounds_of(crate, edits, most):
+    """Divides edits of a crate into few rounds of about one size. A function is copied for each of its edits, and once as it is
+    where its proof is written. One that cannot be copied has an edit a round, among others of its kind: beside an edit in place
+    nothing is known of who calls its function."""
+    alone, groups = [], {}
+    for it in edits:
+        if it.body:
+            groups.setdefault(it.function, []).append(it)
+        else:
+            alone.append([Try(it, None, None, "")])
+    copied, placed = [], []
+    for function, its in groups.items():
+        if not function.is_copied:
+            for at, it in enumerate(its):
+                placed += [[]] if at == len(placed) else []
+                placed[at].append(Try(it, function, it.body, ""))
+            continue
+        tries = [Try(it, function, it.body, f"_w{at}") for at, it in enumerate(its, 1)]
+        if proof_of(crate, function.path):
+            was = crate.files[its[0].path][function.opens : function.closes]
+            tries.append(Try(its[0], function, was, "_w0"))
+        copied.append(tries)
+    rounds = [[] for _ in range(-(-sum(map(len, copied)) // most))]
+    for tries in sorted(copied, key=len, reverse=True):
+        min(rounds, key=len).extend(tries)
+    return [*rounds, *placed, *alone]

@@ -1,0 +1,169 @@
+"""The copies in a temporary folder, the checks in them, and what they say of each edit."""
+import os
+import re
+import shutil
+import subprocess
+import threading
+import time
+from collections import Counter
+
+from .checks import Check
+from .functions import copy_proof, function_at, leave_out, proof_of
+from .kit import KIT
+from .rounds import end_of, is_control, rounds_of
+
+MEMORY = 3_500_000  # what a check takes, in KiB
+BY_PROOF = "refused by its proof alone"
+
+
+def free_memory():
+    with open("/proc/meminfo", encoding="utf-8") as lines:
+        return next(int(line.split()[1]) for line in lines if line.startswith("MemAvailable"))
+
+
+def checks_at_once():
+    return max(1, min(len(os.sched_getaffinity(0)), free_memory() // MEMORY))
+
+
+class Work:
+    """Checks of copies of crates, so many at once."""
+
+    def __init__(self, options, crates, folder, gate):
+        self.options, self.crates, self.folder, self.gate, self.rooms = options, crates, folder, gate, 0
+        self.lock, self.slots, self.used = threading.Lock(), threading.Semaphore(options.jobs), Counter()
+
+    def kept(self, crate):
+        """The work of the crate's earlier checks, which later ones take up: of a check of the crate itself, or of a round."""
+        rounds = f"{self.folder}/{crate.name}.kept"
+        return rounds if os.path.isdir(rounds) else f"{crate.root}/{crate.folder}/out/incremental"
+
+    def command(self, crate, words):
+        """A check of a crate by the toolchain's prover, over the libraries that are built."""
+        own = [it for it in crate.uses if it in self.crates]
+        command = [f"{KIT}/bin/rattle", "check", "--crate-name", crate.name]
+        command += ["src/main.rt" if crate.is_program() else "src/lib.rt"]
+        for it in ["std", *(it for it in crate.uses if it not in own)]:
+            command += ["--extern", f"{it}={KIT}/rlibs/{it}.rlib"]
+        for it in own:
+            command += ["--extern", f"{it}={self.crates[it].library}"]
+        for it in [f"{KIT}/rlibs", *(os.path.dirname(it.library) for it in crate.below)]:
+            command += ["-L", f"dependency={it}"]
+        command += ["--antt-project", f"{KIT}/rattle/logic/antt-project.json", "--logic-built", f"{KIT}/logic_built"]
+        return [*command, "--incremental", "out/incremental", "--jobs", "1", "--progress", *words]
+
+    def check(self, crate, room, what, words, proofs):
+        """Runs a check, and writes down what it took. One that was killed, most likely for memory, is run once more."""
+        with self.gate.turn(self.slots):
+            for _ in range(2):
+                began, last, text, slow = time.monotonic(), None, "", []
+                ran = subprocess.Popen(self.gate.behind() + self.command(crate, words), cwd=room, stdin=subprocess.DEVNULL,
+                                       stdout=subprocess.PIPE, stderr=subprocess.STDOUT, errors="replace", text=True)
+                for line in ran.stdout:
+                    text += line
+                    if line.startswith("checked "):
+                        now = time.monotonic()
+                        slow += [f"{line.split()[1]} {now - last:.0f} s"] if last and now - last > 10 else []
+                        last = now
+                _, status, used = os.wait4(ran.pid, 0)
+                ran.returncode = -(status & 127) or status >> 8
+                with self.lock:
+                    self.used[crate.name] += used.ru_utime + used.ru_stime
+                if ran.returncode >= 0:
+                    break
+        if self.options.times:
+            took = f"{time.monotonic() - began:.0f} s, {used.ru_utime + used.ru_stime:.0f} processor s"
+            with self.lock, open(self.options.times, "a", encoding="utf-8") as file:
+                print(f"{crate.name}: {took}: {what} {' '.join(slow)}", file=file)
+        return Check(text, ran.returncode, proofs)
+
+    def texts_of(self, crate, tries):
+        """The files of the crate with these edits."""
+        texts = dict(crate.files)
+        for it in (it for it in tries if not it.function):
+            texts.update(it.edit.texts)
+            leave_out(texts, it.edit.by or "", "", it.left_out)
+        for it in sorted((it for it in tries if it.function), key=lambda it: (it.function.opens, not it.suffix), reverse=True):
+            path = it.edit.path
+            was, function = texts[path], it.function
+            head = was[function.begins : function.opens]
+            if it.suffix:
+                copied = re.sub(r"\bfn (\w+)", rf"fn \1{it.suffix}", head, count=1) + it.body + "}"
+                end = function.closes + 1
+                texts[path] = f"{was[:end]}\n\n{copied}{was[end:]}"
+                copy_proof(texts, proof_of(crate, function.path), it.suffix)
+            else:
+                texts[path] = was[: function.opens] + it.body + was[function.closes :]
+            leave_out(texts, function.path, it.suffix, it.left_out)
+        return texts
+
+    def with_tries(self, crate, tries):
+        """Checks a copy of the crate with these edits. Returns what was said, and of which edits the text does not read."""
+        with self.lock:
+            self.rooms += 1
+            room = f"{self.folder}/{self.rooms}"
+        texts = self.texts_of(crate, tries)
+        for path, text in texts.items():
+            os.makedirs(os.path.dirname(f"{room}/{path}"), exist_ok=True)
+            with open(f"{room}/{path}", "w", encoding="utf-8", newline="") as file:
+                file.write(text)
+        # A check replaces what it keeps, and never writes it in place: links serve.
+        if os.path.isdir(self.kept(crate)):
+            shutil.copytree(self.kept(crate), f"{room}/out/incremental", copy_function=os.link)
+        only = [word for it in map(end_of, tries) if it for word in ("--only", it)]
+        what = " ".join(end_of(it) if is_control(it) else it.edit.name for it in tries)
+        check = self.check(crate, room, what, only, {it: text for it, text in texts.items() if it.startswith("proofs/")})
+        with self.lock:
+            if not os.path.isdir(f"{self.folder}/{crate.name}.kept") and os.path.isdir(f"{room}/out/incremental"):
+                os.rename(f"{room}/out/incremental", f"{self.folder}/{crate.name}.kept")
+        shutil.rmtree(room, ignore_errors=True)
+        unread = {}
+        for path, line, words in check.errors:
+            # Of a crate that reads well the prover says, by its name, which item of src/ it refuses.
+            if path.startswith("src/") and not (check.states and words.startswith("`")):
+                place = function_at(path, texts[path], int(line))
+                unread.update({it: f"{path}:{line}: {words}" for it in tries if not it.function or it.function.path + it.suffix == place})
+        return check, unread
+
+    def try_round(self, crate, tries):
+        """Tries edits by one check, and once more those of which it does not tell. Each has its verdict then."""
+        check, unread = self.with_tries(crate, tries)
+        # Nothing is said of edits beside a control that is not proved: their copies lack something.
+        unsure = {it.function for it in tries if is_control(it) and not check.is_proved(check.symbol_of(end_of(it)))}
+        left, unfit = [], []
+        for it in (it for it in tries if not is_control(it)):
+            symbol = end_of(it) and check.symbol_of(end_of(it))
+            goals = check.open_goals(symbol)
+            if it in unread:
+                it.edit.tell("BAD EDIT", f"it does not read: {unread[it][:200]}")
+            elif check.is_uncovered(symbol):
+                it.edit.tell("BAD EDIT", "the borrow checker does not cover it, so that no contract was tried")
+            elif goals and it.function not in unsure:
+                it.edit.tell("refused", f"{goals[0][0]}: {goals[0][1]}")
+            elif check.unfit_answers(symbol) - it.left_out and it.function not in unsure:
+                # An answer shows something else than is to be shown now: does the search leave the goal open too?
+                unfit.append(it._replace(left_out=it.left_out | check.unfit_answers(symbol)))
+            elif len(tries) > 1:
+                left.append(it)
+            elif not check.states:
+                it.edit.tell("BAD EDIT", f"no function was reached: {check.text.strip()[-200:]}")
+            elif check.is_proved(symbol):
+                it.edit.tell("PASSED", "it is still proved")
+            elif check.proof_error(symbol):
+                it.edit.tell(BY_PROOF, check.proof_error(symbol))
+            else:
+                it.edit.tell("UNCLEAR", "it is not proved, yet for no reason of its own")
+        if left and unread and not check.states:
+            # Where some did not compile, nothing was said of the others.
+            edits = {it.edit for it in left}
+            self.try_round(crate, [it for it in tries if it.edit in edits and it not in unread])
+            return
+        if unfit:
+            self.try_round(crate, unfit)
+        for it in left:
+            self.try_round(crate, [it._replace(suffix="")])
+
+    def try_crate(self, crate, edits, pool):
+        """Tries edits of a crate. The first round leaves what those after it take up."""
+        first, *more = rounds_of(crate, edits, self.options.most)
+        self.try_round(crate, first)
+        return [pool.submit(self.try_round, crate, its) for its in more]
