@@ -82,19 +82,23 @@ fn homes_are_chosen_from_the_seed_and_reached(rt: HostRuntime) {
     assert!(rt; chosen(&rt, rt.alloc(), eight) != homes, "{homes:?}");
 }
 
-// Both homes are closed. To make the queue again passes over them, and it all is one run.
-#[test]
-fn closed_homes_are_passed_over_and_refuse(rt: HostRuntime) {
-    let alloc = rt.alloc();
-    let mut world = world(&rt, alloc, options(2, 10, 2));
-    assert!(rt; is_answered(&rt, alloc, &mut world, MAKE, MADE));
+// Both homes are closed. To make the queue again passes over them.
+fn close_homes(rt: &impl Abort, alloc: Global, world: &mut World) {
+    assert!(rt; is_answered(rt, alloc, world, MAKE, MADE));
     let lines: [Line; 2] = [
         (0, 0, 0, Ask::Close, Answers::Done),
         (0, 0, 1, Ask::Close, Answers::Done),
     ];
-    play(&rt, alloc, &mut world, &lines);
+    play(rt, alloc, world, &lines);
     for (line, want) in [(MAKE, MADE), (SEND, NO_QUEUE), (RECEIVE, NO_QUEUE)] {
-        assert!(rt; is_answered(&rt, alloc, &mut world, line, want), "{line}");
+        assert!(rt; is_answered(rt, alloc, world, line, want), "{line}");
     }
-    assert_eq!(rt; fault(alloc, &world.parts()), NO_FAULT);
+}
+
+// It all is one run.
+#[test]
+fn closed_homes_are_passed_over_and_refuse(rt: HostRuntime) {
+    let mut world = world(&rt, rt.alloc(), options(2, 10, 2));
+    close_homes(&rt, rt.alloc(), &mut world);
+    assert_eq!(rt; fault(rt.alloc(), &world.parts()), NO_FAULT);
 }

@@ -1,7 +1,7 @@
 //! Runs of steps chosen at random over two chains of dead-letter queues, and what the audit says of them.
 ghost use Rattle.std.specs.Prelude.{◌≤◌};
 
-use super::setup::{Fault, NO_FAULT, enter_at, fault, leave_at, missing, told};
+use super::setup::{Fault, Mix, NO_FAULT, enter_at, fault, leave_at, missing, mixed, told};
 use sq_audit::merge::merge;
 use sq_audit::parts::Parts;
 use sq_base::ids::{HomeId, HomeNo, QueueNo};
@@ -28,7 +28,6 @@ use sq_tests_homes::asks::Answers;
 use sq_tests_values::choices::Choices;
 use sq_tests_values::setup::{hello, home, named, receipt};
 use std::alloc::Global;
-use std::mem::swap;
 use std::process::Abort;
 
 // Two chains of four queues each. The dead letters of a queue go to the one before it in its chain.
@@ -722,42 +721,21 @@ fn parts_of(rt: &impl Abort, alloc: Global, steps: u64) -> Parts {
     ran(rt, alloc, 64, 1, steps).world.parts()
 }
 
-// Which parts are those after a step, in place of those before it. The list of queues is the same.
-#[derive(Clone, Copy)]
-struct Mix {
-    homes: bool,
-    ledger: bool,
-    records: bool,
-}
-
-// One of the eight.
+// Which parts are those after a step, in place of those before it: one of the eight ways. The list of queues is the same.
 fn mix_of(number: u32) -> Mix {
     Mix {
+        directory: false,
         homes: number % 2 == 1,
         ledger: number / 2 % 2 == 1,
         records: number / 4 % 2 == 1,
     }
 }
 
-// Puts some of the later parts in place of these.
-fn mix_in(parts: &mut Parts, later: &mut Parts, mix: Mix) {
-    if mix.homes {
-        swap(&mut parts.homes, &mut later.homes);
-    }
-    if mix.ledger {
-        swap(&mut parts.ledger, &mut later.ledger);
-    }
-    if mix.records {
-        swap(&mut parts.records, &mut later.records);
-    }
-}
-
 // The parts before a step, some of them in place of which are those after it: what the audit says.
-fn mixed(rt: &impl Abort, alloc: Global, number: u64, mix: Mix) -> Fault {
-    let mut parts = parts_of(rt, alloc, number);
-    let mut later = parts_of(rt, alloc, number.saturating_add(1));
-    mix_in(&mut parts, &mut later, mix);
-    fault(alloc, &parts)
+fn mixed_at(rt: &impl Abort, alloc: Global, number: u64, mix: Mix) -> Fault {
+    let parts = parts_of(rt, alloc, number);
+    let later = parts_of(rt, alloc, number.saturating_add(1));
+    mixed(alloc, parts, later, mix)
 }
 
 // The stamp of the last step, where it moved a message.
@@ -792,7 +770,7 @@ fn a_move_that_is_not_everywhere_is_reported(rt: HostRuntime) {
         let stamp = last_of(&rt, rt.alloc(), seen.number.saturating_add(1));
         for number in 0..8u32 {
             let mix = mix_of(number);
-            let fault = mixed(&rt, rt.alloc(), seen.number, mix);
+            let fault = mixed_at(&rt, rt.alloc(), seen.number, mix);
             assert_eq!(rt;
                 fault,
                 wrong(seen, stamp, mix),

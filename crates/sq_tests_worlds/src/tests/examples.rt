@@ -122,16 +122,21 @@ fn word_of(rt: &impl Abort, alloc: Global, parts: &Parts, id: &MessageId) -> &'s
     }
 }
 
+// A message is sent, received and deleted.
+fn pass_on(rt: &impl Abort, alloc: Global, world: &mut World, orders: QueueName) -> MessageId {
+    assert!(rt; make(alloc, world, orders, None));
+    let id = send(alloc, world, orders).expect(rt, "a message");
+    let handle = receive(alloc, world, orders, None);
+    assert!(rt; delete(alloc, world, orders, handle));
+    id
+}
+
 #[test]
 fn a_message_is_sent_received_and_deleted(rt: HostRuntime) {
-    let alloc = rt.alloc();
     let orders = QueueName::new(b"orders").expect(&rt, "a name");
-    let mut world = World::new(alloc, options(4)).expect(&rt, "memory");
-    assert!(rt; make(alloc, &mut world, orders, None));
-    let id = send(alloc, &mut world, orders).expect(&rt, "a message");
-    let handle = receive(alloc, &mut world, orders, None);
-    assert!(rt; delete(alloc, &mut world, orders, handle));
-    assert_eq!(rt; word_of(&rt, alloc, &world.parts(), &id), "deleted");
+    let mut world = World::new(rt.alloc(), options(4)).expect(&rt, "memory");
+    let id = pass_on(&rt, rt.alloc(), &mut world, orders);
+    assert_eq!(rt; word_of(&rt, rt.alloc(), &world.parts(), &id), "deleted");
 }
 
 // Actor 9 does a turn at 3000 ms, which has this word.
@@ -140,19 +145,22 @@ fn take(alloc: Global, world: &mut World, turn: Turn, word: Turned) -> bool {
 }
 
 // A message is received once and visible again at once, and moved by two turns. It is received where it went.
+fn move_on(rt: &impl Abort, alloc: Global, world: &mut World, queues: [QueueName; 2]) -> MessageId {
+    let [orders, failed] = queues;
+    assert!(rt; make(alloc, world, failed, None) && make(alloc, world, orders, Some(failed)));
+    let id = send(alloc, world, orders).expect(rt, "a message");
+    assert!(rt; receive(alloc, world, orders, Some(Timeout::of(0))).is_some());
+    assert!(rt; take(alloc, world, Turn::DeadTurn(orders), Turned::Left));
+    assert!(rt; take(alloc, world, Turn::EnterTurn, Turned::Entered));
+    assert!(rt; receive(alloc, world, failed, None).is_some());
+    id
+}
+
 #[test]
 fn a_dead_letter_is_moved(rt: HostRuntime) {
-    let alloc = rt.alloc();
     let orders = QueueName::new(b"orders").expect(&rt, "a name");
     let failed = QueueName::new(b"failed-orders").expect(&rt, "a name");
-    let mut world = World::new(alloc, options(1)).expect(&rt, "memory");
-    assert!(rt; make(alloc, &mut world, failed, None));
-    assert!(rt; make(alloc, &mut world, orders, Some(failed)));
-    let id = send(alloc, &mut world, orders).expect(&rt, "a message");
-    let received = receive(alloc, &mut world, orders, Some(Timeout::of(0)));
-    assert!(rt; received.is_some());
-    assert!(rt; take(alloc, &mut world, Turn::DeadTurn(orders), Turned::Left));
-    assert!(rt; take(alloc, &mut world, Turn::EnterTurn, Turned::Entered));
-    assert!(rt; receive(alloc, &mut world, failed, None).is_some());
-    assert_eq!(rt; word_of(&rt, alloc, &world.parts(), &id), "home");
+    let mut world = World::new(rt.alloc(), options(1)).expect(&rt, "memory");
+    let id = move_on(&rt, rt.alloc(), &mut world, [orders, failed]);
+    assert_eq!(rt; word_of(&rt, rt.alloc(), &world.parts(), &id), "home");
 }

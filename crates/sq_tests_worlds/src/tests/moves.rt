@@ -1,6 +1,7 @@
 //! Messages that move: what no row shows of them, and what the audit says where a home and the ledger do not agree.
 use super::setup::{
-    Fault, NO_FAULT, answered, enter_at, fault, is_answered, leave_at, make, options, told, world,
+    Fault, Mix, NO_FAULT, answered, enter_at, fault, is_answered, leave_at, make, mixed, options,
+    told, world,
 };
 use sq_audit::parts::Parts;
 use sq_base::ids::{HomeId, HomeNo, QueueNo};
@@ -12,7 +13,6 @@ use sq_steps::act::{Act, SharedAct};
 use sq_tests_homes::asks::Answers;
 use sq_tests_values::setup::CLOCK_END;
 use std::alloc::Global;
-use std::mem::swap;
 use std::process::Abort;
 
 const MAKE_C: &str = r#"{"Action":"CreateQueue","QueueName":"c"}"#;
@@ -137,10 +137,9 @@ fn lived(rt: &impl Abort, alloc: Global, story: Story<'_>) -> Parts {
 
 // What the audit says of all that a story leaves, but for the ledger, which is another one's.
 fn with_ledger_of(rt: &impl Abort, alloc: Global, kept: Story<'_>, ledger: Story<'_>) -> Fault {
-    let mut parts = lived(rt, alloc, kept);
-    let mut other = lived(rt, alloc, ledger);
-    swap(&mut parts.ledger, &mut other.ledger);
-    fault(alloc, &parts)
+    let mut mix = Mix::none();
+    mix.ledger = true;
+    mixed(alloc, lived(rt, alloc, kept), lived(rt, alloc, ledger), mix)
 }
 
 // What the audit says where the ledger lacks the last of these lines, where nothing is wrong, and where all but the ledger lacks it.
@@ -278,13 +277,11 @@ const FULL: Answers = Answers::Refused(Refusal::OverLimit);
 
 const LATE: Answers = Answers::Refused(Refusal::ClockRange);
 
-#[test]
-fn moves_are_refused_in_order(rt: HostRuntime) {
-    let alloc = rt.alloc();
+// Does moves, each of which is refused or done as it says.
+fn refuse_in_order(rt: &impl Abort, alloc: Global, world: &mut World) {
     let one = item(1);
-    let mut world = crossing(&rt, alloc);
     for queue in [0, 4] {
-        let told = moved(alloc, &mut world, CLOCK_END, queue, SharedAct::LeaveDead);
+        let told = moved(alloc, world, CLOCK_END, queue, SharedAct::LeaveDead);
         assert!(rt; told == LATE);
     }
     let rows: [Row<'_>; 6] = [
@@ -316,16 +313,11 @@ fn moves_are_refused_in_order(rt: HostRuntime) {
             &[(1, NOT_SO), (2, NOT_SO), (3, NO_QUEUE)],
         ),
     ];
-    do_moves(&rt, alloc, &mut world, &rows);
+    do_moves(rt, alloc, world, &rows);
     // The message that waits is dead too, and finds no room in transit.
-    begin(&rt, alloc, &mut world, &[RECEIVE]);
-    do_moves(
-        &rt,
-        alloc,
-        &mut world,
-        &[(SharedAct::LeaveDead, &[(1, FULL)])],
-    );
-    go_on(&rt, alloc, &mut world, &[REMOVE_D_EARLY]);
+    begin(rt, alloc, world, &[RECEIVE]);
+    do_moves(rt, alloc, world, &[(SharedAct::LeaveDead, &[(1, FULL)])]);
+    go_on(rt, alloc, world, &[REMOVE_D_EARLY]);
     let rows: [Row<'_>; 6] = [
         (SharedAct::Enter(one), &[(0, NO_QUEUE)]),
         (SharedAct::GiveUp(one), &[(0, NOT_SO)]),
@@ -334,15 +326,21 @@ fn moves_are_refused_in_order(rt: HostRuntime) {
         (SharedAct::GiveBack(one), &[(1, FULL)]),
         (SharedAct::GiveUp(one), &[(1, NOT_SO)]),
     ];
-    do_moves(&rt, alloc, &mut world, &rows);
-    go_on(&rt, alloc, &mut world, &[REMOVE_Q_EARLY]);
+    do_moves(rt, alloc, world, &rows);
+    go_on(rt, alloc, world, &[REMOVE_Q_EARLY]);
     let rows: [Row<'_>; 3] = [
         (SharedAct::GiveBack(one), &[(1, NO_QUEUE)]),
         (SharedAct::TurnBack(one), &[(1, NOT_SO)]),
         (SharedAct::GiveUp(one), &[(1, Answers::Done), (1, NOT_SO)]),
     ];
-    do_moves(&rt, alloc, &mut world, &rows);
-    assert_eq!(rt; fault(alloc, &world.parts()), NO_FAULT);
+    do_moves(rt, alloc, world, &rows);
+}
+
+#[test]
+fn moves_are_refused_in_order(rt: HostRuntime) {
+    let mut world = crossing(&rt, rt.alloc());
+    refuse_in_order(&rt, rt.alloc(), &mut world);
+    assert_eq!(rt; fault(rt.alloc(), &world.parts()), NO_FAULT);
 }
 
 const FULL_TURN: Line = (

@@ -15,6 +15,7 @@ use sq_tests_values::setup::{home, named};
 use sq_tests_values::streams::{Bytewise, Piecewise};
 use sq_wire::run::run_script;
 use std::alloc::Global;
+use std::mem::swap;
 use std::process::Abort;
 
 /// Four queues of so many homes, all of which are asked.
@@ -164,4 +165,45 @@ pub fn fault(alloc: Global, parts: &Parts) -> Fault {
         Some(fault) => numbers_of(fault),
         None => NO_FAULT,
     }
+}
+
+/// Which parts are another's.
+#[derive(Clone, Copy)]
+pub struct Mix {
+    pub directory: bool,
+    pub homes: bool,
+    pub ledger: bool,
+    pub records: bool,
+}
+
+impl Mix {
+    pub fn none() -> Mix {
+        Mix {
+            directory: false,
+            homes: false,
+            ledger: false,
+            records: false,
+        }
+    }
+}
+
+fn mix_in(parts: &mut Parts, other: &mut Parts, mix: Mix) {
+    if mix.directory {
+        swap(&mut parts.directory, &mut other.directory);
+    }
+    if mix.homes {
+        swap(&mut parts.homes, &mut other.homes);
+    }
+    if mix.ledger {
+        swap(&mut parts.ledger, &mut other.ledger);
+    }
+    if mix.records {
+        swap(&mut parts.records, &mut other.records);
+    }
+}
+
+/// What the audit says of these parts, some of them in place of which are the other's.
+pub fn mixed(alloc: Global, mut parts: Parts, mut other: Parts, mix: Mix) -> Fault {
+    mix_in(&mut parts, &mut other, mix);
+    fault(alloc, &parts)
 }
