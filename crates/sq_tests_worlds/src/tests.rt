@@ -2,11 +2,15 @@
 
 mod calls;
 mod chains;
+mod chosen;
 mod evidence;
 mod examples;
 mod moves;
 mod places;
 mod queues;
 mod scripts;
+mod seen;
+mod service;
 mod setup;
+mod taken_out;
 mod worlds;

@@ -1,7 +1,7 @@
 //! Lines of clients: what no row shows, since it follows from the seed or from a home that is closed.
-use super::setup::{Line, NO_FAULT, answered, fault, is_answered, options, play, world};
+use super::service::Service;
+use super::setup::{Line, NO_FAULT, answered, fault, is_answered, options, play};
 use sq_merge::options::Options;
-use sq_merge::world::World;
 use sq_tests_homes::asks::{Answers, Ask};
 use std::alloc::Global;
 use std::process::Abort;
@@ -35,20 +35,25 @@ fn messages_in(reply: &[u8]) -> usize {
 }
 
 // The homes that 40 messages are put at.
-fn sent(rt: &impl Abort, alloc: Global, world: &mut World) -> [u8; 40] {
+fn sent(rt: &impl Abort, alloc: Global, service: &mut Service) -> [u8; 40] {
     let mut homes = [0; 40];
     for home in &mut homes {
-        *home = home_in(answered(rt, alloc, world, SEND).inner().written.as_slice());
+        *home = home_in(
+            answered(rt, alloc, service, SEND)
+                .inner()
+                .written
+                .as_slice(),
+        );
     }
     homes
 }
 
 // How many are given when they are asked for 60 times.
-fn given(rt: &impl Abort, alloc: Global, world: &mut World) -> usize {
+fn given(rt: &impl Abort, alloc: Global, service: &mut Service) -> usize {
     let mut all = 0usize;
     for _ in 0..60 {
         let count = messages_in(
-            answered(rt, alloc, world, RECEIVE)
+            answered(rt, alloc, service, RECEIVE)
                 .inner()
                 .written
                 .as_slice(),
@@ -60,45 +65,55 @@ fn given(rt: &impl Abort, alloc: Global, world: &mut World) -> usize {
 
 // The homes that 40 messages are put at, all of which are given then.
 fn chosen(rt: &impl Abort, alloc: Global, options: Options) -> [u8; 40] {
-    let mut world = world(rt, alloc, options);
-    assert!(rt; is_answered(rt, alloc, &mut world, MAKE, MADE));
-    let homes = sent(rt, alloc, &mut world);
-    assert_eq!(rt; given(rt, alloc, &mut world), 40);
+    let mut service = Service::new(rt, alloc, options);
+    assert!(rt; is_answered(rt, alloc, &mut service, MAKE, MADE));
+    let homes = sent(rt, alloc, &mut service);
+    assert_eq!(rt; given(rt, alloc, &mut service), 40);
     homes
+}
+
+// So many homes of which two are asked at a time.
+fn two_of_four(seed: u64) -> Options {
+    let mut options = options(4, 40, 160);
+    options.sample = 2;
+    options.seed = seed;
+    options
 }
 
 // Messages are put at each of the homes, and found although only two of them are asked at a time.
 #[test]
-fn homes_are_chosen_from_the_seed_and_reached(rt: HostRuntime) {
-    let mut seven = options(4, 40, 160);
-    seven.sample = 2;
-    let mut eight = seven;
-    eight.seed = 8;
-    let homes = chosen(&rt, rt.alloc(), seven);
+fn homes_are_chosen_and_reached(rt: HostRuntime) {
+    let homes = chosen(&rt, rt.alloc(), two_of_four(7));
     for digit in b"0123" {
         assert!(rt; homes.contains(digit), "no message at {digit}");
     }
-    assert_eq!(rt; chosen(&rt, rt.alloc(), seven), homes);
-    assert!(rt; chosen(&rt, rt.alloc(), eight) != homes, "{homes:?}");
+}
+
+#[test]
+fn homes_are_chosen_from_the_seed(rt: HostRuntime) {
+    let homes = chosen(&rt, rt.alloc(), two_of_four(7));
+    assert!(rt; chosen(&rt, rt.alloc(), two_of_four(7)) == homes);
+    assert!(rt; chosen(&rt, rt.alloc(), two_of_four(8)) != homes);
 }
 
 // Both homes are closed. To make the queue again passes over them.
-fn close_homes(rt: &impl Abort, alloc: Global, world: &mut World) {
-    assert!(rt; is_answered(rt, alloc, world, MAKE, MADE));
+fn close_homes(rt: &impl Abort, alloc: Global, service: &mut Service) {
+    assert!(rt; is_answered(rt, alloc, service, MAKE, MADE));
     let lines: [Line; 2] = [
         (0, 0, 0, Ask::Close, Answers::Done),
         (0, 0, 1, Ask::Close, Answers::Done),
     ];
-    play(rt, alloc, world, &lines);
+    play(rt, alloc, service, &lines);
     for (line, want) in [(MAKE, MADE), (SEND, NO_QUEUE), (RECEIVE, NO_QUEUE)] {
-        assert!(rt; is_answered(rt, alloc, world, line, want), "{line}");
+        assert!(rt; is_answered(rt, alloc, service, line, want), "{line}");
     }
 }
 
 // It all is one run.
 #[test]
 fn closed_homes_are_passed_over_and_refuse(rt: HostRuntime) {
-    let mut world = world(&rt, rt.alloc(), options(2, 10, 2));
-    close_homes(&rt, rt.alloc(), &mut world);
-    assert_eq!(rt; fault(rt.alloc(), &world.parts()), NO_FAULT);
+    let mut service = Service::new(&rt, rt.alloc(), options(2, 10, 2));
+    close_homes(&rt, rt.alloc(), &mut service);
+    let evidence = service.evidence(&rt, rt.alloc());
+    assert_eq!(rt; fault(rt.alloc(), &evidence), NO_FAULT);
 }

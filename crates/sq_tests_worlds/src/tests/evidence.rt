@@ -1,6 +1,8 @@
 //! Parts that are not of each other, and what the audit says of them.
-use super::setup::{Fault, Mix, NO_FAULT, fault, make, missing, mixed, options, twice, world};
+use super::service::{Evidence, Service};
+use super::setup::{Fault, Mix, NO_FAULT, fault, make, missing, mixed, options, twice};
 use sq_audit::parts::Parts;
+use sq_base::name::QueueName;
 use sq_model::directory::{Attributes, DirectoryCall};
 use sq_steps::journal::{Journal, directory_step};
 use sq_tests_homes::asks::Answers;
@@ -8,17 +10,17 @@ use sq_tests_values::setup::named;
 use std::alloc::Global;
 use std::process::Abort;
 
-// The parts of a world in which an actor made queues of these names.
-fn made(rt: &impl Abort, alloc: Global, names: &[&str]) -> Parts {
-    let mut world = world(rt, alloc, options(1, 10, 10));
+// The parts of a service in which an actor made queues of these names.
+fn made(rt: &impl Abort, alloc: Global, names: &[&str]) -> Evidence {
+    let mut service = Service::new(rt, alloc, options(1, 10, 10));
     for name in names {
-        let answered = make(alloc, &mut world, 3, 1000, name);
+        let answered = make(alloc, &mut service, 3, 1000, name);
         assert!(rt; matches!(answered, Answers::Number(_)));
     }
-    world.parts()
+    service.evidence(rt, alloc)
 }
 
-// What the audit says of these parts, where some are of a world without queues.
+// What the audit says of these parts, where some are of a service without queues.
 fn with_none(rt: &impl Abort, alloc: Global, mix: Mix) -> Fault {
     mixed(
         alloc,
@@ -28,19 +30,23 @@ fn with_none(rt: &impl Abort, alloc: Global, mix: Mix) -> Fault {
     )
 }
 
+// Whether a queue is made, as this actor records it.
+fn is_made_by(alloc: Global, parts: &mut Parts, actor: &mut Journal, name: QueueName) -> bool {
+    let call = DirectoryCall::Create(name, Attributes::none());
+    directory_step(alloc, &mut parts.directory, actor, 1000, &call).is_ok()
+}
+
 // Another actor of the same number makes a queue.
 fn make_as_another(rt: &impl Abort, alloc: Global, parts: &mut Parts) {
     let mut other = Journal::new(alloc, 3);
     let name = named("a").expect(rt, "a name");
-    let call = DirectoryCall::Create(name, Attributes::none());
-    let step = directory_step(alloc, &mut parts.directory, &mut other, 1000, &call);
-    assert!(rt; step.is_ok());
+    assert!(rt; is_made_by(alloc, parts, &mut other, name));
 }
 
 fn with_an_actor_twice(rt: &impl Abort, alloc: Global) -> Fault {
-    let mut parts = made(rt, alloc, &["a", "b"]);
-    make_as_another(rt, alloc, &mut parts);
-    fault(alloc, &parts)
+    let mut evidence = made(rt, alloc, &["a", "b"]);
+    make_as_another(rt, alloc, evidence.parts_mut());
+    fault(alloc, &evidence)
 }
 
 #[test]

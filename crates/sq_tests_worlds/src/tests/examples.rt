@@ -1,18 +1,18 @@
 //! The library in use, from a service without queues to where its messages are.
+use super::service::Service;
 use sq_audit::merge::merge;
 use sq_audit::parts::Parts;
 use sq_base::handle::Handle;
 use sq_base::message_id::MessageId;
 use sq_base::name::QueueName;
 use sq_base::ranges::{MaxMessages, MaxReceives, Receives, Timeout};
-use sq_base::refusal::Refusal;
 use sq_calls::calls::{
     Answer, AskedAttributes, BodyText, Call, CreateQueue, DeleteMessage, ReceiveMessage,
     SendMessage,
 };
+use sq_calls::received_messages::ReceivedMessages;
 use sq_calls::turns::{Turn, Turned};
 use sq_merge::options::Options;
-use sq_merge::world::World;
 use sq_model::directory::Attributes;
 use sq_model::policy::RedrivePolicy;
 use sq_places::message_pass::place_of;
@@ -33,27 +33,19 @@ fn options(homes: u32) -> Options {
     }
 }
 
-// Whether this queue was made.
-fn is_made(answered: &Result<Answer, Refusal>, name: QueueName) -> bool {
-    match answered {
-        Ok(Answer::Queue(made)) => *made == name,
-        _ => false,
-    }
+// An answer in short: the name of the queue that was made, the id of the message that was sent, or the handle of the first one that
+// was received.
+#[derive(Clone, Copy)]
+enum Told {
+    Made(QueueName),
+    Sent(MessageId),
+    Received(Option<Handle>),
+    Done,
+    Other,
 }
 
-// The id of a message that was sent.
-fn id_of(answered: &Result<Answer, Refusal>) -> Option<MessageId> {
-    match answered {
-        Ok(Answer::Sent(id, _)) => Some(*id),
-        _ => None,
-    }
-}
-
-// The handle of the first message that was received, for the first time.
-fn handle_of(answered: &Result<Answer, Refusal>) -> Option<Handle> {
-    let Ok(Answer::Received(picked)) = answered else {
-        return None;
-    };
+// Of a message that is received for the first time.
+fn handle_of(picked: &ReceivedMessages) -> Option<Handle> {
     let row = picked.rows().first()?;
     Some(Handle {
         queue: picked.home().queue,
@@ -64,8 +56,26 @@ fn handle_of(answered: &Result<Answer, Refusal>) -> Option<Handle> {
     })
 }
 
+fn told_of(answer: &Answer) -> Told {
+    match answer {
+        Answer::Queue(name) => Told::Made(*name),
+        Answer::Sent(id, _) => Told::Sent(*id),
+        Answer::Received(picked) => Told::Received(handle_of(picked)),
+        Answer::Done => Told::Done,
+        _ => Told::Other,
+    }
+}
+
+// What an actor is answered that calls at a clock reading in ms.
+fn ask(alloc: Global, service: &mut Service, actor: u32, clock: u64, call: &Call) -> Told {
+    match service.call(alloc, actor, clock, call) {
+        Ok(answer) => told_of(&answer),
+        Err(_) => Told::Other,
+    }
+}
+
 // Actor 0 makes a queue when its clock says 0 ms. What is received from it once goes to another one, if there is one.
-fn make(alloc: Global, world: &mut World, name: QueueName, failed: Option<QueueName>) -> bool {
+fn make(alloc: Global, service: &mut Service, name: QueueName, failed: Option<QueueName>) -> bool {
     let mut attributes = Attributes::none();
     if let Some(target) = failed {
         attributes.redrive = Some(Some(RedrivePolicy {
@@ -74,24 +84,30 @@ fn make(alloc: Global, world: &mut World, name: QueueName, failed: Option<QueueN
         }));
     }
     let create = Call::CreateQueue(CreateQueue { name, attributes });
-    is_made(&world.call(alloc, 0, 0, &create), name)
+    match ask(alloc, service, 0, 0, &create) {
+        Told::Made(made) => made == name,
+        _ => false,
+    }
 }
 
 // Actor 1 sends a message at 1000 ms, and so has its id.
-fn send(alloc: Global, world: &mut World, queue: QueueName) -> Option<MessageId> {
+fn send(alloc: Global, service: &mut Service, queue: QueueName) -> Option<MessageId> {
     let body = BodyText::new(alloc, "hello").ok()?;
     let send = Call::SendMessage(SendMessage {
         queue,
         body,
         delay: None,
     });
-    id_of(&world.call(alloc, 1, 1000, &send))
+    match ask(alloc, service, 1, 1000, &send) {
+        Told::Sent(id) => Some(id),
+        _ => None,
+    }
 }
 
 // Actor 2 receives a message at 2000 ms, and so has its handle. It is visible again after the timeout, or the queue's.
 fn receive(
     alloc: Global,
-    world: &mut World,
+    service: &mut Service,
     queue: QueueName,
     timeout: Option<Timeout>,
 ) -> Option<Handle> {
@@ -104,13 +120,16 @@ fn receive(
             sent_timestamp: false,
         },
     });
-    handle_of(&world.call(alloc, 2, 2000, &receive))
+    match ask(alloc, service, 2, 2000, &receive) {
+        Told::Received(handle) => handle,
+        _ => None,
+    }
 }
 
 // Actor 2 deletes it at 3000 ms.
-fn delete(alloc: Global, world: &mut World, queue: QueueName, handle: Option<Handle>) -> bool {
+fn delete(alloc: Global, service: &mut Service, queue: QueueName, handle: Option<Handle>) -> bool {
     let delete = Call::DeleteMessage(DeleteMessage { queue, handle });
-    matches!(&world.call(alloc, 2, 3000, &delete), Ok(Answer::Done))
+    matches!(ask(alloc, service, 2, 3000, &delete), Told::Done)
 }
 
 // All that was done is one run of the sequential queue, and each message is at one place.
@@ -123,36 +142,42 @@ fn word_of(rt: &impl Abort, alloc: Global, parts: &Parts, id: &MessageId) -> &'s
 }
 
 // A message is sent, received and deleted.
-fn pass_on(rt: &impl Abort, alloc: Global, world: &mut World, orders: QueueName) -> MessageId {
-    assert!(rt; make(alloc, world, orders, None));
-    let id = send(alloc, world, orders).expect(rt, "a message");
-    let handle = receive(alloc, world, orders, None);
-    assert!(rt; delete(alloc, world, orders, handle));
+fn pass_on(rt: &impl Abort, alloc: Global, service: &mut Service, orders: QueueName) -> MessageId {
+    assert!(rt; make(alloc, service, orders, None));
+    let id = send(alloc, service, orders).expect(rt, "a message");
+    let handle = receive(alloc, service, orders, None);
+    assert!(rt; delete(alloc, service, orders, handle));
     id
 }
 
 #[test]
 fn a_message_is_sent_received_and_deleted(rt: HostRuntime) {
     let orders = QueueName::new(b"orders").expect(&rt, "a name");
-    let mut world = World::new(rt.alloc(), options(4)).expect(&rt, "memory");
-    let id = pass_on(&rt, rt.alloc(), &mut world, orders);
-    assert_eq!(rt; word_of(&rt, rt.alloc(), &world.parts(), &id), "deleted");
+    let mut service = Service::new(&rt, rt.alloc(), options(4));
+    let id = pass_on(&rt, rt.alloc(), &mut service, orders);
+    let evidence = service.evidence(&rt, rt.alloc());
+    assert_eq!(rt; word_of(&rt, rt.alloc(), evidence.parts(), &id), "deleted");
 }
 
 // Actor 9 does a turn at 3000 ms, which has this word.
-fn take(alloc: Global, world: &mut World, turn: Turn, word: Turned) -> bool {
-    matches!(world.turn(alloc, 9, 3000, &turn), Ok(told) if told == word)
+fn take(alloc: Global, service: &mut Service, turn: Turn, word: Turned) -> bool {
+    matches!(service.turn(alloc, 9, 3000, &turn), Ok(told) if told == word)
 }
 
 // A message is received once and visible again at once, and moved by two turns. It is received where it went.
-fn move_on(rt: &impl Abort, alloc: Global, world: &mut World, queues: [QueueName; 2]) -> MessageId {
+fn move_on(
+    rt: &impl Abort,
+    alloc: Global,
+    service: &mut Service,
+    queues: [QueueName; 2],
+) -> MessageId {
     let [orders, failed] = queues;
-    assert!(rt; make(alloc, world, failed, None) && make(alloc, world, orders, Some(failed)));
-    let id = send(alloc, world, orders).expect(rt, "a message");
-    assert!(rt; receive(alloc, world, orders, Some(Timeout::of(0))).is_some());
-    assert!(rt; take(alloc, world, Turn::DeadTurn(orders), Turned::Left));
-    assert!(rt; take(alloc, world, Turn::EnterTurn, Turned::Entered));
-    assert!(rt; receive(alloc, world, failed, None).is_some());
+    assert!(rt; make(alloc, service, failed, None) && make(alloc, service, orders, Some(failed)));
+    let id = send(alloc, service, orders).expect(rt, "a message");
+    assert!(rt; receive(alloc, service, orders, Some(Timeout::of(0))).is_some());
+    assert!(rt; take(alloc, service, Turn::DeadTurn(orders), Turned::Left));
+    assert!(rt; take(alloc, service, Turn::EnterTurn, Turned::Entered));
+    assert!(rt; receive(alloc, service, failed, None).is_some());
     id
 }
 
@@ -160,7 +185,8 @@ fn move_on(rt: &impl Abort, alloc: Global, world: &mut World, queues: [QueueName
 fn a_dead_letter_is_moved(rt: HostRuntime) {
     let orders = QueueName::new(b"orders").expect(&rt, "a name");
     let failed = QueueName::new(b"failed-orders").expect(&rt, "a name");
-    let mut world = World::new(rt.alloc(), options(1)).expect(&rt, "memory");
-    let id = move_on(&rt, rt.alloc(), &mut world, [orders, failed]);
-    assert_eq!(rt; word_of(&rt, rt.alloc(), &world.parts(), &id), "home");
+    let mut service = Service::new(&rt, rt.alloc(), options(1));
+    let id = move_on(&rt, rt.alloc(), &mut service, [orders, failed]);
+    let evidence = service.evidence(&rt, rt.alloc());
+    assert_eq!(rt; word_of(&rt, rt.alloc(), evidence.parts(), &id), "home");
 }

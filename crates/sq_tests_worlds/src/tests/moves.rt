@@ -1,13 +1,12 @@
 //! Messages that move: what no row shows of them, and what the audit says where a home and the ledger do not agree.
+use super::service::{Evidence, Service};
 use super::setup::{
     Fault, Mix, NO_FAULT, answered, enter_at, fault, is_answered, leave_at, make, mixed, options,
-    told, world,
+    told,
 };
-use sq_audit::parts::Parts;
 use sq_base::ids::{HomeId, HomeNo, QueueNo};
 use sq_base::refusal::Refusal;
 use sq_merge::options::Options;
-use sq_merge::world::World;
 use sq_model::item::ItemNo;
 use sq_steps::act::{Act, SharedAct};
 use sq_tests_homes::asks::Answers;
@@ -113,26 +112,26 @@ fn few(rows: u32, transit: u32) -> Options {
 type Story<'a> = (&'a [&'static str], &'a [Line]);
 
 // Does these lines, whatever they are answered.
-fn begin(rt: &impl Abort, alloc: Global, world: &mut World, lines: &[&str]) {
+fn begin(rt: &impl Abort, alloc: Global, service: &mut Service, lines: &[&str]) {
     for line in lines {
-        let _ = answered(rt, alloc, world, line);
+        let _ = answered(rt, alloc, service, line);
     }
 }
 
 // Does these lines, each of which is answered as it says.
-fn go_on(rt: &impl Abort, alloc: Global, world: &mut World, lines: &[Line]) {
+fn go_on(rt: &impl Abort, alloc: Global, service: &mut Service, lines: &[Line]) {
     for (line, want) in lines {
-        assert!(rt; is_answered(rt, alloc, world, line, want), "{line}");
+        assert!(rt; is_answered(rt, alloc, service, line, want), "{line}");
     }
 }
 
-// The parts that a story leaves.
-fn lived(rt: &impl Abort, alloc: Global, story: Story<'_>) -> Parts {
+// What a story leaves.
+fn lived(rt: &impl Abort, alloc: Global, story: Story<'_>) -> Evidence {
     let (first, then) = story;
-    let mut world = world(rt, alloc, few(10, 10));
-    begin(rt, alloc, &mut world, first);
-    go_on(rt, alloc, &mut world, then);
-    world.parts()
+    let mut service = Service::new(rt, alloc, few(10, 10));
+    begin(rt, alloc, &mut service, first);
+    go_on(rt, alloc, &mut service, then);
+    service.evidence(rt, alloc)
 }
 
 // What the audit says of all that a story leaves, but for the ledger, which is another one's.
@@ -173,38 +172,52 @@ fn what_stands_in_one_history_alone_is_a_fault(rt: HostRuntime) {
     }
 }
 
+// As `leave_at` and `enter_at` say it.
+const LEFT: Fault = [3, 31_000, 2];
+
+const CAME_IN: Fault = [4, 31_000, 4];
+
+const LEFT_LATER: Fault = [3, 32_000, 1];
+
+const LEFT_FOR_ANOTHER: Fault = [3, 31_000, 1];
+
+// Stories of which the ledger has the second, and what may be told of that.
+type Differing = (Story<'static>, Story<'static>, [Fault; 2]);
+
 // The ledger's step has the same stamp, and is of another message, actor or target; or it has another stamp.
+const DIFFERING: [Differing; 7] = [
+    ((&DEAD, &[LEAVE]), (&OTHER_DEAD, &[LEAVE]), [LEFT, LEFT]),
+    ((&OTHER_DEAD, &[LEAVE]), (&DEAD, &[LEAVE]), [LEFT, LEFT]),
+    (
+        (&DEAD, &[LEAVE, ENTER]),
+        (&OTHER_DEAD, &[LEAVE, ENTER]),
+        [LEFT, CAME_IN],
+    ),
+    (
+        (&DEAD, &[LEAVE]),
+        (&DEAD, &[LEAVE_BY_ANOTHER]),
+        [LEFT, LEFT],
+    ),
+    (
+        (&DEAD, &[LEAVE, ENTER]),
+        (&DEAD, &[LEAVE, ENTER_BY_ANOTHER]),
+        [CAME_IN, CAME_IN],
+    ),
+    (
+        (&DEAD, &[LEAVE]),
+        (&DEAD, &[LEAVE_LATER]),
+        [LEFT, LEFT_LATER],
+    ),
+    (
+        (&DEAD_FOR_D, &[LEAVE]),
+        (&DEAD_FOR_E, &[LEAVE]),
+        [LEFT_FOR_ANOTHER, LEFT_FOR_ANOTHER],
+    ),
+];
+
 #[test]
 fn what_differs_between_two_histories_is_a_fault(rt: HostRuntime) {
-    let left = leave_at(31_000, 2);
-    let came_in = enter_at(31_000, 4);
-    let moved: &[Line] = &[LEAVE, ENTER];
-    let stories: [(Story<'_>, Story<'_>, [Fault; 2]); 7] = [
-        ((&DEAD, &[LEAVE]), (&OTHER_DEAD, &[LEAVE]), [left, left]),
-        ((&OTHER_DEAD, &[LEAVE]), (&DEAD, &[LEAVE]), [left, left]),
-        ((&DEAD, moved), (&OTHER_DEAD, moved), [left, came_in]),
-        (
-            (&DEAD, &[LEAVE]),
-            (&DEAD, &[LEAVE_BY_ANOTHER]),
-            [left, left],
-        ),
-        (
-            (&DEAD, moved),
-            (&DEAD, &[LEAVE, ENTER_BY_ANOTHER]),
-            [came_in, came_in],
-        ),
-        (
-            (&DEAD, &[LEAVE]),
-            (&DEAD, &[LEAVE_LATER]),
-            [left, leave_at(32_000, 1)],
-        ),
-        (
-            (&DEAD_FOR_D, &[LEAVE]),
-            (&DEAD_FOR_E, &[LEAVE]),
-            [leave_at(31_000, 1), leave_at(31_000, 1)],
-        ),
-    ];
-    for (place, (kept, ledger, wants)) in stories.iter().enumerate() {
+    for (place, (kept, ledger, wants)) in DIFFERING.iter().enumerate() {
         let found = with_ledger_of(&rt, rt.alloc(), *kept, *ledger);
         assert!(rt; wants.contains(&found), "{place}: {found:?}");
     }
@@ -222,18 +235,18 @@ fn item(number: u64) -> ItemNo {
 }
 
 // What a step at the first home of a queue tells, by its place in order of creation.
-fn moved(alloc: Global, world: &mut World, clock: u64, queue: u32, what: SharedAct) -> Answers {
-    told(alloc, world, 5, clock, Act::Shared(home_of(queue), what))
+fn moved(alloc: Global, service: &mut Service, clock: u64, queue: u32, what: SharedAct) -> Answers {
+    told(alloc, service, 5, clock, Act::Shared(home_of(queue), what))
 }
 
 // Queues, and what a move at the first home of each tells at 1000 ms.
 type Row<'a> = (SharedAct, &'a [(u32, Answers)]);
 
 // Does these moves, each of which tells what it says.
-fn do_moves(rt: &impl Abort, alloc: Global, world: &mut World, rows: &[Row<'_>]) {
+fn do_moves(rt: &impl Abort, alloc: Global, service: &mut Service, rows: &[Row<'_>]) {
     for (place, (what, wants)) in rows.iter().enumerate() {
         for (queue, want) in wants.iter() {
-            let told = moved(alloc, world, 1000, *queue, *what);
+            let told = moved(alloc, service, 1000, *queue, *what);
             assert!(rt; told == *want, "row {place} at {queue}");
         }
     }
@@ -259,14 +272,14 @@ const REMOVE_Q_EARLY: Line = (
 
 // The queues d, q, c and u, of one row a home: q has a message, another one of it is in transit to d, c is deleted, and u was never
 // opened. There is room for one item in transit, and no fifth queue.
-fn crossing(rt: &impl Abort, alloc: Global) -> World {
-    let mut world = world(rt, alloc, few(1, 1));
+fn crossing(rt: &impl Abort, alloc: Global) -> Service {
+    let mut service = Service::new(rt, alloc, few(1, 1));
     let lines = [MAKE_D, MAKE_Q_FOR_D, MAKE_C, REMOVE_C, SEND, RECEIVE];
-    begin(rt, alloc, &mut world, &lines);
-    go_on(rt, alloc, &mut world, &[LEAVE_EARLY]);
-    begin(rt, alloc, &mut world, &[SEND]);
-    assert!(rt; make(alloc, &mut world, 0, 0, "u") == Answers::Number(4));
-    world
+    begin(rt, alloc, &mut service, &lines);
+    go_on(rt, alloc, &mut service, &[LEAVE_EARLY]);
+    begin(rt, alloc, &mut service, &[SEND]);
+    assert!(rt; make(alloc, &mut service, 0, 0, "u") == Answers::Number(4));
+    service
 }
 
 const NO_QUEUE: Answers = Answers::Refused(Refusal::QueueDoesNotExist);
@@ -277,11 +290,11 @@ const FULL: Answers = Answers::Refused(Refusal::OverLimit);
 
 const LATE: Answers = Answers::Refused(Refusal::ClockRange);
 
-// Does moves, each of which is refused or done as it says.
-fn refuse_in_order(rt: &impl Abort, alloc: Global, world: &mut World) {
+// What is refused while both queues are there, of one item in transit and no other.
+fn refuse_at_first(rt: &impl Abort, alloc: Global, service: &mut Service) {
     let one = item(1);
     for queue in [0, 4] {
-        let told = moved(alloc, world, CLOCK_END, queue, SharedAct::LeaveDead);
+        let told = moved(alloc, service, CLOCK_END, queue, SharedAct::LeaveDead);
         assert!(rt; told == LATE);
     }
     let rows: [Row<'_>; 6] = [
@@ -313,11 +326,19 @@ fn refuse_in_order(rt: &impl Abort, alloc: Global, world: &mut World) {
             &[(1, NOT_SO), (2, NOT_SO), (3, NO_QUEUE)],
         ),
     ];
-    do_moves(rt, alloc, world, &rows);
-    // The message that waits is dead too, and finds no room in transit.
-    begin(rt, alloc, world, &[RECEIVE]);
-    do_moves(rt, alloc, world, &[(SharedAct::LeaveDead, &[(1, FULL)])]);
-    go_on(rt, alloc, world, &[REMOVE_D_EARLY]);
+    do_moves(rt, alloc, service, &rows);
+}
+
+// The message that waits is dead too, and finds no room in transit.
+fn refuse_a_second_item(rt: &impl Abort, alloc: Global, service: &mut Service) {
+    begin(rt, alloc, service, &[RECEIVE]);
+    do_moves(rt, alloc, service, &[(SharedAct::LeaveDead, &[(1, FULL)])]);
+}
+
+// The item turns, and finds no room where it comes from.
+fn refuse_without_its_target(rt: &impl Abort, alloc: Global, service: &mut Service) {
+    let one = item(1);
+    go_on(rt, alloc, service, &[REMOVE_D_EARLY]);
     let rows: [Row<'_>; 6] = [
         (SharedAct::Enter(one), &[(0, NO_QUEUE)]),
         (SharedAct::GiveUp(one), &[(0, NOT_SO)]),
@@ -326,21 +347,30 @@ fn refuse_in_order(rt: &impl Abort, alloc: Global, world: &mut World) {
         (SharedAct::GiveBack(one), &[(1, FULL)]),
         (SharedAct::GiveUp(one), &[(1, NOT_SO)]),
     ];
-    do_moves(rt, alloc, world, &rows);
-    go_on(rt, alloc, world, &[REMOVE_Q_EARLY]);
+    do_moves(rt, alloc, service, &rows);
+}
+
+// It is given up.
+fn refuse_without_its_source(rt: &impl Abort, alloc: Global, service: &mut Service) {
+    let one = item(1);
+    go_on(rt, alloc, service, &[REMOVE_Q_EARLY]);
     let rows: [Row<'_>; 3] = [
         (SharedAct::GiveBack(one), &[(1, NO_QUEUE)]),
         (SharedAct::TurnBack(one), &[(1, NOT_SO)]),
         (SharedAct::GiveUp(one), &[(1, Answers::Done), (1, NOT_SO)]),
     ];
-    do_moves(rt, alloc, world, &rows);
+    do_moves(rt, alloc, service, &rows);
 }
 
 #[test]
 fn moves_are_refused_in_order(rt: HostRuntime) {
-    let mut world = crossing(&rt, rt.alloc());
-    refuse_in_order(&rt, rt.alloc(), &mut world);
-    assert_eq!(rt; fault(rt.alloc(), &world.parts()), NO_FAULT);
+    let mut service = crossing(&rt, rt.alloc());
+    refuse_at_first(&rt, rt.alloc(), &mut service);
+    refuse_a_second_item(&rt, rt.alloc(), &mut service);
+    refuse_without_its_target(&rt, rt.alloc(), &mut service);
+    refuse_without_its_source(&rt, rt.alloc(), &mut service);
+    let evidence = service.evidence(&rt, rt.alloc());
+    assert_eq!(rt; fault(rt.alloc(), &evidence), NO_FAULT);
 }
 
 const FULL_TURN: Line = (
@@ -367,9 +397,9 @@ const ENTER_EARLY: Line = (
 #[test]
 fn a_home_that_was_never_opened_is_as_full(rt: HostRuntime) {
     let alloc = rt.alloc();
-    let mut world = world(&rt, alloc, few(10, 10));
-    assert!(rt; make(alloc, &mut world, 0, 0, "d") == Answers::Number(1));
-    begin(&rt, alloc, &mut world, &[MAKE_Q_FOR_D, SEND, RECEIVE]);
+    let mut service = Service::new(&rt, alloc, few(10, 10));
+    assert!(rt; make(alloc, &mut service, 0, 0, "d") == Answers::Number(1));
+    begin(&rt, alloc, &mut service, &[MAKE_Q_FOR_D, SEND, RECEIVE]);
     let lines = [LEAVE_EARLY, FULL_TURN, LEAVE_D, OPEN_D, ENTER_EARLY];
-    go_on(&rt, alloc, &mut world, &lines);
+    go_on(&rt, alloc, &mut service, &lines);
 }

@@ -1,13 +1,12 @@
 //! Where a message is after some steps of a home, and the texts of that.
-use super::setup::{Line, make, options, play, world};
+use super::service::Service;
+use super::setup::{Line, make, options, play};
 use sq_audit::merge::merge;
-use sq_base::stamp::Stamp;
-use sq_merge::world::World;
 use sq_model::place::Place;
 use sq_places::message_pass::place_of;
 use sq_tests_homes::asks::{Answers, Ask};
 use sq_tests_values::setup::{id, stamp};
-use sq_wire::audit::{audit_world, place_name, stamp_text};
+use sq_wire::audit::{place_name, stamp_text};
 use std::alloc::Global;
 use std::process::Abort;
 
@@ -31,20 +30,20 @@ fn lines() -> [Line; 12] {
     ]
 }
 
-// A world after so many of the lines.
-fn lived(rt: &impl Abort, alloc: Global, count: usize) -> World {
-    let mut world = world(rt, alloc, options(1, 10, 10));
-    assert!(rt; make(alloc, &mut world, 0, 0, "q") == Answers::Number(1));
+// A service after so many of the lines.
+fn lived(rt: &impl Abort, alloc: Global, count: usize) -> Service {
+    let mut service = Service::new(rt, alloc, options(1, 10, 10));
+    assert!(rt; make(alloc, &mut service, 0, 0, "q") == Answers::Number(1));
     for line in lines().iter().take(count) {
-        play(rt, alloc, &mut world, &[*line]);
+        play(rt, alloc, &mut service, &[*line]);
     }
-    world
+    service
 }
 
 // The word for where a message is after so many of the lines.
 fn place(rt: &impl Abort, alloc: Global, count: usize, serial: u64) -> &'static str {
-    let parts = lived(rt, alloc, count).parts();
-    let run = merge(alloc, &parts).expect(rt, "one run");
+    let evidence = lived(rt, alloc, count).evidence(rt, alloc);
+    let run = merge(alloc, evidence.parts()).expect(rt, "one run");
     match place_of(&run, &id(serial)) {
         Some(place) => place_name(place),
         None => "nowhere",
@@ -72,12 +71,19 @@ fn places_are_those_of_the_events(rt: HostRuntime) {
     }
 }
 
+// All that an audit says of these steps.
+const AUDIT: &str =
+    r#"{"Merged":["0.1","0.2","1000.0","1000.1","2000.0","3000.0","32000.0","32000.1","33000.0","345600999.0","345601000.0","345601000.1","345601000.2"],"Places":[["00000000-0001-8000-8000-000000000000","deleted"],["00000000-0001-8000-8000-000000000001","expired"],["00000000-0001-8000-8000-000000000002","purged"],["00000000-0001-8000-8000-000000000003","closed"]]}"#;
+
 #[test]
-fn audits_have_their_words(rt: HostRuntime) {
-    let want =
-        r#"{"Merged":["0.1","0.2","1000.0","1000.1","2000.0","3000.0","32000.0","32000.1","33000.0","345600999.0","345601000.0","345601000.1","345601000.2"],"Places":[["00000000-0001-8000-8000-000000000000","deleted"],["00000000-0001-8000-8000-000000000001","expired"],["00000000-0001-8000-8000-000000000002","purged"],["00000000-0001-8000-8000-000000000003","closed"]]}"#;
-    let audited = audit_world(rt.alloc(), lived(&rt, rt.alloc(), 12)).expect(&rt, "memory");
-    assert!(rt; audited.as_bytes() == want.as_bytes());
+fn an_audit_is_a_line(rt: HostRuntime) {
+    let service = lived(&rt, rt.alloc(), 12);
+    let audited = service.audit(rt.alloc()).expect(&rt, "memory");
+    assert!(rt; audited.as_bytes() == AUDIT.as_bytes());
+}
+
+#[test]
+fn places_have_their_words(rt: HostRuntime) {
     for (place, want) in [
         (Place::InHome, "home"),
         (Place::InTransit, "transit"),
@@ -85,14 +91,15 @@ fn audits_have_their_words(rt: HostRuntime) {
     ] {
         assert_eq!(rt; place_name(place), want);
     }
-    for (stamp, want) in [
-        (Stamp::start(), "0.0"),
-        (
-            stamp(4_611_686_018_427_387_903, 10),
-            "4611686018427387903.10",
-        ),
+}
+
+#[test]
+fn stamps_have_their_texts(rt: HostRuntime) {
+    for (moment, count, want) in [
+        (0, 0, "0.0"),
+        (4_611_686_018_427_387_903, 10, "4611686018427387903.10"),
     ] {
-        let text = stamp_text(rt.alloc(), stamp).expect(&rt, "memory");
+        let text = stamp_text(rt.alloc(), stamp(moment, count)).expect(&rt, "memory");
         assert_eq!(rt; text.as_str(), want);
     }
 }

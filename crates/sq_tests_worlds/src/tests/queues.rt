@@ -1,8 +1,8 @@
 //! Steps and reads of queues and of tasks that no client asks by themselves.
-use super::setup::{make, options, told, world};
+use super::service::Service;
+use super::setup::{make, options, told};
 use sq_base::ids::QueueNo;
 use sq_base::refusal::Refusal;
-use sq_merge::world::World;
 use sq_model::item::TaskNo;
 use sq_model::task::NamedQueue;
 use sq_policy::arn::{arn_of, read_arn};
@@ -11,31 +11,43 @@ use sq_tests_homes::asks::Answers;
 use sq_tests_values::setup::named;
 use std::alloc::Global;
 
+// The number of the queue at a place of a list, where it has this name; 0 else.
+fn number_in(queues: &[NamedQueue], place: usize, name: &str) -> u64 {
+    match queues.get(place) {
+        Some(queue) if queue.name.as_str() == name => queue.number.get(),
+        _ => 0,
+    }
+}
+
+fn number_of(outcome: &Outcome, place: usize, name: &str) -> u64 {
+    match outcome {
+        Outcome::Named(queues) => number_in(queues.as_slice(), place, name),
+        _ => 0,
+    }
+}
+
 // The number of the queue that stands at a place among all, where it has this name; 0 else.
-fn number_at(alloc: Global, world: &mut World, place: usize, name: &str) -> u64 {
+fn number_at(alloc: Global, service: &mut Service, place: usize, name: &str) -> u64 {
     let step = Step {
         actor: 1,
         clock: 0,
         act: Act::Names,
     };
-    match world.step(alloc, &step) {
-        Ok(Outcome::Named(queues)) => match queues.as_slice().get(place) {
-            Some(queue) if queue.name.as_str() == name => queue.number.get(),
-            _ => 0,
-        },
-        _ => 0,
+    match service.step(alloc, &step) {
+        Ok(outcome) => number_of(&outcome, place, name),
+        Err(_) => 0,
     }
 }
 
 #[test]
 fn queues_are_named_in_order_of_creation(rt: HostRuntime) {
     let alloc = rt.alloc();
-    let mut world = world(&rt, alloc, options(1, 1, 1));
+    let mut service = Service::new(&rt, alloc, options(1, 1, 1));
     for (name, number) in [("z", 1), ("a", 2)] {
-        assert!(rt; make(alloc, &mut world, 0, 0, name) == Answers::Number(number));
+        assert!(rt; make(alloc, &mut service, 0, 0, name) == Answers::Number(number));
     }
     for (place, name, number) in [(0, "z", 1), (1, "a", 2), (2, "z", 0)] {
-        assert_eq!(rt; number_at(alloc, &mut world, place, name), number);
+        assert_eq!(rt; number_at(alloc, &mut service, place, name), number);
     }
 }
 
@@ -71,9 +83,9 @@ fn act(ask: Ask) -> Result<Act, Refusal> {
     })
 }
 
-fn asked(alloc: Global, world: &mut World, ask: Ask) -> Answers {
+fn asked(alloc: Global, service: &mut Service, ask: Ask) -> Answers {
     match act(ask) {
-        Ok(act) => told(alloc, world, 0, 0, act),
+        Ok(act) => told(alloc, service, 0, 0, act),
         Err(refusal) => Answers::Refused(refusal),
     }
 }
@@ -82,7 +94,7 @@ fn asked(alloc: Global, world: &mut World, ask: Ask) -> Answers {
 #[test]
 fn the_last_task_of_a_queue_is_found(rt: HostRuntime) {
     let alloc = rt.alloc();
-    let mut world = world(&rt, alloc, options(1, 10, 16));
+    let mut service = Service::new(&rt, alloc, options(1, 10, 16));
     let active = Answers::Refused(Refusal::UnsupportedOperation);
     let unknown = Answers::Refused(Refusal::ResourceNotFoundException);
     let steps = [
@@ -99,7 +111,7 @@ fn the_last_task_of_a_queue_is_found(rt: HostRuntime) {
         (Ask::Read(4), unknown),
     ];
     for (place, (ask, want)) in steps.iter().enumerate() {
-        assert!(rt; asked(alloc, &mut world, *ask) == *want, "step {place}");
+        assert!(rt; asked(alloc, &mut service, *ask) == *want, "step {place}");
     }
 }
 

@@ -1,10 +1,11 @@
 //! Runs over a reader and a writer that fail, and refusals that no line has. Whole scripts are in `rows/`.
-use super::setup::{options, world};
+use super::service::Service;
+use super::setup::options;
 use sq_base::refusal::Refusal;
 use sq_lines::counted::Counted;
 use sq_replies::reply::reply_text;
 use sq_tests_values::streams::{Bytewise, Piecewise};
-use sq_wire::run::{ServeFault, run_script};
+use sq_wire::run::ServeFault;
 use std::alloc::Global;
 use std::process::Abort;
 
@@ -37,8 +38,8 @@ fn written(bytes: &[u8]) -> u64 {
 fn run_of(rt: &impl Abort, alloc: Global, reads: u32, writes: u32) -> [u64; 6] {
     let mut reader = Counted::new(Piecewise::new(b"one\ntwo\n", reads));
     let mut writer = Counted::new(Bytewise::new(alloc, writes));
-    let mut world = world(rt, alloc, options(1, 10, 10));
-    let [end, lines] = end_of(run_script(alloc, &mut reader, &mut writer, &mut world));
+    let mut service = Service::new(rt, alloc, options(1, 10, 10));
+    let [end, lines] = end_of(service.answer(alloc, &mut reader, &mut writer));
     let stream = writer.inner();
     [
         end,

@@ -1,11 +1,11 @@
-//! What several tests begin with: worlds, scripts of steps with what each is answered, and lines of clients.
+//! What several tests begin with: options, scripts of steps with what each is answered, and lines of clients.
+use super::service::{Evidence, Service};
 use sq_audit::check::AuditFault;
 use sq_audit::merge::merge;
 use sq_audit::parts::Parts;
 use sq_base::refusal::Refusal;
 use sq_lines::counted::Counted;
 use sq_merge::options::Options;
-use sq_merge::world::World;
 use sq_model::directory::{Attributes, DirectoryCall, DirectoryReply};
 use sq_model::ledger::LedgerReply;
 use sq_model::replies::HomeReply;
@@ -13,7 +13,6 @@ use sq_steps::act::{Act, Outcome, Step};
 use sq_tests_homes::asks::{Answers, Ask, answer_of, home_act};
 use sq_tests_values::setup::{home, named};
 use sq_tests_values::streams::{Bytewise, Piecewise};
-use sq_wire::run::run_script;
 use std::alloc::Global;
 use std::mem::swap;
 use std::process::Abort;
@@ -29,10 +28,6 @@ pub fn options(homes: u32, rows: u32, flights: u32) -> Options {
         transit: 10,
         seed: 7,
     }
-}
-
-pub fn world(rt: &impl Abort, alloc: Global, options: Options) -> World {
-    World::new(alloc, options).expect(rt, "memory")
 }
 
 fn answer_of_home(reply: &HomeReply) -> Answers {
@@ -54,21 +49,24 @@ fn answer_of_step(outcome: &Outcome) -> Answers {
     }
 }
 
-/// What an actor is answered that does this at a clock reading in ms.
-pub fn told(alloc: Global, world: &mut World, actor: u32, clock: u64, act: Act) -> Answers {
-    let step = Step { actor, clock, act };
-    match world.step(alloc, &step) {
+fn answer_to(alloc: Global, service: &mut Service, step: &Step) -> Answers {
+    match service.step(alloc, step) {
         Ok(outcome) => answer_of_step(&outcome),
         Err(refusal) => Answers::Refused(refusal),
     }
 }
 
+/// What an actor is answered that does this at a clock reading in ms.
+pub fn told(alloc: Global, service: &mut Service, actor: u32, clock: u64, act: Act) -> Answers {
+    answer_to(alloc, service, &Step { actor, clock, act })
+}
+
 /// Makes a queue of this name, whose homes are not opened.
-pub fn make(alloc: Global, world: &mut World, actor: u32, clock: u64, name: &str) -> Answers {
+pub fn make(alloc: Global, service: &mut Service, actor: u32, clock: u64, name: &str) -> Answers {
     match named(name) {
         Ok(name) => {
             let call = DirectoryCall::Create(name, Attributes::none());
-            told(alloc, world, actor, clock, Act::Directory(call))
+            told(alloc, service, actor, clock, Act::Directory(call))
         }
         Err(refusal) => Answers::Refused(refusal),
     }
@@ -79,19 +77,25 @@ pub fn make(alloc: Global, world: &mut World, actor: u32, clock: u64, name: &str
 pub type Line = (u32, u64, u64, Ask, Answers);
 
 /// Whether a step is answered as its line says.
-pub fn is_right(alloc: Global, world: &mut World, line: &Line) -> bool {
+pub fn is_right(alloc: Global, service: &mut Service, line: &Line) -> bool {
     let (actor, clock, number, ask, want) = line;
     let answered = match home_act(alloc, *ask) {
-        Ok(act) => told(alloc, world, *actor, *clock, Act::Home(home(*number), act)),
+        Ok(act) => told(
+            alloc,
+            service,
+            *actor,
+            *clock,
+            Act::Home(home(*number), act),
+        ),
         Err(refusal) => Answers::Refused(refusal),
     };
     answered == *want
 }
 
 /// Does the steps of a script, each of which is answered as it says.
-pub fn play(rt: &impl Abort, alloc: Global, world: &mut World, lines: &[Line]) {
+pub fn play(rt: &impl Abort, alloc: Global, service: &mut Service, lines: &[Line]) {
     for (place, line) in lines.iter().enumerate() {
-        assert!(rt; is_right(alloc, world, line), "line {place}");
+        assert!(rt; is_right(alloc, service, line), "line {place}");
     }
 }
 
@@ -99,13 +103,12 @@ pub fn play(rt: &impl Abort, alloc: Global, world: &mut World, lines: &[Line]) {
 pub fn answered(
     rt: &impl Abort,
     alloc: Global,
-    world: &mut World,
+    service: &mut Service,
     lines: &str,
 ) -> Counted<Bytewise> {
     let mut reader = Counted::new(Piecewise::new(lines.as_bytes(), 0));
     let mut writer = Counted::new(Bytewise::new(alloc, 0));
-    let done = run_script(alloc, &mut reader, &mut writer, world);
-    assert!(rt; done.is_ok());
+    assert!(rt; service.answer(alloc, &mut reader, &mut writer).is_ok());
     writer
 }
 
@@ -113,11 +116,11 @@ pub fn answered(
 pub fn is_answered(
     rt: &impl Abort,
     alloc: Global,
-    world: &mut World,
+    service: &mut Service,
     line: &str,
     want: &str,
 ) -> bool {
-    let writer = answered(rt, alloc, world, line);
+    let writer = answered(rt, alloc, service, line);
     match writer.inner().written.as_slice() {
         [text @ .., b'\n'] => text == want.as_bytes(),
         _ => false,
@@ -160,8 +163,8 @@ fn numbers_of(fault: AuditFault) -> Fault {
 }
 
 /// What the audit finds wrong.
-pub fn fault(alloc: Global, parts: &Parts) -> Fault {
-    match merge(alloc, parts).err() {
+pub fn fault(alloc: Global, evidence: &Evidence) -> Fault {
+    match merge(alloc, evidence.parts()).err() {
         Some(fault) => numbers_of(fault),
         None => NO_FAULT,
     }
@@ -202,8 +205,8 @@ fn mix_in(parts: &mut Parts, other: &mut Parts, mix: Mix) {
     }
 }
 
-/// What the audit says of these parts, some of them in place of which are the other's.
-pub fn mixed(alloc: Global, mut parts: Parts, mut other: Parts, mix: Mix) -> Fault {
-    mix_in(&mut parts, &mut other, mix);
-    fault(alloc, &parts)
+/// What the audit says of this evidence, some parts of which are the other's.
+pub fn mixed(alloc: Global, mut evidence: Evidence, mut other: Evidence, mix: Mix) -> Fault {
+    mix_in(evidence.parts_mut(), other.parts_mut(), mix);
+    fault(alloc, &evidence)
 }

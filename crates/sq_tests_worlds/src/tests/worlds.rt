@@ -1,5 +1,6 @@
 //! Steps of several actors at several homes, and the one order of it all.
-use super::setup::{Line, make, options, play, world};
+use super::service::Service;
+use super::setup::{Line, make, options, play};
 use sq_audit::merge::merge;
 use sq_audit::parts::Parts;
 use sq_audit::run::Run;
@@ -37,11 +38,11 @@ fn order_of(rt: &impl Abort, alloc: Global, run: &Run<'_>) -> String {
 
 // Makes a queue at this moment, and does the steps of a script, which leave events in this order.
 fn leave(rt: &impl Abort, alloc: Global, moment: u64, lines: &[Line], order: &str) {
-    let mut world = world(rt, alloc, options(2, 10, 16));
-    assert!(rt; make(alloc, &mut world, 0, moment, "q") == Answers::Number(1));
-    play(rt, alloc, &mut world, lines);
-    let parts = world.parts();
-    let run = merge(alloc, &parts).expect(rt, "one run");
+    let mut service = Service::new(rt, alloc, options(2, 10, 16));
+    assert!(rt; make(alloc, &mut service, 0, moment, "q") == Answers::Number(1));
+    play(rt, alloc, &mut service, lines);
+    let evidence = service.evidence(rt, alloc);
+    let run = merge(alloc, evidence.parts()).expect(rt, "one run");
     assert_eq!(rt; order_of(rt, alloc, &run).as_str(), order);
 }
 
@@ -139,7 +140,8 @@ fn a_run_goes_on_after_a_refusal(rt: HostRuntime) {
         (1, 0, Ask::Purge),
     ];
     let steps = steps(&rt, rt.alloc(), &lines);
-    let mut world = world(&rt, rt.alloc(), options(2, 10, 16));
-    assert_eq!(rt; world.run(rt.alloc(), &steps), 3);
-    assert!(rt; are_recorded(&world.parts()));
+    let mut service = Service::new(&rt, rt.alloc(), options(2, 10, 16));
+    assert_eq!(rt; service.run(rt.alloc(), &steps), 3);
+    let evidence = service.evidence(&rt, rt.alloc());
+    assert!(rt; are_recorded(evidence.parts()));
 }
