@@ -1,10 +1,20 @@
 """Wrong bodies as they are written, and the crates that they stand in."""
 import os
 import subprocess
+import sys
+import threading
 
 from .functions import functions_of, is_in_a_cycle
 
 PARTS = ("src", "specs", "proofs")
+SAYING = threading.Lock()
+
+
+def say(text):
+    """Writes a line, also where several threads do."""
+    with SAYING:
+        sys.stdout.write(f"{text}\n")
+        sys.stdout.flush()
 
 
 class Edit:
@@ -53,7 +63,7 @@ class Edit:
     def tell(self, verdict, why):
         self.verdict, self.why = verdict, why
         more = "" if verdict == self.wanted else f" (and not {self.wanted})"
-        print(f"{self.crate.name}/{self.name}: {verdict}{more}: {why}", flush=True)
+        say(f"{self.crate.name}/{self.name}: {verdict}{more}: {why}")
 
 
 class Crate:

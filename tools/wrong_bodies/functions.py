@@ -89,9 +89,13 @@ def goals_at(text, number):
 
 
 def leave_out(texts, path, suffix, goals):
-    """Leaves the answers to some goals out of the stored proof of a function."""
+    """Leaves the answers to some goals out of the stored proof of a function; all of the proof where no answer is left."""
     name = path.split("::")[-1]
     ends = tuple(f"/{it}{suffix}/Answers.antt" for it in (name, f"+{name}"))
     for file in [it for it in texts if goals and it.endswith(ends)]:
         parts = re.split(r"\n{2,}", texts[file])
-        texts[file] = "\n\n".join(it for it in parts if not goals & {name for name, _ in DECLARED.findall(it)})
+        left = "\n\n".join(it for it in parts if not goals & {name for name, _ in DECLARED.findall(it)})
+        if any(is_answer for _, is_answer in DECLARED.findall(left)):
+            texts[file] = left
+        else:
+            del texts[file]

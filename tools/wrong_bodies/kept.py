@@ -1,12 +1,14 @@
 """What was refused once, over the same texts, by the same toolchain.
 
 A file of the repository has a line for each edit: its name, its sum, and the goal that its contract opened. An edit whose sum
-stands there is not tried again, but in its turn: an eighth of them at each commit.
+stands there is not tried again, but in its turn: an eighth of them at each commit. Of each edit the last two sums are there, the
+latest first, so that two toolchains may take turns.
 """
 import os
 import subprocess
 
 TURNS = 8
+SUMS = 2
 
 
 def turn_of(root):
@@ -29,28 +31,28 @@ def turns_of(edits):
 
 
 class Kept:
-    """The lines of the file, by the names of the edits."""
+    """The lines of the file, by the names of the edits: of each the goals by their sums, the latest first."""
 
     def __init__(self, file):
-        self.file, self.lines = file, {}
+        self.file, self.goals = file, {}
         if file and os.path.exists(file):
             with open(file, encoding="utf-8") as lines:
                 for name, sum_of, goal in (it.split(maxsplit=2) for it in lines if it.strip()):
-                    self.lines[name] = sum_of, goal.strip()
+                    self.goals.setdefault(name, {})[sum_of] = goal.strip()
 
     def goal_of(self, name, sum_of):
         """The goal by which an edit of this sum was refused, if it was."""
-        found = self.lines.get(name)
-        return found[1] if found and found[0] == sum_of else None
+        return self.goals.get(name, {}).get(sum_of)
 
     def note(self, name, sum_of, goal):
         """Keeps that an edit is refused, or with no goal that it is not."""
-        self.lines.pop(name, None)
+        was = self.goals.pop(name, {})
         if goal:
-            self.lines[name] = sum_of, goal
+            first = {} if sum_of in was else {sum_of: goal}
+            self.goals[name] = dict([*first.items(), *was.items()][:SUMS])
 
     def write(self, names):
         """Writes the lines of these edits, and no others."""
-        text = "".join(f"{it} {' '.join(self.lines[it])}\n" for it in sorted(self.lines) if it in names)
         with open(self.file, "w", encoding="utf-8") as file:
-            file.write(text)
+            for name in sorted(it for it in self.goals if it in names):
+                file.writelines(f"{name} {sum_of} {goal}\n" for sum_of, goal in self.goals[name].items())
