@@ -1,5 +1,5 @@
-//! A service under test, and the evidence that it leaves. Contracts see nothing of either, so that a test is proved without all that a
-//! world is made of, which takes a tenth of the time.
+//! A service under test, and the evidence that it leaves, each in a box: a function that has a world on its own stack is proved with
+//! all that it is made of, which takes up to ten times as long.
 use sq_audit::check::AuditFault;
 use sq_audit::parts::Parts;
 use sq_base::refusal::Refusal;
