@@ -1,7 +1,7 @@
 """What a check of the toolchain's prover says of each function."""
 import re
 
-from .functions import goals_at
+from .functions import UNOFFERED, goals_at
 
 VERDICT = re.compile(r"(?:fn|struct|enum|impl) (\S+): (proved|not proved|no proof|could not tell)\b(.*)")
 # An open goal: where it stands, what is to hold there, and its name.
@@ -38,7 +38,7 @@ class Check:
                     self.uncovered.add(name)
             elif UNCOVERED.search(line):
                 self.uncovered.update(re.findall(r"`(\w+(?:::[\w+]+)+)`", line))
-            elif ERROR.match(line):
+            elif ERROR.match(line) and UNOFFERED not in line:
                 self.errors.append(ERROR.match(line).groups())
 
     def symbol_of(self, end):

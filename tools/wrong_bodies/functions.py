@@ -9,6 +9,7 @@ HEAD = re.compile(r"( *)(?:pub(?:\([\w ]+\))? )?(?:const )?fn (\w+)")
 IMPL = re.compile(r"impl(?:<.*?>)? (?:(\S.*?) for )?(\w+)")
 TRAIT = re.compile(r"(?:pub )?trait (\w+)")
 # A declaration of a proof: an answer to the goal of its name, or a lemma of its own.
+UNOFFERED = "not_offered"
 DECLARED = re.compile(r"(?m)^(?:abbrev |abstract )*(?:pub )?(\S+) :(?= |$)( goal\.)?")
 
 
@@ -63,6 +64,25 @@ def proof_of(crate, path):
     at = f"proofs/{path.replace('::', '/')}"
     found = [it for it in folders if it.endswith(f"/{owner}/{name}")] if owner[:1].isupper() else []
     return at if at in folders else found[0] if len(found) == 1 else None
+
+
+def place_of_proof(crate, path):
+    """The folder in which a check looks for a function's proof, whether one is written or not; None where that is not known."""
+    *module, owner, name = ["", *path.split("::")]
+    if not owner[:1].isupper():
+        return f"proofs/{path.replace('::', '/')}"
+    declared = re.compile(rf"(?m)^(?:pub(?:\([\w ]+\))? )?(?:struct|enum) {owner}\b")
+    files = [it for it, text in crate.files.items() if it.startswith("src/") and declared.search(text)]
+    return f"proofs/{files[0][len('src/') : -len('.rt')]}/{owner}/{name}" if len(files) == 1 else None
+
+
+def leave_unoffered(crate, texts, path, suffix):
+    """Writes an answer that cannot be read into a function's proof. A check prints how to go on with a function that is not proved,
+    which can take as long as all else, but not with one of whose answers it refuses any."""
+    folder = proof_of(crate, path) or place_of_proof(crate, path)
+    if folder:
+        file = f"{folder}{suffix}/Answers.antt"
+        texts[file] = f"{texts.get(file, '')}\n{UNOFFERED} : {UNOFFERED}_here\n{UNOFFERED} = {UNOFFERED}_here\n"
 
 
 def copy_proof(texts, folder, suffix):

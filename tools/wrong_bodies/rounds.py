@@ -4,8 +4,8 @@ from collections import namedtuple
 from .functions import proof_of
 
 # An edit, or none, in a function; with a suffix it is in a copy of the function. Where its body is the function's own it is a control.
-# The stored answers to some of its goals may be left out.
-Try = namedtuple("Try", "edit function body suffix left_out", defaults=[frozenset()])
+# The stored answers to some of its goals may be left out. What is tried in brief is not told how to go on where it is not proved.
+Try = namedtuple("Try", "edit function body suffix left_out in_brief", defaults=[frozenset(), False])
 
 
 def end_of(it):
@@ -35,7 +35,7 @@ def rounds_of(crate, edits, most):
                 placed += [[]] if at == len(placed) else []
                 placed[at].append(Try(it, function, it.body, ""))
             continue
-        tries = [Try(it, function, it.body, f"_w{at}") for at, it in enumerate(its, 1)]
+        tries = [Try(it, function, it.body, f"_w{at}", in_brief=True) for at, it in enumerate(its, 1)]
         if proof_of(crate, function.path):
             was = crate.files[its[0].path][function.opens : function.closes]
             tries.append(Try(its[0], function, was, "_w0"))

@@ -8,11 +8,13 @@ import time
 from collections import Counter
 
 from .checks import Check
-from .functions import copy_proof, function_at, leave_out, proof_of
+from .edits import say
+from .functions import copy_proof, function_at, leave_out, leave_unoffered, proof_of
 from .kit import KIT
 from .rounds import end_of, is_control, rounds_of
 
 MEMORY = 3_500_000  # what a check takes, in KiB
+ENDED = {0, 1, 2}  # the statuses of a check that came to its end: not 3, where the prover could not tell, nor a signal
 BY_PROOF = "refused by its proof alone"
 
 
@@ -52,7 +54,7 @@ class Work:
         return [*command, "--incremental", "out/incremental", "--jobs", "1", "--progress", *words]
 
     def check(self, crate, room, what, words, proofs):
-        """Runs a check, and writes down what it took. One that was killed, most likely for memory, is run once more."""
+        """Runs a check, and writes down what it took. One that did not come to its end, most likely for memory, is run once more."""
         with self.gate.turn(self.slots):
             for _ in range(2):
                 began, last, text, slow = time.monotonic(), None, "", []
@@ -68,8 +70,9 @@ class Work:
                 ran.returncode = -(status & 127) or status >> 8
                 with self.lock:
                     self.used[crate.name] += used.ru_utime + used.ru_stime
-                if ran.returncode >= 0:
+                if ran.returncode in ENDED:
                     break
+                say(f"{crate.name}: a check ended early, with status {ran.returncode}: {what[:100]}")
         if self.options.times:
             took = f"{time.monotonic() - began:.0f} s, {used.ru_utime + used.ru_stime:.0f} processor s"
             with self.lock, open(self.options.times, "a", encoding="utf-8") as file:
@@ -94,6 +97,8 @@ class Work:
             else:
                 texts[path] = was[: function.opens] + it.body + was[function.closes :]
             leave_out(texts, function.path, it.suffix, it.left_out)
+            if it.in_brief:
+                leave_unoffered(crate, texts, function.path, it.suffix)
         return texts
 
     def with_tries(self, crate, tries):
@@ -142,7 +147,7 @@ class Work:
             elif check.unfit_answers(symbol) - it.left_out and it.function not in unsure:
                 # An answer shows something else than is to be shown now: does the search leave the goal open too?
                 unfit.append(it._replace(left_out=it.left_out | check.unfit_answers(symbol)))
-            elif len(tries) > 1:
+            elif len(tries) > 1 or it.in_brief:
                 left.append(it)
             elif not check.states:
                 it.edit.tell("BAD EDIT", f"no function was reached: {check.text.strip()[-200:]}")
@@ -160,7 +165,7 @@ class Work:
         if unfit:
             self.try_round(crate, unfit)
         for it in left:
-            self.try_round(crate, [it._replace(suffix="")])
+            self.try_round(crate, [it._replace(suffix="", in_brief=False)])
 
     def try_crate(self, crate, edits, pool):
         """Tries edits of a crate. The first round leaves what those after it take up."""

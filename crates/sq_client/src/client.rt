@@ -5,7 +5,7 @@ ghost use Rattle.sq_model.specs.declared.directory.DirectoryCall.TheVariants.{Li
 ghost use Rattle.sq_directory.specs.Makers.{name_asked};
 ghost use Rattle.sq_client.specs.Messages.{act_of, act_at_each};
 ghost use Rattle.sq_client.specs.Calls.{home_numbered, counted_homes, counts_with, changes_queue, received_from, receipt_of, handle_at, AreFew};
-ghost use Rattle.sq_client.specs.Fits.{ByName, AtAll, ByDirectory, ThenAll, CreateFits, SetFits, TellsUrl, TellsQueues, TellsSources, StartFits, StartsBetween, is_destination, CancelFits, ListTasksFits, source_refusal, CountsAt, Shows, PutAt, ReceiveAt, HandleAt, CallFits};
+ghost use Rattle.sq_client.specs.Fits.{ByName, AtAll, ByDirectory, ThenAll, CreateFits, SetFits, TellsUrl, TellsQueues, TellsSources, StartFits, StartsBetween, is_destination, CancelFits, ListTasksFits, source_refusal, CountsAt, Shows, PutAt, SendAt, ReceiveAt, HandleAt, CallFits};
 ghost use Rattle.sq_calls.specs.ReceivedValue.{AreReceived};
 ghost use Rattle.sq_client.specs.Performs.{Performs, LeavesRecords};
 
@@ -19,7 +19,7 @@ use sq_base::refusal::Refusal;
 use sq_base::settings::Settings;
 use sq_calls::calls::{
     Answer, AskedOfQueue, Call, CreateQueue, GetQueueAttributes, ListMessageMoveTasks, QueueCounts,
-    ReceiveMessage, SetQueueAttributes, ShownAttributes, StartMessageMoveTask,
+    ReceiveMessage, SendMessage, SetQueueAttributes, ShownAttributes, StartMessageMoveTask,
 };
 use sq_calls::digest::Digest;
 use sq_calls::received_messages::ReceivedMessages;
@@ -61,15 +61,8 @@ fn answer<S: LockSteps>(steps: &mut S, call: &Call) -> Result<Answer, Refusal>
             change_queue(steps, &remove, name, Answer::Done)
         }
         Call::ListDeadLetterSourceQueues(name) => list_sources(steps, name),
-        Call::SendMessage(call) => {
-            let of = steps.resolve(&call.queue)?;
-            let body = Body::new(steps.alloc(), call.body.as_str(), BODY_LIMIT)?;
-            put(steps, &of, body, call.delay)
-        }
-        Call::ReceiveMessage(call) => {
-            let of = steps.resolve(&call.queue)?;
-            receive(steps, &of, call)
-        }
+        Call::SendMessage(call) => send(steps, call),
+        Call::ReceiveMessage(call) => receive(steps, call),
         Call::DeleteMessage(call) => {
             on_message(steps, &call.queue, &call.handle, OnMessage::Delete)
         }
@@ -271,6 +264,14 @@ fn counts_with(sum: &QueueCounts, counts: &Counts) -> QueueCounts
     }
 }
 
+fn send<S: LockSteps>(steps: &mut S, call: &SendMessage) -> Result<Answer, Refusal>
+    ensures { Performs S.stepped (ByName call.now.queue (SendAt (S.counts steps.old).homes call.now)) steps.old result steps.new }
+{
+    let of = steps.resolve(&call.queue)?;
+    let body = Body::new(steps.alloc(), call.body.as_str(), BODY_LIMIT)?;
+    put(steps, &of, body, call.delay)
+}
+
 // Puts a body last at one of the queue's homes.
 fn put<S: LockSteps>(
     steps: &mut S,
@@ -289,8 +290,15 @@ fn put<S: LockSteps>(
     }
 }
 
+fn receive<S: LockSteps>(steps: &mut S, call: &ReceiveMessage) -> Result<Answer, Refusal>
+    ensures { Performs S.stepped (ByName call.now.queue (ReceiveAt (S.counts steps.old) call.now)) steps.old result steps.new }
+{
+    let of = steps.resolve(&call.queue)?;
+    look(steps, &of, call)
+}
+
 // Asks distinct homes of the queue, one after another, up to the first that gives messages.
-fn receive<S: LockSteps>(
+fn look<S: LockSteps>(
     steps: &mut S,
     of: &NamedQueue,
     call: &ReceiveMessage,

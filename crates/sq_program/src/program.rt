@@ -1,6 +1,8 @@
 //! The program as a function of its words, its input and its outputs.
-ghost use Rattle.std.specs.Prelude.{◌≡◌, ◌≢◌, ℕ, map, codes, length, ◌<◌};
+ghost use Rattle.std.specs.Prelude.{◌≡◌, ◌≢◌, ◌⊎◌, ℕ, map, codes, length, ◌<◌, IfOk, IfErr};
 ghost use Rattle.sq_base.specs.StampValue.{StampValue};
+ghost use Rattle.sq_merge.specs.Openings.{new_world, IsServed};
+ghost use Rattle.sq_wire.specs.Audits.{IsAudit};
 ghost use Rattle.sq_program.specs.Endings.{stream, EndsFor, Ends, EndsWritten, IsHelp, IsAuditLine};
 ghost use Rattle.sq_program.specs.Faults.{fault_name, fault_count};
 ghost use Rattle.sq_flags.specs.declared.flags.Mode.TheVariants.{Script as ByScript};
@@ -11,7 +13,9 @@ use sq_flags::flags::{Mode, Refused, ScriptMode, flags};
 use sq_lines::counted::Counted;
 use sq_lines::put::{Unwritten, put_line, put_out};
 use sq_merge::AuditFault;
+use sq_merge::options::Options;
 use sq_merge::world::World;
+use sq_replies::text::Text;
 use sq_wire::audit::audit_world;
 use sq_wire::run::{ServeFault, run_script};
 use std::alloc::Global;
@@ -136,17 +140,25 @@ fn report_audit<E: Write>(errors: &mut E, fault: AuditFault) -> u8
     }
 }
 
+// The audit of a world in a box.
+fn audited(alloc: Global, world: Box<World>) -> Result<Text, AuditFault>
+    ensures listed { IfOk result (IsAudit world.value) }
+    ensures honest { IfErr result (λ f. f ≡ AuditFault.NoMemory) }
+{
+    audit_world(alloc, Box::into_inner(world))
+}
+
 // Writes the audit of a world that answered so many requests.
 fn write_audit<W: Write, E: Write>(
     alloc: Global,
-    world: World,
+    world: Box<World>,
     answered: u64,
     output: &mut Counted<W>,
     errors: &mut E,
 ) -> u8
-    ensures { EndsWritten (IsAuditLine world) (stream W.contents output.old output.new) result }
+    ensures { EndsWritten (IsAuditLine world.value) (stream W.contents output.old output.new) result }
 {
-    let text = match audit_world(alloc, world) {
+    let text = match audited(alloc, world) {
         Ok(text) => text,
         Err(fault) => return report_audit(errors, fault),
     };
@@ -154,6 +166,16 @@ fn write_audit<W: Write, E: Write>(
         Ok(()) => 0,
         Err(Unwritten) => report(errors, ServeFault::Write(answered)),
     }
+}
+
+// A world without queues, in a box: a function that owns a world is proved with all that it is made of.
+fn opened(alloc: Global, options: Options) -> Result<Box<World>, Refusal>
+    ensures ok { IfOk result (λ world. world.value ≡ new_world options) }
+    ensures served { IfOk result (λ _. IsServed options) }
+    ensures refused { IfErr result (λ e. ((e ≡ Refusal.NoMemory) × IsServed options) ⊎ ((e ≡ Refusal.InvalidParameterValue) × (¬ IsServed options))) }
+{
+    let world = World::new(alloc, options)?;
+    Ok(Box::new(alloc, world)?)
 }
 
 // Answers each line of the input over a world of its own, and writes its audit where one is asked for.
@@ -166,7 +188,7 @@ fn script<R: Read, W: Write, E: Write>(
 ) -> u8
     ensures { Ends (Ok (ByScript mode)) (stream R.remaining input.old input.new) (stream W.contents output.old output.new) result }
 {
-    let mut world = match World::new(alloc, mode.options) {
+    let mut world = match opened(alloc, mode.options) {
         Ok(world) => world,
         Err(Refusal::InvalidParameterValue) => {
             let _ = errors.write_all(b"sqd: bad options\n");

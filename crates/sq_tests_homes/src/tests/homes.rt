@@ -7,6 +7,7 @@ use sq_base::ids::QueueNo;
 use sq_base::ranges::{Delay, MaxReceives, Retention, Timeout};
 use sq_base::refusal::Refusal;
 use sq_base::settings::{Redrive, Settings};
+use sq_base::stamp::Stamp;
 use sq_history::record::HomeRecord;
 use sq_history::recorded::{Home, Recorded};
 use sq_model::event::Actor;
@@ -17,9 +18,11 @@ use sq_shard::shard::Shard;
 use sq_shard::slots::SlotStore;
 use sq_tests_values::setup::{CLOCK_END, home, stamp};
 use std::alloc::Global;
+use std::process::Abort;
 
-/// A home of so many messages, all of which may be in flight.
-pub fn unopened(alloc: Global, rows: u32) -> Home {
+/// A home of so many messages, all of which may be in flight. It is in a box: a function that has a home on its own stack is proved
+/// with all that it is made of.
+pub fn unopened(rt: &impl Abort, alloc: Global, rows: u32) -> Box<Home> {
     let limits = Limits {
         rows,
         flights: rows,
@@ -28,7 +31,8 @@ pub fn unopened(alloc: Global, rows: u32) -> Home {
         home: home(0),
         limits,
     };
-    Recorded::unopened(alloc, Shard::unopened(site, SlotStore::new(alloc)))
+    let home = Recorded::unopened(alloc, Shard::unopened(site, SlotStore::new(alloc)));
+    Box::new(alloc, home).expect(rt, "memory")
 }
 
 // Whether the record is of this home's last event, with no name and the number of the actor's step.
@@ -127,8 +131,8 @@ fn first_wrong(alloc: Global, home: &mut Home, seen: u64, lines: &[Line]) -> usi
 }
 
 // The same of a home of its own.
-fn played(alloc: Global, lines: &[Line]) -> usize {
-    let mut home = unopened(alloc, 10);
+fn played(rt: &impl Abort, alloc: Global, lines: &[Line]) -> usize {
+    let mut home = unopened(rt, alloc, 10);
     first_wrong(alloc, &mut home, 0, lines)
 }
 
@@ -155,6 +159,7 @@ fn messages_are_counted_and_purged(rt: HostRuntime) {
     let kept = settings(Delay::of(0), Retention::of(1000));
     let longest = Some(Delay::of(900));
     let wrong = played(
+        &rt,
         rt.alloc(),
         &[
             (0, Ask::Configure(kept, 1), Answers::Done),
@@ -187,6 +192,7 @@ fn a_home_that_does_not_serve_refuses(rt: HostRuntime) {
     let late = Answers::Refused(Refusal::ClockRange);
     let at_once = Timeout::of(0);
     let wrong = played(
+        &rt,
         rt.alloc(),
         &[
             (1000, Ask::Send(None), refused),
@@ -208,6 +214,13 @@ fn a_home_that_does_not_serve_refuses(rt: HostRuntime) {
     assert_eq!(rt; wrong, 14);
 }
 
+// The same to an actor that has seen 5000 ms, of a home with room for one message; and whether it is closed then, at this stamp.
+fn ended(rt: &impl Abort, alloc: Global, lines: &[Line], last: Stamp) -> (usize, bool) {
+    let mut home = unopened(rt, alloc, 1);
+    let wrong = first_wrong(alloc, &mut home, 5000, lines);
+    (wrong, home.last() == last && home.is_closed())
+}
+
 // Each call once, in an order in which each is done, by an actor that has seen more than its clock says.
 #[test]
 fn each_call_has_its_event_and_its_record(rt: HostRuntime) {
@@ -221,8 +234,6 @@ fn each_call_has_its_event_and_its_record(rt: HostRuntime) {
         (1000, Ask::Purge, Answers::Done),
         (1000, Ask::Close, Answers::Done),
     ];
-    let mut home = unopened(rt.alloc(), 1);
-    let wrong = first_wrong(rt.alloc(), &mut home, 5000, &lines);
-    let ended = home.last() == stamp(5000, 11) && home.is_closed();
-    assert!(rt; wrong == 8 && ended, "{wrong}");
+    let (wrong, is_ended) = ended(&rt, rt.alloc(), &lines, stamp(5000, 11));
+    assert!(rt; wrong == 8 && is_ended, "{wrong}");
 }

@@ -13,6 +13,7 @@ use sq_model::task::NamedQueue;
 use sq_task::task::MoveTask;
 use sq_tests_values::setup::{named, stamp};
 use std::alloc::Global;
+use std::process::Abort;
 
 // What a home answers a leave for a task.
 #[derive(Clone, Copy, PartialEq, Eq)]
@@ -126,6 +127,12 @@ fn first_wrong(alloc: Global, home: &mut Home, lines: &[Line]) -> usize {
     lines.len()
 }
 
+// The same of a home of its own, which has room for two messages.
+fn played(rt: &impl Abort, alloc: Global, lines: &[Line]) -> usize {
+    let mut home = unopened(rt, alloc, 2);
+    first_wrong(alloc, &mut home, lines)
+}
+
 // One message is sent to the source. Without a destination it has no queue to go to, and stays; past the rate it stays too.
 #[test]
 fn a_message_leaves_for_a_task(rt: HostRuntime) {
@@ -139,6 +146,5 @@ fn a_message_leaves_for_a_task(rt: HostRuntime) {
         (7, None, true, true, Told::NoLiveRow),
         (9, Some(Ask::Close), true, false, Told::SourceClosed),
     ];
-    let mut home = unopened(rt.alloc(), 2);
-    assert_eq!(rt; first_wrong(rt.alloc(), &mut home, &lines), 7);
+    assert_eq!(rt; played(&rt, rt.alloc(), &lines), 7);
 }

@@ -11,6 +11,7 @@ use sq_shard::slots::SlotStore;
 use sq_shard::store::Store;
 use sq_tests_values::setup::{hello, home};
 use std::alloc::Global;
+use std::process::Abort;
 
 // So many.
 const MANY: u32 = 100_000;
@@ -25,7 +26,7 @@ fn send<S: Store>(alloc: Global, home: &mut Shard<S>, moment: u64) -> Result<(),
 }
 
 // A home of as many messages, and not opened.
-fn new_home(alloc: Global) -> Home {
+fn new_home(rt: &impl Abort, alloc: Global) -> Box<Home> {
     let site = Site {
         home: home(0),
         limits: Limits {
@@ -33,7 +34,7 @@ fn new_home(alloc: Global) -> Home {
             flights: MANY,
         },
     };
-    Shard::unopened(site, SlotStore::new(alloc))
+    Box::new(alloc, Shard::unopened(site, SlotStore::new(alloc))).expect(rt, "memory")
 }
 
 // Opens a home, and fills it.
@@ -97,9 +98,14 @@ fn answered(alloc: Global, home: &mut Home) -> Result<[usize; 9], Refusal> {
     ])
 }
 
+// The same of a home of its own; nothing where it gives up.
+fn told(rt: &impl Abort, alloc: Global) -> [usize; 9] {
+    let mut home = new_home(rt, alloc);
+    answered(alloc, &mut home).unwrap_or([0; 9])
+}
+
 #[test]
 fn a_full_home_gives_all_and_lets_go_of_all(rt: HostRuntime) {
-    let mut home = new_home(rt.alloc());
-    let told = answered(rt.alloc(), &mut home).unwrap_or([0; 9]);
+    let told = told(&rt, rt.alloc());
     assert_eq!(rt; told, [1, 100_000, 0, 100_000, 0, 1, 1, 0, 0]);
 }

@@ -185,7 +185,7 @@ const LEFT_FOR_ANOTHER: Fault = [3, 31_000, 1];
 type Differing = (Story<'static>, Story<'static>, [Fault; 2]);
 
 // The ledger's step has the same stamp, and is of another message, actor or target; or it has another stamp.
-const DIFFERING: [Differing; 7] = [
+const DIFFERING: &[Differing] = &[
     ((&DEAD, &[LEAVE]), (&OTHER_DEAD, &[LEAVE]), [LEFT, LEFT]),
     ((&OTHER_DEAD, &[LEAVE]), (&DEAD, &[LEAVE]), [LEFT, LEFT]),
     (

@@ -50,24 +50,27 @@ fn place(rt: &impl Abort, alloc: Global, count: usize, serial: u64) -> &'static 
     }
 }
 
+// After how many of the lines which message is where.
+const PLACES: &[(usize, u64, &str)] = &[
+    (1, 0, "nowhere"),
+    (2, 0, "home"),
+    (2, 1, "nowhere"),
+    (4, 0, "home"),
+    (5, 0, "deleted"),
+    (7, 1, "home"),
+    (9, 1, "home"),
+    (10, 0, "deleted"),
+    (10, 1, "expired"),
+    (10, 2, "purged"),
+    (10, 3, "nowhere"),
+    (12, 3, "closed"),
+];
+
 #[test]
 fn places_are_those_of_the_events(rt: HostRuntime) {
-    for (count, serial, want) in [
-        (1, 0, "nowhere"),
-        (2, 0, "home"),
-        (2, 1, "nowhere"),
-        (4, 0, "home"),
-        (5, 0, "deleted"),
-        (7, 1, "home"),
-        (9, 1, "home"),
-        (10, 0, "deleted"),
-        (10, 1, "expired"),
-        (10, 2, "purged"),
-        (10, 3, "nowhere"),
-        (12, 3, "closed"),
-    ] {
-        let place = place(&rt, rt.alloc(), count, serial);
-        assert_eq!(rt; place, want, "{serial} after {count}");
+    for (count, serial, want) in PLACES {
+        let place = place(&rt, rt.alloc(), *count, *serial);
+        assert!(rt; place == *want, "{serial} after {count}: {place}");
     }
 }
 

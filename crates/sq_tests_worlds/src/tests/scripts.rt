@@ -69,16 +69,16 @@ fn a_run_flushes_each_line_and_stops_where_a_call_fails(rt: HostRuntime) {
     }
 }
 
+// Whether a refusal is written so.
+fn is_written(rt: &impl Abort, alloc: Global, refusal: Refusal, want: &str) -> bool {
+    let text = reply_text(alloc, &Err(refusal)).expect(rt, "memory");
+    text.as_bytes() == want.as_bytes()
+}
+
 #[test]
 fn refusals_that_no_line_has_are_written(rt: HostRuntime) {
-    for (refusal, want) in [
-        (
-            Refusal::NoMemory,
-            r#"{"Error":{"Code":"NoMemory","Number":1}}"#,
-        ),
-        (Refusal::Worn, r#"{"Error":{"Code":"Worn","Number":3}}"#),
-    ] {
-        let answered = reply_text(rt.alloc(), &Err(refusal)).expect(&rt, "memory");
-        assert!(rt; answered.as_bytes() == want.as_bytes());
-    }
+    let no_memory = r#"{"Error":{"Code":"NoMemory","Number":1}}"#;
+    assert!(rt; is_written(&rt, rt.alloc(), Refusal::NoMemory, no_memory));
+    let worn = r#"{"Error":{"Code":"Worn","Number":3}}"#;
+    assert!(rt; is_written(&rt, rt.alloc(), Refusal::Worn, worn));
 }

@@ -2,7 +2,7 @@ use Rattle.std.proofs.Common.{◌≡◌, List}
 use Rattle.sq_client.specs.Asks.{Done}
 use Rattle.sq_client.specs.Fits.{InVain}
 use Rattle.sq_client.specs.Performs.{Path}
-use Rattle.sq_client.proofs.client.receive.Given as goal
+use Rattle.sq_client.proofs.client.look.Given as goal
 
 abbrev pub invariant-loop-index : goal.invariant-loop-index
 invariant-loop-index g l = record {
