@@ -16,15 +16,16 @@ use sq_merge::options::Options;
 use sq_model::directory::Attributes;
 use sq_model::policy::RedrivePolicy;
 use sq_places::message_pass::place_of;
+use sq_tests_values::setup::id as never_sent;
 use sq_wire::audit::place_name;
 use std::alloc::Global;
 use std::process::Abort;
 
-// A service of queues of so many homes.
-fn options(homes: u32) -> Options {
+// A service of queues of one home each.
+fn options() -> Options {
     Options {
-        homes,
-        sample: homes,
+        homes: 1,
+        sample: 1,
         queues: 64,
         rows: 1000,
         flights: 100,
@@ -141,22 +142,10 @@ fn word_of(rt: &impl Abort, alloc: Global, parts: &Parts, id: &MessageId) -> &'s
     }
 }
 
-// A message is sent, received and deleted.
-fn pass_on(rt: &impl Abort, alloc: Global, service: &mut Service, orders: QueueName) -> MessageId {
-    assert!(rt; make(alloc, service, orders, None));
-    let id = send(alloc, service, orders).expect(rt, "a message");
-    let handle = receive(alloc, service, orders, None);
-    assert!(rt; delete(alloc, service, orders, handle));
-    id
-}
-
-#[test]
-fn a_message_is_sent_received_and_deleted(rt: HostRuntime) {
-    let orders = QueueName::new(b"orders").expect(&rt, "a name");
-    let mut service = Service::new(&rt, rt.alloc(), options(4));
-    let id = pass_on(&rt, rt.alloc(), &mut service, orders);
-    let evidence = service.evidence(&rt, rt.alloc());
-    assert_eq!(rt; word_of(&rt, rt.alloc(), evidence.parts(), &id), "deleted");
+// How many messages were sent.
+fn count_in(rt: &impl Abort, alloc: Global, parts: &Parts) -> usize {
+    let run = merge(alloc, parts).expect(rt, "one run");
+    run.lineages(alloc).expect(rt, "memory").len()
 }
 
 // Actor 9 does a turn at 3000 ms, which has this word.
@@ -164,7 +153,7 @@ fn take(alloc: Global, service: &mut Service, turn: Turn, word: Turned) -> bool 
     matches!(service.turn(alloc, 9, 3000, &turn), Ok(told) if told == word)
 }
 
-// A message is received once and visible again at once, and moved by two turns. It is received where it went.
+// A message is received once and visible again at once, and moved by two turns. It is received where it went, and deleted.
 fn move_on(
     rt: &impl Abort,
     alloc: Global,
@@ -177,16 +166,22 @@ fn move_on(
     assert!(rt; receive(alloc, service, orders, Some(Timeout::of(0))).is_some());
     assert!(rt; take(alloc, service, Turn::DeadTurn(orders), Turned::Left));
     assert!(rt; take(alloc, service, Turn::EnterTurn, Turned::Entered));
-    assert!(rt; receive(alloc, service, failed, None).is_some());
+    let handle = receive(alloc, service, failed, None);
+    assert!(rt; delete(alloc, service, failed, handle));
     id
 }
 
 #[test]
-fn a_dead_letter_is_moved(rt: HostRuntime) {
+fn a_dead_letter_is_moved_and_deleted(rt: HostRuntime) {
     let orders = QueueName::new(b"orders").expect(&rt, "a name");
     let failed = QueueName::new(b"failed-orders").expect(&rt, "a name");
-    let mut service = Service::new(&rt, rt.alloc(), options(1));
+    let mut service = Service::new(&rt, rt.alloc(), options());
     let id = move_on(&rt, rt.alloc(), &mut service, [orders, failed]);
     let evidence = service.evidence(&rt, rt.alloc());
-    assert_eq!(rt; word_of(&rt, rt.alloc(), evidence.parts(), &id), "home");
+    assert_eq!(rt; word_of(&rt, rt.alloc(), evidence.parts(), &id), "deleted");
+    assert_eq!(rt;
+        word_of(&rt, rt.alloc(), evidence.parts(), &never_sent(0)),
+        "nowhere"
+    );
+    assert_eq!(rt; count_in(&rt, rt.alloc(), evidence.parts()), 1);
 }

@@ -1,9 +1,9 @@
-//! Messages that move: what no row shows of them, and what the audit says where a home and the ledger do not agree.
+//! Messages that move: what no row shows of them, and what the audit says where a home, the ledger and the records do not agree.
 use super::service::{Evidence, Service};
 use super::setup::{
-    Fault, Mix, NO_FAULT, answered, enter_at, fault, is_answered, leave_at, make, mixed, options,
-    told,
+    Fault, Mix, NO_FAULT, answered, fault, is_answered, make, missing, mixed, options, told,
 };
+use sq_audit::parts::Parts;
 use sq_base::ids::{HomeId, HomeNo, QueueNo};
 use sq_base::refusal::Refusal;
 use sq_merge::options::Options;
@@ -40,6 +40,9 @@ const RECEIVE_LATER: &str =
 
 // A line of a client, and what it is answered.
 type Line = (&'static str, &'static str);
+
+const SEND_D: &str =
+    r#"{"Action":"SendMessage","Now":1000,"QueueUrl":"http://localhost/000000000000/d","MessageBody":"hello"}"#;
 
 const LEAVE: Line = (
     r#"{"Action":"DeadTurn","Actor":1,"Now":31000,"QueueUrl":"http://localhost/000000000000/q"}"#,
@@ -81,6 +84,21 @@ const DROP: Line = (
     r#"{"Turn":"dropped"}"#,
 );
 
+const START: Line = (
+    r#"{"Action":"StartMessageMoveTask","Now":31000,"SourceArn":"arn:aws:sqs:local:000000000000:d"}"#,
+    r#"{"TaskHandle":"task-0000000000000001"}"#,
+);
+
+const LEAVE_FOR_TASK: Line = (
+    r#"{"Action":"TaskTurn","Actor":1,"Now":31000,"TaskHandle":"task-0000000000000001"}"#,
+    r#"{"Turn":"left"}"#,
+);
+
+const FAIL: Line = (
+    r#"{"Action":"TaskTurn","Actor":1,"Now":31000,"TaskHandle":"task-0000000000000001"}"#,
+    r#"{"Turn":"failed"}"#,
+);
+
 const REMOVE_D: Line = (
     r#"{"Action":"DeleteQueue","Now":31000,"QueueUrl":"http://localhost/000000000000/d"}"#,
     r#"{}"#,
@@ -96,7 +114,10 @@ const DEAD: [&str; 5] = [MAKE_D, MAKE_Q_FOR_D, SEND, RECEIVE, RECEIVE_LATER];
 
 const OTHER_DEAD: [&str; 5] = [MAKE_D, MAKE_Q_FOR_D, SEND_OTHER, RECEIVE, RECEIVE_LATER];
 
-// The same with three queues, of which this one is for dead letters.
+// A message that no queue gave to the queue for dead letters.
+const SENT_THERE: [&str; 3] = [MAKE_D, MAKE_Q_FOR_D, SEND_D];
+
+// As the first, with three queues, of which this one is for dead letters.
 const DEAD_FOR_D: [&str; 5] = [MAKE_D, MAKE_E, MAKE_Q_FOR_D, SEND, RECEIVE];
 
 const DEAD_FOR_E: [&str; 5] = [MAKE_D, MAKE_E, MAKE_Q_FOR_E, SEND, RECEIVE];
@@ -141,45 +162,142 @@ fn with_ledger_of(rt: &impl Abort, alloc: Global, kept: Story<'_>, ledger: Story
     mixed(alloc, lived(rt, alloc, kept), lived(rt, alloc, ledger), mix)
 }
 
-// What the audit says where the ledger lacks the last of these lines, where nothing is wrong, and where all but the ledger lacks it.
-fn cut(rt: &impl Abort, alloc: Global, lines: &[Line]) -> [Fault; 3] {
-    let short = match lines {
-        [most @ .., _] => most,
-        [] => lines,
-    };
-    [
-        with_ledger_of(rt, alloc, (&DEAD, lines), (&DEAD, short)),
-        fault(alloc, &lived(rt, alloc, (&DEAD, lines))),
-        with_ledger_of(rt, alloc, (&DEAD, short), (&DEAD, lines)),
-    ]
-}
-
-#[test]
-fn what_stands_in_one_history_alone_is_a_fault(rt: HostRuntime) {
-    let left = leave_at(31_000, 2);
-    let came_in = enter_at(31_000, 4);
-    let came_back = enter_at(31_000, 6);
-    let stories: [(&[Line], Fault); 5] = [
-        (&[LEAVE], left),
-        (&[LEAVE, ENTER], came_in),
-        (&[LEAVE, REMOVE_D, TURN_BACK], came_in),
-        (&[LEAVE, REMOVE_D, TURN_BACK, COME_BACK], came_back),
-        (&[LEAVE, REMOVE_D, REMOVE_Q, TURN_BACK, DROP], came_back),
-    ];
-    for (place, (lines, wrong)) in stories.iter().enumerate() {
-        let faults = cut(&rt, rt.alloc(), lines);
-        assert!(rt; faults == [*wrong, NO_FAULT, *wrong], "story {place}");
-    }
-}
-
 // As `leave_at` and `enter_at` say it.
 const LEFT: Fault = [3, 31_000, 2];
 
 const CAME_IN: Fault = [4, 31_000, 4];
 
+const CAME_BACK: Fault = [4, 31_000, 6];
+
+const LEFT_FOR_TASK: Fault = [3, 31_000, 7];
+
 const LEFT_LATER: Fault = [3, 32_000, 1];
 
 const LEFT_FOR_ANOTHER: Fault = [3, 31_000, 1];
+
+// A story whose last line moves a message, what is wrong where one history of two lacks that, and how many records the client and the
+// mover have.
+type Moved = (Story<'static>, Fault, [u64; 2]);
+
+// Each of the seven moves.
+const MOVES: &[Moved] = &[
+    ((&DEAD, &[LEAVE]), LEFT, [7, 1]),
+    ((&DEAD, &[LEAVE, ENTER]), CAME_IN, [7, 2]),
+    ((&DEAD, &[LEAVE, REMOVE_D, TURN_BACK]), CAME_IN, [9, 2]),
+    (
+        (&DEAD, &[LEAVE, REMOVE_D, TURN_BACK, COME_BACK]),
+        CAME_BACK,
+        [9, 3],
+    ),
+    (
+        (&DEAD, &[LEAVE, REMOVE_D, REMOVE_Q, TURN_BACK, DROP]),
+        CAME_BACK,
+        [11, 3],
+    ),
+    (
+        (&DEAD, &[LEAVE, ENTER, START, LEAVE_FOR_TASK]),
+        LEFT_FOR_TASK,
+        [8, 3],
+    ),
+    ((&SENT_THERE, &[START, FAIL]), LEFT, [6, 1]),
+];
+
+// Which parts have the last line, and which lack it: one of the eight ways. The list of queues is the same.
+fn mix_of(number: u32) -> Mix {
+    Mix {
+        directory: false,
+        homes: number % 2 == 1,
+        ledger: number / 2 % 2 == 1,
+        records: number / 4 % 2 == 1,
+    }
+}
+
+// What is wrong where these parts have a line that moves a message and leaves the mover this record.
+fn wrong(mix: Mix, alone: Fault, record: u64) -> Fault {
+    if mix.homes == mix.ledger && mix.homes == mix.records {
+        NO_FAULT
+    } else if mix.homes == mix.records {
+        alone
+    } else {
+        missing(1, record)
+    }
+}
+
+// What the audit says where these parts of what a story leaves have its last line, and the others lack it.
+fn cut(rt: &impl Abort, alloc: Global, story: Story<'_>, mix: Mix) -> Fault {
+    let (first, lines) = story;
+    let most = match lines {
+        [most @ .., _] => most,
+        [] => lines,
+    };
+    mixed(
+        alloc,
+        lived(rt, alloc, (first, most)),
+        lived(rt, alloc, story),
+        mix,
+    )
+}
+
+#[test]
+fn a_move_that_is_not_everywhere_is_reported(rt: HostRuntime) {
+    for (place, (story, alone, records)) in MOVES.iter().enumerate() {
+        let record = records[1].saturating_sub(1);
+        for number in 0..8u32 {
+            let mix = mix_of(number);
+            let found = cut(&rt, rt.alloc(), *story, mix);
+            assert!(rt;
+                found == wrong(mix, *alone, record),
+                "{place} {number}: {found:?}"
+            );
+        }
+    }
+}
+
+// Takes a record out, and again: whether it was there.
+fn drop_twice(parts: &mut Parts, actor: u32, record: u64) -> [bool; 2] {
+    [
+        parts.drop_record(actor, record),
+        parts.drop_record(actor, record),
+    ]
+}
+
+// What the audit says of a story of which a record is taken out, if it is there.
+fn taken_out(
+    rt: &impl Abort,
+    alloc: Global,
+    story: Story<'_>,
+    actor: u32,
+    record: u64,
+    is_there: bool,
+) -> Fault {
+    let mut evidence = lived(rt, alloc, story);
+    let was_there = drop_twice(evidence.parts_mut(), actor, record);
+    assert!(rt; was_there == [is_there, false], "{record} of {actor}");
+    fault(alloc, &evidence)
+}
+
+// Takes out each of so many records of an actor, and none past them.
+fn take_out_each(rt: &impl Abort, alloc: Global, story: Story<'_>, actor: u32, count: u64) {
+    for record in 0..count {
+        let found = taken_out(rt, alloc, story, actor, record, true);
+        assert!(rt;
+            found == missing(actor, record),
+            "{record} of {actor}: {found:?}"
+        );
+    }
+    for record in [count, u64::MAX] {
+        let found = taken_out(rt, alloc, story, actor, record, false);
+        assert!(rt; found == NO_FAULT, "{record} of {actor}: {found:?}");
+    }
+}
+
+#[test]
+fn each_record_that_is_taken_out_is_reported(rt: HostRuntime) {
+    for (story, _, records) in MOVES {
+        take_out_each(&rt, rt.alloc(), *story, 0, records[0]);
+        take_out_each(&rt, rt.alloc(), *story, 1, records[1]);
+    }
+}
 
 // Stories of which the ledger has the second, and what may be told of that.
 type Differing = (Story<'static>, Story<'static>, [Fault; 2]);

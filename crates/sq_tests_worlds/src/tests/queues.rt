@@ -5,7 +5,6 @@ use sq_base::ids::QueueNo;
 use sq_base::refusal::Refusal;
 use sq_model::item::TaskNo;
 use sq_model::task::NamedQueue;
-use sq_policy::arn::{arn_of, read_arn};
 use sq_steps::act::{Act, Outcome, Step, TaskAct, TaskStart};
 use sq_tests_homes::asks::Answers;
 use sq_tests_values::setup::named;
@@ -113,13 +112,4 @@ fn the_last_task_of_a_queue_is_found(rt: HostRuntime) {
     for (place, (ask, want)) in steps.iter().enumerate() {
         assert!(rt; asked(alloc, &mut service, *ask) == *want, "step {place}");
     }
-}
-
-#[test]
-fn an_arn_names_a_queue(rt: HostRuntime) {
-    let orders = named("orders").expect(&rt, "a name");
-    let arn = arn_of(rt.alloc(), &orders).expect(&rt, "memory");
-    assert!(rt; arn.as_str() == "arn:aws:sqs:local:000000000000:orders");
-    assert!(rt; matches!(read_arn(arn.as_str()), Ok(name) if name == orders));
-    assert!(rt; matches!(read_arn("orders"), Err(Refusal::InvalidAddress)));
 }

@@ -1,6 +1,5 @@
 //! A service under test, and the evidence that it leaves, each in a box: a function that has a world on its own stack is proved with
 //! all that it is made of, which takes up to ten times as long.
-use sq_audit::check::AuditFault;
 use sq_audit::parts::Parts;
 use sq_base::refusal::Refusal;
 use sq_calls::calls::{Answer, Call};
@@ -8,10 +7,8 @@ use sq_calls::turns::{Turn, Turned};
 use sq_lines::counted::Counted;
 use sq_merge::options::Options;
 use sq_merge::world::World;
-use sq_replies::text::Text;
 use sq_steps::act::{Outcome, Step};
 use sq_tests_values::streams::{Bytewise, Piecewise};
-use sq_wire::audit::audit_world;
 use sq_wire::run::{ServeFault, run_script};
 use std::alloc::Global;
 use std::marker::Model;
@@ -78,11 +75,6 @@ impl Service {
         writer: &mut Counted<Bytewise>,
     ) -> Result<u64, ServeFault> {
         run_script(alloc, reader, writer, &mut self.world)
-    }
-
-    /// What an audit says of it.
-    pub fn audit(self, alloc: Global) -> Result<Text, AuditFault> {
-        audit_world(alloc, Box::into_inner(self.world))
     }
 
     /// What it leaves.

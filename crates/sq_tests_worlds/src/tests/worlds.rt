@@ -6,7 +6,6 @@ use sq_audit::parts::Parts;
 use sq_audit::run::Run;
 use sq_audit::tagged::Tagged;
 use sq_base::refusal::Refusal;
-use sq_merge::world::World;
 use sq_steps::act::{Act, Step};
 use sq_tests_homes::asks::{Answers, Ask, home_act};
 use sq_tests_values::setup::{CLOCK_END, home};
@@ -82,14 +81,6 @@ fn events_are_listed_by_stamp(rt: HostRuntime) {
     ];
     let order = " 0@1000.0 1@1000.0 2@1000.0 2@1500.0 1@2000.0 2@2000.0 1@2000.1 2@3000.0";
     leave(&rt, rt.alloc(), 1000, &lines, order);
-}
-
-#[test]
-fn options_out_of_their_ranges_are_refused(rt: HostRuntime) {
-    let mut options = options(2, 10, 16);
-    options.sample = 3;
-    let refused = World::new(rt.alloc(), options).err();
-    assert!(rt; matches!(refused, Some(Refusal::InvalidParameterValue)));
 }
 
 // The stamp that an actor recorded of its step of this number; none where there is no such record.
