@@ -72,6 +72,8 @@ class Crate:
     def __init__(self, root, name, uses):
         self.root, self.name, self.uses, self.folder = root, name, uses, f"crates/{name}"
         self.edits, self.files, self.below, self.library = [], {}, [], f"{root}/crates/{name}/out/rlib/{name}.rlib"
+        # The functions of which a copy as they are was proved, earlier or in this run.
+        self.copies = set()
 
     def read(self, folders):
         for part in PARTS:

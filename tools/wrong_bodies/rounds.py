@@ -20,7 +20,7 @@ def is_control(it):
 
 def rounds_of(crate, edits, most):
     """Divides edits of a crate into few rounds of about one size. A function is copied for each of its edits, and once as it is
-    where its proof is written. One that cannot be copied has an edit a round, among others of its kind: beside an edit in place
+    where its proof is written, unless that copy was proved earlier. One that cannot be copied has an edit a round, among others of its kind: beside an edit in place
     nothing is known of who calls its function."""
     alone, groups = [], {}
     for it in edits:
@@ -36,7 +36,7 @@ def rounds_of(crate, edits, most):
                 placed[at].append(Try(it, function, it.body, ""))
             continue
         tries = [Try(it, function, it.body, f"_w{at}", in_brief=True) for at, it in enumerate(its, 1)]
-        if proof_of(crate, function.path):
+        if proof_of(crate, function.path) and function not in crate.copies:
             was = crate.files[its[0].path][function.opens : function.closes]
             tries.append(Try(its[0], function, was, "_w0"))
         copied.append(tries)

@@ -146,6 +146,13 @@ class Sums:
         new = {*WORD.findall(edit.body)} - {*WORD.findall(text)}
         return {word for it in (*edit.crate.below, edit.crate) for word in new & self.declared(it.name)}
 
+    def of_copy(self, edit):
+        """The sum of a copy, as it is, of the function that an edit stands in; None where that is not known."""
+        if not edit.body or edit.crate.is_program():
+            return None
+        decides = self.of_function(edit.crate.name, edit.path, edit.function)
+        return decides and sum_of((READING, kit_sum(), edit.crate.name), edit.path, edit.function.path, decides)
+
     def is_coarse(self, edit):
         """Whether its sum has the whole crate in it."""
         return not edit.body or edit.crate.is_program() or bool(self.new_names(edit)) or not self.of_function(edit.crate.name, edit.path, edit.function)

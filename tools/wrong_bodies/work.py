@@ -133,7 +133,9 @@ class Work:
         """Tries edits by one check, and once more those of which it does not tell. Each has its verdict then."""
         check, unread = self.with_tries(crate, tries)
         # Nothing is said of edits beside a control that is not proved: their copies lack something.
+        controls = [it.function for it in tries if is_control(it)]
         unsure = {it.function for it in tries if is_control(it) and not check.is_proved(check.symbol_of(end_of(it)))}
+        crate.copies.update({*controls} - unsure)
         left, unfit = [], []
         for it in (it for it in tries if not is_control(it)):
             symbol = end_of(it) and check.symbol_of(end_of(it))
