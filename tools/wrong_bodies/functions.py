@@ -8,8 +8,9 @@ Function = namedtuple("Function", "path begins opens closes is_copied")
 HEAD = re.compile(r"( *)(?:pub(?:\([\w ]+\))? )?(?:const )?fn (\w+)")
 IMPL = re.compile(r"impl(?:<.*?>)? (?:(\S.*?) for )?(\w+)")
 TRAIT = re.compile(r"(?:pub )?trait (\w+)")
-# A declaration of a proof: an answer to the goal of its name, or a lemma of its own.
+# The name of an answer that cannot be read, by which a check is told to print no more than that a function is not proved.
 UNOFFERED = "not_offered"
+# A declaration of a proof: an answer to the goal of its name, or a lemma of its own.
 DECLARED = re.compile(r"(?m)^(?:abbrev |abstract )*(?:pub )?(\S+) :(?= |$)( goal\.)?")
 
 

@@ -20,8 +20,8 @@ def is_control(it):
 
 def rounds_of(crate, edits, most):
     """Divides edits of a crate into few rounds of about one size. A function is copied for each of its edits, and once as it is
-    where its proof is written, unless that copy was proved earlier. One that cannot be copied has an edit a round, among others of its kind: beside an edit in place
-    nothing is known of who calls its function."""
+    where its proof is written, unless that copy was proved earlier. One that cannot be copied has an edit a round, among others
+    of its kind: beside an edit in place nothing is known of who calls its function."""
     alone, groups = [], {}
     for it in edits:
         if it.body:
