@@ -23,7 +23,7 @@ class Edit:
     def __init__(self, crate, file):
         self.crate, self.name = crate, os.path.basename(file)[: -len(".edit")]
         self.texts, self.path, self.function, self.body = {}, None, None, None
-        self.wanted, self.by, self.verdict, self.why = "refused", None, None, None
+        self.wanted, self.by, self.verdict, self.why, self.last_goal = "refused", None, None, None, None
         self.fault = self.read(file)
         if not self.fault and len(self.texts) == 1:
             self.place()

@@ -100,6 +100,13 @@ def parts_of(text):
     return {name: (it, bool(is_answer)) for it, found in parts for name, is_answer in found}
 
 
+def has_answer(crate, path, goal):
+    """Whether the proof of a function has an answer to a goal."""
+    folder = proof_of(crate, path)
+    text = crate.files.get(f"{folder}/Answers.antt", "") if folder else ""
+    return parts_of(text).get(goal, ("", False))[1]
+
+
 def goals_at(text, number):
     """The goals whose answers a line of a proof belongs to: its own, or those of the answers that use the lemma that it is of."""
     above = "\n".join(text.split("\n")[:number])

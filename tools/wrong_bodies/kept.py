@@ -44,6 +44,10 @@ class Kept:
         """The goal by which an edit of this sum was refused, if it was."""
         return self.goals.get(name, {}).get(sum_of)
 
+    def last_goal_of(self, name):
+        """The goal by which an edit was refused last, over whatever texts."""
+        return next(iter(self.goals.get(name, {}).values()), None)
+
     def note(self, name, sum_of, goal):
         """Keeps that an edit is refused, or with no goal that it is not."""
         was = self.goals.pop(name, {})

@@ -1,11 +1,12 @@
 """Which edits are tried by one check: a contract is all that a caller knows of a function, so one copy of a crate can hold many."""
 from collections import namedtuple
 
-from .functions import proof_of
+from .functions import has_answer, proof_of
 
 # An edit, or none, in a function; with a suffix it is in a copy of the function. Where its body is the function's own it is a control.
 # The stored answers to some of its goals may be left out. What is tried in brief is not told how to go on where it is not proved.
-Try = namedtuple("Try", "edit function body suffix left_out in_brief", defaults=[frozenset(), False])
+# A second try of an edit stands beside the first, and counts where a stored answer does not fit the first.
+Try = namedtuple("Try", "edit function body suffix left_out in_brief is_second", defaults=[frozenset(), False, False])
 
 
 def end_of(it):
@@ -20,8 +21,9 @@ def is_control(it):
 
 def rounds_of(crate, edits, most):
     """Divides edits of a crate into few rounds of about one size. A function is copied for each of its edits, and once as it is
-    where its proof is written, unless that copy was proved earlier. One that cannot be copied has an edit a round, among others
-    of its kind: beside an edit in place nothing is known of who calls its function."""
+    where its proof is written, unless that copy was proved earlier; and twice for an edit that was last refused by a goal with a
+    stored answer, once without the answer, which spares a check. One that cannot be copied has an edit a round, among others of
+    its kind: beside an edit in place nothing is known of who calls its function."""
     alone, groups = [], {}
     for it in edits:
         if it.body:
@@ -36,6 +38,8 @@ def rounds_of(crate, edits, most):
                 placed[at].append(Try(it, function, it.body, ""))
             continue
         tries = [Try(it, function, it.body, f"_w{at}", in_brief=True) for at, it in enumerate(its, 1)]
+        with_answer = [it for it in tries if has_answer(crate, function.path, it.edit.last_goal)]
+        tries += [it._replace(suffix=f"{it.suffix}s", left_out=frozenset([it.edit.last_goal]), is_second=True) for it in with_answer]
         if proof_of(crate, function.path) and function not in crate.copies:
             was = crate.files[its[0].path][function.opens : function.closes]
             tries.append(Try(its[0], function, was, "_w0"))

@@ -133,13 +133,17 @@ class Work:
         """Tries edits by one check, and once more those of which it does not tell. Each has its verdict then."""
         check, unread = self.with_tries(crate, tries)
         # Nothing is said of edits beside a control that is not proved: their copies lack something.
+        seconds = {it.edit: it for it in tries if it.is_second}
         controls = [it.function for it in tries if is_control(it)]
         unsure = {it.function for it in tries if is_control(it) and not check.is_proved(check.symbol_of(end_of(it)))}
         crate.copies.update({*controls} - unsure)
         left, unfit = [], []
-        for it in (it for it in tries if not is_control(it)):
+        for it in (it for it in tries if not is_control(it) and not it.is_second):
             symbol = end_of(it) and check.symbol_of(end_of(it))
             goals = check.open_goals(symbol)
+            if not goals and check.unfit_answers(symbol) and it.edit in seconds:
+                # An answer shows something else than is to be shown now, and the try beside it tells whether the search leaves it open.
+                goals = check.open_goals(check.symbol_of(end_of(seconds[it.edit])))
             if it in unread:
                 it.edit.tell("BAD EDIT", f"it does not read: {unread[it][:200]}")
             elif check.is_uncovered(symbol):

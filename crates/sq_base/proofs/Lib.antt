@@ -1,3 +1,4 @@
+pub mod BodyLaws
 pub mod FieldLaws
 pub mod HandleLaws
 pub mod NameLaws

@@ -4,30 +4,32 @@ ghost use Rattle.std.specs.List.{list_all};
 ghost use Rattle.std.specs.Str.{chars};
 ghost use Rattle.md5.specs.Md5.{md5};
 ghost use Rattle.hex.specs.Hex.{encode_lower};
-ghost use Rattle.sq_base.specs.Bodies.{allowed, body_check};
+ghost use Rattle.sq_base.specs.Bodies.{allowed, is_short, body_check};
 ghost use Rattle.sq_base.specs.declared.refusal.Refusal.TheVariants.{NoMemory};
 
 use crate::refusal::Refusal;
 use md5::{Digest, Md5};
 use std::alloc::Global;
 use std::marker::Model;
+use std::sync::ArcStr;
 
 /// How many bytes a body may have where its queue says nothing less
 /// (SQS API Reference, SetQueueAttributes, MaximumMessageSize).
 pub const BODY_LIMIT: usize = 262_144;
 
-/// The text of a message.
+/// The text of a message, held once: a copy is one more owner of it.
 #[derive(Drop)]
 pub struct Body {
-    text: String,
+    text: ArcStr<Global>,
 }
 
 impl Model for Body {
-    ghost use Rattle.std.specs.Prelude.{List, ℕ, string_bytes};
+    ghost use Rattle.std.specs.Arc.{arc_str_bytes};
+    ghost use Rattle.std.specs.Prelude.{List, ℕ};
 
     ghost Value = { List ℕ };
 
-    ghost view = { λ b. string_bytes b.text };
+    ghost view = { λ b. arc_str_bytes b.text };
 }
 
 impl Body {
@@ -55,7 +57,7 @@ impl Body {
     {
         Self::check(text, limit)?;
         Ok(Body {
-            text: String::from_str(alloc, text)?,
+            text: ArcStr::from_str(alloc, text)?,
         })
     }
 
@@ -105,5 +107,29 @@ fn is_allowed(c: char) -> bool
 fn has_allowed(text: &str) -> bool
     ensures { result ≡ list_all allowed (chars text.now) }
 {
+    are_short(text.as_bytes()) || are_allowed(text)
+}
+
+fn are_allowed(text: &str) -> bool
+    ensures { result ≡ list_all allowed (chars text.now) }
+{
     text.chars().all(|c| is_allowed(c))
+}
+
+#[tactic(auto, unfolding(crate::specs::Bodies::allowed, crate::specs::Bodies::is_short))]
+fn is_short(b: u8) -> bool
+    ensures { result ≡ is_short b }
+{
+    matches!(b, b'\t' | b'\n' | b'\r' | b' '..=b'\x7F')
+}
+
+// No byte ends it early, so that many are looked at at once.
+fn are_short(bytes: &[u8]) -> bool
+    ensures { result ≡ list_all is_short bytes.now }
+{
+    let mut all = true;
+    for b in bytes {
+        all &= is_short(*b);
+    }
+    all
 }

@@ -1,5 +1,6 @@
 //! The text of a reply.
-ghost use Rattle.std.specs.Prelude.{◌≡◌, ◌≤◌, IfOk, OnErr, IsOk, option_map, string_bytes};
+ghost use Rattle.std.specs.Prelude.{◌≡◌, ◌≤◌, decimal, IfOk, OnErr, IsOk, option_map, string_bytes};
+ghost use Rattle.serde_json.specs.Data.{string};
 ghost use Rattle.serde_json.specs.View.{view};
 ghost use Rattle.serde_json.specs.Written.{compact_text};
 ghost use Rattle.sq_replies.specs.Replies.{error_text, handle_of, sent_data, attributes_data, answered_data, message_data, id_text, received_data, answer_data, reply_text_of, OnTurned};
@@ -160,18 +161,30 @@ fn attributes_value(
 ) -> Result<Option<Value>, AllocError>
     ensures { IfOk result (λ v. option_map view v ≡ attributes_data asked.now row.now) }
 {
-    let count = row.receives.to_string(alloc)?;
-    let sent = row.enqueued.to_string(alloc)?;
     let attributes = match (asked.receive_count, asked.sent_timestamp) {
         (true, true) => json!(in alloc; {
-            "ApproximateReceiveCount": Value::String(count),
-            "SentTimestamp": Value::String(sent)
+            "ApproximateReceiveCount": count_value(alloc, row)?,
+            "SentTimestamp": moment_value(alloc, row)?
         })?,
-        (true, false) => json!(in alloc; {"ApproximateReceiveCount": Value::String(count)})?,
-        (false, true) => json!(in alloc; {"SentTimestamp": Value::String(sent)})?,
+        (true, false) => { json!(in alloc; {"ApproximateReceiveCount": count_value(alloc, row)?})? }
+        (false, true) => json!(in alloc; {"SentTimestamp": moment_value(alloc, row)?})?,
         (false, false) => return Ok(None),
     };
     Ok(Some(attributes))
+}
+
+// How often a message was received.
+fn count_value(alloc: Global, row: &Row) -> Result<Value, AllocError>
+    ensures { IfOk result (λ v. view v ≡ string (decimal row.now.receives)) }
+{
+    Ok(Value::String(row.receives.to_string(alloc)?))
+}
+
+// When it was sent.
+fn moment_value(alloc: Global, row: &Row) -> Result<Value, AllocError>
+    ensures { IfOk result (λ v. view v ≡ string (decimal row.now.enqueued)) }
+{
+    Ok(Value::String(row.enqueued.to_string(alloc)?))
 }
 
 fn answered_value(

@@ -54,7 +54,6 @@ impl SlotStore {
     {
         self.table.reserve()?;
         let count = self.table.len() + 1;
-        self.gone.make_room(count);
         self.visible.reserve(count)?;
         self.ages.reserve(count.saturating_sub(self.ages.len()))
     }
@@ -65,15 +64,12 @@ impl SlotStore {
         ensures rows { self.new.table.rows ≡ model.trimmed settings.now moment self.old.table.rows }
         ensures reserved { reserved_in self.old ≤ reserved_in self.new }
     {
-        self.gone.give_back();
         self.split(rows::most_under(&settings.redrive));
         let Some(bound) = rows::expired_bound(settings, moment) else {
             return;
         };
         while let Some(at) = self.oldest(bound) {
-            if let Some(row) = self.remove(at.0, at.1) {
-                self.gone.keep(row.body);
-            }
+            self.remove(at.0, at.1);
         }
     }
 
@@ -160,6 +156,5 @@ impl SlotStore {
         self.table.clear();
         self.visible.empty();
         self.ages.empty();
-        self.gone.empty();
     }
 }

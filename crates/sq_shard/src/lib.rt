@@ -3,7 +3,6 @@
 
 mod changes;
 mod due;
-mod gone;
 pub mod moves;
 pub mod plain;
 pub mod rows;

@@ -7,7 +7,6 @@ ghost use Rattle.sq_shard.specs.Due.{enqueued_at, visible_at};
 ghost use Rattle.sq_shard.specs.SlotStores.{reserved_in};
 ghost use Rattle.sq_shard.specs.Visible.{IsCleared, IsOrdered};
 
-use crate::gone::GoneBodies;
 use crate::store::Store;
 use crate::visible::VisibleFrom;
 use sq_base::ids::Serial;
@@ -33,7 +32,6 @@ pub struct SlotStore {
     pub(crate) table: SlotTable,
     pub(crate) visible: VisibleFrom,
     pub(crate) ages: DeadlineIndex,
-    pub(crate) gone: GoneBodies,
 }
 
 impl Model for SlotStore {
@@ -55,7 +53,6 @@ impl SlotStore {
             table: SlotTable::new(alloc),
             visible: VisibleFrom::new(alloc),
             ages: DeadlineIndex::new(alloc),
-            gone: GoneBodies::new(alloc),
         }
     }
 

@@ -1,8 +1,10 @@
-use Rattle.std.proofs.Common.{rules}
-use Rattle.std.proofs.lemmas.Iterator.{YieldsList-from_chars}
-use Rattle.std.proofs.lemmas.Iterator.Search.{all_from_yields_List}
-use Rattle.sq_base.specs.Bodies.{allowed}
+use Rattle.std.proofs.Common.{rules, ◌≡◌, ◌∙◌, sym, true}
+use Rattle.std.specs.List.{list_all}
+use Rattle.sq_base.specs.Bodies.{is_short}
+use Rattle.sq_base.proofs.BodyLaws.{short_text}
 use Rattle.sq_base.proofs.body.has_allowed.Goals as goal
 
-pub returns : goal.returns
-returns c = all_from_yields_List allowed _ _ _ c.all.ensures.ran (YieldsList-from_chars c.args.text.now c.utf8.text (search rules)) (λ x b q k. search rules)
+pub returns-then-are_short : goal.returns-then-are_short
+returns-then-are_short c =
+    let short : list_all is_short c.args.text.now ≡ true = search rules in
+    c.if-are_short.true ∙ sym (short_text c.args.text.now short)

@@ -9,7 +9,7 @@ use Rattle.sq_shard.proofs.slots.SlotStore.trim_rows.Goals as goal
 use Rattle.sq_shard.proofs.slots.SlotStore.trim_rows.Goals.{After-remove}
 
 pub returns-in_default-clause-rows : goal.returns-in_default-clause-rows
-returns-in_default-clause-rows c = rw (← c.self.view_is) (c.split.ensures.rows ∙ sym (none_goes c.args.settings.now c.args.moment (search rules) c.self.inside.table.rows))
+returns-in_default-clause-rows c = c.split.ensures.rows ∙ sym (none_goes c.args.settings.now c.args.moment (search rules) _)
 
 -- the row that goes out is past its retention
 trimmed_on : (c : After-remove) → (trimmed c.args.settings.now c.args.moment c.remove.new.self.table.rows ≡ trimmed c.args.settings.now c.args.moment c.split.new.self.table.rows) × (reserved_in c.split.new.self ≤ reserved_in c.remove.new.self)
@@ -21,8 +21,8 @@ trimmed_on c =
       omega (arith, c.loop-at.invariant.1, c.remove.ensures.reserved),
     )
 
-pub loop-at-preserved-in-Some-remove : goal.loop-at-preserved-in-Some-remove
-loop-at-preserved-in-Some-remove c = rw (← c.self-in-Some-oldest.view_is) at (trimmed_on (goal.at.loop-at-preserved-in-Some-remove c).After-remove)
+pub loop-at-preserved-in-Some-oldest : goal.loop-at-preserved-in-Some-oldest
+loop-at-preserved-in-Some-oldest c = trimmed_on (goal.at.loop-at-preserved-in-Some-oldest c).After-remove
 
 pub loop-at-preserved : goal.loop-at-preserved
 loop-at-preserved c = trimmed_on (goal.at.loop-at-preserved c).After-remove
@@ -33,4 +33,4 @@ returns-clause-rows c =
     let rows = c.loop-at.self.table.rows in
     let none : list_any (is_expired s c.args.moment) rows ≡ false =
     any_same (is_expired s c.args.moment) (λ row. nat_le row.enqueued c.in-Some.bound) c.in-Some.ensures.some rows ∙ c.in_default-oldest.ensures.none in
-    rw (← c.self.view_is) (sym (all_are_kept s c.args.moment rows none) ∙ c.loop-at.invariant.0 ∙ ap (trimmed s c.args.moment) c.split.ensures.rows)
+    sym (all_are_kept s c.args.moment rows none) ∙ c.loop-at.invariant.0 ∙ ap (trimmed s c.args.moment) c.split.ensures.rows
