@@ -30,8 +30,6 @@ use Rattle.sq_audit.specs.declared.check.Part.TheVariants as part
 use Rattle.sq_audit.specs.Faults.{EventIndex, InDirectory, InLedger, InHome, IsBy, HasNoRecord, Gap, TwoEvents, IsWrong, RecordFits, DirectoryFits, LedgerFits, HomeFits, LedgerHas, unmatched, IsRecordFault, IsAt, IsRecordedAt, IsEventFault, EventFits, HasEventFault, IsWithoutPartner}
 use Rattle.sq_history.specs.Histories.{IsKept}
 use Rattle.sq_history.specs.Events.{HasHomeEvent, IsEventAt}
-use Rattle.sq_steps.specs.declared.record.Record.{Record}
-use Rattle.sq_steps.specs.Records.{value_of_record, values_of_records}
 use Rattle.sq_directory.proofs.ElementLaws.{some_same, get_map, get_mapped, all_get}
 use Rattle.sq_steps.proofs.JournalListLaws.{journal_own, found_is, journal_once, same_place}
 use Rattle.sq_audit.proofs.ListLaws.{all_at}
@@ -93,11 +91,8 @@ pub read_home : (homes : List HistoryValue) (j : ℕ) (h : HistoryValue) → j <
 read_home homes j h lt is = get_map history_of homes j h (slice_get_read homes (length homes) j h refl lt is)
 
 -- the record at an index
-pub read_record : (journals : List Journal) (b i : ℕ) (journal : Journal) (records : List Record) (kept : Record) → b < length journals → journal ≡ slice_index_or journals b journal → values_of_records records ≡ journal.records → i < length records → kept ≡ slice_index_or records i kept → IsRecordAt journals b i journal (value_of_record kept)
-read_record journals b i journal records kept lt is values within own = record {
-  in_journals = slice_get_read journals (length journals) b journal refl lt is;
-  in_records = subst (λ (ns : List RecordValue). slice_get ns i ≡ Some (value_of_record kept)) values (get_map value_of_record records i kept (slice_get_read records (length records) i kept refl within own));
-}
+pub read_record : (journals : List Journal) (b i : ℕ) (journal : Journal) (n : RecordValue) → b < length journals → journal ≡ slice_index_or journals b journal → slice_get journal.records i ≡ Some n → IsRecordAt journals b i journal n
+read_record journals b i journal n lt is own = record { in_journals = slice_get_read journals (length journals) b journal refl lt is; in_records = own }
 
 -- a record of a home that is not there did not happen
 pub no_event_found : (per_queue : ℕ) (homes : List HistoryValue) (d : List DirectoryEvent) (l : List LedgerEvent) (a : ℕ) (n : HomeRecordValue) → 1 ≤ per_queue → 1 ≤ n.home.queue → IsNumbered per_queue homes → home_index per_queue (length homes) n.home ≡ None → HasItsEvent d l (histories_of homes) a (OfHome n) → ⊥
@@ -211,7 +206,7 @@ fits_match d l hs journals distinct each every own all = record {
       recorded_by journals b place journal t.0 (λ m. place_of_record m ≡ place) in_list (each b place journal t.0 in_list).0);
 }
 
-module _ (journals : List Journal) (actor at : ℕ) (journal : Journal) (records : List Record) (place : ℕ) (pos : position (is_of actor) journals ≡ Some at) (lt : at < length journals) (is : journal ≡ slice_index_or journals at journal) (values : values_of_records records ≡ journal.records) where
+module _ (journals : List Journal) (actor at : ℕ) (journal : Journal) (place : ℕ) (pos : position (is_of actor) journals ≡ Some at) (lt : at < length journals) (is : journal ≡ slice_index_or journals at journal) where
   journal_is : slice_get journals at ≡ Some journal
   journal_is = slice_get_read journals (length journals) at journal refl lt is
 
@@ -219,18 +214,17 @@ module _ (journals : List Journal) (actor at : ℕ) (journal : Journal) (records
   actor_is = ap (λ (b : Journal). b.actor) (found_is journals actor at journal pos lt is) ∙ journal_own actor journals
 
   -- a journal has no record past its end
-  pub no_record : AreDistinct journals → length records ≤ place → IsRecordedAt journals actor place (λ n. Unit {0}) → ⊥
+  pub no_record : AreDistinct journals → length journal.records ≤ place → IsRecordedAt journals actor place (λ n. Unit {0}) → ⊥
   no_record distinct past (x, here) =
       let same : x.journal ≡ journal = some_same (sym x.in_list.in_journals ∙ ap (slice_get journals) (journal_once journals distinct x.at at x.journal journal x.in_list.in_journals journal_is (x.of_actor ∙ sym actor_is)) ∙ journal_is) in
-      let h : slice_get (values_of_records records) x.index ≡ Some x.its_record = rw values (subst (λ (b : Journal). slice_get b.records x.index ≡ Some x.its_record) same x.in_list.in_records) in
-      let t = get_mapped value_of_record records x.index x.its_record h in
-      omega (arith, past, here, slice_get_within records x.index t.0 t.1)
+      let h : slice_get journal.records x.index ≡ Some x.its_record = subst (λ (b : Journal). slice_get b.records x.index ≡ Some x.its_record) same x.in_list.in_records in
+      omega (arith, past, here, slice_get_within journal.records x.index x.its_record h)
 
-  pub record_there : (kept : Record) (P : RecordValue → Type 0) → place < length records → kept ≡ slice_index_or records place kept → P (value_of_record kept) → IsRecordedAt journals actor place P
+  pub record_there : (n : RecordValue) (P : RecordValue → Type 0) → slice_get journal.records place ≡ Some n → P n → IsRecordedAt journals actor place P
   unfolding recorded_by
-  record_there kept P within own p =
-      let in_list = read_record journals at place journal records kept lt is values within own in
-      (subst (λ (a : ℕ). IsRecorded journals a P) actor_is (recorded_by journals at place journal (value_of_record kept) P in_list p), refl)
+  record_there n P own p =
+      let in_list = read_record journals at place journal n lt is own in
+      (subst (λ (a : ℕ). IsRecorded journals a P) actor_is (recorded_by journals at place journal n P in_list p), refl)
 
 -- an event's record, at the number of the event
 module _ (per_queue : ℕ) (homes : List HistoryValue) (numbered : IsNumbered per_queue homes) (d : List DirectoryEvent) (l : List LedgerEvent) where

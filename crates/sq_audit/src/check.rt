@@ -148,9 +148,8 @@ fn check_journal(evidence: &Evidence<'_>, at: usize) -> Result<(), AuditFault>
     let journals = evidence.journals;
     let journal = &journals[at];
     let actor = journal.actor();
-    let records = journal.records();
-    for index in 0..records.len() {
-        let kept = &records[index];
+    for index in 0..journal.len() {
+        let kept = journal.record(index);
         check_record(evidence, actor, index, kept)?;
     }
     Ok(())
@@ -161,11 +160,11 @@ fn check_record(
     evidence: &Evidence<'_>,
     actor: u32,
     index: usize,
-    kept: &Record,
+    kept: Record<'_>,
 ) -> Result<(), AuditFault>
-    ensures place { OnOk result (place_of_record (value_of_record kept.now) ≡ index) }
-    ensures has_its_event { OnOk result (HasItsEvent evidence.now.directory evidence.now.ledger evidence.now.homes actor (value_of_record kept.now)) }
-    ensures fault { IfErr result (IsRecordFault evidence.now.directory evidence.now.ledger evidence.now.homes actor index (value_of_record kept.now)) }
+    ensures place { OnOk result (place_of_record (value_of_record kept.entry) ≡ index) }
+    ensures has_its_event { OnOk result (HasItsEvent evidence.now.directory evidence.now.ledger evidence.now.homes actor (value_of_record kept.entry)) }
+    ensures fault { IfErr result (IsRecordFault evidence.now.directory evidence.now.ledger evidence.now.homes actor index (value_of_record kept.entry)) }
 {
     let place = kept.place();
     if place != index as u64 {
@@ -179,8 +178,8 @@ fn check_record(
 }
 
 // Whether a record is of an event of this actor.
-fn has_its_event(evidence: &Evidence<'_>, actor: u32, kept: &Record) -> bool
-    ensures { result ≡ true ↔ HasItsEvent evidence.now.directory evidence.now.ledger evidence.now.homes actor (value_of_record kept.now) }
+fn has_its_event(evidence: &Evidence<'_>, actor: u32, kept: Record<'_>) -> bool
+    ensures { result ≡ true ↔ HasItsEvent evidence.now.directory evidence.now.ledger evidence.now.homes actor (value_of_record kept.entry) }
 {
     match kept {
         Record::Directory(kept) => has_directory_event(evidence.directory, actor, kept),
@@ -337,11 +336,10 @@ fn check_event(
         return Err(AuditFault::RecordMissing(actor, place));
     };
     let journal = &journals[at];
-    let records = journal.records();
-    if place >= records.len() as u64 {
+    if place >= journal.len() as u64 {
         return Err(AuditFault::RecordMissing(actor, place));
     }
-    let kept = &records[place as usize];
+    let kept = journal.record(place as usize);
     if is_at(evidence, part, index, kept) {
         Ok(())
     } else {
@@ -350,9 +348,9 @@ fn check_event(
 }
 
 // Whether a record names this event of a part.
-fn is_at(evidence: &Evidence<'_>, part: Part, index: usize, kept: &Record) -> bool
+fn is_at(evidence: &Evidence<'_>, part: Part, index: usize, kept: Record<'_>) -> bool
     requires within { IsThere evidence.now.homes part }
-    ensures { result ≡ true ↔ IsAt evidence.now.per_queue part index (value_of_record kept.now) }
+    ensures { result ≡ true ↔ IsAt evidence.now.per_queue part index (value_of_record kept.entry) }
 {
     match (part, kept) {
         (Part::Directory, Record::Directory(kept)) => kept.step().index == index as u64,

@@ -1,7 +1,8 @@
 //! One run of the whole system.
-ghost use Rattle.std.specs.Prelude.{◌≡◌, length, slice_get, option_map, option_to_list, IfOk, IfErr};
+ghost use Rattle.std.specs.Prelude.{◌≡◌, ◌<◌, length, slice_get, option_map, option_to_list, IfOk, IfErr};
+ghost use Rattle.std.specs.List.{list_any};
 ghost use Rattle.sq_model.specs.Places.{run_sends, tag_sends};
-ghost use Rattle.sq_audit.specs.RunLineages.{AreLineages};
+ghost use Rattle.sq_audit.specs.RunLineages.{AreLineages, has_some};
 ghost use Rattle.sq_audit.specs.Tags.{tag_of, tags_of};
 
 use crate::tagged::Tagged;
@@ -56,11 +57,22 @@ impl<'a> Run<'a> {
         self.events.as_slice()
     }
 
-    /// The messages that were sent in it, each once, in rising order of id. Refused only where memory is out.
+    /// Whether a message was sent in it.
+    pub fn has_sent(&self) -> bool
+        ensures { result ≡ has_some (run_sends self.now) }
+    {
+        let events = self.events();
+        has_send(events)
+    }
+
+    /// The messages that were sent in it, each once, in rising order of id. Refused as NoMemory, where there are any.
     pub fn lineages(&self, alloc: Global) -> Result<Vec<MessageId>, Refusal>
         ensures lineages { IfOk result (λ ids. AreLineages self.now ids.items) }
-        ensures err { IfErr result (λ e. e ≡ Refusal.NoMemory) }
+        ensures err { IfErr result (λ e. (e ≡ Refusal.NoMemory) × (0 < length (run_sends self.now))) }
     {
+        if !self.has_sent() {
+            return Ok(Vec::new(alloc));
+        }
         let sends = self.sends(alloc)?;
         let ids: BTreeSet<MessageId> = sends.into_iter().collect(alloc)?;
         Ok(ids.into_iter().collect(alloc)?)
@@ -80,6 +92,18 @@ impl<'a> Run<'a> {
         }
         Ok(sends)
     }
+}
+
+fn has_send(events: &[Tagged<'_>]) -> bool
+    ensures { result ≡ list_any (λ t. has_some (tag_sends (tag_of t))) events.now }
+{
+    events.iter().any(|event| is_send(event))
+}
+
+fn is_send(event: &Tagged<'_>) -> bool
+    ensures { result ≡ has_some (tag_sends (tag_of event.now)) }
+{
+    sent_by(event).is_some()
 }
 
 // The message that an event sends.

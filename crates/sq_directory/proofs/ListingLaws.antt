@@ -1,5 +1,5 @@
 -- Lists of names, one queue more at a time.
-use Rattle.std.proofs.Common.{◌≡◌, ℕ, zero, suc, Bool, true, false, cond, List, [], ◌∷◌, ◌++◌, map, filter, take, refl, ap, sym, ◌∙◌, ◌+◌, add-one, Some, None, slice_get}
+use Rattle.std.proofs.Common.{◌≡◌, ◌<◌, ℕ, zero, suc, length, arith, Bool, true, false, cond, List, [], ◌∷◌, ◌++◌, map, filter, take, refl, ap, sym, ◌∙◌, ◌+◌, add-one, Some, None, slice_get}
 use Rattle.std.specs.Prelude.{if◌then◌else◌}
 use Rattle.sq_model.specs.declared.directory.NamePrefix.{NamePrefix}
 use Rattle.sq_model.specs.declared.directory.Queue.{Queue}
@@ -49,6 +49,19 @@ names_listed prefix (queue ∷ queues) =
     elim (begins prefix queue.name) as (λ b. map (λ (q : Queue). q.name) (cond b (queue ∷ filter (is_listed (Begins prefix)) queues) (filter (is_listed (Begins prefix)) queues)) ≡ cond b (queue.name ∷ names_with prefix queues) (names_with prefix queues)) [
       | true ↦ ap (λ (names : List (List ℕ)). queue.name ∷ names) (names_listed prefix queues)
       | false ↦ names_listed prefix queues
+    ]
+
+-- where one is listed, there are some
+
+pub listed_some : (listing : Listing) (queues : List Queue) (k : ℕ) (queue : Queue) → slice_get queues k ≡ Some queue → is_listed listing queue ≡ true → 0 < length (listed_names listing queues)
+listed_some listing [] k queue found listed = absurd cc
+listed_some listing (first ∷ queues) zero queue found listed =
+    let is : first ≡ queue = cc in
+    rw (is, listed) (omega arith)
+listed_some listing (first ∷ queues) (suc k) queue found listed =
+    elim (is_listed listing first) as (λ b. 0 < length (map (λ (q : Queue). q.name) (cond b (first ∷ filter (is_listed listing) queues) (filter (is_listed listing) queues)))) [
+      | true ↦ omega arith
+      | false ↦ listed_some listing queues k queue found listed
     ]
 
 -- one index more

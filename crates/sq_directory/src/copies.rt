@@ -1,7 +1,7 @@
 //! Copies of what the directory is asked, and of what it answers.
 ghost use Rattle.std.specs.Prelude.{◌≡◌, true, IfOk, IfErr};
 ghost use Rattle.sq_model.specs.Policies.{lists_queues};
-ghost use Rattle.sq_directory.specs.DirectoryHistories.{copies_bytes, is_listing};
+ghost use Rattle.sq_directory.specs.DirectoryHistories.{IsListing, gives_list};
 
 use sq_base::refusal::Refusal;
 use sq_model::directory::{DirectoryCall, DirectoryReply, QueueAttributes};
@@ -25,7 +25,7 @@ pub fn copy_allow(
 /// The same call. Refused as NoMemory, where its attributes list queues.
 pub fn copy_call(alloc: Global, call: &DirectoryCall) -> Result<DirectoryCall, Refusal>
     ensures copy { IfOk result (λ copy. copy ≡ call.now) }
-    ensures err { IfErr result (λ e. (e ≡ Refusal.NoMemory) × (copies_bytes call.now ≡ true)) }
+    ensures err { IfErr result (λ e. (e ≡ Refusal.NoMemory) × (gives_list call.now ≡ true)) }
 {
     Ok(match call {
         DirectoryCall::Create(name, given) => DirectoryCall::Create(*name, given.copy(alloc)?),
@@ -39,10 +39,10 @@ pub fn copy_call(alloc: Global, call: &DirectoryCall) -> Result<DirectoryCall, R
     })
 }
 
-/// The same reply. Refused as NoMemory, where it lists queues or shows attributes.
+/// The same reply. Refused as NoMemory, where it lists queues, or shows a policy that does.
 pub fn copy_reply(alloc: Global, reply: &DirectoryReply) -> Result<DirectoryReply, Refusal>
     ensures copy { IfOk result (λ copy. copy ≡ reply.now) }
-    ensures err { IfErr result (λ e. (e ≡ Refusal.NoMemory) × (is_listing reply.now ≡ true)) }
+    ensures err { IfErr result (λ e. (e ≡ Refusal.NoMemory) × IsListing reply.now) }
 {
     Ok(match reply {
         DirectoryReply::Made(made) => DirectoryReply::Made(*made),
@@ -65,7 +65,7 @@ pub fn copy_twice(
 ) -> Result<(DirectoryReply, DirectoryReply), Refusal>
     ensures kept { IfOk result (λ copies. copies.0 ≡ reply.now) }
     ensures for_record { IfOk result (λ copies. copies.1 ≡ reply.now) }
-    ensures err { IfErr result (λ e. (e ≡ Refusal.NoMemory) × (is_listing reply.now ≡ true)) }
+    ensures err { IfErr result (λ e. (e ≡ Refusal.NoMemory) × IsListing reply.now) }
 {
     let kept = copy_reply(alloc, reply)?;
     let for_record = copy_reply(alloc, reply)?;
@@ -74,7 +74,7 @@ pub fn copy_twice(
 
 fn copy_attributes(alloc: Global, attributes: &QueueAttributes) -> Result<QueueAttributes, Refusal>
     ensures copy { IfOk result (λ copy. copy ≡ attributes.now) }
-    ensures err { IfErr result (λ e. e ≡ Refusal.NoMemory) }
+    ensures err { IfErr result (λ e. (e ≡ Refusal.NoMemory) × (lists_queues attributes.now.allow ≡ true)) }
 {
     Ok(QueueAttributes {
         allow: copy_allow(alloc, &attributes.allow)?,

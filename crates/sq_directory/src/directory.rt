@@ -1,5 +1,5 @@
 //! The directory: the queues of a service, and all that was done to them.
-ghost use Rattle.std.specs.Prelude.{◌≡◌, [], IfOk, IfErr, IfSome, OnErr};
+ghost use Rattle.std.specs.Prelude.{◌≡◌, ◌<◌, [], length, IfOk, IfErr, IfSome, OnErr};
 ghost use Rattle.sq_base.specs.Stamps.{start};
 ghost use Rattle.sq_model.specs.Directories.{number_named, all_named, can_redrive, opening_directory};
 ghost use Rattle.sq_policy.specs.Reading.{seen_as};
@@ -77,10 +77,10 @@ impl Directory {
         self.queues.find(name)
     }
 
-    /// The names and numbers of all queues, in order of creation. Refused only where memory is out.
+    /// The names and numbers of all queues, in order of creation. Refused as NoMemory, where there are any.
     pub fn names(&self, alloc: Global) -> Result<Listed<NamedQueue>, Refusal>
         ensures names { IfOk result (λ names. names ≡ all_named self.now.directory) }
-        ensures refused { IfErr result (λ e. e ≡ Refusal.NoMemory) }
+        ensures refused { IfErr result (λ e. (e ≡ Refusal.NoMemory) × (0 < length self.now.directory.queues)) }
     {
         self.queues.names(alloc)
     }
@@ -99,9 +99,10 @@ impl Directory {
     }
 
     /// Does what one call asks, at its stamp. What it answers is what its record says.
-    /// Refused as NoMemory (the history has room for none, or a list of queues is copied, or attributes are), ClockRange,
-    /// Worn, and then as the call: QueueDoesNotExist; of Create QueueNameExists, QueueDeletedRecently,
-    /// InvalidAttributeValue, TableFull; of Set Worn, InvalidAttributeValue; of PurgeTicket PurgeQueueInProgress.
+    /// Refused as NoMemory (the history has room for none), ClockRange, Worn, NoMemory (the call gives a list of queues), and
+    /// then as the call: QueueDoesNotExist; of Create QueueNameExists, QueueDeletedRecently, InvalidAttributeValue, TableFull;
+    /// of Set Worn, InvalidAttributeValue; of PurgeTicket PurgeQueueInProgress; and as NoMemory, where a list of queues is
+    /// kept or answered, or a policy is shown that has one.
     pub fn step(
         &mut self,
         alloc: Global,

@@ -1,5 +1,5 @@
 //! The names of queues, in order of creation.
-ghost use Rattle.std.specs.Prelude.{◌≡◌, IfOk, IfErr, map};
+ghost use Rattle.std.specs.Prelude.{◌≡◌, ◌<◌, IfOk, IfErr, length, map};
 ghost use Rattle.sq_model.specs.Directories.{as_named, begins};
 ghost use Rattle.sq_directory.specs.Listings.{is_listed, listed_names};
 
@@ -32,14 +32,14 @@ impl Listing {
     }
 }
 
-/// The names of these queues. Refused only where memory is out.
+/// The names of these queues. Refused as NoMemory, where there are any.
 pub fn listed_names(
     alloc: Global,
     queues: &NamedQueues,
     listing: &Listing,
 ) -> Result<Listed<QueueName>, Refusal>
     ensures names { IfOk result (λ names. names ≡ listed_names listing.now queues.now.queues) }
-    ensures refused { IfErr result (λ e. e ≡ Refusal.NoMemory) }
+    ensures refused { IfErr result (λ e. (e ≡ Refusal.NoMemory) × (0 < length (listed_names listing.now queues.now.queues))) }
 {
     let mut names = Listed::new(alloc);
     for index in 0..queues.len() {
@@ -52,10 +52,10 @@ pub fn listed_names(
     Ok(names)
 }
 
-/// The names and numbers of all queues. Refused only where memory is out.
+/// The names and numbers of all queues. Refused as NoMemory, where there are any.
 pub fn all_named(alloc: Global, queues: &NamedQueues) -> Result<Listed<NamedQueue>, Refusal>
     ensures names { IfOk result (λ names. names ≡ map as_named queues.now.queues) }
-    ensures refused { IfErr result (λ e. e ≡ Refusal.NoMemory) }
+    ensures refused { IfErr result (λ e. (e ≡ Refusal.NoMemory) × (0 < length queues.now.queues)) }
 {
     let mut names = Listed::new(alloc);
     for index in 0..queues.len() {

@@ -1,12 +1,12 @@
 //! The queues of a service, and what each step does to them.
-ghost use Rattle.std.specs.Prelude.{◌≡◌, ◌⊎◌, ◌<◌, ◌++◌, ◌∷◌, ℕ, suc, [], true, None, Some, IfOk, IfErr, OnOk, OnErr};
+ghost use Rattle.std.specs.Prelude.{◌≡◌, ◌⊎◌, ◌<◌, ◌++◌, ◌∷◌, ℕ, suc, [], true, None, Some, length, IfOk, IfErr, OnOk, OnErr};
 ghost use Rattle.sq_model.specs.Directories.{queue_of, number_named, all_named, can_redrive, move_from, new_queue, deleted_recently, is_recent, purged_recently, opening_directory, settings_at, attributes_at, last_version, IsThere, MayMake, DirectoryStep, create_refusal, directory_refusal};
 ghost use Rattle.sq_policy.specs.Reading.{seen_as};
 ghost use Rattle.sq_directory.specs.MoveQueues.{as_ends};
 ghost use Rattle.sq_directory.specs.Stored.{with_given};
 ghost use Rattle.sq_model.specs.declared.directory.DirectoryCall.TheVariants as asks;
 ghost use Rattle.sq_model.specs.declared.directory.Queue.{Queue as QueueValue};
-ghost use Rattle.sq_model.specs.Policies.{has_list};
+ghost use Rattle.sq_model.specs.Policies.{has_list, lists_queues};
 ghost use Rattle.sq_directory.specs.DirectoryHistories.{IsUnanswered};
 
 use crate::attributes::{agrees, given_redrive, may_have, new_queue, number_named};
@@ -74,10 +74,10 @@ impl Queues {
         number_named(&self.queues, name)
     }
 
-    /// The names and numbers of all queues, in order of creation. Refused only where memory is out.
+    /// The names and numbers of all queues, in order of creation. Refused as NoMemory, where there are any.
     pub fn names(&self, alloc: Global) -> Result<Listed<NamedQueue>, Refusal>
         ensures names { IfOk result (λ names. names ≡ all_named self.now) }
-        ensures refused { IfErr result (λ e. e ≡ Refusal.NoMemory) }
+        ensures refused { IfErr result (λ e. (e ≡ Refusal.NoMemory) × (0 < length self.now.queues)) }
     {
         all_named(alloc, &self.queues)
     }
@@ -119,8 +119,8 @@ impl Queues {
         }
     }
 
-    /// What a call is answered at a moment in ms, and what it does. Refused as NoMemory (of a list of queues, or of
-    /// attributes, that are copied), and then as the call.
+    /// What a call is answered at a moment in ms, and what it does. Refused as the call, and then as NoMemory, where a list
+    /// of queues is given or answered, or a policy is shown that has one.
     pub fn answer(
         &mut self,
         alloc: Global,
@@ -182,7 +182,7 @@ impl Queues {
         ensures may_make { IfOk result (λ made. MayMake self.old moment name.now given.now) }
         ensures made { IfOk result (λ made. made ≡ settings_at (new_queue self.old name.now given.now)) }
         ensures added { OnOk result (self.new ≡ record self.old { queues = self.old.queues ++ new_queue self.old name.now given.now ∷ []; made = suc self.old.made }) }
-        ensures refusal { IfErr result (λ e. ((e ≡ Refusal.NoMemory) × (has_list given.now.allow ≡ true)) ⊎ (create_refusal self.old moment name.now given.now None ≡ Some e)) }
+        ensures refusal { IfErr result (λ e. ((e ≡ Refusal.NoMemory) × (has_list given.now.allow ≡ true) × (create_refusal self.old moment name.now given.now None ≡ None)) ⊎ (create_refusal self.old moment name.now given.now None ≡ Some e)) }
         ensures err { OnErr result (self.new ≡ self.old) }
     {
         if self.was_deleted_recently(moment, name) {
@@ -321,10 +321,10 @@ impl Queues {
     }
 }
 
-// The attributes of a queue, as they are shown. Refused only where memory is out.
+// The attributes of a queue, as they are shown. Refused as NoMemory, where its policy lists queues.
 fn attributes_at(alloc: Global, queue: &Queue) -> Result<QueueAttributes, Refusal>
     ensures attributes { IfOk result (λ attributes. attributes ≡ attributes_at queue.now) }
-    ensures refused { IfErr result (λ e. e ≡ Refusal.NoMemory) }
+    ensures refused { IfErr result (λ e. (e ≡ Refusal.NoMemory) × (lists_queues queue.now.allow ≡ true)) }
 {
     Ok(QueueAttributes {
         queue: queue.number,

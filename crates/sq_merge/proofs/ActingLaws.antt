@@ -254,7 +254,10 @@ directory_cases d m (asks.Read name) e h = inr (not_there (queue_of name d.queue
 pub directory_may : (w : WorldValue) (actor now : ℕ) (call : DirectoryCall) (e : Refusal) → DirectoryRefused w actor now call e → MayRefuse (Directed call) e
 directory_may w actor now call e h = elim h [
   | inl unready ↦ inl (not_ready (journal_of actor w.journals) now e unready)
-  | inr step ↦ step_may e step.1 (λ clock. after_refused _ _ now e clock) (λ own. directory_cases _ _ call e own.2)
+  | inr step ↦ step_may e step.1 (λ clock. after_refused _ _ now e clock) (λ own. elim own.2 [
+    | inl memory ↦ inl (inl memory.0)
+    | inr unanswered ↦ elim unanswered [ inl memory ↦ inl (inl memory.0) | inr refusal ↦ directory_cases _ _ call e refusal ]
+  ])
 ]
 
 -- what the directory answers to a call

@@ -1,5 +1,5 @@
 -- Steps of the whole system by actors, and what is true of it at all times.
-use Rattle.std.specs.Prelude.{◌≡◌, ◌⊎◌, ◌+◌, ℕ, true, List, [], ◌∷◌, length, nat_le, if◌then◌else◌, position, slice_get, slice_set, Option, Some, None, option_map, Ok, Err}
+use Rattle.std.specs.Prelude.{◌≡◌, ◌⊎◌, ◌+◌, ◌<◌, ℕ, true, List, [], ◌∷◌, length, nat_le, if◌then◌else◌, position, slice_get, slice_set, Option, Some, None, option_map, Ok, Err}
 use Rattle.sq_base.specs.Stamps.{stamp_end}
 use Rattle.sq_base.specs.StampValue.{StampValue}
 use Rattle.sq_base.specs.declared.ids.HomeId.{HomeId}
@@ -141,6 +141,10 @@ having_read w actor = having_seen_at w actor w.directory.last
 abbrev pub IsUnread : WorldValue → ℕ → Refusal → Type 0
 IsUnread w actor e = (e ≡ NoMemory) × (position (is_of actor) w.journals ≡ None)
 
+-- why the queues are not named: there are some, and no memory was found for their names; or the actor cannot read
+abbrev pub NamesUnread : WorldValue → ℕ → Refusal → Type 0
+NamesUnread w actor e = ((e ≡ NoMemory) × (0 < length w.directory.directory.queues)) ⊎ IsUnread w actor e
+
 -- an actor has read the task of a number
 abbrev pub TaskRead : WorldValue → WorldValue → ℕ → ℕ → Task → Type 0
 TaskRead old new actor number task = (task_of number old.ledger.ledger ≡ Some task) × (new ≡ having_peeked old actor)
@@ -210,7 +214,7 @@ IsSentTo w id act = HasBytes act × ((at : ℕ) × (h : HistoryValue) × IsHomeO
 abbrev pub StepRefused : WorldValue → ℕ → ℕ → Act → Refusal → Type 0
 StepRefused w actor now (act.Directory call) e = DirectoryRefused w actor now call e
 StepRefused w actor now (act.Resolve name) e = NameRefused w actor name e
-StepRefused w actor now act.Names e = e ≡ NoMemory
+StepRefused w actor now act.Names e = NamesUnread w actor e
 StepRefused w actor now (act.Home id what) e = ((e ≡ NoMemory) × IsSentTo w id what) ⊎ HomeRefused w actor now id (call_of what) e
 StepRefused w actor now (act.Shared id what) e = SharedRefused w actor now id what e
 StepRefused w actor now (act.Peek number) e = IsUnread w actor e

@@ -6,7 +6,7 @@ ghost use Rattle.sq_directory.specs.MoveQueues.{as_ends};
 ghost use Rattle.sq_directory.specs.Makers.{IsAnsweredByName};
 ghost use Rattle.sq_history.specs.Acts.{call_of};
 ghost use Rattle.sq_steps.specs.Journals.{is_of, journal_of};
-ghost use Rattle.sq_merge.specs.Worlds.{SharedStepped, NothingLeaves, SharedRefused, next_of, having_peeked, next_tried, having_tried, NextRefused, LedgerStepped, LedgerRefused, IsUnread, TaskRead, TaskUnread, WalkRead, WalkUnread, having_walked, EndsRead, EndsUnread, HomeStepped, HomeRefused, DirectoryStepped, DirectoryRefused, NameRefused, having_read, having_seen_at, StepDone, StepRefused, Schedule, IsKeptWorld};
+ghost use Rattle.sq_merge.specs.Worlds.{SharedStepped, NothingLeaves, SharedRefused, next_of, having_peeked, next_tried, having_tried, NextRefused, LedgerStepped, LedgerRefused, IsUnread, NamesUnread, TaskRead, TaskUnread, WalkRead, WalkUnread, having_walked, EndsRead, EndsUnread, HomeStepped, HomeRefused, DirectoryStepped, DirectoryRefused, NameRefused, having_read, having_seen_at, StepDone, StepRefused, Schedule, IsKeptWorld};
 ghost use Rattle.sq_audit.specs.HomeIds.{histories_of};
 ghost use Rattle.sq_merge.specs.Acting.{counts_of, IsKnownTo, ActorStepped};
 ghost use Rattle.sq_client.specs.Fits.{CallFits};
@@ -305,10 +305,10 @@ impl World {
         }
     }
 
-    // Reads the names and numbers of all queues. Refused only where memory is out.
+    // Reads the names and numbers of all queues. Refused as NoMemory, where there are any, or of a new actor.
     fn names(&mut self, alloc: Global, actor: u32) -> Result<Listed<NamedQueue>, Refusal>
         ensures read { IfOk result (λ names. (names ≡ all_named self.old.directory.directory) × (self.new ≡ having_read self.old actor)) }
-        ensures refusal { IfErr result (λ e. e ≡ Refusal.NoMemory) }
+        ensures refusal { IfErr result (NamesUnread self.old actor) }
         ensures err { OnErr result (self.new ≡ self.old) }
     {
         let names = self.directory.names(alloc)?;

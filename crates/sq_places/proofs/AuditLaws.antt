@@ -2,6 +2,7 @@
 use Rattle.std.proofs.Common.{◌≡◌, ℕ, zero, suc, ◌+◌, ◌<◌, ◌≤◌, Bool, true, false, cond, List, [], ◌∷◌, ◌++◌, length, map, refl, arith, ap, sym, ◌∙◌, subst, inl, inr, Option, Some, None, slice_get, slice_set, get_or, append_assoc, get_or-set_same, get_or-set_other}
 use Rattle.std.specs.Prelude.{◌⊎◌, nat_lt, if◌then◌else◌}
 use Rattle.std.specs.List.{fold}
+use Rattle.std.specs.List.Sorted.{IsStrictlySortedBy}
 use Rattle.std.specs.Ordering.{nat_cmp, match_ordering}
 use Rattle.std.specs.declared.cmp.Ordering.{Ordering}
 use Rattle.std.specs.declared.cmp.Ordering.TheVariants.{Greater}
@@ -33,7 +34,7 @@ use Rattle.sq_places.specs.declared.state.Policy.{Policy}
 use Rattle.sq_places.specs.RowStates.{state_of, states_of, sent_state, Effect, Stays, Arrives, Looks, Leaves, Departs, Enters, Drops, effect_of, kept_states, past_states, states_after, ended_states, left_states, state_ends}
 use Rattle.sq_places.specs.HomeValues.{HomeValue, AuditValue}
 use Rattle.sq_places.specs.Audits.{no_states, put, rows_after, IsSameAudit, placed, placed_left, placed_rows, placed_moves, home_after, placed_ends, grown, no_audit, audit_step}
-use Rattle.sq_places.specs.AllPlaces.{after_send, after_move, sent_place, listed_place}
+use Rattle.sq_places.specs.AllPlaces.{ArePlaces, after_send, after_move, sent_place, listed_place}
 use Rattle.sq_places.proofs.StateLaws.{GoesBy, mirrors}
 use Rattle.sq_places.proofs.MessageStateLaws.{sends_first}
 use Rattle.sq_places.proofs.FollowLaws.{home_one_way, home_transit, ledger_stays, opened, own_step, step_counts}
@@ -346,6 +347,11 @@ nobody_yet : (x : MessageId) (sites : List Site) → homes_with x (map (λ site.
 nobody_yet x [] = refl
 nobody_yet x (site ∷ sites) =
     omega (arith, sum_by-cons (λ (h : HomeAt). rows_with x (rows_of h.home)) (record { site = site; home = Unopened }) (map (λ site. record { site = site; home = Unopened }) sites), nobody_yet x sites)
+
+-- nothing is listed where none was sent
+pub no_places : (sends : List MessageId) (ends : List Ending) (items : List Item) → sends ≡ [] → ArePlaces sends ends items []
+unfolding IsStrictlySortedBy
+no_places sends ends items none = rw none (record { rising = tt; each = λ x. refl })
 
 -- the pass tells where each message is
 pub audit_places : (x : MessageId) (places limit : ℕ) (sites : List Site) (ts : List Tagged) (run : List Tag) → tags_of ts ≡ run → (after : System) (r : RunFrom (opening places limit sites) run after) (a : AuditValue) → IsOnePlace sites

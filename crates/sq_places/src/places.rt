@@ -1,5 +1,5 @@
 //! Where all messages of a run are.
-ghost use Rattle.std.specs.Prelude.{◌≡◌, ◌+◌, ◌++◌, ◌≤◌, ℕ, List, OnOk, IfOk, IfErr, slice_set, get_or, vec_len};
+ghost use Rattle.std.specs.Prelude.{◌≡◌, ◌<◌, ◌+◌, ◌++◌, ◌≤◌, ℕ, List, length, OnOk, IfOk, IfErr, slice_set, get_or, vec_len};
 ghost use Rattle.std.specs.List.{fold};
 ghost use Rattle.std.specs.BTreeMap.{get};
 ghost use Rattle.sq_base.specs.declared.message_id.MessageId.{MessageId};
@@ -43,13 +43,16 @@ impl Model for Audit {
     ghost view = { λ a. record { homes = a.homes.items; sends = a.sends.items; moves = a.moves.items; ends = a.ends.items } };
 }
 
-/// Where the messages of a run are: each that was sent in it, once, in rising order of id. Refused only where memory is
-/// out.
+/// Where the messages of a run are: each that was sent in it, once, in rising order of id. Refused as NoMemory, where there
+/// are any.
 pub fn places_of(alloc: Global, run: &Run<'_>) -> Result<Vec<(MessageId, Place)>, Refusal>
     ensures places { (places limit : ℕ) (sites : List Site) (after : System) (r : RunFrom (opening places limit sites) run.now after) → IsOnePlace sites
         → IfOk result (λ listed. ArePlaces (run_sends run.now) (run_ends (opening places limit sites) run.now after r) after.ledger.items listed.items) }
-    ensures err { IfErr result (λ e. e ≡ Refusal.NoMemory) }
+    ensures err { IfErr result (λ e. (e ≡ Refusal.NoMemory) × (0 < length (run_sends run.now))) }
 {
+    if !run.has_sent() {
+        return Ok(Vec::new(alloc));
+    }
     let audit = collect(alloc, run.events())?;
     listed(alloc, &audit.sends, &audit.moves, &audit.ends)
 }

@@ -2,5 +2,6 @@ pub mod JournalLaws
 pub mod JournalListLaws
 pub mod DropLaws
 pub mod FilterLaws
+pub mod RecordLaws
 pub mod SharedLaws
 pub mod TaskLeaveLaws

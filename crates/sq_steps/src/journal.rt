@@ -1,22 +1,22 @@
 //! What an actor has seen, and the records of its steps; a step with its record.
-ghost use Rattle.std.specs.Prelude.{◌≡◌, ◌≢◌, ◌⊎◌, ◌==◌, ◌+◌, ◌<◌, ◌++◌, ◌∷◌, [], IfOk, IfErr, OnOk, OnErr};
+ghost use Rattle.std.specs.Prelude.{◌≡◌, ◌≢◌, ◌⊎◌, ◌==◌, ◌+◌, ◌<◌, [], Some, length, slice_get, IfOk, IfErr, OnOk, OnErr};
 ghost use Rattle.std.specs.List.{list_any};
-ghost use Rattle.sq_model.specs.RecordValues.{RecordsRise, place_of_record, stamp_of};
+ghost use Rattle.sq_model.specs.RecordValues.{RecordsRise, place_of_record};
 ghost use Rattle.sq_history.specs.Acts.{call_of};
-ghost use Rattle.sq_history.specs.Rooms.{IsReady, KeepsRoom};
+ghost use Rattle.sq_history.specs.Rooms.{IsReady};
 ghost use Rattle.sq_directory.specs.Makers.{IsAnsweredByName};
-ghost use Rattle.sq_steps.specs.Records.{value_of_record, values_of_records};
+ghost use Rattle.sq_steps.specs.Records.{value_of_record};
 ghost use Rattle.sq_steps.specs.Journals.{new_journal, having_seen, without_record, last_place, worn_at, HomeMoves, DirectoryMoves, LedgerMoves, IsHomeRefused, IsDirectoryStepRefused, IsLedgerStepRefused};
 ghost use Rattle.sq_ledger.specs.LedgerHistories.{IsLedgerRefused, LedgerRecords};
 ghost use Rattle.sq_steps.specs.TaskActs.{task_call};
 
 use crate::act::{HomeAct, TaskAct};
 use crate::record::Record;
+use crate::records::Records;
 use sq_base::name::QueueName;
 use sq_base::refusal::Refusal;
 use sq_base::stamp::{STAMP_END, Stamp};
 use sq_directory::directory::Directory;
-use sq_history::growing::Growing;
 use sq_history::recorded::Home;
 use sq_ledger::ledger::TransitLedger;
 use sq_ledger::record::LedgerRecord;
@@ -32,19 +32,18 @@ use std::marker::Model;
 #[derive(Drop)]
 pub struct Journal {
     pub(crate) by: Actor,
-    pub(crate) records: Growing<Record>,
+    pub(crate) records: Records,
 }
 
 impl Model for Journal {
     ghost use Rattle.sq_model.specs.RecordValues.{Journal};
-    ghost use Rattle.sq_steps.specs.Records.{value_of_record, values_of_records};
     ghost use Rattle.sq_steps.specs.Journals.{IsJournal};
 
     ghost Value = { Journal };
 
-    ghost view = { λ b. record { actor = b.by.number; next = b.by.place; seen = b.by.seen; records = values_of_records b.records.items; room = b.records.room } };
+    ghost view = { λ b. record { actor = b.by.number; next = b.by.place; seen = b.by.seen; records = b.records.items; room = b.records.room } };
 
-    ghost invariant = { λ b. IsJournal (record { actor = b.by.number; next = b.by.place; seen = b.by.seen; records = values_of_records b.records.items; room = b.records.room }) };
+    ghost invariant = { λ b. IsJournal (record { actor = b.by.number; next = b.by.place; seen = b.by.seen; records = b.records.items; room = b.records.room }) };
 }
 
 impl Journal {
@@ -58,7 +57,7 @@ impl Journal {
                 place: 0,
                 seen: Stamp::start(),
             },
-            records: Growing::new(alloc),
+            records: Records::new(alloc),
         }
     }
 
@@ -69,12 +68,20 @@ impl Journal {
         self.by.number
     }
 
-    /// The records of its steps, the first first.
-    pub fn records(&self) -> &[Record]
-        ensures records { values_of_records result.now ≡ self.now.records }
-        ensures rise { RecordsRise (values_of_records result.now) }
+    /// How many records of its steps there are. Of two the later one has the higher number and stamp.
+    pub fn len(&self) -> usize
+        ensures len { result ≡ length self.now.records }
+        ensures rise { RecordsRise self.now.records }
     {
-        self.records.as_slice()
+        self.records.len()
+    }
+
+    /// The record at a place among them, from 0 upwards.
+    pub fn record(&self, index: usize) -> Record<'_>
+        requires { index < length self.now.records }
+        ensures { slice_get self.now.records index ≡ Some (value_of_record result) }
+    {
+        self.records.record(index)
     }
 
     /// The actor has read a part of the system whose last stamp is this.
@@ -91,17 +98,8 @@ impl Journal {
         ensures answered { result ≡ list_any (λ n. place_of_record n == place) self.old.records }
         ensures dropped { self.new ≡ without_record place self.old }
     {
-        let found = has_place(self.records.as_slice(), place);
-        self.records.retain(|record| record.place() != place);
-        found
+        self.records.drop_record(place)
     }
-}
-
-// Whether a record of the step of this number is there.
-fn has_place(records: &[Record], place: u64) -> bool
-    ensures { result ≡ list_any (λ r. place_of_record (value_of_record r) == place) records.now }
-{
-    records.iter().any(|record| record.place() == place)
 }
 
 // Where the count of an actor's steps is at its end.
@@ -117,7 +115,7 @@ fn worn_at(now: u64) -> Refusal
 
 // Gets memory for the record of an actor's next step. Refused where the count of its steps is at its end, and then as
 // NoMemory where there was room for none.
-pub(crate) fn ready(by: &Actor, records: &mut Growing<Record>, now: u64) -> Result<(), Refusal>
+pub(crate) fn ready(by: &Actor, records: &mut Records, now: u64) -> Result<(), Refusal>
     ensures items { records.new.items ≡ records.old.items }
     ensures room { records.new.room ≡ records.old.room }
     ensures ready { OnOk result (IsReady records.new.room records.new.reserved) }
@@ -130,17 +128,13 @@ pub(crate) fn ready(by: &Actor, records: &mut Growing<Record>, now: u64) -> Resu
     records.reserve()
 }
 
-// Counts an actor's step that was done, and keeps the record of it.
-pub(crate) fn keep(by: &mut Actor, records: &mut Growing<Record>, kept: Record)
+// Counts an actor's step that was done at a stamp.
+pub(crate) fn count(by: &mut Actor, stamp: Stamp)
     requires more { by.old.place < last_place }
-    requires ready { IsReady records.old.room records.old.reserved }
-    ensures counted { by.new ≡ record { number = by.old.number; place = by.old.place + 1; seen = stamp_of (value_of_record kept) } }
-    ensures kept { records.new.items ≡ records.old.items ++ kept ∷ [] }
-    ensures room { KeepsRoom records.old.room records.new.room }
+    ensures { by.new ≡ record { number = by.old.number; place = by.old.place + 1; seen = stamp } }
 {
     by.place += 1;
-    by.seen = kept.stamp();
-    records.push(kept);
+    by.seen = stamp;
 }
 
 /// A step of a home that is lent, by an actor that is lent; all that grows does so before it. A clock reading is in ms.
@@ -161,13 +155,14 @@ pub fn home_step(
 {
     ready(&journal.by, &mut journal.records, now)?;
     let (reply, record) = home.step(alloc, &journal.by, now, name, act)?;
-    keep(&mut journal.by, &mut journal.records, Record::Home(record));
+    count(&mut journal.by, record.step().stamp);
+    journal.records.push_home(record);
     Ok(reply)
 }
 
 /// A step of the directory that is lent, by an actor that is lent; all that grows does so before it. A clock reading is
-/// in ms. Refused as NoMemory (the actor's records or the directory's history have room for none, or lists of queues or
-/// attributes are copied), ClockRange, Worn, and then as the directory's call.
+/// in ms. Refused as NoMemory (the actor's records or the directory's history have room for none), ClockRange, Worn, NoMemory
+/// (the call gives a list of queues), as the directory's call, and as NoMemory (a list of queues is kept or answered).
 pub fn directory_step(
     alloc: Global,
     directory: &mut Directory,
@@ -184,11 +179,8 @@ pub fn directory_step(
 {
     ready(&journal.by, &mut journal.records, now)?;
     let (reply, record) = directory.step(alloc, &journal.by, now, call)?;
-    keep(
-        &mut journal.by,
-        &mut journal.records,
-        Record::Directory(record),
-    );
+    count(&mut journal.by, record.step().stamp);
+    journal.records.push_directory(record);
     Ok(reply)
 }
 
@@ -242,10 +234,7 @@ pub fn ledger_step(
 {
     ready(&journal.by, &mut journal.records, now)?;
     let (reply, record) = task_step(alloc, ledger, &journal.by, now, act)?;
-    keep(
-        &mut journal.by,
-        &mut journal.records,
-        Record::Ledger(record),
-    );
+    count(&mut journal.by, record.step().stamp);
+    journal.records.push_ledger(record);
     Ok(reply)
 }

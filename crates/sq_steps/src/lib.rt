@@ -6,4 +6,5 @@ pub mod capacity;
 pub mod journal;
 pub mod journals;
 pub mod record;
+mod records;
 pub mod shared;

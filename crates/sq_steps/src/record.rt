@@ -8,16 +8,16 @@ use sq_directory::record::DirectoryRecord;
 use sq_history::record::HomeRecord;
 use sq_ledger::record::LedgerRecord;
 
-/// An actor's record of one step.
-#[derive(Drop)]
-pub enum Record {
-    Directory(DirectoryRecord),
+/// An actor's record of one step, lent.
+#[derive(Clone, Copy)]
+pub enum Record<'a> {
+    Directory(&'a DirectoryRecord),
     /// Of a step of the ledger alone; one that it shares with a home has a record of the home.
-    Ledger(LedgerRecord),
-    Home(HomeRecord),
+    Ledger(&'a LedgerRecord),
+    Home(&'a HomeRecord),
 }
 
-impl Record {
+impl<'a> Record<'a> {
     /// The number of the step among its actor's, from 0 upwards.
     pub fn place(&self) -> u64
         ensures { result ≡ place_of_record (value_of_record self.now) }

@@ -8,8 +8,7 @@ ghost use Rattle.sq_ledger.specs.LedgerHistories.{IsPrepared, LedgerShares};
 ghost use Rattle.sq_steps.specs.SharedSteps.{BothDo, IsToldLeft, SharedMoves, IsUnmoved, IsPairRefused, IsSharedRefused};
 
 use crate::act::SharedAct;
-use crate::journal::{Journal, keep, ready};
-use crate::record::Record;
+use crate::journal::{Journal, count, ready};
 use sq_base::ids::HomeId;
 use sq_base::name::QueueName;
 use sq_base::refusal::Refusal;
@@ -233,7 +232,8 @@ pub fn shared_step(
     let stamp = stamp_of_both(home.last(), ledger.last(), journal.by.seen, now)?;
     match both_halves(alloc, home, ledger, &journal.by, stamp, name, act)? {
         Some((reply, record)) => {
-            keep(&mut journal.by, &mut journal.records, Record::Home(record));
+            count(&mut journal.by, record.step().stamp);
+            journal.records.push_home(record);
             Ok(Some(reply))
         }
         None => Ok(None),

@@ -87,10 +87,11 @@ fn events_are_listed_by_stamp(rt: HostRuntime) {
 fn recorded(parts: &Parts, actor: u32, place: usize) -> [u64; 2] {
     for journal in parts.records.as_slice() {
         if journal.actor() == actor {
-            return match journal.records().get(place) {
-                Some(record) => [record.stamp().moment, record.stamp().count],
-                None => NONE,
-            };
+            if place >= journal.len() {
+                return NONE;
+            }
+            let stamp = journal.record(place).stamp();
+            return [stamp.moment, stamp.count];
         }
     }
     NONE

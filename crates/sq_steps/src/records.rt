@@ -1,0 +1,206 @@
+//! The records of an actor's steps.
+ghost use Rattle.std.specs.Prelude.{◌≡◌, ◌<◌, ◌≤◌, ◌-◌, ◌++◌, ◌∷◌, ◌==◌, [], Some, filter, length, not, slice_get, vec_capacity, vec_len, IfErr, OnOk};
+ghost use Rattle.std.specs.List.{list_any};
+ghost use Rattle.sq_base.specs.declared.refusal.Refusal.{Refusal as Why};
+ghost use Rattle.sq_model.specs.RecordValues.{OfDirectory, OfLedger, OfHome, place_of_record};
+ghost use Rattle.sq_history.specs.Rooms.{IsReady, KeepsRoom};
+ghost use Rattle.sq_steps.specs.Records.{least, value_of_kept, value_of_other, value_of_record};
+
+use crate::record::Record;
+use sq_base::refusal::Refusal;
+use sq_directory::record::DirectoryRecord;
+use sq_history::record::HomeRecord;
+use sq_ledger::record::LedgerRecord;
+use std::alloc::Global;
+use std::marker::Model;
+
+/// A record of a home, or at which place among the others it is.
+#[derive(Drop)]
+pub(crate) enum Kept {
+    Home(HomeRecord),
+    Other(usize),
+}
+
+/// A record of the directory, or of the ledger alone: that of the directory takes twice the bytes of one of a home, and most
+/// actors have few.
+#[derive(Drop)]
+pub(crate) enum Other {
+    Directory(DirectoryRecord),
+    Ledger(LedgerRecord),
+}
+
+/// Records in their order, those of homes in their places and the others apart. Memory is got before a step, for a record of
+/// whichever part; what is shown is for how many more there was memory when the last one was put.
+#[derive(Drop)]
+pub(crate) struct Records {
+    kept: Vec<Kept>,
+    others: Vec<Other>,
+    room: usize,
+}
+
+impl Model for Records {
+    ghost use Rattle.std.specs.Prelude.{◌-◌, ◌≤◌, length, vec_len, vec_capacity};
+    ghost use Rattle.std.specs.List.{AllByRecursion};
+    ghost use Rattle.sq_history.specs.Rooms.{GrowingValue};
+    ghost use Rattle.sq_model.specs.RecordValues.{RecordValue};
+    ghost use Rattle.sq_steps.specs.Records.{IsIn, least, values_of_kept};
+
+    ghost Value = { GrowingValue RecordValue };
+
+    ghost view = { λ r. record { items = values_of_kept r.others.items r.kept.items; room = r.room; reserved = least (vec_capacity r.kept - vec_len r.kept) (vec_capacity r.others - vec_len r.others) } };
+
+    ghost invariant = { λ r. record {
+      within : AllByRecursion (IsIn (length r.others.items)) r.kept.items;
+      room : r.room ≤ least (vec_capacity r.kept - vec_len r.kept) (vec_capacity r.others - vec_len r.others);
+    } };
+}
+
+impl Records {
+    /// No record, and memory for none.
+    pub(crate) fn new(alloc: Global) -> Records
+        ensures { result ≡ record { items = []; room = 0; reserved = 0 } }
+    {
+        Records {
+            kept: Vec::new(alloc),
+            others: Vec::new(alloc),
+            room: 0,
+        }
+    }
+
+    /// How many there are.
+    pub(crate) fn len(&self) -> usize
+        ensures { result ≡ length self.now.items }
+    {
+        self.kept.len()
+    }
+
+    /// The record at a place, from 0 upwards.
+    pub(crate) fn record(&self, index: usize) -> Record<'_>
+        requires { index < length self.now.items }
+        ensures { slice_get self.now.items index ≡ Some (value_of_record result) }
+    {
+        match &self.kept[index] {
+            Kept::Home(record) => Record::Home(record),
+            Kept::Other(at) => self.others[*at].as_record(),
+        }
+    }
+
+    /// Gets memory for one record more, and for four at once where it shows room for none. Refused as NoMemory where it
+    /// shows room for none and has memory for fewer than four.
+    pub(crate) fn reserve(&mut self) -> Result<(), Refusal>
+        ensures items { self.new.items ≡ self.old.items }
+        ensures room { self.new.room ≡ self.old.room }
+        ensures kept { self.old.reserved ≤ self.new.reserved }
+        ensures ready { OnOk result (IsReady self.new.room self.new.reserved) }
+        ensures refused { IfErr result (λ e. (e ≡ Why.NoMemory) × (self.old.room ≡ 0) × (self.old.reserved < 4)) }
+    {
+        if self.room == 0 {
+            self.kept.try_reserve(4)?;
+            self.others.try_reserve(4)?;
+        }
+        Ok(())
+    }
+
+    /// Puts a record of a home last, for which `reserve` got memory.
+    pub(crate) fn push_home(&mut self, its_record: HomeRecord)
+        requires { IsReady self.old.room self.old.reserved }
+        ensures items { self.new.items ≡ self.old.items ++ OfHome its_record ∷ [] }
+        ensures shown { self.new.room ≡ self.new.reserved }
+        ensures room { KeepsRoom self.old.room self.new.room }
+    {
+        self.kept.push_reserved(Kept::Home(its_record));
+        self.room = spare(&self.kept, &self.others);
+    }
+
+    /// Puts a record of the directory last, for which `reserve` got memory.
+    pub(crate) fn push_directory(&mut self, its_record: DirectoryRecord)
+        requires { IsReady self.old.room self.old.reserved }
+        ensures items { self.new.items ≡ self.old.items ++ OfDirectory its_record ∷ [] }
+        ensures shown { self.new.room ≡ self.new.reserved }
+        ensures room { KeepsRoom self.old.room self.new.room }
+    {
+        self.push_other(Other::Directory(its_record));
+    }
+
+    /// Puts a record of the ledger last, for which `reserve` got memory.
+    pub(crate) fn push_ledger(&mut self, its_record: LedgerRecord)
+        requires { IsReady self.old.room self.old.reserved }
+        ensures items { self.new.items ≡ self.old.items ++ OfLedger its_record ∷ [] }
+        ensures shown { self.new.room ≡ self.new.reserved }
+        ensures room { KeepsRoom self.old.room self.new.room }
+    {
+        self.push_other(Other::Ledger(its_record));
+    }
+
+    // Puts a record apart, and where it is last.
+    fn push_other(&mut self, other: Other)
+        requires { IsReady self.old.room self.old.reserved }
+        ensures items { self.new.items ≡ self.old.items ++ value_of_other other ∷ [] }
+        ensures shown { self.new.room ≡ self.new.reserved }
+        ensures room { KeepsRoom self.old.room self.new.room }
+    {
+        self.kept.push_reserved(Kept::Other(self.others.len()));
+        self.others.push_reserved(other);
+        self.room = spare(&self.kept, &self.others);
+    }
+
+    /// Takes out the record of the step of this number, and tells whether it was there. One of the directory or the ledger
+    /// keeps its memory.
+    pub(crate) fn drop_record(&mut self, place: u64) -> bool
+        ensures answered { result ≡ list_any (λ n. place_of_record n == place) self.old.items }
+        ensures dropped { self.new.items ≡ filter (λ n. not (place_of_record n == place)) self.old.items }
+        ensures room { self.new.room ≡ self.old.room }
+        ensures kept { self.old.reserved ≤ self.new.reserved }
+    {
+        let others = self.others.as_slice();
+        let found = has_place(others, self.kept.as_slice(), place);
+        self.kept.retain(|kept| place_of(others, kept) != place);
+        found
+    }
+}
+
+impl Other {
+    fn as_record(&self) -> Record<'_>
+        ensures { value_of_record result ≡ value_of_other self.now }
+    {
+        match self {
+            Other::Directory(record) => Record::Directory(record),
+            Other::Ledger(record) => Record::Ledger(record),
+        }
+    }
+}
+
+// Whether the record of the step of this number is there.
+fn has_place(others: &[Other], kept: &[Kept], place: u64) -> bool
+    ensures { result ≡ list_any (λ n. place_of_record (value_of_kept others.now n) == place) kept.now }
+{
+    kept.iter().any(|kept| place_of(others, kept) == place)
+}
+
+// The number of the step of a record.
+fn place_of(others: &[Other], kept: &Kept) -> u64
+    ensures { result ≡ place_of_record (value_of_kept others.now kept.now) }
+{
+    match kept {
+        Kept::Home(record) => record.step().place,
+        Kept::Other(at) => match others.get(*at) {
+            Some(other) => other.as_record().place(),
+            None => 0,
+        },
+    }
+}
+
+// For how many records more there is memory, of whichever part.
+fn spare(kept: &Vec<Kept>, others: &Vec<Other>) -> usize
+    ensures { result ≡ least (vec_capacity kept.now - vec_len kept.now) (vec_capacity others.now - vec_len others.now) }
+{
+    let (of_kept, of_others) = (
+        kept.capacity() - kept.len(),
+        others.capacity() - others.len(),
+    );
+    if of_kept <= of_others {
+        of_kept
+    } else {
+        of_others
+    }
+}
