@@ -19,7 +19,7 @@ use sq_directory::directory::Directory;
 use sq_directory::events::has_directory_event;
 use sq_directory::names::has_name;
 use sq_history::events::{event_at, has_home_event};
-use sq_history::record::HomeRecord;
+use sq_history::record::LentHomeRecord;
 use sq_history::recorded::Home;
 use sq_ledger::events::{has_ledger_event, has_shared_event, is_alone, is_leave, is_shared_event};
 use sq_ledger::ledger::TransitLedger;
@@ -150,7 +150,7 @@ fn check_journal(evidence: &Evidence<'_>, at: usize) -> Result<(), AuditFault>
     let actor = journal.actor();
     for index in 0..journal.len() {
         let kept = journal.record(index);
-        check_record(evidence, actor, index, kept)?;
+        check_record(evidence, actor, index, &kept)?;
     }
     Ok(())
 }
@@ -160,11 +160,11 @@ fn check_record(
     evidence: &Evidence<'_>,
     actor: u32,
     index: usize,
-    kept: Record<'_>,
+    kept: &Record<'_>,
 ) -> Result<(), AuditFault>
-    ensures place { OnOk result (place_of_record (value_of_record kept.entry) ≡ index) }
-    ensures has_its_event { OnOk result (HasItsEvent evidence.now.directory evidence.now.ledger evidence.now.homes actor (value_of_record kept.entry)) }
-    ensures fault { IfErr result (IsRecordFault evidence.now.directory evidence.now.ledger evidence.now.homes actor index (value_of_record kept.entry)) }
+    ensures place { OnOk result (place_of_record (value_of_record kept.now) ≡ index) }
+    ensures has_its_event { OnOk result (HasItsEvent evidence.now.directory evidence.now.ledger evidence.now.homes actor (value_of_record kept.now)) }
+    ensures fault { IfErr result (IsRecordFault evidence.now.directory evidence.now.ledger evidence.now.homes actor index (value_of_record kept.now)) }
 {
     let place = kept.place();
     if place != index as u64 {
@@ -178,8 +178,8 @@ fn check_record(
 }
 
 // Whether a record is of an event of this actor.
-fn has_its_event(evidence: &Evidence<'_>, actor: u32, kept: Record<'_>) -> bool
-    ensures { result ≡ true ↔ HasItsEvent evidence.now.directory evidence.now.ledger evidence.now.homes actor (value_of_record kept.entry) }
+fn has_its_event(evidence: &Evidence<'_>, actor: u32, kept: &Record<'_>) -> bool
+    ensures { result ≡ true ↔ HasItsEvent evidence.now.directory evidence.now.ledger evidence.now.homes actor (value_of_record kept.now) }
 {
     match kept {
         Record::Directory(kept) => has_directory_event(evidence.directory, actor, kept),
@@ -189,7 +189,7 @@ fn has_its_event(evidence: &Evidence<'_>, actor: u32, kept: Record<'_>) -> bool
 }
 
 // Whether a home has the event of a record, and the name that the record bears was its queue's.
-fn home_has_its_event(evidence: &Evidence<'_>, actor: u32, kept: &HomeRecord) -> bool
+fn home_has_its_event(evidence: &Evidence<'_>, actor: u32, kept: &LentHomeRecord<'_>) -> bool
     ensures { result ≡ true ↔ HasItsEvent evidence.now.directory evidence.now.ledger evidence.now.homes actor (OfHome kept.now) }
 {
     let homes = evidence.homes;
@@ -340,7 +340,7 @@ fn check_event(
         return Err(AuditFault::RecordMissing(actor, place));
     }
     let kept = journal.record(place as usize);
-    if is_at(evidence, part, index, kept) {
+    if is_at(evidence, part, index, &kept) {
         Ok(())
     } else {
         Err(AuditFault::RecordTwice(actor, place))
@@ -348,9 +348,9 @@ fn check_event(
 }
 
 // Whether a record names this event of a part.
-fn is_at(evidence: &Evidence<'_>, part: Part, index: usize, kept: Record<'_>) -> bool
+fn is_at(evidence: &Evidence<'_>, part: Part, index: usize, kept: &Record<'_>) -> bool
     requires within { IsThere evidence.now.homes part }
-    ensures { result ≡ true ↔ IsAt evidence.now.per_queue part index (value_of_record kept.entry) }
+    ensures { result ≡ true ↔ IsAt evidence.now.per_queue part index (value_of_record kept.now) }
 {
     match (part, kept) {
         (Part::Directory, Record::Directory(kept)) => kept.step().index == index as u64,

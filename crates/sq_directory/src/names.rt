@@ -5,12 +5,12 @@ ghost use Rattle.sq_model.specs.Matches.{IsNamed, IsCreate};
 
 use crate::directory::Directory;
 use sq_base::name::QueueName;
-use sq_history::record::HomeRecord;
+use sq_history::record::LentHomeRecord;
 use sq_model::directory::{DirectoryCall, DirectoryReply};
 use sq_model::event::Event;
 
 /// Whether the name that a record bears, if any, was its queue's before the step.
-pub fn has_name(directory: &Directory, creations: &[usize], kept: &HomeRecord) -> bool
+pub fn has_name(directory: &Directory, creations: &[usize], kept: &LentHomeRecord<'_>) -> bool
     ensures { result ≡ true ↔ IsNamed directory.now.events kept.now kept.now.name }
 {
     match kept.name() {
@@ -20,7 +20,12 @@ pub fn has_name(directory: &Directory, creations: &[usize], kept: &HomeRecord) -
 }
 
 // Whether a queue of this number was made by this name before the step of a record.
-fn is_named(directory: &Directory, creations: &[usize], kept: &HomeRecord, name: &QueueName) -> bool
+fn is_named(
+    directory: &Directory,
+    creations: &[usize],
+    kept: &LentHomeRecord<'_>,
+    name: &QueueName,
+) -> bool
     ensures { result ≡ true ↔ IsNamed directory.now.events kept.now (Some name.now) }
 {
     // The first event of a queue's number has its name wherever nothing is wrong: all events are walked for a fault alone.
@@ -31,7 +36,7 @@ fn is_named(directory: &Directory, creations: &[usize], kept: &HomeRecord, name:
 fn is_named_at_first(
     directory: &Directory,
     creations: &[usize],
-    kept: &HomeRecord,
+    kept: &LentHomeRecord<'_>,
     name: &QueueName,
 ) -> bool
     ensures { result ≡ true → IsNamed directory.now.events kept.now (Some name.now) }
@@ -48,7 +53,7 @@ fn is_named_at_first(
     is_named_by(&events[first], name, kept)
 }
 
-fn is_named_by_any(directory: &Directory, kept: &HomeRecord, name: &QueueName) -> bool
+fn is_named_by_any(directory: &Directory, kept: &LentHomeRecord<'_>, name: &QueueName) -> bool
     ensures { result ≡ true ↔ IsNamed directory.now.events kept.now (Some name.now) }
 {
     let events = directory.events();
@@ -64,7 +69,7 @@ fn is_named_by_any(directory: &Directory, kept: &HomeRecord, name: &QueueName) -
 fn is_named_by(
     event: &Event<DirectoryCall, DirectoryReply>,
     name: &QueueName,
-    kept: &HomeRecord,
+    kept: &LentHomeRecord<'_>,
 ) -> bool
     ensures { result ≡ true ↔ (Below event.now.stamp kept.now.stamp × IsCreate event.now name.now kept.now.home.queue) }
 {
@@ -75,7 +80,7 @@ fn is_named_by(
 fn is_create(
     event: &Event<DirectoryCall, DirectoryReply>,
     name: &QueueName,
-    kept: &HomeRecord,
+    kept: &LentHomeRecord<'_>,
 ) -> bool
     ensures { result ≡ true ↔ IsCreate event.now name.now kept.now.home.queue }
 {

@@ -3,7 +3,7 @@ ghost use Rattle.std.specs.Prelude.{◌≡◌, ◌↔◌, true, IfSome, IsSome, 
 ghost use Rattle.sq_model.specs.declared.event.Event.{Event as Done};
 ghost use Rattle.sq_history.specs.Events.{IsEventOf, IsEventAt, Rises, HasHomeEvent, is_before};
 
-use crate::record::HomeRecord;
+use crate::record::LentHomeRecord;
 use crate::recorded::Home;
 use sq_base::stamp::Stamp;
 use sq_model::event::{Event, StepRecord};
@@ -52,7 +52,7 @@ pub fn event_at<'a, K, R>(events: &'a [Event<K, R>], stamp: Stamp) -> Option<&'a
 }
 
 /// Whether a home's history has the event of this actor's record.
-pub fn has_home_event(home: &Home, actor: u32, kept: &HomeRecord) -> bool
+pub fn has_home_event(home: &Home, actor: u32, kept: &LentHomeRecord<'_>) -> bool
     ensures { result ≡ true ↔ HasHomeEvent home.now.events actor kept.now }
 {
     let step = kept.step();

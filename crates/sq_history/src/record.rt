@@ -1,5 +1,5 @@
 //! What an actor keeps of a step of a home.
-ghost use Rattle.std.specs.Prelude.{◌≡◌};
+ghost use Rattle.std.specs.Prelude.{◌≡◌, option_map};
 ghost use Rattle.sq_history.specs.Records.{step_of, with_home};
 
 use sq_base::ids::HomeId;
@@ -41,6 +41,14 @@ impl HomeRecord {
         }
     }
 
+    /// What is kept of a step of any part, the home that it was done at, and the queue's name that the actor used.
+    pub fn into_parts(self) -> (StepRecord<HomeCall, HomeReply>, HomeId, Option<QueueName>)
+        ensures { with_home result.1 result.2 result.0 ≡ self }
+    {
+        let HomeRecord { step, home, name } = self;
+        (step, home, name)
+    }
+
     /// What is kept of a step of any part.
     pub fn step(&self) -> &StepRecord<HomeCall, HomeReply>
         ensures { result.now ≡ step_of self.now }
@@ -54,11 +62,55 @@ impl HomeRecord {
     {
         &self.home
     }
+}
+
+/// An actor's record of one step of a home, whose parts are kept apart.
+#[derive(Drop)]
+pub struct LentHomeRecord<'a> {
+    step: &'a StepRecord<HomeCall, HomeReply>,
+    home: &'a HomeId,
+    name: Option<&'a QueueName>,
+}
+
+impl<'a> Model for LentHomeRecord<'a> {
+    ghost use Rattle.std.specs.Prelude.{option_map};
+    ghost use Rattle.sq_model.specs.RecordValues.{HomeRecordValue};
+    ghost use Rattle.sq_history.specs.Records.{with_home};
+
+    ghost Value = { HomeRecordValue };
+
+    ghost view = { λ r. with_home r.home.now (option_map (λ n. n.now) r.name) r.step.now };
+}
+
+impl<'a> LentHomeRecord<'a> {
+    pub fn of(
+        step: &'a StepRecord<HomeCall, HomeReply>,
+        home: &'a HomeId,
+        name: Option<&'a QueueName>,
+    ) -> LentHomeRecord<'a>
+        ensures { result ≡ with_home home.now (option_map (λ n. n.now) name.entry) step.now }
+    {
+        LentHomeRecord { step, home, name }
+    }
+
+    /// What is kept of a step of any part.
+    pub fn step(&self) -> &StepRecord<HomeCall, HomeReply>
+        ensures { result.now ≡ step_of self.now }
+    {
+        self.step
+    }
+
+    /// The home that it was done at.
+    pub fn home(&self) -> &HomeId
+        ensures { result.now ≡ self.now.home }
+    {
+        self.home
+    }
 
     /// The queue's name that the actor used.
-    pub fn name(&self) -> &Option<QueueName>
-        ensures { result.now ≡ self.now.name }
+    pub fn name(&self) -> Option<&QueueName>
+        ensures { option_map (λ n. n.now) result ≡ self.now.name }
     {
-        &self.name
+        self.name
     }
 }

@@ -1,18 +1,23 @@
 -- Records as they are kept, one more or one fewer.
-use Rattle.std.proofs.Common.{◌≡◌, ◌∙◌, ℕ, zero, suc, ◌+◌, ◌<◌, ◌≤◌, List, [], ◌∷◌, ◌++◌, true, false, length, map, Option, Some, slice_get, refl, ap, sym, subst, arith}
-use Rattle.std.specs.List.{AllByRecursion}
-use Rattle.std.specs.Prelude.{nat_le, if◌then◌else◌}
+use Rattle.std.proofs.Common.{◌≡◌, ◌∙◌, ℕ, zero, suc, Bool, cond, not, ◌+◌, ◌<◌, ◌≤◌, List, [], ◌∷◌, ◌++◌, true, false, length, map, Option, None, Some, slice_get, refl, ap, sym, subst, arith, inl, inr}
+use Rattle.std.specs.List.{AllByRecursion, list_any}
+use Rattle.std.specs.Prelude.{◌==◌, ◌||◌, filter, nat_le, if◌then◌else◌}
 use Rattle.std.proofs.lemmas.Grind.{common_steps}
 use Rattle.std.proofs.lemmas.List.{map-append, length-append}
-use Rattle.sq_model.specs.RecordValues.{RecordValue, HomeRecordValue, OfHome}
+use Rattle.sq_base.specs.declared.ids.HomeId.{HomeId}
+use Rattle.sq_model.specs.declared.calls.HomeCall.{HomeCall}
+use Rattle.sq_model.specs.declared.event.StepRecord.{StepRecord}
+use Rattle.sq_model.specs.declared.replies.HomeReply.{HomeReply}
+use Rattle.sq_model.specs.RecordValues.{RecordValue, HomeRecordValue, OfHome, place_of_record}
+use Rattle.sq_history.specs.Records.{with_home}
 use Rattle.sq_steps.specs.declared.records.Kept.{Kept}
 use Rattle.sq_steps.specs.declared.records.Kept.TheVariants.{Home, Other as AmongOthers}
 use Rattle.sq_steps.specs.declared.records.Other.{Other}
-use Rattle.sq_steps.specs.Records.{IsIn, least, other_at, value_of_kept, value_of_other, values_of_kept}
+use Rattle.sq_steps.specs.Records.{HasPut, HasPutAny, IsIn, IsNameIn, least, name_at, other_at, place_of_kept, value_of_kept, value_of_other, values_of_kept}
 use Rattle.sq_directory.proofs.ElementLaws.{all_get, get_map}
 use Rattle.sq_steps.proofs.JournalLaws.{all_push, all_weaken}
 
-get_last : {X : Type 0} (xs : List X) (x : X) → slice_get (xs ++ x ∷ []) (length xs) ≡ Some x
+pub get_last : {X : Type 0} (xs : List X) (x : X) → slice_get (xs ++ x ∷ []) (length xs) ≡ Some x
 get_last [] x = refl
 get_last (y ∷ ys) x = get_last ys x
 
@@ -21,13 +26,11 @@ get_front [] x i h = absurd (omega (arith, h))
 get_front (y ∷ ys) x zero h = refl
 get_front (y ∷ ys) x (suc i) h = get_front ys x i (omega (arith, h))
 
-kept_same : (others : List Other) (other : Other) (n : Kept) → IsIn (length others) n → value_of_kept (others ++ other ∷ []) n ≡ value_of_kept others n
-kept_same others other (Home n) h = refl
-kept_same others other (AmongOthers at) h = ap other_at (get_front others other at h)
-
-all_same : (others : List Other) (other : Other) (kept : List Kept) → AllByRecursion (IsIn (length others)) kept → values_of_kept (others ++ other ∷ []) kept ≡ values_of_kept others kept
-all_same others other [] h = refl
-all_same others other (n ∷ ns) h = λ i. kept_same others other n h.0 i ∷ all_same others other ns h.1 i
+-- where one is got, it is within
+get_within : {X : Type 0} (xs : List X) (x : X) (i : ℕ) → slice_get xs i ≡ Some x → i < length xs
+get_within [] x i h = absurd cc
+get_within (y ∷ ys) x zero h = omega arith
+get_within (y ∷ ys) x (suc i) h = let rest = get_within ys x i h in omega (arith, rest)
 
 -- more memory for the one leaves no less for both
 pub least_more : (room a more b : ℕ) → a ≤ more → room ≤ least a b → room ≤ least more b
@@ -37,26 +40,130 @@ least_more room a more b le h =
       | false ↦ (λ e. elim (nat_le a b) as (λ v. nat_le a b ≡ v → room ≤ (if v then a else b) → room ≤ b) [ true ↦ (λ d k. grind (arith, common_steps, d, k)) | false ↦ (λ d k. k) ] refl h)
     ] refl
 
+pub least_of_more : (room a more b c : ℕ) → a ≤ more → room ≤ least (least a b) c → room ≤ least (least more b) c
+least_of_more room a more b c le h = least_more room (least a b) (least more b) c (least_more (least a b) a more b le (omega arith)) h
+
+-- a name that was there stays at its place
+pub record KeepsNames (old new : List (List ℕ)) : Type 0 where
+  pub least : length old ≤ length new
+  pub same : (i : ℕ) → i < length old → slice_get new i ≡ slice_get old i
+
+keeps_all : (names : List (List ℕ)) → KeepsNames names names
+keeps_all names = record { least = omega arith; same = λ i h. refl }
+
+keeps_put : (old new : List (List ℕ)) (name : List ℕ) (at : ℕ) → HasPut old new name at → KeepsNames old new
+keeps_put old new name at put = elim put.grown [
+  | inl same ↦ subst (KeepsNames old) (sym same) (keeps_all old)
+  | inr more ↦ (let longer : length (old ++ name ∷ []) ≡ length old + 1 = length-append old (name ∷ []) in
+      subst (KeepsNames old) (sym more) (record { least = omega (arith, longer); same = get_front old name }))
+]
+
+keeps_any : (old new : List (List ℕ)) (name : Option (List ℕ)) (at : Option ℕ) → HasPutAny old new name at → KeepsNames old new
+keeps_any old new None None put = subst (KeepsNames old) (sym put) (keeps_all old)
+keeps_any old new (Some name) (Some at) put = keeps_put old new name at put
+keeps_any old new None (Some at) put = elim put [ ]
+keeps_any old new (Some name) None put = elim put [ ]
+
+put_at : (old new : List (List ℕ)) (name : Option (List ℕ)) (at : Option ℕ) → HasPutAny old new name at → name_at new at ≡ name
+put_at old new None None put = refl
+put_at old new (Some name) (Some at) put = put.there
+put_at old new None (Some at) put = elim put [ ]
+put_at old new (Some name) None put = elim put [ ]
+
+put_within : (old new : List (List ℕ)) (name : Option (List ℕ)) (at : Option ℕ) → HasPutAny old new name at → IsNameIn (length new) at
+put_within old new None None put = tt
+put_within old new (Some name) (Some at) put = get_within new name at put.there
+put_within old new None (Some at) put = elim put [ ]
+put_within old new (Some name) None put = elim put [ ]
+
+name_same : (old new : List (List ℕ)) (name : Option ℕ) → KeepsNames old new → IsNameIn (length old) name → name_at new name ≡ name_at old name
+name_same old new None keeps h = refl
+name_same old new (Some at) keeps h = keeps.same at h
+
+named_same : (others : List Other) (count : ℕ) (old new : List (List ℕ)) (n : Kept) → KeepsNames old new → IsIn count (length old) n → value_of_kept others new n ≡ value_of_kept others old n
+named_same others count old new (Home step home name) keeps h = ap (λ (x : Option (List ℕ)). OfHome (with_home home x step)) (name_same old new name keeps h)
+named_same others count old new (AmongOthers at) keeps h = refl
+
+all_named : (others : List Other) (count : ℕ) (old new : List (List ℕ)) (kept : List Kept) → KeepsNames old new → AllByRecursion (IsIn count (length old)) kept → values_of_kept others new kept ≡ values_of_kept others old kept
+all_named others count old new [] keeps h = refl
+all_named others count old new (n ∷ ns) keeps h = λ i. named_same others count old new n keeps h.0 i ∷ all_named others count old new ns keeps h.1 i
+
+name_in_more : (a b : ℕ) (name : Option ℕ) → a ≤ b → IsNameIn a name → IsNameIn b name
+name_in_more a b None le h = tt
+name_in_more a b (Some at) le h = omega (arith, le, h)
+
+is_in_more : (a b c d : ℕ) (n : Kept) → a ≤ b → c ≤ d → IsIn a c n → IsIn b d n
+is_in_more a b c d (Home step home name) le most h = name_in_more c d name most h
+is_in_more a b c d (AmongOthers at) le most h = omega (arith, le, h)
+
 -- a record of a home more
-pub home_put : (others : List Other) (kept : List Kept) (n : HomeRecordValue) → values_of_kept others (kept ++ Home n ∷ []) ≡ values_of_kept others kept ++ OfHome n ∷ []
-home_put others kept n = map-append (value_of_kept others) kept (Home n ∷ [])
+pub home_put : (others : List Other) (old new : List (List ℕ)) (kept : List Kept) (step : StepRecord HomeCall HomeReply) (home : HomeId) (name : Option (List ℕ)) (at : Option ℕ) → AllByRecursion (IsIn (length others) (length old)) kept → HasPutAny old new name at
+    → values_of_kept others new (kept ++ Home step home at ∷ []) ≡ values_of_kept others old kept ++ OfHome (with_home home name step) ∷ []
+home_put others old new kept step home name at within put =
+    map-append (value_of_kept others new) kept (Home step home at ∷ [])
+    ∙ (λ i. all_named others (length others) old new kept (keeps_any old new name at put) within i ++ OfHome (with_home home (put_at old new name at put i) step) ∷ [])
+
+pub home_within : (count : ℕ) (old new : List (List ℕ)) (kept : List Kept) (step : StepRecord HomeCall HomeReply) (home : HomeId) (name : Option (List ℕ)) (at : Option ℕ) → AllByRecursion (IsIn count (length old)) kept → HasPutAny old new name at
+    → AllByRecursion (IsIn count (length new)) (kept ++ Home step home at ∷ [])
+home_within count old new kept step home name at within put =
+    all_push (IsIn count (length new)) kept (Home step home at)
+    (all_weaken (IsIn count (length old)) (IsIn count (length new)) kept (λ n. is_in_more count count (length old) (length new) n (omega arith) (keeps_any old new name at put).least) within)
+    (put_within old new name at put)
+
+kept_same : (others : List Other) (other : Other) (names : List (List ℕ)) (n : Kept) → IsIn (length others) (length names) n → value_of_kept (others ++ other ∷ []) names n ≡ value_of_kept others names n
+kept_same others other names (Home step home name) h = refl
+kept_same others other names (AmongOthers at) h = ap other_at (get_front others other at h)
+
+all_same : (others : List Other) (other : Other) (names : List (List ℕ)) (kept : List Kept) → AllByRecursion (IsIn (length others) (length names)) kept → values_of_kept (others ++ other ∷ []) names kept ≡ values_of_kept others names kept
+all_same others other names [] h = refl
+all_same others other names (n ∷ ns) h = λ i. kept_same others other names n h.0 i ∷ all_same others other names ns h.1 i
 
 -- another record more
-pub other_put : (others : List Other) (kept : List Kept) (other : Other) → AllByRecursion (IsIn (length others)) kept
-    → values_of_kept (others ++ other ∷ []) (kept ++ AmongOthers (length others) ∷ []) ≡ values_of_kept others kept ++ value_of_other other ∷ []
-other_put others kept other h =
-    map-append (value_of_kept (others ++ other ∷ [])) kept (AmongOthers (length others) ∷ []) ∙ (λ i. all_same others other kept h i ++ other_at (get_last others other i) ∷ [])
+pub other_put : (others : List Other) (names : List (List ℕ)) (kept : List Kept) (other : Other) → AllByRecursion (IsIn (length others) (length names)) kept
+    → values_of_kept (others ++ other ∷ []) names (kept ++ AmongOthers (length others) ∷ []) ≡ values_of_kept others names kept ++ value_of_other other ∷ []
+other_put others names kept other h =
+    map-append (value_of_kept (others ++ other ∷ []) names) kept (AmongOthers (length others) ∷ []) ∙ (λ i. all_same others other names kept h i ++ other_at (get_last others other i) ∷ [])
 
-is_in_more : (a b : ℕ) (n : Kept) → a ≤ b → IsIn a n → IsIn b n
-is_in_more a b (Home n) le h = tt
-is_in_more a b (AmongOthers at) le h = omega (arith, le, h)
-
-pub other_within : (others : List Other) (kept : List Kept) (other : Other) → AllByRecursion (IsIn (length others)) kept → AllByRecursion (IsIn (length (others ++ other ∷ []))) (kept ++ AmongOthers (length others) ∷ [])
-other_within others kept other h =
+pub other_within : (others : List Other) (names : ℕ) (kept : List Kept) (other : Other) → AllByRecursion (IsIn (length others) names) kept → AllByRecursion (IsIn (length (others ++ other ∷ [])) names) (kept ++ AmongOthers (length others) ∷ [])
+other_within others names kept other h =
     let more : length (others ++ other ∷ []) ≡ length others + 1 = length-append others (other ∷ []) in
-    all_push (IsIn (length (others ++ other ∷ []))) kept (AmongOthers (length others))
-    (all_weaken (IsIn (length others)) (IsIn (length (others ++ other ∷ []))) kept (λ n. is_in_more _ _ n (omega (arith, more))) h) (omega (arith, more))
+    all_push (IsIn (length (others ++ other ∷ [])) names) kept (AmongOthers (length others))
+    (all_weaken (IsIn (length others) names) (IsIn (length (others ++ other ∷ [])) names) kept (λ n. is_in_more _ _ names names n (omega (arith, more)) (omega arith)) h) (omega (arith, more))
 
--- one that is among the others
-pub other_read : (others : List Other) (kept : List Kept) (index at : ℕ) (other : Other) → slice_get kept index ≡ Some (AmongOthers at) → slice_get others at ≡ Some other → slice_get (values_of_kept others kept) index ≡ Some (value_of_other other)
-other_read others kept index at other h found = get_map (value_of_kept others) kept index (AmongOthers at) h ∙ ap (λ (o : Option Other). Some (other_at o)) found
+-- one that is read
+
+pub home_read : (others : List Other) (names : List (List ℕ)) (kept : List Kept) (index : ℕ) (step : StepRecord HomeCall HomeReply) (home : HomeId) (name : Option ℕ) → slice_get kept index ≡ Some (Home step home name)
+    → slice_get (values_of_kept others names kept) index ≡ Some (OfHome (with_home home (name_at names name) step))
+home_read others names kept index step home name h = get_map (value_of_kept others names) kept index (Home step home name) h
+
+pub other_read : (others : List Other) (names : List (List ℕ)) (kept : List Kept) (index at : ℕ) (other : Other) → slice_get kept index ≡ Some (AmongOthers at) → slice_get others at ≡ Some other
+    → slice_get (values_of_kept others names kept) index ≡ Some (value_of_other other)
+other_read others names kept index at other h found = get_map (value_of_kept others names) kept index (AmongOthers at) h ∙ ap (λ (o : Option Other). Some (other_at o)) found
+
+pub other_there : (others : List Other) (names : ℕ) (kept : List Kept) (index at : ℕ) → AllByRecursion (IsIn (length others) names) kept → slice_get kept index ≡ Some (AmongOthers at) → at < length others
+other_there others names kept index at within h = all_get (IsIn (length others) names) kept within index (AmongOthers at) h
+
+-- by the numbers of their steps
+
+pub any_places : (others : List Other) (names : List (List ℕ)) (place : ℕ) (kept : List Kept) → list_any (λ n. place_of_record n == place) (values_of_kept others names kept) ≡ list_any (λ n. place_of_kept others n == place) kept
+any_places others names place [] = refl
+any_places others names place (Home step home name ∷ ns) = ap (λ (v : Bool). (step.place == place) || v) (any_places others names place ns)
+any_places others names place (AmongOthers at ∷ ns) = ap (λ (v : Bool). (place_of_record (other_at (slice_get others at)) == place) || v) (any_places others names place ns)
+
+pub filter_places : (others : List Other) (names : List (List ℕ)) (place : ℕ) (kept : List Kept)
+    → values_of_kept others names (filter (λ n. not (place_of_kept others n == place)) kept) ≡ filter (λ n. not (place_of_record n == place)) (values_of_kept others names kept)
+filter_places others names place [] = refl
+filter_places others names place (Home step home name ∷ ns) =
+    let f = value_of_kept others names in
+    let p : RecordValue → Bool = λ n. not (place_of_record n == place) in
+    let q : Kept → Bool = λ n. not (place_of_kept others n == place) in
+    let n : Kept = Home step home name in
+    let rest = filter_places others names place ns in
+    elim (q n) as (λ v. map f (cond v (n ∷ filter q ns) (filter q ns)) ≡ cond v (f n ∷ filter p (map f ns)) (filter p (map f ns))) [ true ↦ ap (λ ys. f n ∷ ys) rest | false ↦ rest ]
+filter_places others names place (AmongOthers at ∷ ns) =
+    let f = value_of_kept others names in
+    let p : RecordValue → Bool = λ n. not (place_of_record n == place) in
+    let q : Kept → Bool = λ n. not (place_of_kept others n == place) in
+    let n : Kept = AmongOthers at in
+    let rest = filter_places others names place ns in
+    elim (q n) as (λ v. map f (cond v (n ∷ filter q ns) (filter q ns)) ≡ cond v (f n ∷ filter p (map f ns)) (filter p (map f ns))) [ true ↦ ap (λ ys. f n ∷ ys) rest | false ↦ rest ]

@@ -1,9 +1,10 @@
 -- Records as they are lent, and as they are kept.
-use Rattle.std.specs.Prelude.{ℕ, ◌<◌, List, map, nat_le, if◌then◌else◌, Option, None, Some, slice_get}
+use Rattle.std.specs.Prelude.{ℕ, ◌≡◌, ◌⊎◌, ◌<◌, ◌++◌, ◌∷◌, [], List, map, nat_le, if◌then◌else◌, Option, None, Some, slice_get}
 use Rattle.sq_base.specs.Stamps.{start}
 use Rattle.sq_model.specs.declared.ledger.LedgerCall.TheVariants.{FinishTask}
 use Rattle.sq_model.specs.declared.ledger.LedgerReply.TheVariants.{Finished}
-use Rattle.sq_model.specs.RecordValues.{RecordValue, OfDirectory, OfLedger, OfHome}
+use Rattle.sq_model.specs.RecordValues.{RecordValue, OfDirectory, OfLedger, OfHome, place_of_record}
+use Rattle.sq_history.specs.Records.{with_home}
 use Rattle.sq_steps.specs.declared.record.Record.{Record}
 use Rattle.sq_steps.specs.declared.record.Record.TheVariants as lent
 use Rattle.sq_steps.specs.declared.records.Kept.{Kept}
@@ -14,7 +15,7 @@ use Rattle.sq_steps.specs.declared.records.Other.TheVariants.{Directory, Ledger}
 abbrev pub value_of_record : Record → RecordValue
 value_of_record (lent.Directory n) = OfDirectory n.now
 value_of_record (lent.Ledger n) = OfLedger n.now
-value_of_record (lent.Home n) = OfHome n.now
+value_of_record (lent.Home n) = OfHome n
 
 abbrev pub value_of_other : Other → RecordValue
 value_of_other (Directory n) = OfDirectory n
@@ -28,18 +29,48 @@ abbrev pub other_at : Option Other → RecordValue
 other_at None = no_record
 other_at (Some other) = value_of_other other
 
+-- the name at a place, where one was used
+abbrev pub name_at : List (List ℕ) → Option ℕ → Option (List ℕ)
+name_at names None = None
+name_at names (Some at) = slice_get names at
+
 -- a record of a home, or the one at a place among the others
-abbrev pub value_of_kept : List Other → Kept → RecordValue
-value_of_kept others (Home n) = OfHome n
-value_of_kept others (AmongOthers at) = other_at (slice_get others at)
+abbrev pub value_of_kept : List Other → List (List ℕ) → Kept → RecordValue
+value_of_kept others names (Home step home name) = OfHome (with_home home (name_at names name) step)
+value_of_kept others names (AmongOthers at) = other_at (slice_get others at)
 
-abbrev pub values_of_kept : List Other → List Kept → List RecordValue
-values_of_kept others kept = map (value_of_kept others) kept
+-- the number of its step
+abbrev pub place_of_kept : List Other → Kept → ℕ
+place_of_kept others (Home step home name) = step.place
+place_of_kept others (AmongOthers at) = place_of_record (other_at (slice_get others at))
 
--- it is there, where there are so many others
-abbrev pub IsIn : ℕ → Kept → Type 0
-IsIn count (Home n) = Unit {0}
-IsIn count (AmongOthers at) = at < count
+abbrev pub values_of_kept : List Other → List (List ℕ) → List Kept → List RecordValue
+values_of_kept others names kept = map (value_of_kept others names) kept
+
+abbrev pub IsNameIn : ℕ → Option ℕ → Type 0
+IsNameIn count None = Unit {0}
+IsNameIn count (Some at) = at < count
+
+-- what it points to is there, where there are so many others and so many names
+abbrev pub IsIn : ℕ → ℕ → Kept → Type 0
+IsIn others names (Home step home name) = IsNameIn names name
+IsIn others names (AmongOthers at) = at < others
+
+-- What contracts see of the names that an actor used: them, the first first, and for how many more there is memory.
+pub record NamesValue : Type 0 where
+  pub names : List (List ℕ)
+  pub reserved : ℕ
+
+-- a name is there, at this place, and no other was put
+pub record HasPut (old new : List (List ℕ)) (name : List ℕ) (at : ℕ) : Type 0 where
+  pub there : slice_get new at ≡ Some name
+  pub grown : (new ≡ old) ⊎ (new ≡ old ++ name ∷ [])
+
+-- a name, where one was used, is there
+abbrev pub HasPutAny : List (List ℕ) → List (List ℕ) → Option (List ℕ) → Option ℕ → Type 0
+HasPutAny old new None None = new ≡ old
+HasPutAny old new (Some name) (Some at) = HasPut old new name at
+HasPutAny old new name at = ⊥
 
 -- the lesser of two numbers
 abbrev pub least : ℕ → ℕ → ℕ

@@ -5,6 +5,7 @@ pub mod act;
 pub mod capacity;
 pub mod journal;
 pub mod journals;
+mod names;
 pub mod record;
 mod records;
 pub mod shared;

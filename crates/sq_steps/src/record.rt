@@ -5,16 +5,16 @@ ghost use Rattle.sq_steps.specs.Records.{value_of_record};
 
 use sq_base::stamp::Stamp;
 use sq_directory::record::DirectoryRecord;
-use sq_history::record::HomeRecord;
+use sq_history::record::LentHomeRecord;
 use sq_ledger::record::LedgerRecord;
 
 /// An actor's record of one step, lent.
-#[derive(Clone, Copy)]
+#[derive(Drop)]
 pub enum Record<'a> {
     Directory(&'a DirectoryRecord),
     /// Of a step of the ledger alone; one that it shares with a home has a record of the home.
     Ledger(&'a LedgerRecord),
-    Home(&'a HomeRecord),
+    Home(LentHomeRecord<'a>),
 }
 
 impl<'a> Record<'a> {

@@ -1,40 +1,47 @@
 //! The records of an actor's steps.
-ghost use Rattle.std.specs.Prelude.{◌≡◌, ◌<◌, ◌≤◌, ◌-◌, ◌++◌, ◌∷◌, ◌==◌, [], Some, filter, length, not, slice_get, vec_capacity, vec_len, IfErr, OnOk};
+ghost use Rattle.std.specs.Prelude.{◌≡◌, ◌<◌, ◌≤◌, ◌+◌, ◌-◌, ◌++◌, ◌∷◌, ◌==◌, [], Some, filter, length, not, option_map, slice_get, vec_capacity, vec_len, IfErr, OnOk};
 ghost use Rattle.std.specs.List.{list_any};
 ghost use Rattle.sq_base.specs.declared.refusal.Refusal.{Refusal as Why};
 ghost use Rattle.sq_model.specs.RecordValues.{OfDirectory, OfLedger, OfHome, place_of_record};
 ghost use Rattle.sq_history.specs.Rooms.{IsReady, KeepsRoom};
-ghost use Rattle.sq_steps.specs.Records.{least, value_of_kept, value_of_other, value_of_record};
+ghost use Rattle.sq_steps.specs.Records.{HasPutAny, least, name_at, place_of_kept, value_of_other, value_of_record};
 
+use crate::names::Names;
 use crate::record::Record;
+use sq_base::ids::HomeId;
+use sq_base::name::QueueName;
 use sq_base::refusal::Refusal;
 use sq_directory::record::DirectoryRecord;
-use sq_history::record::HomeRecord;
+use sq_history::record::{HomeRecord, LentHomeRecord};
 use sq_ledger::record::LedgerRecord;
+use sq_model::calls::HomeCall;
+use sq_model::event::StepRecord;
+use sq_model::replies::HomeReply;
 use std::alloc::Global;
 use std::marker::Model;
 
-/// A record of a home, or at which place among the others it is.
+/// A record of a home, with the place of the name that was used, or at which place among the others a record is.
 #[derive(Drop)]
 pub(crate) enum Kept {
-    Home(HomeRecord),
+    Home(StepRecord<HomeCall, HomeReply>, HomeId, Option<usize>),
     Other(usize),
 }
 
-/// A record of the directory, or of the ledger alone: that of the directory takes twice the bytes of one of a home, and most
-/// actors have few.
+/// A record of the directory, or of the ledger alone: that of the directory takes almost three times the bytes of one of a home,
+/// and most actors have few.
 #[derive(Drop)]
 pub(crate) enum Other {
     Directory(DirectoryRecord),
     Ledger(LedgerRecord),
 }
 
-/// Records in their order, those of homes in their places and the others apart. Memory is got before a step, for a record of
-/// whichever part; what is shown is for how many more there was memory when the last one was put.
+/// Records in their order, those of homes in their places and the others apart; each name that was used is there once. Memory
+/// is got before a step, for a record of any part; it shows for how many more there was memory when its last one was put.
 #[derive(Drop)]
 pub(crate) struct Records {
     kept: Vec<Kept>,
     others: Vec<Other>,
+    names: Names,
     room: usize,
 }
 
@@ -47,11 +54,11 @@ impl Model for Records {
 
     ghost Value = { GrowingValue RecordValue };
 
-    ghost view = { λ r. record { items = values_of_kept r.others.items r.kept.items; room = r.room; reserved = least (vec_capacity r.kept - vec_len r.kept) (vec_capacity r.others - vec_len r.others) } };
+    ghost view = { λ r. record { items = values_of_kept r.others.items r.names.names r.kept.items; room = r.room; reserved = least (least (vec_capacity r.kept - vec_len r.kept) (vec_capacity r.others - vec_len r.others)) r.names.reserved } };
 
     ghost invariant = { λ r. record {
-      within : AllByRecursion (IsIn (length r.others.items)) r.kept.items;
-      room : r.room ≤ least (vec_capacity r.kept - vec_len r.kept) (vec_capacity r.others - vec_len r.others);
+      within : AllByRecursion (IsIn (length r.others.items) (length r.names.names)) r.kept.items;
+      room : r.room ≤ least (least (vec_capacity r.kept - vec_len r.kept) (vec_capacity r.others - vec_len r.others)) r.names.reserved;
     } };
 }
 
@@ -63,6 +70,7 @@ impl Records {
         Records {
             kept: Vec::new(alloc),
             others: Vec::new(alloc),
+            names: Names::new(alloc),
             room: 0,
         }
     }
@@ -80,7 +88,10 @@ impl Records {
         ensures { slice_get self.now.items index ≡ Some (value_of_record result) }
     {
         match &self.kept[index] {
-            Kept::Home(record) => Record::Home(record),
+            Kept::Home(step, home, name) => {
+                let name = name_at(&self.names, *name);
+                Record::Home(LentHomeRecord::of(step, home, name))
+            }
             Kept::Other(at) => self.others[*at].as_record(),
         }
     }
@@ -97,6 +108,7 @@ impl Records {
         if self.room == 0 {
             self.kept.try_reserve(4)?;
             self.others.try_reserve(4)?;
+            self.names.reserve()?;
         }
         Ok(())
     }
@@ -108,8 +120,10 @@ impl Records {
         ensures shown { self.new.room ≡ self.new.reserved }
         ensures room { KeepsRoom self.old.room self.new.room }
     {
-        self.kept.push_reserved(Kept::Home(its_record));
-        self.room = spare(&self.kept, &self.others);
+        let (step, home, name) = its_record.into_parts();
+        let at = put_name(&mut self.names, &name);
+        self.kept.push_reserved(Kept::Home(step, home, at));
+        self.room = spare(&self.kept, &self.others, &self.names);
     }
 
     /// Puts a record of the directory last, for which `reserve` got memory.
@@ -141,11 +155,11 @@ impl Records {
     {
         self.kept.push_reserved(Kept::Other(self.others.len()));
         self.others.push_reserved(other);
-        self.room = spare(&self.kept, &self.others);
+        self.room = spare(&self.kept, &self.others, &self.names);
     }
 
     /// Takes out the record of the step of this number, and tells whether it was there. One of the directory or the ledger
-    /// keeps its memory.
+    /// keeps its memory, and so does a name.
     pub(crate) fn drop_record(&mut self, place: u64) -> bool
         ensures answered { result ≡ list_any (λ n. place_of_record n == place) self.old.items }
         ensures dropped { self.new.items ≡ filter (λ n. not (place_of_record n == place)) self.old.items }
@@ -170,19 +184,38 @@ impl Other {
     }
 }
 
+// The name at a place, where one was used.
+fn name_at(names: &Names, at: Option<usize>) -> Option<&QueueName>
+    ensures { option_map (λ n. n.now) result ≡ name_at names.now.names at }
+{
+    names.get(at?)
+}
+
+// Puts a name, where one was used, and gives its place.
+fn put_name(names: &mut Names, name: &Option<QueueName>) -> Option<usize>
+    requires { 0 < names.old.reserved }
+    ensures put { HasPutAny names.old.names names.new.names name.now result }
+    ensures reserved { names.old.reserved ≤ names.new.reserved + 1 }
+{
+    match name {
+        Some(name) => Some(names.place_of(name)),
+        None => None,
+    }
+}
+
 // Whether the record of the step of this number is there.
 fn has_place(others: &[Other], kept: &[Kept], place: u64) -> bool
-    ensures { result ≡ list_any (λ n. place_of_record (value_of_kept others.now n) == place) kept.now }
+    ensures { result ≡ list_any (λ n. place_of_kept others.now n == place) kept.now }
 {
     kept.iter().any(|kept| place_of(others, kept) == place)
 }
 
 // The number of the step of a record.
 fn place_of(others: &[Other], kept: &Kept) -> u64
-    ensures { result ≡ place_of_record (value_of_kept others.now kept.now) }
+    ensures { result ≡ place_of_kept others.now kept.now }
 {
     match kept {
-        Kept::Home(record) => record.step().place,
+        Kept::Home(step, _, _) => step.place,
         Kept::Other(at) => match others.get(*at) {
             Some(other) => other.as_record().place(),
             None => 0,
@@ -190,17 +223,20 @@ fn place_of(others: &[Other], kept: &Kept) -> u64
     }
 }
 
-// For how many records more there is memory, of whichever part.
-fn spare(kept: &Vec<Kept>, others: &Vec<Other>) -> usize
-    ensures { result ≡ least (vec_capacity kept.now - vec_len kept.now) (vec_capacity others.now - vec_len others.now) }
+// For how many records more there is memory, of whichever part and with whichever name.
+fn spare(kept: &Vec<Kept>, others: &Vec<Other>, names: &Names) -> usize
+    ensures { result ≡ least (least (vec_capacity kept.now - vec_len kept.now) (vec_capacity others.now - vec_len others.now)) names.now.reserved }
 {
-    let (of_kept, of_others) = (
+    let records = lesser(
         kept.capacity() - kept.len(),
         others.capacity() - others.len(),
     );
-    if of_kept <= of_others {
-        of_kept
-    } else {
-        of_others
-    }
+    lesser(records, names.spare())
+}
+
+/// The lesser of two numbers.
+pub(crate) fn lesser(a: usize, b: usize) -> usize
+    ensures { result ≡ least a b }
+{
+    if a <= b { a } else { b }
 }

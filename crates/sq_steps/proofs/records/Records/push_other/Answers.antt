@@ -6,7 +6,7 @@ pub invariant_of-self : goal.invariant_of-self
 invariant_of-self c =
     let at : c.len.result ≡ length c.self.inside.others.items = omega (arith, c.len.ensures, c.self.inside.others.ok.0) in
     record {
-      within = rw (c.push_reserved-2.ensures.items, c.push_reserved.ensures.items, at) (other_within c.self.inside.others.items c.self.inside.kept.items c.args.other c.self.invariant.within);
+      within = rw (c.push_reserved-2.ensures.items, c.push_reserved.ensures.items, at) (other_within c.self.inside.others.items (length c.self.inside.names.names) c.self.inside.kept.items c.args.other c.self.invariant.within);
       room = search rules;
     }
 
@@ -14,4 +14,4 @@ pub returns-clause-items : goal.returns-clause-items
 returns-clause-items c =
     let at : c.len.result ≡ length c.self.inside.others.items = omega (arith, c.len.ensures, c.self.inside.others.ok.0) in
     rw (c.push_reserved-2.ensures.items, c.push_reserved.ensures.items, at, ← c.self.view_is)
-    (other_put c.self.inside.others.items c.self.inside.kept.items c.args.other c.self.invariant.within)
+    (other_put c.self.inside.others.items c.self.inside.names.names c.self.inside.kept.items c.args.other c.self.invariant.within)
