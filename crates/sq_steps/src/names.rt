@@ -96,7 +96,7 @@ impl Names {
 
     fn is_below(&self, at: usize, name: &QueueName) -> bool {
         match self.get(at) {
-            Some(other) => other < name,
+            Some(other) => other.as_bytes() < name.as_bytes(),
             None => false,
         }
     }

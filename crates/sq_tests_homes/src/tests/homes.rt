@@ -35,7 +35,7 @@ pub fn unopened(rt: &impl Abort, alloc: Global, rows: u32) -> Box<Home> {
     Box::new(alloc, home).expect(rt, "memory")
 }
 
-// Whether the record is of this home's last event, with no name and the number of the actor's step.
+// Whether the record is of this home's last event, with the number of the actor's step.
 fn is_of_the_last(record: &HomeRecord, home: &Home, by: &Actor) -> bool {
     let step = record.step();
     let at = step.index as usize;
@@ -51,7 +51,6 @@ fn is_of_the_last(record: &HomeRecord, home: &Home, by: &Actor) -> bool {
                 && is_same_reply(&step.reply, &event.reply)
                 && record.home().queue.get() == 1
                 && record.home().home.get() == 0
-                && record.name().is_none()
         }
         None => false,
     }
