@@ -141,8 +141,8 @@ class Work:
         for it in (it for it in tries if not is_control(it) and not it.is_second):
             symbol = end_of(it) and check.symbol_of(end_of(it))
             goals = check.open_goals(symbol)
-            if not goals and check.unfit_answers(symbol) and it.edit in seconds:
-                # An answer shows something else than is to be shown now, and the try beside it tells whether the search leaves it open.
+            if not goals and it.edit in seconds and seconds[it.edit].left_out <= check.unfit_answers(symbol):
+                # The answer that the try beside it leaves out does not fit: that one tells whether the search leaves its goal open.
                 goals = check.open_goals(check.symbol_of(end_of(seconds[it.edit])))
             if it in unread:
                 it.edit.tell("BAD EDIT", f"it does not read: {unread[it][:200]}")
