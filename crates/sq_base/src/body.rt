@@ -11,25 +11,35 @@ use crate::refusal::Refusal;
 use md5::{Digest, Md5};
 use std::alloc::Global;
 use std::marker::Model;
-use std::sync::ArcStr;
+use std::sync::Arc;
 
 /// How many bytes a body may have where its queue says nothing less
 /// (SQS API Reference, SetQueueAttributes, MaximumMessageSize).
 pub const BODY_LIMIT: usize = 262_144;
 
-/// The text of a message, held once: a copy is one more owner of it.
+#[derive(Drop)]
+struct Digested {
+    text: String,
+    digest: [u8; 16],
+}
+
+/// The text of a message with its digest, held once: a copy is one more owner of it.
 #[derive(Drop)]
 pub struct Body {
-    text: ArcStr<Global>,
+    held: Arc<Digested>,
 }
 
 impl Model for Body {
-    ghost use Rattle.std.specs.Arc.{arc_str_bytes};
-    ghost use Rattle.std.specs.Prelude.{List, ℕ};
+    ghost use Rattle.std.specs.Arc.{arc_value};
+    ghost use Rattle.std.specs.Prelude.{◌≡◌, List, ℕ};
+    ghost use Rattle.std.specs.String.{string_bytes};
+    ghost use Rattle.md5.specs.Md5.{md5};
 
     ghost Value = { List ℕ };
 
-    ghost view = { λ b. arc_str_bytes b.text };
+    ghost view = { λ b. string_bytes (arc_value b.held).text };
+
+    ghost invariant = { λ b. (arc_value b.held).digest ≡ md5 (string_bytes (arc_value b.held).text) };
 }
 
 impl Body {
@@ -56,8 +66,10 @@ impl Body {
         ensures refused { MatchResult (body_check text.now limit) (λ _. IfErr result (λ e. e ≡ NoMemory)) (λ e. result ≡ Err e) }
     {
         Self::check(text, limit)?;
+        let digest = Md5::digest(text.as_bytes());
+        let text = String::from_str(alloc, text)?;
         Ok(Body {
-            text: ArcStr::from_str(alloc, text)?,
+            held: Arc::new(alloc, Digested { text, digest })?,
         })
     }
 
@@ -67,7 +79,7 @@ impl Body {
         ensures refused { IfErr result (λ e. e ≡ NoMemory) }
     {
         Ok(Body {
-            text: self.text.clone()?,
+            held: self.held.clone()?,
         })
     }
 
@@ -75,14 +87,20 @@ impl Body {
     pub fn as_str(&self) -> &str
         ensures { result.now ≡ self.now }
     {
-        self.text.as_str()
+        self.held.text.as_str()
+    }
+
+    fn digest(&self) -> [u8; 16]
+        ensures { result ≡ md5 self.now }
+    {
+        self.held.digest
     }
 
     /// How many bytes the body has.
     pub fn len(&self) -> usize
         ensures { result ≡ length self.now }
     {
-        self.text.len()
+        self.held.text.len()
     }
 }
 
@@ -91,7 +109,7 @@ impl Body {
 pub fn body_md5(b: &Body) -> [u8; 32]
     ensures { result ≡ encode_lower (md5 b.now) }
 {
-    let digest = Md5::digest(b.as_str().as_bytes());
+    let digest = b.digest();
     let mut text = [0u8; 32];
     let _ = hex::encode_to_slice(&digest, &mut text);
     text

@@ -1,15 +1,22 @@
 //! Names of queues.
 ghost use Rattle.std.specs.Prelude.{◌≡◌, ℕ, List, ◌≤◌, ◌-◌, ◌++◌, length, replicate, true, if◌then◌else◌, Some, None};
-ghost use Rattle.std.specs.Cmp.Lexicographic.{slice_cmp};
+ghost use Rattle.std.proofs.Common.{refl, rules};
+ghost use Rattle.std.specs.Cmp.{partial_equiv_from_equiv};
+ghost use Rattle.std.specs.Cmp.Lexicographic.{slice_cmp, nat_list_eq_equiv, nat_list_cmp_total, texts_po, texts_ties};
+ghost use Rattle.std.specs.Cmp.Rules.{hashing};
+ghost use Rattle.std.specs.Hash as fed;
 ghost use Rattle.std.specs.List.{list_all};
 ghost use Rattle.std.specs.Ordering.{nat_cmp};
 ghost use Rattle.std.specs.Str.{bytes_eq};
 ghost use Rattle.sq_base.specs.Names.{is_name, is_name_byte};
 
+use std::cmp::Ordering;
+use std::hash::{Hash, Hasher};
 use std::marker::Model;
 
 /// 1 to 80 of ASCII letters, digits, `-` and `_`; case counts (SQS API Reference, CreateQueue).
-#[derive(Clone, Copy, PartialEq, Eq, PartialOrd, Ord, Hash, Debug)]
+/// Names are compared, ordered and hashed by their own bytes.
+#[derive(Clone, Copy, Debug)]
 pub struct QueueName {
     bytes: [u8; 80],
     len: u8,
@@ -31,7 +38,7 @@ impl Model for QueueName {
       len = length-take-le n.len n.bytes h.0 i;
     } };
 
-    // The bytes past the name are 0, so that equal names have equal bytes.
+    // The bytes past the name are 0, so that a name is known by its text.
     ghost invariant = { λ n. (n.len ≤ length n.bytes) × (length n.bytes ≡ 80) × (n.bytes ≡ take n.len n.bytes ++ replicate (80 - n.len) 0) × (is_name (take n.len n.bytes) ≡ true) };
 }
 
@@ -68,16 +75,54 @@ impl QueueName {
     }
 }
 
-/// The order that `<`, `sort` and maps go by is that of the names' bytes. It does nothing: its
-/// contract is the law.
-pub fn names_in_byte_order()
-    ensures { (a b : List ℕ) → is_name a ≡ true → is_name b ≡ true → ⟦<QueueName as Ord>⟧.cmp a b ≡ slice_cmp nat_cmp a b }
-{}
+impl PartialEq for QueueName {
+    ghost eq = { bytes_eq };
 
-/// Names that `==` calls equal, and maps find by, are those of the same bytes. It does nothing: its contract is the law.
-pub fn names_are_equal_by_bytes()
-    ensures { (a b : List ℕ) → ⟦<QueueName as PartialEq>⟧.eq a b ≡ bytes_eq a b }
-{}
+    ghost laws = { partial_equiv_from_equiv nat_list_eq_equiv };
+
+    fn eq(&self, other: &QueueName) -> bool {
+        self.as_bytes() == other.as_bytes()
+    }
+}
+
+impl Eq for QueueName {
+    ghost laws = { nat_list_eq_equiv };
+}
+
+impl PartialOrd for QueueName {
+    ghost partial_cmp = { λ a b. Some (slice_cmp nat_cmp a b) };
+
+    ghost laws = { texts_po };
+
+    fn partial_cmp(&self, other: &QueueName) -> Option<Ordering> {
+        Some(self.cmp(other))
+    }
+}
+
+impl Ord for QueueName {
+    ghost cmp = { slice_cmp nat_cmp };
+
+    ghost total = { nat_list_cmp_total };
+
+    ghost matches_partial_cmp = { λ a b. refl };
+
+    ghost matches_eq = { texts_ties };
+
+    fn cmp(&self, other: &QueueName) -> Ordering {
+        self.as_bytes().cmp(other.as_bytes())
+    }
+}
+
+impl Hash for QueueName {
+    ghost hash_input = { fed.str };
+
+    ghost respects_eq = { Prim.search (hashing, rules) };
+
+    fn hash<H: Hasher>(&self, state: &mut H) {
+        state.write(self.as_bytes());
+        state.write_u8(255);
+    }
+}
 
 // The text, and zeros after it.
 fn padded(text: &[u8]) -> [u8; 80]

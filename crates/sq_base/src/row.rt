@@ -13,10 +13,10 @@ pub struct Row {
     /// Given by the home that holds the row, from 0 upwards and never twice.
     pub serial: Serial,
     pub slot: u32,
-    pub enqueued: u64,
-    pub visible_from: u64,
     /// The receive number: how often it was received, as its home counts.
     pub receives: u32,
+    pub enqueued: u64,
+    pub visible_from: u64,
     /// The moment of the last receive, none where there was none.
     pub last_receive: Option<u64>,
     /// The queue that it came from as a dead letter.

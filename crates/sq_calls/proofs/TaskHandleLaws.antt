@@ -1,8 +1,8 @@
 -- What is read of a task's handle is spelled so, and what is spelled so is read.
 use Rattle.std.proofs.Common.{◌≡◌, ℕ, ◌<◌, ◌≤◌, Bool, true, false, cond, List, [], ◌++◌, length, take, drop, Option, Some, None, codes, refl, sym, ap, ◌∙◌, arith}
-use Rattle.std.specs.Prelude.{nat_lt, nat_le, ◌&&◌, ◌==◌, IfSome}
+use Rattle.std.specs.Prelude.{nat_lt, nat_le, ◌==◌, IfSome}
 use Rattle.std.specs.Str.{bytes_eq}
-use Rattle.std.proofs.lemmas.Bool.{le-leb, lt-ltb, le-ltb, eqb-true}
+use Rattle.std.proofs.lemmas.Bool.{le-leb, le-ltb, eqb-true}
 use Rattle.std.proofs.lemmas.List.{append-nil, nil_from_length, take-append-drop, length-append}
 use Rattle.std.proofs.lemmas.Slice.Eq.{bytes_eq-Decides}
 use Rattle.sq_base.specs.Fields.{field, ◌>>=◌, field_at}
@@ -35,19 +35,18 @@ task_handle_takes bytes task e =
     let f = bind_some (behind_front bytes) (λ digits. field_at 16 digits >>= λ number. cond (length number.1 == 0) (task_in_range number.0) None) task e in
     let n = bind_some (field_at 16 f.0) (λ number. cond (length number.1 == 0) (task_in_range number.0) None) task f.2 in
     let g = ended (length n.0.1 == 0) (task_in_range n.0.0) task n.2 in
-    let same = (test_some (nat_le 1 n.0.0 && nat_lt n.0.0 4611686018427387903) n.0.0 task g.1).1 in
+    let same = (test_some (nat_le 1 n.0.0) n.0.0 task g.1).1 in
     let nothing : n.0.1 ≡ [] = nil_from_length n.0.1 (eqb-true (length n.0.1) 0 g.0) in
     let digits : f.0 ≡ field 16 task = field_takes 16 f.0 n.0.0 n.0.1 n.1 ∙ ap (λ (x : List ℕ). field 16 n.0.0 ++ x) nothing ∙ append-nil (field 16 n.0.0) ∙ ap (λ (x : ℕ). field 16 x) same in
     front_takes bytes f.0 f.1 ∙ ap (λ (x : List ℕ). codes "task-" ++ x) digits
 
 -- what is spelled so is read
-pub task_handle_again : (task : ℕ) → 1 ≤ task → task < 4611686018427387903 → task_handle_at (task_handle_text task) ≡ Some task
+pub task_handle_again : (task : ℕ) → 1 ≤ task → task < 18446744073709551616 → task_handle_at (task_handle_text task) ≡ Some task
 unfolding task_handle_at task_handle_text
 task_handle_again task least below =
     let a : nat_le 1 task ≡ true = le-leb _ _ least in
-    let b : nat_lt task 4611686018427387903 ≡ true = lt-ltb _ _ below in
     let last : field_at 16 (field 16 task) ≡ Some (task, []) = ap (field_at 16) (sym (append-nil (field 16 task))) ∙ field_again 16 task [] (omega (arith, below)) in
-    rw (front_again (field 16 task), last, a, b) refl
+    rw (front_again (field 16 task), last, a) refl
 
 pub found : (o : Option ℕ) (bytes : List ℕ) → o ≡ task_handle_at bytes → IfSome o (λ task. bytes ≡ task_handle_text task)
 found None bytes e = tt

@@ -1,5 +1,5 @@
 -- The text of a task's handle. Own.
-use Rattle.std.specs.Prelude.{ℕ, List, ◌++◌, ◌&&◌, ◌==◌, codes, take, drop, length, nat_le, nat_lt, if◌then◌else◌, Option, Some, None}
+use Rattle.std.specs.Prelude.{ℕ, List, ◌++◌, ◌==◌, codes, take, drop, length, nat_le, nat_lt, if◌then◌else◌, Option, Some, None}
 use Rattle.std.specs.Str.{bytes_eq}
 use Rattle.sq_base.specs.Fields.{field, ◌>>=◌, field_at}
 
@@ -15,7 +15,7 @@ behind_front bytes =
 
 -- a number that a task may have
 abbrev pub task_in_range : ℕ → Option ℕ
-task_in_range number = if nat_le 1 number && nat_lt number 4611686018427387903 then Some number else None
+task_in_range number = if nat_le 1 number then Some number else None
 
 -- the task whose handle a text is
 unfoldable pub task_handle_at : List ℕ → Option ℕ

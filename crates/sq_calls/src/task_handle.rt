@@ -48,11 +48,11 @@ fn task_of(b: &[u8]) -> Option<TaskNo>
 }
 
 /// The task whose handle this is, none where it is the handle of none: where it does not begin with `task-`, has not 16
-/// digits of `0-9a-f` behind that, or their number is no task's.
+/// digits of `0-9a-f` behind that, or they are all 0.
 pub fn read_task_handle(b: &[u8]) -> Option<TaskNo>
     ensures value { result ≡ task_handle_at b.now }
     ensures found { IfSome result (λ task. b.now ≡ task_handle_text task) }
-    ensures only { (task : ℕ) → 1 ≤ task → task < 4611686018427387903 → b.now ≡ task_handle_text task → result ≡ Some task }
+    ensures only { (task : ℕ) → 1 ≤ task → task < 18446744073709551616 → b.now ≡ task_handle_text task → result ≡ Some task }
 {
     task_of(b)
 }

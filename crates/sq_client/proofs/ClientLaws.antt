@@ -207,9 +207,10 @@ pub ends_giving : (c : ReceiveMessage) (queue home : ℕ) (rows : List Row) → 
 ends_giving c queue home [] some = absurd (omega (arith, some))
 ends_giving c queue home (row ∷ rows) some = inl (row, rows, refl, refl)
 
-pub none_given : (rows : List Row) → length rows ≡ 0 → rows ≡ []
-none_given [] e = refl
-none_given (row ∷ rows) e = absurd (omega (arith, e))
+-- a home gave no message
+pub none_given : (by : HomeReply) (rows : List Row) (was over : Bool) → by ≡ reply.Looked rows → length rows ≡ 0 → over ≡ was → HasNoMessage by was over
+none_given by [] was over is e same = inl (is, same)
+none_given by (row ∷ rows) was over is e same = absurd (omega (arith, e))
 
 -- no home ends it
 pub receive_asked : {S : Type 0} (stepped : S → Ask → Result Gave Refusal → S → Type 0) (old new : S) (counts : HomeCounts) (c : ReceiveMessage) (queue : ℕ) (drawn : List ℕ) (n : ℕ) (over : Bool) (answered : Result Answer Refusal)

@@ -11,7 +11,7 @@ use Rattle.sq_calls.specs.declared.turns.Turned.{Turned}
 use Rattle.sq_calls.specs.declared.turns.Turned.TheVariants as word
 use Rattle.sq_model.specs.declared.shared.SharedAct.TheVariants.{LeaveDead, LeaveTask}
 use Rattle.sq_steps.specs.declared.act.NextItem.{NextItem}
-use Rattle.sq_client.specs.Asks.{Ask, Resolve, Moving, Next, Ledgered, Walking, Walked, Gave, Found, Peeked, Walks, Noted, Done, HomeCounts, told_of}
+use Rattle.sq_client.specs.Asks.{Ask, Resolve, Moving, Next, Ledgered, Walking, Walked, Gave, Found, Peeked, Walks, Noted, HomeCounts, told_of}
 use Rattle.sq_client.specs.Calls.{home_numbered}
 use Rattle.sq_client.specs.Fits.{ledgered, named}
 use Rattle.sq_client.specs.Performs.{Performs}

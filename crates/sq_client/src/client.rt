@@ -325,8 +325,7 @@ fn look<S: LockSteps>(
     if over {
         return Err(Refusal::OverLimit);
     }
-    let none = Rows::new(steps.alloc());
-    Ok(received_answer(of.number, HomeNo::first(), call, none))
+    Ok(received_answer(of.number, HomeNo::first(), call, Rows::none()))
 }
 
 // What is done to the message of a handle.

@@ -1,5 +1,5 @@
 -- The directory stays the replay of its events.
-use Rattle.std.proofs.Common.{◌≡◌, ℕ, true, List, [], ◌∷◌, ◌++◌, Option, Some, None, refl, ap, subst, sym}
+use Rattle.std.proofs.Common.{◌≡◌, ℕ, List, [], ◌∷◌, ◌++◌, Option, Some, None, refl, ap, subst, sym}
 use Rattle.sq_base.specs.Stamps.{start}
 use Rattle.sq_model.specs.declared.place.Component.TheVariants as part
 use Rattle.sq_model.specs.declared.directory.Attributes.{Attributes}

@@ -1,5 +1,5 @@
 -- Lists of names, one queue more at a time.
-use Rattle.std.proofs.Common.{◌≡◌, ◌<◌, ℕ, zero, suc, length, arith, Bool, true, false, cond, List, [], ◌∷◌, ◌++◌, map, filter, take, refl, ap, sym, ◌∙◌, ◌+◌, add-one, Some, None, slice_get}
+use Rattle.std.proofs.Common.{◌≡◌, ◌<◌, ℕ, zero, suc, length, arith, Bool, true, false, cond, List, [], ◌∷◌, ◌++◌, map, filter, take, refl, ap, ◌+◌, add-one, Some, None, slice_get}
 use Rattle.std.specs.Prelude.{if◌then◌else◌}
 use Rattle.sq_model.specs.declared.directory.NamePrefix.{NamePrefix}
 use Rattle.sq_model.specs.declared.directory.Queue.{Queue}

@@ -7,7 +7,7 @@ ghost use Rattle.sq_directory.specs.Stored.{given_settings, with_given, with_pur
 
 use indexmap::IndexMap;
 use sq_base::ids::QueueNo;
-use sq_base::name::{QueueName, names_are_equal_by_bytes};
+use sq_base::name::QueueName;
 use sq_base::settings::{Redrive, Settings};
 use sq_model::directory::{Attributes, Queue};
 use std::alloc::{AllocError, Global};
@@ -44,7 +44,6 @@ impl NamedQueues {
     pub fn get(&self, name: &QueueName) -> Option<&Queue>
         ensures { option_map (λ queue. queue.now) result ≡ queue_of name.now self.now.queues }
     {
-        names_are_equal_by_bytes();
         self.queues.get(name)
     }
 
@@ -79,7 +78,6 @@ impl NamedQueues {
         ensures queues { self.new.queues ≡ self.old.queues ++ queue ∷ [] }
         ensures room { self.old.room ≤ self.new.room + 1 }
     {
-        names_are_equal_by_bytes();
         let _ = self.queues.insert(queue.name, queue);
     }
 
@@ -89,7 +87,6 @@ impl NamedQueues {
         ensures shorter { (queue : QueueValue) → queue_of name.now self.old.queues ≡ Some queue → length self.new.queues + 1 ≡ length self.old.queues }
         ensures room { self.old.room ≤ self.new.room }
     {
-        names_are_equal_by_bytes();
         // That names differ is known to the prover once the map is read.
         let _ = self.queues.len();
         let _ = self.queues.shift_remove(name);
@@ -102,7 +99,6 @@ impl NamedQueues {
         ensures queues { self.new.queues ≡ changed_queue name.now (with_given given redrive) self.old.queues }
         ensures room { self.new.room ≡ self.old.room }
     {
-        names_are_equal_by_bytes();
         if let Some(queue) = self.queues.get_mut(name) {
             give(queue, given, redrive);
         }
@@ -113,7 +109,6 @@ impl NamedQueues {
         ensures queues { self.new.queues ≡ changed_queue name.now (with_purge moment) self.old.queues }
         ensures room { self.new.room ≡ self.old.room }
     {
-        names_are_equal_by_bytes();
         if let Some(queue) = self.queues.get_mut(name) {
             queue.last_purge = Some(moment);
         }

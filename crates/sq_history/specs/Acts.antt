@@ -29,6 +29,23 @@ HasBytes (Change receipt timeout) = ⊥
 HasBytes Purge = ⊥
 HasBytes Count = ⊥
 
+-- its event and its record hold something that stands apart: a body, settings
+abbrev pub HoldsAny : HomeCall → Type 0
+HoldsAny (call.Configure settings version) = Unit {0}
+HoldsAny call.Close = ⊥
+HoldsAny (call.Send body delay) = Unit {0}
+HoldsAny (call.Look max timeout) = ⊥
+HoldsAny (call.Delete receipt) = ⊥
+HoldsAny (call.Change receipt timeout) = ⊥
+HoldsAny call.Purge = ⊥
+HoldsAny call.Count = ⊥
+HoldsAny call.LeaveDead = ⊥
+HoldsAny (call.LeaveTask task) = ⊥
+HoldsAny (call.Enter item) = ⊥
+HoldsAny (call.TurnBack item) = ⊥
+HoldsAny (call.GiveBack item) = ⊥
+HoldsAny (call.GiveUp item) = ⊥
+
 -- bytes are copied where it is done at this home at this moment: a body, rows that may be given, a message on its way
 abbrev pub CopiesBytes : Site → Home → ℕ → HomeCall → Type 0
 CopiesBytes site home m (call.Configure settings version) = ⊥

@@ -14,12 +14,11 @@ use Rattle.sq_model.specs.Homes.{Unopened, HomeStep, home_refusal}
 use Rattle.sq_model.specs.Replays.{HomeEvent, Replays, StampsRise}
 use Rattle.sq_model.specs.Systems.{is_alone}
 use Rattle.sq_model.specs.RecordValues.{HomeRecordValue}
-use Rattle.sq_history.specs.Acts.{CopiesBytes, HasBytes}
+use Rattle.sq_history.specs.Acts.{CopiesBytes, HoldsAny}
 use Rattle.sq_history.specs.Logs.{event_by, IsUnready}
 use Rattle.sq_history.specs.Rooms.{KeepsRoom}
 use Rattle.sq_history.specs.HistoryValue.{HistoryValue}
 use Rattle.sq_history.specs.LogValue.{LogValue}
-use Rattle.sq_history.specs.declared.act.HomeAct.{HomeAct}
 
 abbrev pub new_event : StampValue → Actor → HomeId → HomeCall → HomeReply → HomeEvent
 new_event stamp by home call reply = event_by stamp by (part.Home home) call reply
@@ -50,18 +49,17 @@ pub record RecordsShared (old new : HistoryValue) (by : Actor) (stamp : StampVal
   pub room : KeepsRoom old.room new.room
   pub record_is : its_record ≡ new_record stamp by old.site.home (length old.events) call its_record.reply name
 
--- No memory was found for the event, or the clock's or the counts' check fails; then no memory was found for copies, or the home's first check that fails.
+-- No memory was found for the event or for what it holds, or the clock's or the counts' check fails; then no memory was found for copies, or the home's first check that fails.
 abbrev pub IsRefused : HistoryValue → Actor → ℕ → HomeCall → Refusal → Type 0
 IsRefused old by now call e =
-    ((e ≡ NoMemory) × (old.room ≡ 0))
+    ((e ≡ NoMemory) × ((old.room ≡ 0) ⊎ HoldsAny call))
     ⊎ (after old.last by.seen now ≡ Err e)
     ⊎ ((stamp : StampValue) × (after old.last by.seen now ≡ Ok stamp)
     × (((e ≡ NoMemory) × CopiesBytes old.site old.home stamp.moment call) ⊎ (home_refusal old.site old.home stamp.moment call ≡ Some e)))
 
--- No step of this act is begun: its event cannot be, or no memory was found for copies of its bytes.
-abbrev pub IsUnbegun : LogValue HomeCall HomeReply → Actor → ℕ → HomeAct → Refusal → Type 0
-IsUnbegun old by now act e =
-    IsUnready old by now e ⊎ ((e ≡ NoMemory) × HasBytes act × ((stamp : StampValue) × (after old.last by.seen now ≡ Ok stamp)))
+-- No step of this call is begun: its event cannot be, or no memory was found for what it holds.
+abbrev pub IsUnbegun : LogValue HomeCall HomeReply → Actor → ℕ → HomeCall → Refusal → Type 0
+IsUnbegun old by now call e = IsUnready old by now e ⊎ ((e ≡ NoMemory) × HoldsAny call)
 
 -- True of every recorded home: it is the replay of its events, whose stamps rise, and each event is one of it.
 pub record IsKept (h : HistoryValue) : Type 0 where

@@ -5,7 +5,7 @@ ghost use Rattle.sq_model.specs.Homes.{HomeStep, home_refusal};
 ghost use Rattle.sq_model.specs.declared.calls.HomeCall.TheVariants.{Look as AsLook};
 ghost use Rattle.sq_model.specs.declared.replies.HomeReply.TheVariants.{Done, Sent, Counted, Entered, NoLiveRow, NoOrigin, SourceClosed};
 ghost use Rattle.sq_shard.specs.Looks.{look_reply, GivesAny, GivesRows};
-ghost use Rattle.sq_history.specs.Acts.{call_of, CopiesBytes, HasBytes};
+ghost use Rattle.sq_history.specs.Acts.{call_of, CopiesBytes, HasBytes, HoldsAny};
 
 use sq_base::body::Body;
 use sq_base::ids::Serial;
@@ -13,8 +13,9 @@ use sq_base::ranges::{Delay, MaxMessages, Timeout};
 use sq_base::refusal::Refusal;
 use sq_base::settings::Settings;
 use sq_model::calls::{HomeCall, Receipt};
+use sq_model::held::Held;
 use sq_model::replies::{Counts, EnteredRow, HomeReply, SentMessage};
-use sq_model::rows::{Rows, copy_rows};
+use sq_model::rows::Rows;
 use sq_shard::shard::Shard;
 use sq_shard::store::Store;
 use std::alloc::Global;
@@ -52,27 +53,23 @@ impl HomeAct {
         })
     }
 
-    // Its call, for an event or a record. Refused as NoMemory, of a send alone.
-    pub(crate) fn call(&self) -> Result<HomeCall, Refusal>
+    // Its call, for an event or a record. Refused as NoMemory, of a send and of settings alone.
+    pub(crate) fn call(&self, alloc: Global) -> Result<HomeCall, Refusal>
         ensures call { IfOk result (λ call. call ≡ call_of self.now) }
-        ensures refused { IfErr result (λ e. (e ≡ Refusal.NoMemory) × HasBytes self.now) }
+        ensures refused { IfErr result (λ e. (e ≡ Refusal.NoMemory) × HoldsAny (call_of self.now)) }
     {
-        Ok(self.copy()?.into_call())
-    }
-
-    fn into_call(self) -> HomeCall
-        ensures { result ≡ call_of self }
-    {
-        match self {
-            HomeAct::Configure(settings, version) => HomeCall::Configure(settings, version),
+        Ok(match self {
+            HomeAct::Configure(settings, version) => {
+                HomeCall::Configure(held(alloc, settings)?, *version)
+            }
             HomeAct::Close => HomeCall::Close,
-            HomeAct::Send(body, delay) => HomeCall::Send(body, delay),
-            HomeAct::Look(max, timeout) => HomeCall::Look(max, timeout),
-            HomeAct::Delete(receipt) => HomeCall::Delete(receipt),
-            HomeAct::Change(receipt, timeout) => HomeCall::Change(receipt, timeout),
+            HomeAct::Send(body, delay) => HomeCall::Send(body.copy()?, *delay),
+            HomeAct::Look(max, timeout) => HomeCall::Look(*max, *timeout),
+            HomeAct::Delete(receipt) => HomeCall::Delete(*receipt),
+            HomeAct::Change(receipt, timeout) => HomeCall::Change(*receipt, *timeout),
             HomeAct::Purge => HomeCall::Purge,
             HomeAct::Count => HomeCall::Count,
-        }
+        })
     }
 
     // Asks it of a home's rows at a moment in ms. Refused as NoMemory (of a send, and of a look that gives messages),
@@ -213,6 +210,22 @@ impl Answer {
     }
 }
 
+// Settings, for an event or a record. Refused as NoMemory.
+fn held(alloc: Global, settings: &Settings) -> Result<Held<Settings>, Refusal>
+    ensures settings { IfOk result (λ held. held ≡ settings.now) }
+    ensures refused { IfErr result (λ e. e ≡ Refusal.NoMemory) }
+{
+    // A part is named, so that the toolchain's borrow checker sees its type.
+    let redrive = settings.redrive;
+    Held::new(
+        alloc,
+        Settings {
+            redrive,
+            ..*settings
+        },
+    )
+}
+
 // A look; the rows that it gives are copied before anything changes.
 fn look<S: Store>(
     alloc: Global,
@@ -229,8 +242,8 @@ fn look<S: Store>(
 {
     let chosen_for = timeout;
     let picked = shard.choose(alloc, moment, max, chosen_for)?;
-    let kept = copy_picked(alloc, &picked)?;
-    let for_record = copy_picked(alloc, &picked)?;
+    let kept = copy_picked(&picked)?;
+    let for_record = copy_picked(&picked)?;
     shard.give(moment, timeout, &picked);
     Ok(Answer {
         kept: reply_of_look(kept),
@@ -239,12 +252,12 @@ fn look<S: Store>(
     })
 }
 
-fn copy_picked(alloc: Global, picked: &Option<Rows>) -> Result<Option<Rows>, Refusal>
+fn copy_picked(picked: &Option<Rows>) -> Result<Option<Rows>, Refusal>
     ensures copy { IfOk result (λ copy. copy ≡ picked.now) }
     ensures refused { IfErr result (λ e. (e ≡ Refusal.NoMemory) × GivesRows picked.now) }
 {
     match picked {
-        Some(rows) => Ok(Some(copy_rows(alloc, rows.as_slice())?)),
+        Some(rows) => Ok(Some(rows.copy()?)),
         None => Ok(None),
     }
 }

@@ -85,6 +85,14 @@ impl<K: Drop, R: Drop> Log<K, R> {
         ensures refused { IfErr result (IsUnready self.old by.now now) }
     {
         self.reserve()?;
+        self.next_stamp(by, now)
+    }
+
+    /// The stamp of an actor's event: above the last one, and above what it saw. Refused as ClockRange, Worn.
+    pub fn next_stamp(&self, by: &Actor, now: u64) -> Result<Stamp, Refusal>
+        ensures stamped { result ≡ after self.now.last by.now.seen now }
+        ensures above { IfOk result (Below self.now.last) }
+    {
         Stamp::after(self.last, by.seen, now)
     }
 

@@ -78,8 +78,8 @@ impl<S: Store> Recorded<S> {
     }
 
     /// Does one act, at its stamp. What it tells is what its record says.
-    /// Refused as NoMemory (the history has room for none, or bytes are copied: of a send, and of a look that gives
-    /// messages), ClockRange, Worn, and then as the home's call: QueueDoesNotExist (not serving; closed already, where
+    /// Refused as NoMemory (the history has room for none, or a body or settings are held), ClockRange, Worn, and then as the
+    /// home's call, or as NoMemory for a send's row and the rows that a look gives: QueueDoesNotExist (not serving; closed already, where
     /// it is configured or closed), Worn and OverLimit (a send, for want of serials or full), ReceiptHandleIsInvalid (a
     /// serial that was never given), MessageNotInflight (a change, with no row in flight on which slot, serial and
     /// receive number agree), InvalidParameterValue (a change, later than 12 hours after the last receive).
@@ -96,7 +96,7 @@ impl<S: Store> Recorded<S> {
         ensures refusal { IfErr result (IsRefused self.old by.now now (call_of act)) }
         ensures err { OnErr result (self.new ≡ self.old) }
     {
-        let (stamp, calls) = begin(&mut self.log, by, now, &act)?;
+        let (stamp, calls) = begin(alloc, &mut self.log, by, now, &act)?;
         let answer = act.ask(alloc, &mut self.shard, stamp.moment)?;
         let home = self.shard.site().home;
         Ok(add_step(&mut self.log, by, stamp, &home, name, calls, answer))
@@ -110,9 +110,10 @@ impl<S: Store> Recorded<S> {
     }
 }
 
-// Begins a step that does this: its stamp, and its call for the event and for the record.
-// Refused as NoMemory (the history has room for none, or the body of a send is copied), ClockRange, Worn.
+// Begins a step that does this: its call for the event and for the record, and then its stamp.
+// Refused as NoMemory (the history has room for none, or a body or settings are held), ClockRange, Worn.
 fn begin(
+    alloc: Global,
     log: &mut Log<HomeCall, HomeReply>,
     by: &Actor,
     now: u64,
@@ -126,11 +127,12 @@ fn begin(
     ensures above { IfOk result (λ begun. Below log.old.last begun.0) }
     ensures kept_call { IfOk result (λ begun. begun.1.0 ≡ call_of act.now) }
     ensures recorded_call { IfOk result (λ begun. begun.1.1 ≡ call_of act.now) }
-    ensures refused { IfErr result (IsUnbegun log.old by.now now act.now) }
+    ensures refused { IfErr result (IsUnbegun log.old by.now now (call_of act.now)) }
 {
-    let stamp = log.begin(by, now)?;
-    let kept_call = act.call()?;
-    let recorded_call = act.call()?;
+    log.reserve()?;
+    let kept_call = act.call(alloc)?;
+    let recorded_call = act.call(alloc)?;
+    let stamp = log.next_stamp(by, now)?;
     Ok((stamp, (kept_call, recorded_call)))
 }
 

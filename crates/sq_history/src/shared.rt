@@ -26,7 +26,7 @@ use sq_base::refusal::Refusal;
 use sq_base::stamp::Stamp;
 use sq_model::calls::HomeCall;
 use sq_model::event::Actor;
-use sq_model::item::{BoxedItem, Item, ItemNo};
+use sq_model::item::{HeldItem, Item, ItemNo};
 use sq_model::replies::{EnteredRow, HomeReply};
 use sq_model::shared::ItemAct;
 use sq_shard::shard::Shard;
@@ -50,12 +50,13 @@ pub(crate) fn answer_left(alloc: Global, item: &Item) -> Result<(Answer, HomeRep
     ensures for_ledger { IfOk result (λ r. r.1 ≡ Left item.now) }
     ensures refused { IfErr result (λ e. e ≡ Refusal.NoMemory) }
 {
+    let left = HeldItem::new(alloc, item.copy()?)?;
+    let for_ledger = HomeReply::Left(left.copy()?);
     let answer = Answer {
-        kept: HomeReply::Left(BoxedItem::copy_of(alloc, item)?),
-        for_record: HomeReply::Left(BoxedItem::copy_of(alloc, item)?),
-        answered: HomeReply::Left(BoxedItem::copy_of(alloc, item)?),
+        kept: HomeReply::Left(left.copy()?),
+        for_record: HomeReply::Left(left.copy()?),
+        answered: HomeReply::Left(left),
     };
-    let for_ledger = HomeReply::Left(BoxedItem::copy_of(alloc, item)?);
     Ok((answer, for_ledger))
 }
 
@@ -248,9 +249,9 @@ fn calls_with(
     ensures for_ledger { IfOk result (λ calls. calls.2 ≡ call_with act item.now) }
     ensures refused { IfErr result (λ e. e ≡ Refusal.NoMemory) }
 {
-    let kept = BoxedItem::copy_of(alloc, item)?;
-    let for_record = BoxedItem::copy_of(alloc, item)?;
-    let for_ledger = BoxedItem::copy_of(alloc, item)?;
+    let kept = HeldItem::new(alloc, item.copy()?)?;
+    let for_record = kept.copy()?;
+    let for_ledger = kept.copy()?;
     Ok((
         call_with(act, kept),
         call_with(act, for_record),
@@ -259,7 +260,7 @@ fn calls_with(
 }
 
 // The call that does this with an item.
-fn call_with(act: ItemAct, item: BoxedItem) -> HomeCall
+fn call_with(act: ItemAct, item: HeldItem) -> HomeCall
     ensures { result ≡ call_with act item }
 {
     match act {

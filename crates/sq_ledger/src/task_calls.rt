@@ -32,6 +32,9 @@ use std::alloc::Global;
 /// How many tasks may be active in all. Own.
 const MOST_ACTIVE: usize = 100;
 
+/// No task has this number, or one above it: 2^62 - 1.
+const LAST_NUMBER: u64 = 4_611_686_018_427_387_903;
+
 /// What a task is to move.
 #[derive(Clone, Copy, PartialEq, Eq, Debug)]
 pub struct TaskStart {
@@ -213,16 +216,17 @@ impl TransitLedger {
         ensures passes { OnOk result (start_refusal source self.now.history.ledger ≡ None) }
         ensures refused { IfErr result (λ e. start_refusal source self.now.history.ledger ≡ Some e) }
     {
-        let Some(number) = TaskNo::new(self.tasks.len() as u64 + 1) else {
+        let count = self.tasks.len() as u64;
+        if count + 1 >= LAST_NUMBER {
             return Err(Refusal::Worn);
-        };
+        }
         if self.is_source_active(source) {
             return Err(Refusal::UnsupportedOperation);
         }
         if self.tasks.active() >= MOST_ACTIVE {
             return Err(Refusal::OverLimit);
         }
-        Ok(number)
+        Ok(TaskNo::following(count))
     }
 
     // How many messages a task moved that may be cancelled.

@@ -1,5 +1,6 @@
 //! What a home is asked.
-use crate::item::{BoxedItem, TaskNo};
+use crate::held::Held;
+use crate::item::{HeldItem, TaskNo};
 use sq_base::body::Body;
 use sq_base::ids::Serial;
 use sq_base::ranges::{Delay, MaxMessages, Receives, Timeout};
@@ -8,8 +9,8 @@ use sq_base::settings::Settings;
 /// One receive of a row at a home: what a receipt handle names there.
 #[derive(Clone, Copy, PartialEq, Eq, Debug)]
 pub struct Receipt {
-    pub slot: u32,
     pub serial: Serial,
+    pub slot: u32,
     pub receive: Receives,
 }
 
@@ -17,7 +18,7 @@ pub struct Receipt {
 #[derive(Drop)]
 pub enum HomeCall {
     /// Takes settings of this version, where it is above the home's own, and opens a home that was never opened.
-    Configure(Settings, u64),
+    Configure(Held<Settings>, u64),
     /// Closes the home for good, and lets go of its messages.
     Close,
     /// Puts a message last; without a delay the home's is taken.
@@ -39,11 +40,11 @@ pub enum HomeCall {
     /// A message leaves for a move task.
     LeaveTask(TaskNo),
     /// A message comes in at its target.
-    Enter(BoxedItem),
+    Enter(HeldItem),
     /// A message whose target is closed is sent back.
-    TurnBack(BoxedItem),
+    TurnBack(HeldItem),
     /// A message that was sent back comes in at its source.
-    GiveBack(BoxedItem),
+    GiveBack(HeldItem),
     /// A message that was sent back to a closed source is given up.
-    GiveUp(BoxedItem),
+    GiveUp(HeldItem),
 }

@@ -8,9 +8,9 @@ use sq_base::stamp::Stamp;
 #[derive(Drop)]
 pub struct Event<K, R> {
     pub stamp: Stamp,
-    pub actor: u32,
     /// The number of the event among its actor's, from 0 upwards.
     pub place: u64,
+    pub actor: u32,
     pub component: Component,
     pub call: K,
     pub reply: R,

@@ -1,6 +1,7 @@
 //! A message between two queues.
-ghost use Rattle.std.specs.Prelude.{◌≡◌, ◌≤◌, ◌⊎◌, IfOk, IfErr, IfSome, IfNone};
+ghost use Rattle.std.specs.Prelude.{◌≡◌, ◌+◌, ◌<◌, ◌≤◌, ◌⊎◌, IfOk, IfErr, IfSome, IfNone};
 
+use crate::held::Held;
 use crate::rows::copy_row;
 use sq_base::ids::QueueNo;
 use sq_base::refusal::Refusal;
@@ -52,7 +53,7 @@ impl ItemNo {
     }
 }
 
-/// The number of a message move task, from 1 to 2^62 - 2 and never twice. Own.
+/// The number of a message move task, from 1 upwards. Own.
 #[derive(Clone, Copy, PartialEq, Eq, PartialOrd, Ord, Debug)]
 pub struct TaskNo(u64);
 
@@ -65,7 +66,7 @@ impl Model for TaskNo {
 
     ghost inverse = { λ n. record { 0 = n } };
 
-    ghost invariant = { λ n. (1 ≤ n.0) × (n.0 < 4611686018427387903) };
+    ghost invariant = { λ n. 1 ≤ n.0 };
 }
 
 impl TaskNo {
@@ -76,12 +77,20 @@ impl TaskNo {
         TaskNo(1)
     }
 
-    /// The task of this number, from 1 to 2^62 - 2.
+    /// The task that comes after so many.
+    pub fn following(count: u64) -> TaskNo
+        requires { count < 18446744073709551615 }
+        ensures { result ≡ count + 1 }
+    {
+        TaskNo(count + 1)
+    }
+
+    /// The task of this number, which is not 0.
     pub fn new(number: u64) -> Option<TaskNo>
         ensures number { IfSome result (λ n. n ≡ number) }
-        ensures none { IfNone result ((number ≡ 0) ⊎ (4611686018427387903 ≤ number)) }
+        ensures none { IfNone result (number ≡ 0) }
     {
-        if number == 0 || number >= 4_611_686_018_427_387_903 {
+        if number == 0 {
             return None;
         }
         Some(TaskNo(number))
@@ -132,42 +141,5 @@ impl Item {
     }
 }
 
-/// An item behind an address that no contract sees.
-#[derive(Drop)]
-pub struct BoxedItem {
-    item: Box<Item>,
-}
-
-impl Model for BoxedItem {
-    ghost use Rattle.sq_model.specs.declared.item.Item.{Item};
-
-    ghost Value = { Item };
-
-    ghost view = { λ boxed. boxed.item.value };
-}
-
-impl BoxedItem {
-    /// Refused only where memory is out.
-    pub fn new(alloc: Global, item: Item) -> Result<BoxedItem, Refusal>
-        ensures item { IfOk result (λ boxed. boxed ≡ item) }
-        ensures refused { IfErr result (λ e. e ≡ Refusal.NoMemory) }
-    {
-        Ok(BoxedItem {
-            item: Box::new(alloc, item)?,
-        })
-    }
-
-    /// A copy of an item. Refused only where memory is out.
-    pub fn copy_of(alloc: Global, item: &Item) -> Result<BoxedItem, Refusal>
-        ensures item { IfOk result (λ boxed. boxed ≡ item.now) }
-        ensures refused { IfErr result (λ e. e ≡ Refusal.NoMemory) }
-    {
-        BoxedItem::new(alloc, item.copy()?)
-    }
-
-    pub fn get(&self) -> &Item
-        ensures { result.now ≡ self.now }
-    {
-        &self.item
-    }
-}
+/// An item that is held once.
+pub type HeldItem = Held<Item>;

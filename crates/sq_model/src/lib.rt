@@ -4,6 +4,7 @@
 pub mod calls;
 pub mod directory;
 pub mod event;
+pub mod held;
 pub mod item;
 pub mod ledger;
 pub mod listed;

@@ -1,5 +1,5 @@
 //! What a home answers, with all that its step chose.
-use crate::item::BoxedItem;
+use crate::item::HeldItem;
 use crate::rows::Rows;
 use sq_base::ids::Serial;
 use sq_base::message_id::MessageId;
@@ -38,7 +38,7 @@ pub enum HomeReply {
     Over,
     Counted(Counts),
     /// The row that left, as an item.
-    Left(BoxedItem),
+    Left(HeldItem),
     /// No live row is there for a move task.
     NoLiveRow,
     /// The live row of this serial has no origin to go back to.

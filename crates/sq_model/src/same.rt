@@ -2,7 +2,7 @@
 ghost use Rattle.std.specs.Prelude.{◌≡◌, ◌↔◌, true};
 
 use crate::calls::HomeCall;
-use crate::item::BoxedItem;
+use crate::item::HeldItem;
 use crate::replies::HomeReply;
 use crate::rows::Rows;
 use sq_base::row::Row;
@@ -39,7 +39,7 @@ fn are_same_rows(a: &Rows, b: &Rows) -> bool
     true
 }
 
-fn is_same_item(a: &BoxedItem, b: &BoxedItem) -> bool
+fn is_same_item(a: &HeldItem, b: &HeldItem) -> bool
     ensures { result ≡ true ↔ a.now ≡ b.now }
 {
     let (a, b) = (a.get(), b.get());
@@ -56,7 +56,7 @@ pub fn is_same_call(a: &HomeCall, b: &HomeCall) -> bool
     ensures { result ≡ true ↔ a.now ≡ b.now }
 {
     match (a, b) {
-        (HomeCall::Configure(a, v), HomeCall::Configure(b, w)) => a == b && v == w,
+        (HomeCall::Configure(a, v), HomeCall::Configure(b, w)) => *a.get() == *b.get() && v == w,
         (HomeCall::Close, HomeCall::Close) => true,
         (HomeCall::Send(a, d), HomeCall::Send(b, e)) => a.as_str() == b.as_str() && d == e,
         (HomeCall::Look(m, t), HomeCall::Look(n, u)) => m == n && t == u,

@@ -128,7 +128,7 @@ pub fn next_policy(policy: &Option<Policy>, call: &HomeCall) -> Option<Policy>
 {
     match call {
         HomeCall::Configure(settings, version) if is_newer(policy, *version) => Some(Policy {
-            retention: settings.retention,
+            retention: settings.get().retention,
             version: *version,
         }),
         _ => *policy,

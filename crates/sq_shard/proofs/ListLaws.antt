@@ -1,6 +1,6 @@
 -- Rows that are put into the lists of their classes one after another, in the order of their ages.
-use Rattle.std.proofs.Common.{◌≡◌, ◌≢◌, ℕ, zero, suc, ◌+◌, ◌<◌, ◌≤◌, Bool, true, false, not, cond, List, [], ◌∷◌, ◌++◌, length, map, filter, take, drop, Option, Some, None, Contains, inl, inr, refl, sym, ap, ◌∙◌, subst, arith}
-use Rattle.std.specs.Prelude.{◌&&◌, ◌||◌, ◌==◌, slice_get, filter_map}
+use Rattle.std.proofs.Common.{◌≡◌, ◌≢◌, ℕ, zero, suc, ◌+◌, ◌<◌, ◌≤◌, Bool, true, false, List, [], ◌∷◌, ◌++◌, length, filter, take, drop, Option, Some, None, Contains, inl, inr, refl, sym, ap, ◌∙◌, subst, arith}
+use Rattle.std.specs.Prelude.{◌&&◌, ◌==◌, slice_get, filter_map}
 use Rattle.std.specs.List.{All, cons_option, list_any}
 use Rattle.std.specs.List.Sorted.{IsPermutation}
 use Rattle.std.proofs.Math.Nat.{min-le_left}
@@ -22,7 +22,6 @@ use Rattle.sq_shard.specs.declared.visible.VisibleFrom.{VisibleFrom}
 use Rattle.sq_shard.specs.Visible.{HasSpace, IsOrdered, IsSet, KeepsSpace}
 use Rattle.sq_shard.proofs.HeldLaws.{held_few}
 use Rattle.sq_shard.proofs.MemoryLaws.{HasRoom, has_more, has_room}
-use Rattle.sq_shard.proofs.AgeLaws.{all_of_any}
 use Rattle.sq_shard.proofs.DueLaws.{found_more, found_of_class}
 use Rattle.sq_shard.proofs.PickLaws.{distinct_permutation, rise_rises, serial_of}
 use Rattle.sq_shard.proofs.ReceiveLaws.{first_is_apart, is_number, none_first, other_way}

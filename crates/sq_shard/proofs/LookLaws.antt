@@ -11,7 +11,6 @@ use Rattle.sq_model.specs.declared.place.Site.{Site}
 use Rattle.sq_model.specs.declared.replies.HomeReply.TheVariants.{Looked}
 use Rattle.sq_model.specs.Homes.{Serving, HomeStep}
 use Rattle.sq_model.specs.Rows.{is_live, received, trimmed, IsLook, RisesFrom}
-use Rattle.sq_model.proofs.RowLaws.{rises_trimmed}
 use Rattle.sq_slots.specs.Slots.{Rise}
 use Rattle.sq_slots.proofs.RowLists.{same_serial}
 use Rattle.sq_shard.specs.Looks.{look_after, AreTheirs, HasItsSlot}

@@ -1,6 +1,6 @@
 -- Rows that leave a home: which there are, and what stays.
-use Rattle.std.proofs.Common.{◌≡◌, ℕ, zero, suc, ◌+◌, ◌<◌, ◌≤◌, Bool, true, false, not, cond, List, [], ◌∷◌, ◌++◌, length, take, drop, get_or, Option, Some, None, refl, sym, ap, ◌∙◌, subst, arith}
-use Rattle.std.specs.Prelude.{◌&&◌, ◌||◌, ◌==◌, if◌then◌else◌, nat_eq, nat_lt, nat_le, filter, position}
+use Rattle.std.proofs.Common.{◌≡◌, ℕ, zero, suc, ◌+◌, ◌<◌, ◌≤◌, Bool, true, false, cond, List, [], ◌∷◌, ◌++◌, length, take, drop, Option, Some, None, refl, sym, ap, ◌∙◌, subst, arith}
+use Rattle.std.specs.Prelude.{◌&&◌, ◌||◌, if◌then◌else◌, nat_eq, nat_lt, nat_le, filter, position}
 use Rattle.std.specs.List.{list_any, Contains, position_or_len, slice_index_or}
 use Rattle.std.proofs.lemmas.Bool.{eqb-true}
 use Rattle.std.proofs.lemmas.Grind.{common_steps}
@@ -20,7 +20,7 @@ use Rattle.sq_model.specs.declared.item.Reason.TheVariants.{DeadLetter, Task}
 use Rattle.sq_model.specs.declared.replies.HomeReply.TheVariants.{Done, Entered}
 use Rattle.sq_model.specs.Homes.{Home, HomeStep, last_serial, slots, refused_if, may_enter, may_return, entered_row, entered_as, returned_row, returned_as}
 use Rattle.sq_model.specs.Homes.{Unopened as Never, Serving as Serves, Closed as Gone}
-use Rattle.sq_model.specs.Rows.{RisesFrom, Takes, trimmed, is_dead, is_visible}
+use Rattle.sq_model.specs.Rows.{RisesFrom, Takes, trimmed}
 use Rattle.sq_model.proofs.RowLaws.{rises_weaker, rises_trimmed}
 use Rattle.sq_shard.specs.declared.shard.Status.{Status}
 use Rattle.sq_shard.specs.declared.shard.Status.TheVariants.{Unopened, Serving, Closed}

@@ -1,9 +1,7 @@
 -- The lists of a store, where a row comes in, goes out or changes.
-use Rattle.std.proofs.Common.{◌≡◌, ◌≢◌, ℕ, ◌+◌, ◌<◌, ◌≤◌, Bool, true, false, Option, List, [], ◌∷◌, ◌++◌, length, map, refl, sym, ap, ◌∙◌, subst, arith}
+use Rattle.std.proofs.Common.{◌≡◌, ◌≢◌, ℕ, ◌+◌, ◌<◌, ◌≤◌, Bool, true, false, Option, List, [], ◌∷◌, ◌++◌, length, refl, sym, ◌∙◌, subst, arith}
 use Rattle.std.specs.Prelude.{◌==◌, filter}
 use Rattle.std.specs.List.{All, list_any}
-use Rattle.std.specs.List.Sorted.{IsPermutation}
-use Rattle.std.proofs.lemmas.Grind.{common_steps}
 use Rattle.std.proofs.lemmas.List.{append-nil, length-append}
 use Rattle.std.proofs.lemmas.List.Elements.{All-filter, All-weaker}
 use Rattle.sq_base.specs.declared.row.Row.{Row}
@@ -14,7 +12,7 @@ use Rattle.sq_slots.specs.Slots.{is_in, updated}
 use Rattle.sq_slots.proofs.RowLists.{is_this}
 use Rattle.sq_shard.specs.Due.{Holds, enqueued_at, is_again, is_fresh, is_spent, space, visible_at}
 use Rattle.sq_shard.specs.declared.visible.VisibleFrom.{VisibleFrom}
-use Rattle.sq_shard.specs.Visible.{HasSpace, IsCleared, IsOrdered, IsSet, KeepsSpace}
+use Rattle.sq_shard.specs.Visible.{HasSpace, IsCleared, IsOrdered, IsSet}
 use Rattle.sq_shard.specs.SlotStores.{AreVisible, IsIndexed, again_row, any_row, fresh_row, spent_row}
 use Rattle.sq_shard.proofs.HeldLaws.{held_in, held_out, held_same}
 use Rattle.sq_shard.proofs.MemoryLaws.{HasRoom, has_more, has_room}

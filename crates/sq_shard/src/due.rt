@@ -13,8 +13,8 @@ use sq_base::refusal::Refusal;
 use sq_base::row::Row;
 use sq_base::settings::Settings;
 use sq_deadline::index::DeadlineIndex;
+use sq_model::listed::Listed;
 use sq_model::replies::Counts;
-use sq_model::rows::Rows;
 use sq_slots::table::SlotTable;
 use std::alloc::Global;
 
@@ -65,7 +65,7 @@ fn first_of<'a>(
 // Copies the live ones of the rows whose deadlines are due, up to so many in all, as they stand after a receive that hides
 // them until a moment. It takes time by the rows that are due, up to the last one of these.
 fn pick_of(
-    picked: &mut Rows,
+    picked: &mut Listed<Row>,
     table: &SlotTable,
     index: &DeadlineIndex,
     settings: &Settings,
@@ -151,13 +151,13 @@ impl SlotStore {
         moment: u64,
         until: u64,
         max: usize,
-    ) -> Result<Rows, Refusal>
+    ) -> Result<Listed<Row>, Refusal>
         ensures look { IfOk result (λ picked. model.IsLook settings.now moment until max (model.trimmed settings.now moment self.now.table.rows) picked) }
         ensures err { IfErr result (λ e. e ≡ Refusal.NoMemory) }
     {
         let (table, visible) = (&self.table, &self.visible);
         let (first, second) = visible.in_turn(moment);
-        let mut picked = Rows::new(alloc);
+        let mut picked = Listed::new(alloc);
         pick_of(&mut picked, table, first, settings, moment, until, max)?;
         pick_of(&mut picked, table, second, settings, moment, until, max)?;
         if visible.most < rows::most_under(&settings.redrive) {

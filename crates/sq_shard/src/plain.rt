@@ -9,8 +9,8 @@ use sq_base::refusal::Refusal;
 use sq_base::row::Row;
 use sq_base::settings::Settings;
 use sq_model::calls::Receipt;
+use sq_model::listed::Listed;
 use sq_model::replies::Counts;
-use sq_model::rows::Rows;
 use std::alloc::Global;
 
 /// The plain store: each step walks all rows.
@@ -80,7 +80,7 @@ impl Store for PlainStore {
         moment: u64,
         until: u64,
         max: usize,
-    ) -> Result<Rows, Refusal> {
+    ) -> Result<Listed<Row>, Refusal> {
         rows::pick(alloc, &self.rows, settings, moment, until, max)
     }
 

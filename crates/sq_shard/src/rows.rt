@@ -18,8 +18,9 @@ use sq_base::row::Row;
 use sq_base::settings::{Redrive, Settings};
 use sq_model::calls::Receipt;
 use sq_model::item::{Item, Reason};
+use sq_model::listed::Listed;
 use sq_model::replies::Counts;
-use sq_model::rows::{Rows, copy_row};
+use sq_model::rows::copy_row;
 use sq_model::shared::ItemAct;
 use std::alloc::Global;
 
@@ -395,11 +396,11 @@ pub fn pick(
     moment: u64,
     until: u64,
     max: usize,
-) -> Result<Rows, Refusal>
+) -> Result<Listed<Row>, Refusal>
     ensures picked { IfOk result (λ picked. picked ≡ take max (map (model.received moment until) (filter (model.is_live settings.now moment) (model.trimmed settings.now moment rows.now)))) }
     ensures err { IfErr result (λ e. e ≡ Refusal.NoMemory) }
 {
-    let mut picked = Rows::new(alloc);
+    let mut picked = Listed::new(alloc);
     for row in rows {
         if picked.len() < max && is_kept(settings, moment, row) && is_live(settings, moment, row) {
             picked.push(received_copy(row, moment, until)?)?;

@@ -210,7 +210,7 @@ impl<S: Store> Shard<S> {
         };
         // Nor is any asked for where nothing is given.
         if !self.store.has_live(&self.settings, moment) {
-            return Ok(Some(Rows::new(alloc)));
+            return Ok(Some(Rows::none()));
         }
         let flying = self.store.count_flying(&self.settings, moment);
         let room = (self.site.limits.flights as usize).saturating_sub(flying);
@@ -220,7 +220,7 @@ impl<S: Store> Shard<S> {
         let until = after_seconds(moment, timeout.unwrap_or(self.settings.timeout).get());
         let most = room.min(max.get() as usize);
         let picked = self.store.pick(alloc, &self.settings, moment, until, most)?;
-        Ok(Some(picked))
+        Ok(Some(Rows::of(alloc, picked)?))
     }
 
     /// Trims, and receives the live rows that were chosen; without a timeout the home's is taken. A home that does not serve

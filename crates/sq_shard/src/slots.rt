@@ -17,8 +17,8 @@ use sq_base::settings::Settings;
 use sq_deadline::deadline::Deadline;
 use sq_deadline::index::DeadlineIndex;
 use sq_model::calls::Receipt;
+use sq_model::listed::Listed;
 use sq_model::replies::Counts;
-use sq_model::rows::Rows;
 use sq_slots::table::SlotTable;
 use std::alloc::Global;
 use std::marker::Model;
@@ -196,7 +196,7 @@ impl Store for SlotStore {
         moment: u64,
         until: u64,
         max: usize,
-    ) -> Result<Rows, Refusal> {
+    ) -> Result<Listed<Row>, Refusal> {
         self.pick_live(alloc, settings, moment, until, max)
     }
 

@@ -14,8 +14,8 @@ use sq_base::refusal::Refusal;
 use sq_base::row::Row;
 use sq_base::settings::Settings;
 use sq_model::calls::Receipt;
+use sq_model::listed::Listed;
 use sq_model::replies::Counts;
-use sq_model::rows::Rows;
 use std::alloc::Global;
 
 /// The rows of a home, in whatever form they are kept. Moments are in ms.
@@ -76,7 +76,7 @@ pub trait Store: Drop {
         moment: u64,
         until: u64,
         max: usize,
-    ) -> Result<Rows, Refusal>
+    ) -> Result<Listed<Row>, Refusal>
         requires { (next : ℕ) × RisesFrom 0 (rows self.now) next }
         ensures look { IfOk result (λ picked. IsLook settings.now moment until max (trimmed settings.now moment (rows self.now)) picked) }
         ensures err { IfErr result (λ e. e ≡ Refusal.NoMemory) };

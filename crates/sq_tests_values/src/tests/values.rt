@@ -4,12 +4,12 @@ use sq_base::body::{BODY_LIMIT, Body, body_md5};
 use sq_base::handle::{Handle, read_handle, write_handle};
 use sq_base::ids::{HomeNo, QueueNo, Serial};
 use sq_base::message_id::MessageId;
-use sq_base::name::{QueueName, names_in_byte_order};
+use sq_base::name::QueueName;
 use sq_base::ranges::Receives;
 use sq_base::refusal::Refusal;
 use sq_base::row::Row;
 use sq_base::stamp::{Stamp, derived_order};
-use sq_model::item::{BoxedItem, Item, ItemNo, Reason};
+use sq_model::item::{HeldItem, Item, ItemNo, Reason};
 use uuid::Uuid;
 
 fn handle_of(queue: u64, home: u64, slot: u32, serial: u64, receive: u64) -> Option<Handle> {
@@ -222,7 +222,6 @@ fn is_before(name: &[u8], other: &[u8]) -> bool {
 
 #[test]
 fn names_are_in_byte_order(rt: HostRuntime) {
-    names_in_byte_order();
     assert!(rt; is_before(b"B", b"a") && is_before(b"a", b"aa"));
 }
 
@@ -279,7 +278,7 @@ fn a_box_gives_its_item(rt: HostRuntime) {
         reason: Reason::DeadLetter,
         homeward: true,
     };
-    let boxed = BoxedItem::new(rt.alloc(), item).expect(&rt, "memory");
+    let boxed = HeldItem::new(rt.alloc(), item).expect(&rt, "memory");
     let kept = boxed.get();
     assert!(rt; kept.number == ItemNo::first() && kept.row.id == id(0) && kept.row.slot == 3);
     assert!(rt; kept.source.get() == 2 && kept.target.get() == 1 && kept.homeward);

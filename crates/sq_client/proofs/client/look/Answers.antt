@@ -1,10 +1,10 @@
-use Rattle.std.proofs.Common.{rules, ◌≡◌, ◌∙◌, ◌<◌, [], length, Ok, Err, arith, inl, inr, refl, ap}
+use Rattle.std.proofs.Common.{rules, ◌≡◌, ◌∙◌, ◌<◌, length, Ok, Err, arith, inr, refl}
 use Rattle.std.proofs.lemmas.Option.{slice_get_read}
 use Rattle.sq_model.specs.declared.replies.HomeReply.TheVariants.{Looked, Over}
 use Rattle.sq_client.specs.Fits.{HasNoMessage}
 use Rattle.sq_client.proofs.ClientLaws.{more_asked, receive_ended, ends_giving, none_given}
 use Rattle.sq_client.proofs.client.look.Goals as goal
-use Rattle.sq_client.proofs.client.look.Goals.{in-Looked+else-len-gt0, in-Over}
+use Rattle.sq_client.proofs.client.look.Goals.{in-Looked+else-len-gt0+in-None-1, in-Looked+else-len-gt0+in-Some-1, in-Over}
 
 pub returns-in_err-rows : goal.returns-in_err-rows
 returns-in_err-rows g c =
@@ -27,10 +27,8 @@ loop-index-preserved g c =
     let within : c.loop-index.index < length c.in_ok-homes.homes.items = search rules in
     let in_list = slice_get_read c.in_ok-homes.homes.items (length c.in_ok-homes.homes.items) c.loop-index.index c.index-home.result.now refl within c.index-home.ensures in
     let none : HasNoMessage c.in_ok-rows.field-0 c.loop-index.over c.match-branch-3.over = elim c.match-branch-3.branch [
-      | in-Looked+else-len-gt0 w ↦
-          (let empty : length w.in-Looked.rows ≡ 0 = omega (arith, w.len.ensures, w.if-len-gt0.false) in
-          let by : c.in_ok-rows.field-0 ≡ Looked [] = w.in-Looked.is ∙ ap (λ rows. Looked rows) (none_given w.in-Looked.rows empty) in
-          inl (by, w.over-is))
+      | in-Looked+else-len-gt0+in-None-1 w ↦ none_given _ _ _ _ w.in-Looked.is (omega (arith, w.len.ensures, w.if-len-gt0.false)) w.over-is
+      | in-Looked+else-len-gt0+in-Some-1 w ↦ none_given _ _ _ _ w.in-Looked.is (omega (arith, w.len.ensures, w.if-len-gt0.false)) w.over-is
       | in-Over w ↦ (let by : c.in_ok-rows.field-0 ≡ Over = cc in inr (by, w.over-is))
     ] in
     record {

@@ -1,4 +1,4 @@
-use Rattle.std.proofs.Common.{◌≡◌, ◌∙◌, ap, sym, refl, inr, false, Some, rules}
+use Rattle.std.proofs.Common.{◌≡◌, ◌∙◌, ap, sym, refl, inr, false}
 use Rattle.std.specs.Prelude.{nat_le, option_map}
 use Rattle.std.proofs.lemmas.Bool.{lt-leb}
 use Rattle.sq_model.specs.Directories.{DirectoryStep, changed_queue, directory_refusal, last_version, may_have, settings_at, with_attributes}

@@ -3,4 +3,4 @@ use Rattle.sq_directory.proofs.StoredLaws.{lookup_is}
 use Rattle.sq_directory.proofs.stored.NamedQueues.get.Goals as goal
 
 pub returns : goal.returns
-returns c = rw (← c.self.view_is) (c.get.ensures.value ∙ lookup_is _ c.names_are_equal_by_bytes.ensures c.args.name.now c.self.inside.queues.entries c.self.invariant)
+returns c = rw (← c.self.view_is) (c.get.ensures.value ∙ lookup_is c.args.name.now c.self.inside.queues.entries c.self.invariant)

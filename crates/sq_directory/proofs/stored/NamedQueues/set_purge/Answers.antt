@@ -11,7 +11,7 @@ invariant_of-self c = elim c.match-get_mut.branch [
   | in-Some w ↦
       let found = sym c.get_mut.ensures.value ∙ ap option_copied_mut w.in-Some.is in
       rw (w.self-inside-is, (c.get_mut.follows.holds _).0)
-      (change_named _ c.names_are_equal_by_bytes.ensures c.args.name.now w.in-Some.queue.now (with_purge c.args.moment w.in-Some.queue.now) c.self.inside.queues.entries c.self.invariant found refl)
+      (change_named c.args.name.now w.in-Some.queue.now (with_purge c.args.moment w.in-Some.queue.now) c.self.inside.queues.entries c.self.invariant found refl)
   | in_default w ↦ rw (w.self-inside-is, c.get_mut.follows.holds-at-none) c.self.invariant
 ]
 
@@ -20,9 +20,9 @@ returns-clause-queues c = elim c.match-get_mut.branch [
   | in-Some w ↦
       let found = sym c.get_mut.ensures.value ∙ ap option_copied_mut w.in-Some.is in
       rw (← c.self.view_is, w.self-inside-is) (ap values_of (c.get_mut.follows.holds _).0
-      ∙ change_is _ c.names_are_equal_by_bytes.ensures c.args.name.now (with_purge c.args.moment) w.in-Some.queue.now c.self.inside.queues.entries c.self.invariant c.get_mut.ensures.unique found)
+      ∙ change_is c.args.name.now (with_purge c.args.moment) w.in-Some.queue.now c.self.inside.queues.entries c.self.invariant c.get_mut.ensures.unique found)
   | in_default w ↦
       let none = sym c.get_mut.ensures.value ∙ ap option_copied_mut w.in_default.is in
       rw (← c.self.view_is, w.self-inside-is, c.get_mut.follows.holds-at-none)
-      (sym (change_none _ c.names_are_equal_by_bytes.ensures c.args.name.now (with_purge c.args.moment) c.self.inside.queues.entries c.self.invariant none))
+      (sym (change_none c.args.name.now (with_purge c.args.moment) c.self.inside.queues.entries c.self.invariant none))
 ]

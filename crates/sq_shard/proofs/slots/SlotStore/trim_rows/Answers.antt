@@ -1,7 +1,6 @@
 use Rattle.std.proofs.Common.{rules, ◌≡◌, ◌≤◌, ◌∙◌, false, true, sym, ap, arith}
 use Rattle.std.specs.Prelude.{nat_le}
 use Rattle.std.specs.List.{list_any}
-use Rattle.sq_base.specs.declared.row.Row.{Row}
 use Rattle.sq_model.specs.Rows.{is_expired, trimmed}
 use Rattle.sq_shard.specs.SlotStores.{reserved_in}
 use Rattle.sq_shard.proofs.AgeLaws.{all_are_kept, any_same, none_goes, trimmed_without}
