@@ -120,7 +120,7 @@ impl Queues {
     }
 
     /// What a call is answered at a moment in ms, and what it does. Refused as the call, and then as NoMemory, where a list
-    /// of queues is given or answered, or a policy is shown that has one.
+    /// of queues is kept or answered, or a policy is shown that has one.
     pub fn answer(
         &mut self,
         alloc: Global,

@@ -46,7 +46,7 @@ HoldsAny (call.TurnBack item) = ⊥
 HoldsAny (call.GiveBack item) = ⊥
 HoldsAny (call.GiveUp item) = ⊥
 
--- bytes are copied where it is done at this home at this moment: a body, rows that may be given, a message on its way
+-- memory is got for what it is answered, or for its row, where it is done at this home at this moment: a message that is put, rows that may be given, a message on its way
 abbrev pub CopiesBytes : Site → Home → ℕ → HomeCall → Type 0
 CopiesBytes site home m (call.Configure settings version) = ⊥
 CopiesBytes site home m call.Close = ⊥

@@ -53,8 +53,24 @@ impl HomeAct {
         })
     }
 
-    // Its call, for an event or a record. Refused as NoMemory, of a send and of settings alone.
-    pub(crate) fn call(&self, alloc: Global) -> Result<HomeCall, Refusal>
+    // Its call for its event and for its record; both hold the same body or settings. Refused as NoMemory, of these alone.
+    pub(crate) fn calls(&self, alloc: Global) -> Result<(HomeCall, HomeCall), Refusal>
+        ensures kept { IfOk result (λ calls. calls.0 ≡ call_of self.now) }
+        ensures recorded { IfOk result (λ calls. calls.1 ≡ call_of self.now) }
+        ensures refused { IfErr result (λ e. (e ≡ Refusal.NoMemory) × HoldsAny (call_of self.now)) }
+    {
+        let kept = self.call(alloc)?;
+        let recorded = match &kept {
+            HomeCall::Configure(settings, version) => {
+                HomeCall::Configure(settings.copy()?, *version)
+            }
+            _ => self.call(alloc)?,
+        };
+        Ok((kept, recorded))
+    }
+
+    // Its call. Refused as NoMemory, of a send and of settings alone.
+    fn call(&self, alloc: Global) -> Result<HomeCall, Refusal>
         ensures call { IfOk result (λ call. call ≡ call_of self.now) }
         ensures refused { IfErr result (λ e. (e ≡ Refusal.NoMemory) × HoldsAny (call_of self.now)) }
     {

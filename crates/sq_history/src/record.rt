@@ -83,6 +83,7 @@ impl<'a> Model for LentHomeRecord<'a> {
 }
 
 impl<'a> LentHomeRecord<'a> {
+    /// The record of a step at a home, by the name that was used.
     pub fn of(
         step: &'a StepRecord<HomeCall, HomeReply>,
         home: &'a HomeId,

@@ -130,10 +130,9 @@ fn begin(
     ensures refused { IfErr result (IsUnbegun log.old by.now now (call_of act.now)) }
 {
     log.reserve()?;
-    let kept_call = act.call(alloc)?;
-    let recorded_call = act.call(alloc)?;
+    let calls = act.calls(alloc)?;
     let stamp = log.next_stamp(by, now)?;
-    Ok((stamp, (kept_call, recorded_call)))
+    Ok((stamp, calls))
 }
 
 // Adds the event of a step that was done. Gives what is answered, and the actor's record.

@@ -4,6 +4,9 @@ use Rattle.std.specs.Prelude.{◌==◌, ◌&&◌, find, if◌then◌else◌}
 use Rattle.std.proofs.lemmas.Grind.{common_steps}
 use Rattle.std.proofs.lemmas.Bool.{eqb-true}
 use Rattle.std.proofs.lemmas.List.Sums.{sum_by-cons}
+use Rattle.sq_base.specs.StampValue.{StampValue}
+use Rattle.sq_base.specs.Stamps.{start}
+use Rattle.sq_model.specs.declared.event.Event.{Event}
 use Rattle.sq_model.specs.declared.calls.HomeCall.TheVariants.{LeaveDead, LeaveTask, Enter, TurnBack, GiveBack, GiveUp}
 use Rattle.sq_model.specs.declared.item.Item.{Item}
 use Rattle.sq_model.specs.declared.item.Reason.{Reason}
@@ -16,7 +19,7 @@ use Rattle.sq_model.specs.declared.replies.HomeReply.TheVariants.{Done, Left, No
 use Rattle.sq_model.specs.declared.task.FailureReason.TheVariants as because
 use Rattle.sq_model.specs.declared.task.Task.{Task}
 use Rattle.sq_model.specs.declared.task.TaskStatus.{TaskStatus}
-use Rattle.sq_model.specs.Replays.{Replays, NoMomentFalls}
+use Rattle.sq_model.specs.Replays.{Replays, NoMomentFalls, StampsRise}
 use Rattle.sq_model.specs.Tasks.{left_in, may_leave, new_task, rate_of, second_of, with_left, with_moved, with_back, with_given_up, with_status, failed_as, cancelled_as, finished_as}
 use Rattle.sq_model.specs.Ledgers.{Ledger, LedgerEvent, LedgerStep, IsLedger, IsTask, changed_for, changed_task, is_for, is_task, leaves_for, leaves_in, opening_ledger, task_of}
 use Rattle.sq_laws.proofs.LedgerLists.{KeepsNumber, found_number, found_of_all, some_same}
@@ -323,3 +326,12 @@ from_none number second (x ∷ es) l low after final h e r moments f =
 pub rate_is_kept : (number second limit : ℕ) (events : List LedgerEvent) (l : Ledger) (task : Task) → Replays LedgerStep (opening_ledger limit) events l → NoMomentFalls 0 events → task_of number l ≡ Some task
     → leaves_in number second events ≤ rate_of task
 rate_is_kept number second limit events l task r moments f = from_none number second events (opening_ledger limit) 0 l task (ledger_holds limit [] (opening_ledger limit) refl) refl r moments f
+
+-- the moments of a history do not fall, since its stamps rise
+no_moment_falls : {K R : Type 0} (low : StampValue) (events : List (Event K R)) (last : StampValue) → StampsRise low events last → NoMomentFalls low.moment events
+no_moment_falls low [] last rise = tt
+no_moment_falls low (e ∷ es) last rise = (elim rise.0 [ inl later ↦ omega (arith, later) | inr same ↦ omega (arith, same.0) ], no_moment_falls e.stamp es last rise.1)
+
+pub rate_of_history : (number second limit : ℕ) (events : List LedgerEvent) (last : StampValue) (l : Ledger) (task : Task) → Replays LedgerStep (opening_ledger limit) events l → StampsRise start events last → task_of number l ≡ Some task
+    → leaves_in number second events ≤ rate_of task
+rate_of_history number second limit events last l task r rise f = rate_is_kept number second limit events l task r (no_moment_falls start events last rise) f

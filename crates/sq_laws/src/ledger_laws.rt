@@ -2,7 +2,7 @@
 ghost use Rattle.std.specs.Prelude.{◌≡◌, ◌≤◌, ◌⊎◌, ℕ, List, [], true, false, None, Some, Ok};
 ghost use Rattle.std.specs.List.{AllByRecursion, list_any};
 ghost use Rattle.sq_base.specs.StampValue.{StampValue};
-ghost use Rattle.sq_base.specs.Stamps.{Below};
+ghost use Rattle.sq_base.specs.Stamps.{Below, start};
 ghost use Rattle.sq_model.specs.declared.calls.HomeCall.{HomeCall};
 ghost use Rattle.sq_model.specs.declared.item.Item.{Item as ItemValue};
 ghost use Rattle.sq_model.specs.declared.ledger.LedgerCall.{LedgerCall};
@@ -12,7 +12,7 @@ ghost use Rattle.sq_model.specs.declared.replies.HomeReply.{HomeReply};
 ghost use Rattle.sq_model.specs.declared.shared.SharedAct.{SharedAct};
 ghost use Rattle.sq_model.specs.declared.task.Task.{Task as TaskValue};
 ghost use Rattle.sq_model.specs.Homes.{Home};
-ghost use Rattle.sq_model.specs.Replays.{Replays, NoMomentFalls};
+ghost use Rattle.sq_model.specs.Replays.{Replays, NoMomentFalls, StampsRise};
 ghost use Rattle.sq_model.specs.Tasks.{rate_of};
 ghost use Rattle.sq_model.specs.Ledgers.{Ledger, LedgerEvent, LedgerStep, IsLastTask, IsLedger, IsAfter, NumbersRise, all_given, is_active_at, is_of_source, is_own, is_still_active, item_given, last_task, leaves_in, ledger_refusal, opening_ledger, peek, task_given, task_of};
 ghost use Rattle.sq_model.specs.Shared.{HasSharedStep, IsCallOf, IsUnrecorded, SharedStep, shared_refusal, shared_stamp};
@@ -80,8 +80,11 @@ pub fn numbers_are_given_once()
     ensures tasks { (limit : ℕ) (events : List LedgerEvent) (l : Ledger) → Replays LedgerStep (opening_ledger limit) events l → NumbersRise 1 (all_given task_given events) }
 {}
 
-/// In each second no more messages leave for a task than its rate, where moments do not fall.
+/// In each second no more messages leave for a task than its rate, where moments do not fall, as those of a history do not,
+/// whose stamps rise.
 pub fn rates_are_kept()
-    ensures { (number second limit : ℕ) (events : List LedgerEvent) (l : Ledger) (task : TaskValue) → Replays LedgerStep (opening_ledger limit) events l → NoMomentFalls 0 events
+    ensures rate { (number second limit : ℕ) (events : List LedgerEvent) (l : Ledger) (task : TaskValue) → Replays LedgerStep (opening_ledger limit) events l → NoMomentFalls 0 events
+        → task_of number l ≡ Some task → leaves_in number second events ≤ rate_of task }
+    ensures of_histories { (number second limit : ℕ) (events : List LedgerEvent) (last : StampValue) (l : Ledger) (task : TaskValue) → Replays LedgerStep (opening_ledger limit) events l → StampsRise start events last
         → task_of number l ≡ Some task → leaves_in number second events ≤ rate_of task }
 {}

@@ -11,9 +11,9 @@ use Rattle.sq_model.specs.declared.replies.HomeReply.{HomeReply}
 use Rattle.sq_model.specs.RecordValues.{RecordValue, HomeRecordValue, OfHome, place_of_record}
 use Rattle.sq_history.specs.Records.{with_home}
 use Rattle.sq_steps.specs.declared.records.Kept.{Kept}
-use Rattle.sq_steps.specs.declared.records.Kept.TheVariants.{Home, Other as AmongOthers}
+use Rattle.sq_steps.specs.declared.records.Kept.TheVariants.{Home, Named, Other as AmongOthers}
 use Rattle.sq_steps.specs.declared.records.Other.{Other}
-use Rattle.sq_steps.specs.Records.{HasPut, HasPutAny, IsIn, IsNameIn, least, name_at, other_at, place_of_kept, value_of_kept, value_of_other, values_of_kept}
+use Rattle.sq_steps.specs.Records.{HasPut, IsIn, IsKeptAs, least, other_at, place_of_kept, value_of_kept, value_of_other, values_of_kept}
 use Rattle.sq_directory.proofs.ElementLaws.{all_get, get_map}
 use Rattle.sq_steps.proofs.JournalLaws.{all_push, all_weaken}
 
@@ -58,60 +58,52 @@ keeps_put old new name at put = elim put.grown [
       subst (KeepsNames old) (sym more) (record { least = omega (arith, longer); same = get_front old name }))
 ]
 
-keeps_any : (old new : List (List ℕ)) (name : Option (List ℕ)) (at : Option ℕ) → HasPutAny old new name at → KeepsNames old new
-keeps_any old new None None put = subst (KeepsNames old) (sym put) (keeps_all old)
-keeps_any old new (Some name) (Some at) put = keeps_put old new name at put
-keeps_any old new None (Some at) put = elim put [ ]
-keeps_any old new (Some name) None put = elim put [ ]
+-- a record of a home that is kept: the names that were there stay, it is the record, and what it points to is there
+keeps_kept : (old new : List (List ℕ)) (n : HomeRecordValue) (kept : Kept) → IsKeptAs old new n kept → KeepsNames old new
+keeps_kept old new n (Home home step) h = subst (KeepsNames old) (sym h.0) (keeps_all old)
+keeps_kept old new n (Named at home step) h = keeps_put old new h.0 at h.1
+keeps_kept old new n (AmongOthers at) h = elim h [ ]
 
-put_at : (old new : List (List ℕ)) (name : Option (List ℕ)) (at : Option ℕ) → HasPutAny old new name at → name_at new at ≡ name
-put_at old new None None put = refl
-put_at old new (Some name) (Some at) put = put.there
-put_at old new None (Some at) put = elim put [ ]
-put_at old new (Some name) None put = elim put [ ]
+kept_value : (others : List Other) (old new : List (List ℕ)) (n : HomeRecordValue) (kept : Kept) → IsKeptAs old new n kept → value_of_kept others new kept ≡ OfHome n
+kept_value others old new n (Home home step) h = ap OfHome (sym h.1)
+kept_value others old new n (Named at home step) h = ap (λ (x : Option (List ℕ)). OfHome (with_home home x step)) h.1.there ∙ ap OfHome (sym h.2)
+kept_value others old new n (AmongOthers at) h = elim h [ ]
 
-put_within : (old new : List (List ℕ)) (name : Option (List ℕ)) (at : Option ℕ) → HasPutAny old new name at → IsNameIn (length new) at
-put_within old new None None put = tt
-put_within old new (Some name) (Some at) put = get_within new name at put.there
-put_within old new None (Some at) put = elim put [ ]
-put_within old new (Some name) None put = elim put [ ]
-
-name_same : (old new : List (List ℕ)) (name : Option ℕ) → KeepsNames old new → IsNameIn (length old) name → name_at new name ≡ name_at old name
-name_same old new None keeps h = refl
-name_same old new (Some at) keeps h = keeps.same at h
+kept_within : (count : ℕ) (old new : List (List ℕ)) (n : HomeRecordValue) (kept : Kept) → IsKeptAs old new n kept → IsIn count (length new) kept
+kept_within count old new n (Home home step) h = tt
+kept_within count old new n (Named at home step) h = get_within new h.0 at h.1.there
+kept_within count old new n (AmongOthers at) h = elim h [ ]
 
 named_same : (others : List Other) (count : ℕ) (old new : List (List ℕ)) (n : Kept) → KeepsNames old new → IsIn count (length old) n → value_of_kept others new n ≡ value_of_kept others old n
-named_same others count old new (Home step home name) keeps h = ap (λ (x : Option (List ℕ)). OfHome (with_home home x step)) (name_same old new name keeps h)
+named_same others count old new (Home home step) keeps h = refl
+named_same others count old new (Named at home step) keeps h = ap (λ (x : Option (List ℕ)). OfHome (with_home home x step)) (keeps.same at h)
 named_same others count old new (AmongOthers at) keeps h = refl
 
 all_named : (others : List Other) (count : ℕ) (old new : List (List ℕ)) (kept : List Kept) → KeepsNames old new → AllByRecursion (IsIn count (length old)) kept → values_of_kept others new kept ≡ values_of_kept others old kept
 all_named others count old new [] keeps h = refl
 all_named others count old new (n ∷ ns) keeps h = λ i. named_same others count old new n keeps h.0 i ∷ all_named others count old new ns keeps h.1 i
 
-name_in_more : (a b : ℕ) (name : Option ℕ) → a ≤ b → IsNameIn a name → IsNameIn b name
-name_in_more a b None le h = tt
-name_in_more a b (Some at) le h = omega (arith, le, h)
-
 is_in_more : (a b c d : ℕ) (n : Kept) → a ≤ b → c ≤ d → IsIn a c n → IsIn b d n
-is_in_more a b c d (Home step home name) le most h = name_in_more c d name most h
+is_in_more a b c d (Home home step) le most h = tt
+is_in_more a b c d (Named at home step) le most h = omega (arith, most, h)
 is_in_more a b c d (AmongOthers at) le most h = omega (arith, le, h)
 
 -- a record of a home more
-pub home_put : (others : List Other) (old new : List (List ℕ)) (kept : List Kept) (step : StepRecord HomeCall HomeReply) (home : HomeId) (name : Option (List ℕ)) (at : Option ℕ) → AllByRecursion (IsIn (length others) (length old)) kept → HasPutAny old new name at
-    → values_of_kept others new (kept ++ Home step home at ∷ []) ≡ values_of_kept others old kept ++ OfHome (with_home home name step) ∷ []
-home_put others old new kept step home name at within put =
-    map-append (value_of_kept others new) kept (Home step home at ∷ [])
-    ∙ (λ i. all_named others (length others) old new kept (keeps_any old new name at put) within i ++ OfHome (with_home home (put_at old new name at put i) step) ∷ [])
+pub home_put : (others : List Other) (old new : List (List ℕ)) (kept : List Kept) (n : HomeRecordValue) (k : Kept) → AllByRecursion (IsIn (length others) (length old)) kept → IsKeptAs old new n k
+    → values_of_kept others new (kept ++ k ∷ []) ≡ values_of_kept others old kept ++ OfHome n ∷ []
+home_put others old new kept n k within is =
+    map-append (value_of_kept others new) kept (k ∷ [])
+    ∙ (λ i. all_named others (length others) old new kept (keeps_kept old new n k is) within i ++ kept_value others old new n k is i ∷ [])
 
-pub home_within : (count : ℕ) (old new : List (List ℕ)) (kept : List Kept) (step : StepRecord HomeCall HomeReply) (home : HomeId) (name : Option (List ℕ)) (at : Option ℕ) → AllByRecursion (IsIn count (length old)) kept → HasPutAny old new name at
-    → AllByRecursion (IsIn count (length new)) (kept ++ Home step home at ∷ [])
-home_within count old new kept step home name at within put =
-    all_push (IsIn count (length new)) kept (Home step home at)
-    (all_weaken (IsIn count (length old)) (IsIn count (length new)) kept (λ n. is_in_more count count (length old) (length new) n (omega arith) (keeps_any old new name at put).least) within)
-    (put_within old new name at put)
+pub home_within : (count : ℕ) (old new : List (List ℕ)) (kept : List Kept) (n : HomeRecordValue) (k : Kept) → AllByRecursion (IsIn count (length old)) kept → IsKeptAs old new n k → AllByRecursion (IsIn count (length new)) (kept ++ k ∷ [])
+home_within count old new kept n k within is =
+    all_push (IsIn count (length new)) kept k
+    (all_weaken (IsIn count (length old)) (IsIn count (length new)) kept (λ m. is_in_more count count (length old) (length new) m (omega arith) (keeps_kept old new n k is).least) within)
+    (kept_within count old new n k is)
 
 kept_same : (others : List Other) (other : Other) (names : List (List ℕ)) (n : Kept) → IsIn (length others) (length names) n → value_of_kept (others ++ other ∷ []) names n ≡ value_of_kept others names n
-kept_same others other names (Home step home name) h = refl
+kept_same others other names (Home home step) h = refl
+kept_same others other names (Named at home step) h = refl
 kept_same others other names (AmongOthers at) h = ap other_at (get_front others other at h)
 
 all_same : (others : List Other) (other : Other) (names : List (List ℕ)) (kept : List Kept) → AllByRecursion (IsIn (length others) (length names)) kept → values_of_kept (others ++ other ∷ []) names kept ≡ values_of_kept others names kept
@@ -132,9 +124,8 @@ other_within others names kept other h =
 
 -- one that is read
 
-pub home_read : (others : List Other) (names : List (List ℕ)) (kept : List Kept) (index : ℕ) (step : StepRecord HomeCall HomeReply) (home : HomeId) (name : Option ℕ) → slice_get kept index ≡ Some (Home step home name)
-    → slice_get (values_of_kept others names kept) index ≡ Some (OfHome (with_home home (name_at names name) step))
-home_read others names kept index step home name h = get_map (value_of_kept others names) kept index (Home step home name) h
+pub home_read : (others : List Other) (names : List (List ℕ)) (kept : List Kept) (index : ℕ) (n : Kept) → slice_get kept index ≡ Some n → slice_get (values_of_kept others names kept) index ≡ Some (value_of_kept others names n)
+home_read others names kept index n h = get_map (value_of_kept others names) kept index n h
 
 pub other_read : (others : List Other) (names : List (List ℕ)) (kept : List Kept) (index at : ℕ) (other : Other) → slice_get kept index ≡ Some (AmongOthers at) → slice_get others at ≡ Some other
     → slice_get (values_of_kept others names kept) index ≡ Some (value_of_other other)
@@ -145,25 +136,24 @@ other_there others names kept index at within h = all_get (IsIn (length others) 
 
 -- by the numbers of their steps
 
+place_same : (others : List Other) (names : List (List ℕ)) (n : Kept) → place_of_record (value_of_kept others names n) ≡ place_of_kept others n
+place_same others names (Home home step) = refl
+place_same others names (Named at home step) = refl
+place_same others names (AmongOthers at) = refl
+
 pub any_places : (others : List Other) (names : List (List ℕ)) (place : ℕ) (kept : List Kept) → list_any (λ n. place_of_record n == place) (values_of_kept others names kept) ≡ list_any (λ n. place_of_kept others n == place) kept
 any_places others names place [] = refl
-any_places others names place (Home step home name ∷ ns) = ap (λ (v : Bool). (step.place == place) || v) (any_places others names place ns)
-any_places others names place (AmongOthers at ∷ ns) = ap (λ (v : Bool). (place_of_record (other_at (slice_get others at)) == place) || v) (any_places others names place ns)
+any_places others names place (n ∷ ns) = λ i. (place_same others names n i == place) || any_places others names place ns i
 
 pub filter_places : (others : List Other) (names : List (List ℕ)) (place : ℕ) (kept : List Kept)
     → values_of_kept others names (filter (λ n. not (place_of_kept others n == place)) kept) ≡ filter (λ n. not (place_of_record n == place)) (values_of_kept others names kept)
 filter_places others names place [] = refl
-filter_places others names place (Home step home name ∷ ns) =
+filter_places others names place (n ∷ ns) =
     let f = value_of_kept others names in
-    let p : RecordValue → Bool = λ n. not (place_of_record n == place) in
-    let q : Kept → Bool = λ n. not (place_of_kept others n == place) in
-    let n : Kept = Home step home name in
-    let rest = filter_places others names place ns in
-    elim (q n) as (λ v. map f (cond v (n ∷ filter q ns) (filter q ns)) ≡ cond v (f n ∷ filter p (map f ns)) (filter p (map f ns))) [ true ↦ ap (λ ys. f n ∷ ys) rest | false ↦ rest ]
-filter_places others names place (AmongOthers at ∷ ns) =
-    let f = value_of_kept others names in
-    let p : RecordValue → Bool = λ n. not (place_of_record n == place) in
-    let q : Kept → Bool = λ n. not (place_of_kept others n == place) in
-    let n : Kept = AmongOthers at in
-    let rest = filter_places others names place ns in
-    elim (q n) as (λ v. map f (cond v (n ∷ filter q ns) (filter q ns)) ≡ cond v (f n ∷ filter p (map f ns)) (filter p (map f ns))) [ true ↦ ap (λ ys. f n ∷ ys) rest | false ↦ rest ]
+    let p : RecordValue → Bool = λ m. not (place_of_record m == place) in
+    let q : Kept → Bool = λ m. not (place_of_kept others m == place) in
+    let same : q n ≡ p (f n) = ap (λ (x : ℕ). not (x == place)) (sym (place_same others names n)) in
+    let here : map f (cond (q n) (n ∷ filter q ns) (filter q ns)) ≡ cond (q n) (f n ∷ filter p (map f ns)) (filter p (map f ns)) =
+      (let rest = filter_places others names place ns in
+      elim (q n) as (λ v. map f (cond v (n ∷ filter q ns) (filter q ns)) ≡ cond v (f n ∷ filter p (map f ns)) (filter p (map f ns))) [ true ↦ ap (λ ys. f n ∷ ys) rest | false ↦ rest ]) in
+    here ∙ ap (λ (v : Bool). cond v (f n ∷ filter p (map f ns)) (filter p (map f ns))) same

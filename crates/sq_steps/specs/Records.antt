@@ -3,12 +3,12 @@ use Rattle.std.specs.Prelude.{ℕ, ◌≡◌, ◌⊎◌, ◌<◌, ◌++◌, ◌�
 use Rattle.sq_base.specs.Stamps.{start}
 use Rattle.sq_model.specs.declared.ledger.LedgerCall.TheVariants.{FinishTask}
 use Rattle.sq_model.specs.declared.ledger.LedgerReply.TheVariants.{Finished}
-use Rattle.sq_model.specs.RecordValues.{RecordValue, OfDirectory, OfLedger, OfHome, place_of_record}
+use Rattle.sq_model.specs.RecordValues.{RecordValue, HomeRecordValue, OfDirectory, OfLedger, OfHome, place_of_record}
 use Rattle.sq_history.specs.Records.{with_home}
 use Rattle.sq_steps.specs.declared.record.Record.{Record}
 use Rattle.sq_steps.specs.declared.record.Record.TheVariants as lent
 use Rattle.sq_steps.specs.declared.records.Kept.{Kept}
-use Rattle.sq_steps.specs.declared.records.Kept.TheVariants.{Home, Other as AmongOthers}
+use Rattle.sq_steps.specs.declared.records.Kept.TheVariants.{Home, Named, Other as AmongOthers}
 use Rattle.sq_steps.specs.declared.records.Other.{Other}
 use Rattle.sq_steps.specs.declared.records.Other.TheVariants.{Directory, Ledger}
 
@@ -29,31 +29,25 @@ abbrev pub other_at : Option Other → RecordValue
 other_at None = no_record
 other_at (Some other) = value_of_other other
 
--- the name at a place, where one was used
-abbrev pub name_at : List (List ℕ) → Option ℕ → Option (List ℕ)
-name_at names None = None
-name_at names (Some at) = slice_get names at
-
--- a record of a home, or the one at a place among the others
+-- a record of a home, by no name or by the one at a place; or the one at a place among the others
 abbrev pub value_of_kept : List Other → List (List ℕ) → Kept → RecordValue
-value_of_kept others names (Home step home name) = OfHome (with_home home (name_at names name) step)
+value_of_kept others names (Home home step) = OfHome (with_home home None step)
+value_of_kept others names (Named at home step) = OfHome (with_home home (slice_get names at) step)
 value_of_kept others names (AmongOthers at) = other_at (slice_get others at)
 
 -- the number of its step
 abbrev pub place_of_kept : List Other → Kept → ℕ
-place_of_kept others (Home step home name) = step.place
+place_of_kept others (Home home step) = step.place
+place_of_kept others (Named at home step) = step.place
 place_of_kept others (AmongOthers at) = place_of_record (other_at (slice_get others at))
 
 abbrev pub values_of_kept : List Other → List (List ℕ) → List Kept → List RecordValue
 values_of_kept others names kept = map (value_of_kept others names) kept
 
-abbrev pub IsNameIn : ℕ → Option ℕ → Type 0
-IsNameIn count None = Unit {0}
-IsNameIn count (Some at) = at < count
-
 -- what it points to is there, where there are so many others and so many names
 abbrev pub IsIn : ℕ → ℕ → Kept → Type 0
-IsIn others names (Home step home name) = IsNameIn names name
+IsIn others names (Home home step) = Unit {0}
+IsIn others names (Named at home step) = at < names
 IsIn others names (AmongOthers at) = at < others
 
 -- What contracts see of the names that an actor used: them, the first first, and for how many more there is memory.
@@ -66,11 +60,11 @@ pub record HasPut (old new : List (List ℕ)) (name : List ℕ) (at : ℕ) : Typ
   pub there : slice_get new at ≡ Some name
   pub grown : (new ≡ old) ⊎ (new ≡ old ++ name ∷ [])
 
--- a name, where one was used, is there
-abbrev pub HasPutAny : List (List ℕ) → List (List ℕ) → Option (List ℕ) → Option ℕ → Type 0
-HasPutAny old new None None = new ≡ old
-HasPutAny old new (Some name) (Some at) = HasPut old new name at
-HasPutAny old new name at = ⊥
+-- a record of a home is kept so, and the name that was used is there
+abbrev pub IsKeptAs : List (List ℕ) → List (List ℕ) → HomeRecordValue → Kept → Type 0
+IsKeptAs old new n (Home home step) = (new ≡ old) × (n ≡ with_home home None step)
+IsKeptAs old new n (Named at home step) = (name : List ℕ) × HasPut old new name at × (n ≡ with_home home (Some name) step)
+IsKeptAs old new n (AmongOthers at) = ⊥
 
 -- the lesser of two numbers
 abbrev pub least : ℕ → ℕ → ℕ

@@ -9,20 +9,23 @@ use sq_base::refusal::Refusal;
 use std::alloc::Global;
 use std::marker::Model;
 
-/// Names, each once, the one that was used first first; and their places in the names' order, by which they are found.
+/// Names, each once, the one that was used first first; and their places in the names' order, by which they are found. There
+/// are as many at most as a place of four bytes can tell apart.
 #[derive(Drop)]
 pub(crate) struct Names {
     names: Vec<QueueName>,
-    order: Vec<usize>,
+    order: Vec<u32>,
 }
 
 impl Model for Names {
-    ghost use Rattle.std.specs.Prelude.{◌-◌, vec_len, vec_capacity};
+    ghost use Rattle.std.specs.Prelude.{◌-◌, ◌≤◌, vec_len, vec_capacity};
     ghost use Rattle.sq_steps.specs.Records.{NamesValue, least};
 
     ghost Value = { NamesValue };
 
-    ghost view = { λ n. record { names = n.names.items; reserved = least (vec_capacity n.names - vec_len n.names) (vec_capacity n.order - vec_len n.order) } };
+    ghost view = { λ n. record { names = n.names.items; reserved = least (least (vec_capacity n.names - vec_len n.names) (vec_capacity n.order - vec_len n.order)) (4294967295 - vec_len n.names) } };
+
+    ghost invariant = { λ n. vec_len n.names ≤ 4294967295 };
 }
 
 impl Names {
@@ -37,23 +40,22 @@ impl Names {
     }
 
     /// The name at a place, from 0 upwards.
-    pub(crate) fn get(&self, at: usize) -> Option<&QueueName>
+    pub(crate) fn get(&self, at: u32) -> Option<&QueueName>
         ensures { option_map (λ n. n.now) result ≡ slice_get self.now.names at }
     {
-        self.names.get(at)
+        self.names.get(at as usize)
     }
 
     /// For how many names more there is memory.
     pub(crate) fn spare(&self) -> usize
         ensures { result ≡ self.now.reserved }
     {
-        lesser(
-            self.names.capacity() - self.names.len(),
-            self.order.capacity() - self.order.len(),
-        )
+        let names = self.names.capacity() - self.names.len();
+        let order = self.order.capacity() - self.order.len();
+        lesser(lesser(names, order), u32::MAX as usize - self.names.len())
     }
 
-    /// Gets memory for four names more. Refused as NoMemory where there is memory for fewer.
+    /// Gets memory for four names more. Refused as NoMemory where there is memory for fewer, or they could not be told apart.
     pub(crate) fn reserve(&mut self) -> Result<(), Refusal>
         ensures names { self.new.names ≡ self.old.names }
         ensures kept { self.old.reserved ≤ self.new.reserved }
@@ -62,11 +64,14 @@ impl Names {
     {
         self.names.try_reserve(4)?;
         self.order.try_reserve(4)?;
+        if self.spare() < 4 {
+            return Err(Refusal::NoMemory);
+        }
         Ok(())
     }
 
     /// The place of a name, that is put last where it is not there. It is found by search.
-    pub(crate) fn place_of(&mut self, name: &QueueName) -> usize
+    pub(crate) fn place_of(&mut self, name: &QueueName) -> u32
         requires { 0 < self.old.reserved }
         ensures put { HasPut self.old.names self.new.names name.now result }
         ensures reserved { self.old.reserved ≤ self.new.reserved + 1 }
@@ -74,7 +79,7 @@ impl Names {
         match self.find(name) {
             Ok(at) => at,
             Err(place) => {
-                let at = self.names.len();
+                let at = self.names.len() as u32;
                 self.names.push_reserved(*name);
                 let place = lesser(place, self.order.len());
                 let _ = self.order.insert(place, at);
@@ -84,7 +89,7 @@ impl Names {
     }
 
     // The place of a name; or where it would come in the names' order.
-    fn find(&self, name: &QueueName) -> Result<usize, usize>
+    fn find(&self, name: &QueueName) -> Result<u32, usize>
         ensures there { IfOk result (λ at. slice_get self.now.names at ≡ Some name.now) }
     {
         let place = self.order.partition_point(|at| self.is_below(*at, name));
@@ -94,14 +99,14 @@ impl Names {
         }
     }
 
-    fn is_below(&self, at: usize, name: &QueueName) -> bool {
+    fn is_below(&self, at: u32, name: &QueueName) -> bool {
         match self.get(at) {
             Some(other) => other.as_bytes() < name.as_bytes(),
             None => false,
         }
     }
 
-    fn is_at(&self, at: usize, name: &QueueName) -> bool
+    fn is_at(&self, at: u32, name: &QueueName) -> bool
         ensures { result ≡ true → slice_get self.now.names at ≡ Some name.now }
     {
         match self.get(at) {

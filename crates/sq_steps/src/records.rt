@@ -4,7 +4,7 @@ ghost use Rattle.std.specs.List.{list_any};
 ghost use Rattle.sq_base.specs.declared.refusal.Refusal.{Refusal as Why};
 ghost use Rattle.sq_model.specs.RecordValues.{OfDirectory, OfLedger, OfHome, place_of_record};
 ghost use Rattle.sq_history.specs.Rooms.{IsReady, KeepsRoom};
-ghost use Rattle.sq_steps.specs.Records.{HasPutAny, least, name_at, place_of_kept, value_of_other, value_of_record};
+ghost use Rattle.sq_steps.specs.Records.{IsKeptAs, least, place_of_kept, value_of_other, value_of_record};
 
 use crate::names::Names;
 use crate::record::Record;
@@ -20,14 +20,16 @@ use sq_model::replies::HomeReply;
 use std::alloc::Global;
 use std::marker::Model;
 
-/// A record of a home, with the place of the name that was used, or at which place among the others a record is.
+/// A record of a home, by no name or by the one at a place; or at which place among the others a record is. What is small
+/// comes first, where the mark of the kind leaves room for it.
 #[derive(Drop)]
 pub(crate) enum Kept {
-    Home(StepRecord<HomeCall, HomeReply>, HomeId, Option<usize>),
+    Home(HomeId, StepRecord<HomeCall, HomeReply>),
+    Named(u32, HomeId, StepRecord<HomeCall, HomeReply>),
     Other(usize),
 }
 
-/// A record of the directory, or of the ledger alone: that of the directory takes almost three times the bytes of one of a home,
+/// A record of the directory, or of the ledger alone: that of the directory takes several times the bytes of one of a home,
 /// and most actors have few.
 #[derive(Drop)]
 pub(crate) enum Other {
@@ -88,9 +90,9 @@ impl Records {
         ensures { slice_get self.now.items index ≡ Some (value_of_record result) }
     {
         match &self.kept[index] {
-            Kept::Home(step, home, name) => {
-                let name = name_at(&self.names, *name);
-                Record::Home(LentHomeRecord::of(step, home, name))
+            Kept::Home(home, step) => Record::Home(LentHomeRecord::of(step, home, None)),
+            Kept::Named(at, home, step) => {
+                Record::Home(LentHomeRecord::of(step, home, self.names.get(*at)))
             }
             Kept::Other(at) => self.others[*at].as_record(),
         }
@@ -120,9 +122,8 @@ impl Records {
         ensures shown { self.new.room ≡ self.new.reserved }
         ensures room { KeepsRoom self.old.room self.new.room }
     {
-        let (step, home, name) = its_record.into_parts();
-        let at = put_name(&mut self.names, &name);
-        self.kept.push_reserved(Kept::Home(step, home, at));
+        let kept = keep(&mut self.names, its_record);
+        self.kept.push_reserved(kept);
         self.room = spare(&self.kept, &self.others, &self.names);
     }
 
@@ -184,22 +185,16 @@ impl Other {
     }
 }
 
-// The name at a place, where one was used.
-fn name_at(names: &Names, at: Option<usize>) -> Option<&QueueName>
-    ensures { option_map (λ n. n.now) result ≡ name_at names.now.names at }
-{
-    names.get(at?)
-}
-
-// Puts a name, where one was used, and gives its place.
-fn put_name(names: &mut Names, name: &Option<QueueName>) -> Option<usize>
+// A record of a home as it is kept, with its name put where one was used.
+fn keep(names: &mut Names, its_record: HomeRecord) -> Kept
     requires { 0 < names.old.reserved }
-    ensures put { HasPutAny names.old.names names.new.names name.now result }
+    ensures kept { IsKeptAs names.old.names names.new.names its_record result }
     ensures reserved { names.old.reserved ≤ names.new.reserved + 1 }
 {
+    let (step, home, name) = its_record.into_parts();
     match name {
-        Some(name) => Some(names.place_of(name)),
-        None => None,
+        Some(name) => Kept::Named(names.place_of(&name), home, step),
+        None => Kept::Home(home, step),
     }
 }
 
@@ -215,7 +210,7 @@ fn place_of(others: &[Other], kept: &Kept) -> u64
     ensures { result ≡ place_of_kept others.now kept.now }
 {
     match kept {
-        Kept::Home(step, _, _) => step.place,
+        Kept::Home(_, step) | Kept::Named(_, _, step) => step.place,
         Kept::Other(at) => match others.get(*at) {
             Some(other) => other.as_record().place(),
             None => 0,
