@@ -1,2 +1,3 @@
+pub mod BodyTexts
 pub mod ReceivedValue
 pub mod TaskHandles

@@ -1,6 +1,6 @@
 //! What clients ask and the answers that they get, as values (SQS API Reference).
-ghost use Rattle.std.specs.Prelude.{◌≡◌, IfOk, IfErr};
-
+use crate::batches::{Batch, EntryResult};
+use crate::body_text::BodyText;
 use crate::digest::Digest;
 use crate::received_messages::ReceivedMessages;
 use crate::turns::{Turn, Turned};
@@ -8,13 +8,10 @@ use sq_base::handle::Handle;
 use sq_base::message_id::MessageId;
 use sq_base::name::QueueName;
 use sq_base::ranges::{Delay, MaxMessages, MaxResults, Rate, Timeout};
-use sq_base::refusal::Refusal;
 use sq_model::directory::{Attributes, NamePrefix, QueueAttributes};
 use sq_model::item::TaskNo;
 use sq_model::listed::Listed;
 use sq_model::task::Task;
-use std::alloc::Global;
-use std::marker::Model;
 
 /// CreateQueue; an attribute that is not given has its default.
 #[derive(Drop)]
@@ -23,40 +20,7 @@ pub struct CreateQueue {
     pub attributes: Attributes,
 }
 
-/// The text of a body whose characters are not checked yet.
-#[derive(Drop)]
-pub struct BodyText {
-    text: String,
-}
-
-impl Model for BodyText {
-    ghost use Rattle.std.specs.Prelude.{List, ℕ, string_bytes};
-
-    ghost Value = { List ℕ };
-
-    ghost view = { λ b. string_bytes b.text };
-}
-
-impl BodyText {
-    /// Refused only where memory is out.
-    pub fn new(alloc: Global, text: &str) -> Result<BodyText, Refusal>
-        ensures text { IfOk result (λ b. b ≡ text.now) }
-        ensures refused { IfErr result (λ e. e ≡ Refusal.NoMemory) }
-    {
-        Ok(BodyText {
-            text: String::from_str(alloc, text)?,
-        })
-    }
-
-    pub fn as_str(&self) -> &str
-        ensures { result.now ≡ self.now }
-    {
-        self.text.as_str()
-    }
-}
-
-/// SendMessage. A body is to have 1 to `BODY_LIMIT` bytes, as one that was read from a line has; another one is refused as
-/// InvalidParameterValue once the queue is found.
+/// SendMessage. Characters that may not stand in a body are InvalidMessageContents once the queue is found.
 #[derive(Drop)]
 pub struct SendMessage {
     pub queue: QueueName,
@@ -169,6 +133,8 @@ pub enum Call {
     ReceiveMessage(ReceiveMessage),
     DeleteMessage(DeleteMessage),
     ChangeMessageVisibility(ChangeMessageVisibility),
+    /// SendMessageBatch, DeleteMessageBatch or ChangeMessageVisibilityBatch, as its entries ask.
+    Batch(Batch),
     StartMessageMoveTask(StartMessageMoveTask),
     /// Without a task where the text is the handle of none.
     CancelMessageMoveTask(Option<TaskNo>),
@@ -215,6 +181,8 @@ pub enum Answer {
     /// The id of a message that was sent, and the digest of its body.
     Sent(MessageId, Digest),
     Received(ReceivedMessages),
+    /// What became of each entry of a batch, in the order of the entries.
+    Batch(Listed<EntryResult>),
     /// The move task that was started.
     Started(TaskNo),
     /// How many messages a cancelled task had moved.

@@ -1,9 +1,8 @@
 -- What the steps of a client's call come to.
-use Rattle.std.proofs.Common.{◌≡◌, ◌∙◌, ◌⊎◌, ℕ, suc, ◌+◌, ◌<◌, ◌≤◌, Bool, true, List, [], ◌∷◌, ◌++◌, length, refl, ap, subst, inl, inr, arith, Option, None, Some, Result, Ok, Err, IfOk, slice_get}
+use Rattle.std.proofs.Common.{◌≡◌, ◌∙◌, ◌⊎◌, ℕ, suc, ◌+◌, ◌<◌, ◌≤◌, Bool, true, List, [], ◌∷◌, ◌++◌, length, refl, ap, subst, inl, inr, arith, Option, Some, Result, Ok, Err, IfOk, slice_get}
 use Rattle.rand.specs.Sample.{IsSampleOf}
-use Rattle.sq_base.specs.declared.handle.Handle.{Handle}
 use Rattle.sq_base.specs.declared.refusal.Refusal.{Refusal}
-use Rattle.sq_base.specs.declared.refusal.Refusal.TheVariants.{NoMemory, QueueDoesNotExist, ReceiptHandleIsInvalid}
+use Rattle.sq_base.specs.declared.refusal.Refusal.TheVariants.{NoMemory, QueueDoesNotExist}
 use Rattle.sq_base.specs.declared.row.Row.{Row}
 use Rattle.sq_model.specs.declared.calls.Receipt.{Receipt}
 use Rattle.sq_model.specs.Policies.{has_list}
@@ -24,7 +23,6 @@ use Rattle.sq_history.specs.declared.act.HomeAct.TheVariants as act
 use Rattle.sq_calls.specs.declared.calls.Answer.{Answer}
 use Rattle.sq_calls.specs.declared.calls.GetQueueAttributes.{GetQueueAttributes}
 use Rattle.sq_calls.specs.declared.calls.QueueCounts.{QueueCounts}
-use Rattle.sq_model.specs.declared.task.NamedQueue.{NamedQueue}
 use Rattle.sq_model.specs.declared.task.Task.{Task}
 use Rattle.sq_model.specs.declared.ledger.LedgerReply.{LedgerReply}
 use Rattle.sq_model.specs.declared.ledger.LedgerReply.TheVariants as ledger
@@ -34,12 +32,13 @@ use Rattle.sq_steps.specs.declared.act.TaskAct.TheVariants as task
 use Rattle.sq_calls.specs.declared.calls.ReceiveMessage.{ReceiveMessage}
 use Rattle.sq_client.specs.declared.client.AtEach.{AtEach}
 use Rattle.sq_client.specs.declared.client.AtEach.TheVariants as at
-use Rattle.sq_client.specs.declared.client.OnMessage.{OnMessage}
-use Rattle.sq_client.specs.declared.client.OnMessage.TheVariants.{Delete, Change}
+use Rattle.sq_client.specs.declared.message.OnMessage.{OnMessage}
+use Rattle.sq_client.specs.declared.message.OnMessage.TheVariants.{Delete, Change}
 use Rattle.sq_client.specs.Messages.{act_of, act_at_each}
 use Rattle.sq_client.specs.Asks.{Ask, Resolve, Directed, AtHome, Ledgered, Gave, Found, Answered, Done, replied_of, told_of, HomeCounts, IsAnswerTo, IsReplyTo, IsToldTo, IsOfAnyStep, MayRefuse}
-use Rattle.sq_client.specs.Calls.{home_numbered, changes_queue, counted_homes, counts_with, received_from, receipt_of, handle_at}
-use Rattle.sq_client.specs.Fits.{named, directed, at_home, ledgered, ByLedger, ByDirectory, ByName, Copied, CountedAll, CountsAt, shown_of, IsPassed, AskedAll, AtAll, HasNoMessage, InVain, EndsReceive, none_answered, ReceiveAt, HandleAt, OneStep, MakesDone}
+use Rattle.sq_client.specs.Calls.{home_numbered, changes_queue, counted_homes, counts_with, received_from}
+use Rattle.sq_client.specs.Steps.{named, directed, at_home, ledgered}
+use Rattle.sq_client.specs.Fits.{ByLedger, ByDirectory, ByName, Copied, CountedAll, CountsAt, shown_of, IsPassed, AskedAll, AtAll, HasNoMessage, InVain, EndsReceive, none_answered, ReceiveAt}
 use Rattle.sq_client.specs.Performs.{Path, Performs}
 use Rattle.sq_client.proofs.PathLaws.{path_more, answered_one, answered_more}
 
@@ -50,33 +49,10 @@ answered_found stepped counts At F old mid new name queue answered h same rest a
     answered_more stepped (ByName name (At (counts old))) F old mid new answered (named name (Ok (Found queue))) h rest
     (λ ds fits. inr (queue, ds, refl, subst (λ (n : HomeCounts). At n queue ds answered) same (as_at ds fits)))
 
--- and that ends there
-pub answered_ended : {S : Type 0} (stepped : S → Ask → Result Gave Refusal → S → Type 0) (At : ℕ → List Done → Result Answer Refusal → Type 0) (old new : S) (name : List ℕ) (queue : ℕ) (answered : Result Answer Refusal)
-    → stepped old (Resolve name) (Ok (Found queue)) new → At queue [] answered → Performs stepped (ByName name At) old answered new
-answered_ended stepped At old new name queue answered h fits = answered_one stepped (ByName name At) old old new answered (named name (Ok (Found queue))) refl h (inr (queue, [], refl, fits))
-
 -- and on one that was not
 pub answered_lost : {S : Type 0} (stepped : S → Ask → Result Gave Refusal → S → Type 0) (At : ℕ → List Done → Result Answer Refusal → Type 0) (old new : S) (name : List ℕ) (answered : Result Answer Refusal) (e : Refusal)
     → answered ≡ Err e → MayRefuse (Resolve name) e → stepped old (Resolve name) (Err e) new → Performs stepped (ByName name At) old answered new
 answered_lost stepped At old new name answered e is may h = answered_one stepped (ByName name At) old old new answered (named name (Err e)) refl h (inl (e, may, refl, is))
-
--- a call on the message of a handle, at a queue that was found
-pub answered_handle : {S : Type 0} (stepped : S → Ask → Result Gave Refusal → S → Type 0) (counts : S → HomeCounts) (old mid new : S) (name : List ℕ) (handle : Option Handle) (a : Receipt → HomeAct) (of : NamedQueue) (h : Handle) (by : Result HomeReply Refusal) (answered : Result Answer Refusal)
-    → stepped old (Resolve name) (Ok (Found of.number)) mid → counts mid ≡ counts old → of.name ≡ name → handle_at (counts mid).homes of.number handle ≡ Some h
-    → stepped mid (AtHome of.name (home_numbered of.number h.home) (a (receipt_of h))) (replied_of by) new → OneStep of.name of.number h.home (a (receipt_of h)) MakesDone (at_home of.name of.number h.home (a (receipt_of h)) by ∷ []) answered
-    → Performs stepped (ByName name (HandleAt (counts old).homes name handle a)) old answered new
-answered_handle stepped counts old mid new name handle a of h by answered did same by_name found asked fits =
-    let F = OneStep of.name of.number h.home (a (receipt_of h)) MakesDone in
-    answered_found stepped counts (λ n. HandleAt n.homes name handle a) F old mid new name of.number answered did same
-    (answered_one stepped F mid mid new answered (at_home of.name of.number h.home (a (receipt_of h)) by) refl asked fits)
-    (λ ds one. inr (h, found, subst (λ (n : List ℕ). OneStep n of.number h.home (a (receipt_of h)) MakesDone ds answered) by_name one))
-
--- and of what is no handle there
-pub answered_no_handle : {S : Type 0} (stepped : S → Ask → Result Gave Refusal → S → Type 0) (counts : S → HomeCounts) (old new : S) (name : List ℕ) (handle : Option Handle) (a : Receipt → HomeAct) (queue : ℕ) (answered : Result Answer Refusal)
-    → stepped old (Resolve name) (Ok (Found queue)) new → counts new ≡ counts old → handle_at (counts new).homes queue handle ≡ None → answered ≡ Err ReceiptHandleIsInvalid
-    → Performs stepped (ByName name (HandleAt (counts old).homes name handle a)) old answered new
-answered_no_handle stepped counts old new name handle a queue answered did same lost is =
-    answered_ended stepped (HandleAt (counts old).homes name handle a) old new name queue answered did (inl (subst (λ (n : HomeCounts). handle_at n.homes queue handle ≡ None) same lost, refl, is))
 
 -- a call whose first step the directory answered
 pub answered_directed : {S : Type 0} (stepped : S → Ask → Result Gave Refusal → S → Type 0) (counts : S → HomeCounts) (call : DirectoryCall) (After : HomeCounts → DirectoryReply → List Done → Result Answer Refusal → Type 0) (F : List Done → Result Answer Refusal → Type 0) (old mid new : S) (by : DirectoryReply) (answered : Result Answer Refusal)

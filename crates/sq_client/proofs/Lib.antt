@@ -1,3 +1,4 @@
 pub mod PathLaws
 pub mod ClientLaws
+pub mod EntryLaws
 pub mod TurnLaws

@@ -19,6 +19,15 @@ pub path_more : {S : Type 0} (stepped : S → Ask → Result Gave Refusal → S 
 path_more {S} stepped s mid t [] d p h = (t, subst (λ (u : S). stepped u d.ask d.answered t) p h, refl)
 path_more stepped s mid t (x ∷ ds) d p h = (p.0, p.1, path_more stepped p.0 mid t ds d p.2 h)
 
+-- steps, and then others
+pub path_append : {S : Type 0} (stepped : S → Ask → Result Gave Refusal → S → Type 0) (s mid t : S) (ds es : List Done) → Path stepped s ds mid → Path stepped mid es t → Path stepped s (ds ++ es) t
+path_append {S} stepped s mid t [] es p q = subst (λ (u : S). Path stepped u es t) p q
+path_append stepped s mid t (d ∷ ds) es p q = (p.0, p.1, path_append stepped p.0 mid t ds es p.2 q)
+
+-- no step
+pub answered_none : {S A : Type 0} (stepped : S → Ask → Result Gave Refusal → S → Type 0) (F : List Done → Result A Refusal → Type 0) (old : S) (answered : Result A Refusal) → F [] answered → Performs stepped F old answered old
+answered_none stepped F old answered fits = record { trace = []; path = refl; fits = fits }
+
 -- one step
 pub answered_one : {S A : Type 0} (stepped : S → Ask → Result Gave Refusal → S → Type 0) (F : List Done → Result A Refusal → Type 0) (old mid new : S) (answered : Result A Refusal) (d : Done)
     → mid ≡ old → stepped mid d.ask d.answered new → F (d ∷ []) answered → Performs stepped F old answered new

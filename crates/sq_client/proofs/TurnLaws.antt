@@ -13,7 +13,7 @@ use Rattle.sq_model.specs.declared.shared.SharedAct.TheVariants.{LeaveDead, Leav
 use Rattle.sq_steps.specs.declared.act.NextItem.{NextItem}
 use Rattle.sq_client.specs.Asks.{Ask, Resolve, Moving, Next, Ledgered, Walking, Walked, Gave, Found, Peeked, Walks, Noted, HomeCounts, told_of}
 use Rattle.sq_client.specs.Calls.{home_numbered}
-use Rattle.sq_client.specs.Fits.{ledgered, named}
+use Rattle.sq_client.specs.Steps.{ledgered, named}
 use Rattle.sq_client.specs.Performs.{Performs}
 use Rattle.sq_client.specs.Turns.{moving, trying, walking, walked, WordFor, LeaveFits, home_ahead, comes_in, goes_back, Brings, BringFits, walk_after, LeavesFor, walk_waiting, finish_word, Finishes, ServesTask, TaskFits}
 use Rattle.sq_client.proofs.PathLaws.{answered_one, answered_more}

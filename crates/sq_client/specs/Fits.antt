@@ -1,15 +1,10 @@
 -- Which steps a call does, and what it tells of them, up to a stop; nothing here speaks of states.
 use Rattle.std.specs.Prelude.{◌≡◌, ◌⊎◌, ℕ, zero, suc, ◌<◌, ◌≤◌, Bool, true, false, List, [], ◌∷◌, ◌++◌, length, slice_get, Option, Some, None, Result, Ok, Err}
 use Rattle.std.specs.Str.{bytes_eq}
-use Rattle.hex.specs.Hex.{encode_lower}
-use Rattle.md5.specs.Md5.{md5}
 use Rattle.rand.specs.Sample.{IsSampleOf}
-use Rattle.sq_base.specs.Bodies.{body_check}
-use Rattle.sq_base.specs.declared.handle.Handle.{Handle}
 use Rattle.sq_base.specs.declared.refusal.Refusal.{Refusal}
-use Rattle.sq_base.specs.declared.refusal.Refusal.TheVariants.{InvalidParameterValue, NoMemory, QueueDoesNotExist, OverLimit, ReceiptHandleIsInvalid, ResourceNotFoundException}
+use Rattle.sq_base.specs.declared.refusal.Refusal.TheVariants.{InvalidParameterValue, NoMemory, QueueDoesNotExist, OverLimit, ResourceNotFoundException}
 use Rattle.sq_base.specs.declared.row.Row.{Row}
-use Rattle.sq_model.specs.declared.calls.Receipt.{Receipt}
 use Rattle.sq_model.specs.declared.directory.Attributes.{Attributes}
 use Rattle.sq_model.specs.declared.directory.DirectoryCall.{DirectoryCall}
 use Rattle.sq_model.specs.declared.directory.DirectoryCall.TheVariants.{Create, PurgeTicket, Read, Remove, Set, Sources, Url}
@@ -28,9 +23,8 @@ use Rattle.sq_steps.specs.declared.act.TaskAct.TheVariants as task
 use Rattle.sq_model.specs.Policies.{has_list}
 use Rattle.sq_model.specs.declared.replies.HomeReply.{HomeReply}
 use Rattle.sq_model.specs.declared.replies.HomeReply.TheVariants as reply
-use Rattle.sq_model.specs.declared.replies.SentMessage.{SentMessage}
 use Rattle.sq_history.specs.declared.act.HomeAct.{HomeAct}
-use Rattle.sq_history.specs.declared.act.HomeAct.TheVariants.{Configure, Close, Send, Look, Delete, Change, Purge, Count}
+use Rattle.sq_history.specs.declared.act.HomeAct.TheVariants.{Configure, Close, Look, Purge, Count}
 use Rattle.sq_calls.specs.declared.calls.Answer.{Answer}
 use Rattle.sq_calls.specs.declared.calls.Answer.TheVariants as answer
 use Rattle.sq_calls.specs.declared.calls.Call.{Call}
@@ -41,39 +35,18 @@ use Rattle.sq_calls.specs.declared.calls.ListMessageMoveTasks.{ListMessageMoveTa
 use Rattle.sq_calls.specs.declared.calls.QueueCounts.{QueueCounts}
 use Rattle.sq_calls.specs.declared.calls.ReceiveMessage.{ReceiveMessage}
 use Rattle.sq_calls.specs.declared.calls.SetQueueAttributes.{SetQueueAttributes}
-use Rattle.sq_calls.specs.declared.calls.SendMessage.{SendMessage}
 use Rattle.sq_calls.specs.declared.calls.StartMessageMoveTask.{StartMessageMoveTask}
-use Rattle.sq_client.specs.Asks.{Resolve, Directed, AtHome, Redriven, Ledgered, Gave, Found, Ends, Done, answered_of, replied_of, told_of, HomeCounts, IsAnswerTo, IsOfAnyStep, MayRefuse}
-use Rattle.sq_client.specs.Calls.{home_numbered, counted_homes, counts_with, no_counts, received_from, receipt_of, handle_at}
-
--- a queue is looked up by its name; the directory is asked; a home of a queue is asked, by the queue's name
-abbrev pub named : List ℕ → Result Gave Refusal → Done
-named name answered = record { ask = Resolve name; answered = answered }
-
-abbrev pub directed : DirectoryCall → Result DirectoryReply Refusal → Done
-directed call answered = record { ask = Directed call; answered = answered_of answered }
-
-abbrev pub at_home : List ℕ → ℕ → ℕ → HomeAct → Result HomeReply Refusal → Done
-at_home name queue home act answered = record { ask = AtHome name (home_numbered queue home) act; answered = replied_of answered }
-
--- between which queues messages may be moved is read; the ledger alone is asked
-abbrev pub redriven : List ℕ → Option (List ℕ) → Result Gave Refusal → Done
-redriven source destination answered = record { ask = Redriven source destination; answered = answered }
-
-abbrev pub ledgered : TaskAct → Result LedgerReply Refusal → Done
-ledgered what answered = record { ask = Ledgered what; answered = told_of answered }
+use Rattle.sq_client.specs.Asks.{Resolve, Directed, AtHome, Redriven, Ledgered, Found, Ends, Done, HomeCounts, IsAnswerTo, IsOfAnyStep, MayRefuse}
+use Rattle.sq_client.specs.Steps.{named, directed, at_home, redriven, ledgered}
+use Rattle.sq_client.specs.Entries.{OneFits, BatchAt}
+use Rattle.sq_calls.specs.declared.batches.EntryAsk.TheVariants as ask
+use Rattle.sq_client.specs.Calls.{home_numbered, counted_homes, counts_with, no_counts, received_from}
 
 -- A call on a queue: the queue is looked up by its name, and what is left is done after that.
 abbrev pub ByName : List ℕ → (ℕ → List Done → Result Answer Refusal → Type 0) → List Done → Result Answer Refusal → Type 0
 ByName name At trace answered =
     ((e : Refusal) × MayRefuse (Resolve name) e × (trace ≡ named name (Err e) ∷ []) × (answered ≡ Err e))
     ⊎ ((queue : ℕ) × (rest : List Done) × (trace ≡ named name (Ok (Found queue)) ∷ rest) × At queue rest answered)
-
--- One step at a home of a queue, whose reply makes the answer.
-abbrev pub OneStep : List ℕ → ℕ → ℕ → HomeAct → (HomeReply → Answer → Type 0) → List Done → Result Answer Refusal → Type 0
-OneStep name queue home act Makes trace answered =
-    ((by : HomeReply) × (answer : Answer) × (trace ≡ at_home name queue home act (Ok by) ∷ []) × Makes by answer × (answered ≡ Ok answer))
-    ⊎ ((e : Refusal) × MayRefuse (AtHome name (home_numbered queue home) act) e × (trace ≡ at_home name queue home act (Err e) ∷ []) × (answered ≡ Err e))
 
 -- a home that was asked did it; or it is closed, and is passed over
 abbrev pub IsPassed : Result HomeReply Refusal → Type 0
@@ -153,20 +126,6 @@ abbrev pub Shows : ℕ → GetQueueAttributes → DirectoryReply → List Done �
 Shows homes c (told.Read attributes) trace answered = CountsAt homes c attributes trace answered
 Shows homes c other trace answered = ⊥
 
--- the answer to a send is the message's id and its body's digest
-abbrev pub MakesSent : List ℕ → HomeReply → Answer → Type 0
-MakesSent body by answered = (sent : SentMessage) × (by ≡ reply.Sent sent) × (answered ≡ answer.Sent sent.id (encode_lower (md5 body)))
-
--- a body is put last at one of a queue's homes
-abbrev pub PutAt : ℕ → List ℕ → ℕ → List ℕ → Option ℕ → List Done → Result Answer Refusal → Type 0
-PutAt homes name queue body delay trace answered = (home : ℕ) × (home < homes) × OneStep name queue home (Send body delay) (MakesSent body) trace answered
-
--- SendMessage at a queue: the body is checked, and put
-abbrev pub SendAt : ℕ → SendMessage → ℕ → List Done → Result Answer Refusal → Type 0
-SendAt homes c queue trace answered =
-    ((e : Refusal) × ((body_check c.body 262144 ≡ Err e) ⊎ ((body_check c.body 262144 ≡ Ok tt) × (e ≡ NoMemory))) × (trace ≡ []) × (answered ≡ Err e))
-    ⊎ ((body_check c.body 262144 ≡ Ok tt) × PutAt homes c.queue queue c.body c.delay trace answered)
-
 -- a home that is asked gives no message: it has none, or too many in flight; whether any home so far has
 abbrev pub HasNoMessage : HomeReply → Bool → Bool → Type 0
 HasNoMessage by was over = ((by ≡ reply.Looked []) × (over ≡ was)) ⊎ ((by ≡ reply.Over) × (over ≡ true))
@@ -197,16 +156,6 @@ ReceiveAt counts c queue trace answered =
     × (((n : ℕ) × (front : List Done) × (home : ℕ) × (by : Result HomeReply Refusal) × InVain c queue drawn n over front × (slice_get drawn n ≡ Some home)
     × (trace ≡ front ++ at_home c.queue queue home (Look c.max c.timeout) by ∷ []) × EndsReceive c queue home by answered)
     ⊎ (InVain c queue drawn (length drawn) over trace × (answered ≡ none_answered c queue over))))
-
--- the answer to a step that has nothing to tell
-abbrev pub MakesDone : HomeReply → Answer → Type 0
-MakesDone by answered = (by ≡ reply.Done) × (answered ≡ answer.Done)
-
--- a step on the message of a handle, at the handle's home
-abbrev pub HandleAt : ℕ → List ℕ → Option Handle → (Receipt → HomeAct) → ℕ → List Done → Result Answer Refusal → Type 0
-HandleAt homes name handle act queue trace answered =
-    ((handle_at homes queue handle ≡ None) × (trace ≡ []) × (answered ≡ Err ReceiptHandleIsInvalid))
-    ⊎ ((h : Handle) × (handle_at homes queue handle ≡ Some h) × OneStep name queue h.home (act (receipt_of h)) MakesDone trace answered)
 
 -- A step of the ledger alone, whose reply makes the answer.
 abbrev pub ByLedger : TaskAct → (LedgerReply → Answer → Type 0) → List Done → Result Answer Refusal → Type 0
@@ -271,10 +220,11 @@ CallFits counts (call.GetQueueAttributes c) trace answered = ByDirectory (Read c
 CallFits counts (call.PurgeQueue name) trace answered = ByDirectory (PurgeTicket name) (ThenAll counts.homes name answer.Done) trace answered
 CallFits counts (call.DeleteQueue name) trace answered = ByDirectory (Remove name) (ThenAll counts.homes name answer.Done) trace answered
 CallFits counts (call.ListDeadLetterSourceQueues name) trace answered = ByDirectory (Sources name) TellsSources trace answered
-CallFits counts (call.SendMessage c) trace answered = ByName c.queue (SendAt counts.homes c) trace answered
+CallFits counts (call.SendMessage c) trace answered = ByName c.queue (OneFits counts.homes c.queue (ask.Send c.body c.delay)) trace answered
 CallFits counts (call.ReceiveMessage c) trace answered = ByName c.queue (ReceiveAt counts c) trace answered
-CallFits counts (call.DeleteMessage c) trace answered = ByName c.queue (HandleAt counts.homes c.queue c.handle (λ receipt. Delete receipt)) trace answered
-CallFits counts (call.ChangeMessageVisibility c) trace answered = ByName c.queue (HandleAt counts.homes c.queue c.handle (λ receipt. Change receipt c.timeout)) trace answered
+CallFits counts (call.DeleteMessage c) trace answered = ByName c.queue (OneFits counts.homes c.queue (ask.Delete c.handle)) trace answered
+CallFits counts (call.ChangeMessageVisibility c) trace answered = ByName c.queue (OneFits counts.homes c.queue (ask.Change c.handle c.timeout)) trace answered
+CallFits counts (call.Batch c) trace answered = ByName c.queue (BatchAt counts.homes c) trace answered
 CallFits counts (call.StartMessageMoveTask c) trace answered = StartFits c trace answered
 CallFits counts (call.CancelMessageMoveTask number) trace answered = CancelFits number trace answered
 CallFits counts (call.ListMessageMoveTasks c) trace answered = ListTasksFits c trace answered

@@ -3,5 +3,7 @@ pub mod Asks
 pub mod Messages
 pub mod Performs
 pub mod Calls
+pub mod Steps
+pub mod Entries
 pub mod Fits
 pub mod Turns

@@ -4,8 +4,8 @@ use Rattle.sq_history.specs.declared.act.HomeAct.{HomeAct}
 use Rattle.sq_history.specs.declared.act.HomeAct.TheVariants as act
 use Rattle.sq_client.specs.declared.client.AtEach.{AtEach}
 use Rattle.sq_client.specs.declared.client.AtEach.TheVariants as each
-use Rattle.sq_client.specs.declared.client.OnMessage.{OnMessage}
-use Rattle.sq_client.specs.declared.client.OnMessage.TheVariants.{Delete, Change}
+use Rattle.sq_client.specs.declared.message.OnMessage.{OnMessage}
+use Rattle.sq_client.specs.declared.message.OnMessage.TheVariants.{Delete, Change}
 
 abbrev pub act_of : OnMessage → Receipt → HomeAct
 act_of Delete receipt = act.Delete receipt

@@ -20,7 +20,7 @@ use Rattle.sq_steps.specs.declared.act.TaskAct.TheVariants.{Finish}
 use Rattle.sq_client.specs.declared.walk.Walk.{Walk}
 use Rattle.sq_client.specs.Asks.{Resolve, Moving, Next, Walking, Walked, Gave, Found, Replied, Nothing, Peeked, Walks, Noted, Done, IsOfAnyStep, MayRefuse}
 use Rattle.sq_client.specs.Calls.{home_numbered}
-use Rattle.sq_client.specs.Fits.{ledgered, named}
+use Rattle.sq_client.specs.Steps.{ledgered, named}
 use Rattle.sq_client.specs.Walks.{after_nothing, after_other, row_again}
 
 -- a home and the ledger are asked; the item that is tried next is read

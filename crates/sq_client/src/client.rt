@@ -1,30 +1,30 @@
 //! What each call of a client does, over any steps.
-ghost use Rattle.std.specs.Prelude.{◌≡◌, ◌≢◌, ◌⊎◌, ◌+◌, ◌<◌, ◌≤◌, ℕ, true, None, Some, Ok, Err, IfOk, IfErr, OnOk};
+ghost use Rattle.std.specs.Prelude.{◌≡◌, ◌≢◌, ◌⊎◌, ◌+◌, ◌<◌, ◌≤◌, ℕ, true, Some, Ok, Err, IfErr, OnOk};
 ghost use Rattle.sq_model.specs.declared.replies.HomeReply.{HomeReply};
 ghost use Rattle.sq_model.specs.declared.directory.DirectoryCall.TheVariants.{List as ListNames, Read, Sources, Url};
 ghost use Rattle.sq_directory.specs.Makers.{name_asked};
-ghost use Rattle.sq_client.specs.Messages.{act_of, act_at_each};
-ghost use Rattle.sq_client.specs.Calls.{home_numbered, counted_homes, counts_with, changes_queue, received_from, receipt_of, handle_at, AreFew};
-ghost use Rattle.sq_client.specs.Fits.{ByName, AtAll, ByDirectory, ThenAll, CreateFits, SetFits, TellsUrl, TellsQueues, TellsSources, StartFits, StartsBetween, is_destination, CancelFits, ListTasksFits, source_refusal, CountsAt, Shows, PutAt, SendAt, ReceiveAt, HandleAt, CallFits};
+ghost use Rattle.sq_calls.specs.declared.batches.EntryAsk.TheVariants.{Send, Delete, Change};
+ghost use Rattle.sq_client.specs.Messages.{act_at_each};
+ghost use Rattle.sq_client.specs.Calls.{home_numbered, counted_homes, counts_with, changes_queue, received_from, AreFew};
+ghost use Rattle.sq_client.specs.Entries.{OneFits};
+ghost use Rattle.sq_client.specs.Fits.{ByName, AtAll, ByDirectory, ThenAll, CreateFits, SetFits, TellsUrl, TellsQueues, TellsSources, StartFits, StartsBetween, is_destination, CancelFits, ListTasksFits, source_refusal, CountsAt, Shows, ReceiveAt, CallFits};
 ghost use Rattle.sq_calls.specs.ReceivedValue.{AreReceived};
 ghost use Rattle.sq_client.specs.Performs.{Performs, LeavesRecords};
 
+use crate::batch::batch;
 use crate::lock_steps::LockSteps;
-use sq_base::body::{BODY_LIMIT, Body};
-use sq_base::handle::Handle;
+use crate::message::{OnMessage, on_message, one_answered, send};
 use sq_base::ids::{HomeId, HomeNo, QueueNo};
 use sq_base::name::QueueName;
-use sq_base::ranges::{Delay, Timeout};
 use sq_base::refusal::Refusal;
 use sq_base::settings::Settings;
 use sq_calls::calls::{
-    Answer, AskedOfQueue, Call, CreateQueue, GetQueueAttributes, ListMessageMoveTasks, QueueCounts,
-    ReceiveMessage, SendMessage, SetQueueAttributes, ShownAttributes, StartMessageMoveTask,
+    Answer, AskedOfQueue, Call, ChangeMessageVisibility, CreateQueue, DeleteMessage,
+    GetQueueAttributes, ListMessageMoveTasks, QueueCounts, ReceiveMessage, SendMessage,
+    SetQueueAttributes, ShownAttributes, StartMessageMoveTask,
 };
-use sq_calls::digest::Digest;
 use sq_calls::received_messages::ReceivedMessages;
 use sq_history::act::HomeAct;
-use sq_model::calls::Receipt;
 use sq_model::directory::{DirectoryCall, DirectoryReply, NamePrefix, QueueAttributes};
 use sq_model::item::TaskNo;
 use sq_model::ledger::LedgerReply;
@@ -61,15 +61,11 @@ fn answer<S: LockSteps>(steps: &mut S, call: &Call) -> Result<Answer, Refusal>
             change_queue(steps, &remove, name, Answer::Done)
         }
         Call::ListDeadLetterSourceQueues(name) => list_sources(steps, name),
-        Call::SendMessage(call) => send(steps, call),
+        Call::SendMessage(call) => send_message(steps, call),
         Call::ReceiveMessage(call) => receive(steps, call),
-        Call::DeleteMessage(call) => {
-            on_message(steps, &call.queue, &call.handle, OnMessage::Delete)
-        }
-        Call::ChangeMessageVisibility(call) => {
-            let change = OnMessage::Change(call.timeout);
-            on_message(steps, &call.queue, &call.handle, change)
-        }
+        Call::DeleteMessage(call) => delete_message(steps, call),
+        Call::ChangeMessageVisibility(call) => change_message(steps, call),
+        Call::Batch(call) => batch(steps, call),
         Call::StartMessageMoveTask(call) => start_task(steps, call),
         Call::CancelMessageMoveTask(number) => cancel_task(steps, number),
         Call::ListMessageMoveTasks(call) => list_tasks(steps, call),
@@ -264,30 +260,29 @@ fn counts_with(sum: &QueueCounts, counts: &Counts) -> QueueCounts
     }
 }
 
-fn send<S: LockSteps>(steps: &mut S, call: &SendMessage) -> Result<Answer, Refusal>
-    ensures { Performs S.stepped (ByName call.now.queue (SendAt (S.counts steps.old).homes call.now)) steps.old result steps.new }
+fn send_message<S: LockSteps>(steps: &mut S, call: &SendMessage) -> Result<Answer, Refusal>
+    ensures { Performs S.stepped (ByName call.now.queue (OneFits (S.counts steps.old).homes call.now.queue (Send call.now.body call.now.delay))) steps.old result steps.new }
 {
     let of = steps.resolve(&call.queue)?;
-    let body = Body::new(steps.alloc(), call.body.as_str(), BODY_LIMIT)?;
-    put(steps, &of, body, call.delay)
+    one_answered(send(steps, &of, &call.body, call.delay))
 }
 
-// Puts a body last at one of the queue's homes.
-fn put<S: LockSteps>(
-    steps: &mut S,
-    of: &NamedQueue,
-    body: Body,
-    delay: Option<Delay>,
-) -> Result<Answer, Refusal>
-    requires { S.knows steps.old of.now.name of.now.number }
-    ensures { Performs S.stepped (PutAt (S.counts steps.old).homes of.now.name of.now.number body delay) steps.old result steps.new }
+fn delete_message<S: LockSteps>(steps: &mut S, call: &DeleteMessage) -> Result<Answer, Refusal>
+    ensures { Performs S.stepped (ByName call.now.queue (OneFits (S.counts steps.old).homes call.now.queue (Delete call.now.handle))) steps.old result steps.new }
 {
-    let digest = Digest::of(&body);
-    let home = steps.pick();
-    match steps.at_home(of, home, HomeAct::Send(body, delay))? {
-        HomeReply::Sent(sent) => Ok(Answer::Sent(sent.id, digest)),
-        _ => unreachable!(),
-    }
+    let of = steps.resolve(&call.queue)?;
+    one_answered(on_message(steps, &of, &call.handle, OnMessage::Delete))
+}
+
+fn change_message<S: LockSteps>(
+    steps: &mut S,
+    call: &ChangeMessageVisibility,
+) -> Result<Answer, Refusal>
+    ensures { Performs S.stepped (ByName call.now.queue (OneFits (S.counts steps.old).homes call.now.queue (Change call.now.handle call.now.timeout))) steps.old result steps.new }
+{
+    let of = steps.resolve(&call.queue)?;
+    let change = OnMessage::Change(call.timeout);
+    one_answered(on_message(steps, &of, &call.handle, change))
 }
 
 fn receive<S: LockSteps>(steps: &mut S, call: &ReceiveMessage) -> Result<Answer, Refusal>
@@ -326,46 +321,6 @@ fn look<S: LockSteps>(
         return Err(Refusal::OverLimit);
     }
     Ok(received_answer(of.number, HomeNo::first(), call, Rows::none()))
-}
-
-// What is done to the message of a handle.
-#[derive(Clone, Copy)]
-enum OnMessage {
-    Delete,
-    Change(Timeout),
-}
-
-impl OnMessage {
-    // What its home is asked, by what the handle names there.
-    fn act(self, handle: &Handle) -> HomeAct
-        ensures { result ≡ act_of self (receipt_of handle.now) }
-    {
-        let receipt = Receipt {
-            slot: handle.slot,
-            serial: handle.serial,
-            receive: handle.receive,
-        };
-        match self {
-            OnMessage::Delete => HomeAct::Delete(receipt),
-            OnMessage::Change(timeout) => HomeAct::Change(receipt, timeout),
-        }
-    }
-}
-
-// A step on the message of a handle, at its home.
-fn on_message<S: LockSteps>(
-    steps: &mut S,
-    name: &QueueName,
-    handle: &Option<Handle>,
-    what: OnMessage,
-) -> Result<Answer, Refusal>
-    ensures { Performs S.stepped (ByName name.now (HandleAt (S.counts steps.old).homes name.now handle.now (act_of what))) steps.old result steps.new }
-{
-    let of = steps.resolve(name)?;
-    let handle = handle_at(steps.homes(), of.number, handle)?;
-    let act = what.act(&handle);
-    steps.at_home(&of, handle.home, act)?;
-    Ok(Answer::Done)
 }
 
 // A task starts, but where its destination is its source.
@@ -451,17 +406,4 @@ fn received_answer(queue: QueueNo, home: HomeNo, call: &ReceiveMessage, rows: Ro
 {
     let id = HomeId { queue, home };
     Answer::Received(ReceivedMessages::new(call.attributes, id, rows))
-}
-
-// The handle, where it is one of this queue and of one of its homes.
-fn handle_at(homes: HomeCount, queue: QueueNo, handle: &Option<Handle>) -> Result<Handle, Refusal>
-    ensures found { IfOk result (λ h. handle_at homes queue handle.now ≡ Some h) }
-    ensures lost { IfErr result (λ e. (handle_at homes queue handle.now ≡ None) × (e ≡ Refusal.ReceiptHandleIsInvalid)) }
-{
-    match handle {
-        Some(handle) if handle.queue == queue && (handle.home.get() as u32) < homes.get() => {
-            Ok(*handle)
-        }
-        _ => Err(Refusal::ReceiptHandleIsInvalid),
-    }
 }

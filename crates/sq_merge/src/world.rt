@@ -164,9 +164,10 @@ impl World {
 
     /// What a client asks, done by an actor at a clock reading in ms, step by step. A call on a queue looks it up by its
     /// name first. Refused as its first check in order that fails; steps that were done before that stand:
-    /// QueueDoesNotExist; NoMemory of an actor that is new; InvalidParameterValue and InvalidMessageContents of a body;
-    /// ReceiptHandleIsInvalid of what is no handle of the queue and of one of its homes; NoMemory; ClockRange; Worn; and
-    /// then as the home's call. CreateQueue is refused as QueueNameExists, QueueDeletedRecently, InvalidAttributeValue and
+    /// QueueDoesNotExist; NoMemory of an actor that is new; InvalidMessageContents of a body; ReceiptHandleIsInvalid of what
+    /// is no handle of the queue and of one of its homes; NoMemory; ClockRange; Worn; and then as the home's call. A batch is
+    /// refused as a whole only as QueueDoesNotExist or NoMemory, before its first entry is done; what then refuses an entry
+    /// is told of it alone: UnsupportedOperation or InvalidParameterValue, and then as a call on one message. CreateQueue is refused as QueueNameExists, QueueDeletedRecently, InvalidAttributeValue and
     /// TableFull too, SetQueueAttributes as InvalidAttributeValue, PurgeQueue as PurgeQueueInProgress, and ReceiveMessage as
     /// OverLimit where no home that was asked gave a message and one of them has too many in flight. Of move tasks: a start as
     /// InvalidParameterValue (the destination is the source), ResourceNotFoundException (one of them is not there),

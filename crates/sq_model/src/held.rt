@@ -41,6 +41,7 @@ impl<T: Drop> Held<T> {
         })
     }
 
+    /// The value.
     pub fn get(&self) -> &T
         ensures { result.now ≡ self.now }
     {

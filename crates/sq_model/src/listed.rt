@@ -1,4 +1,4 @@
-//! Lists of what a step answers: rows, tasks, names.
+//! Lists: of rows, tasks, names, and of the entries of a batch.
 ghost use Rattle.std.specs.Prelude.{◌≡◌, ◌<◌, [], ◌∷◌, ◌++◌, OnOk, IfOk, IfErr, length};
 
 use sq_base::refusal::Refusal;
@@ -20,12 +20,20 @@ impl<T> Model for Listed<T> {
 }
 
 impl<T: Drop> Listed<T> {
+    /// Nothing.
     pub fn new(alloc: Global) -> Listed<T>
         ensures { result ≡ [] }
     {
         Listed {
             items: Vec::new(alloc),
         }
+    }
+
+    /// Things that were listed in memory that was got for them.
+    pub fn of(items: Vec<T>) -> Listed<T>
+        ensures { result ≡ items.items }
+    {
+        Listed { items }
     }
 
     /// Puts one last; refused only where memory is out.
@@ -39,12 +47,14 @@ impl<T: Drop> Listed<T> {
         Ok(())
     }
 
+    /// How many there are.
     pub fn len(&self) -> usize
         ensures { result ≡ length self.now }
     {
         self.items.len()
     }
 
+    /// The things in their order.
     pub fn as_slice(&self) -> &[T]
         ensures { result.now ≡ self.now }
     {

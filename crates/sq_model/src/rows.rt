@@ -59,12 +59,14 @@ impl Rows {
         Ok(Rows { some })
     }
 
+    /// How many rows there are.
     pub fn len(&self) -> usize
         ensures { result ≡ length self.now }
     {
         self.as_slice().len()
     }
 
+    /// The rows in their order.
     pub fn as_slice(&self) -> &[Row]
         ensures { result.now ≡ self.now }
     {

@@ -1,22 +1,26 @@
 -- No answer has a float.
 use Rattle.std.proofs.Common.{◌≡◌, ◌∙◌, false, true, Bool, List, [], ◌∷◌, map, refl, ℕ, Option, Some, None, cond}
-use Rattle.std.specs.Prelude.{option_map}
+use Rattle.std.specs.Prelude.{option_map, Result, Ok, Err}
 use Rattle.std.specs.List.{AllByRecursion}
 use Rattle.serde_json.specs.View.{items_of}
 use Rattle.serde_json.specs.Data.{Data, Members, string, number, unsigned}
 use Rattle.serde_json.specs.Written.{has_float, items_have_float, members_have_float}
 use Rattle.sq_base.specs.declared.ids.HomeId.{HomeId}
+use Rattle.sq_base.specs.declared.refusal.Refusal.{Refusal}
 use Rattle.sq_base.specs.declared.row.Row.{Row}
+use Rattle.sq_calls.specs.declared.batches.EntryAnswer.{EntryAnswer}
+use Rattle.sq_calls.specs.declared.batches.EntryAnswer.TheVariants as entry
+use Rattle.sq_calls.specs.declared.batches.EntryResult.{EntryResult}
 use Rattle.sq_calls.specs.declared.calls.AskedAttributes.{AskedAttributes}
 use Rattle.sq_calls.specs.declared.calls.Answer.{Answer}
-use Rattle.sq_calls.specs.declared.calls.Answer.TheVariants.{Queue, Queues, Sources, Attributes, Sent, Received, Started, Cancelled, Tasks, Done}
+use Rattle.sq_calls.specs.declared.calls.Answer.TheVariants.{Queue, Queues, Sources, Attributes, Sent, Received, Batch, Started, Cancelled, Tasks, Done}
 use Rattle.sq_calls.specs.declared.calls.ShownAttributes.{ShownAttributes}
 use Rattle.sq_calls.specs.TaskHandles.{task_handle_text}
 use Rattle.sq_model.specs.declared.task.NamedQueue.{NamedQueue}
 use Rattle.sq_model.specs.declared.task.Task.{Task}
 use Rattle.sq_model.specs.Tasks.{is_running}
 use Rattle.sq_policy.specs.PolicyTexts.{arn_text}
-use Rattle.sq_replies.specs.Replies.{queue_url, queues_data, source_queues_data, text_member, text_members, shown_texts, shown_data, attributes_data, answered_data, message_data, received_data, failure_word, task_values, value_member, value_members, task_data, tasks_data, answer_data}
+use Rattle.sq_replies.specs.Replies.{queue_url, queues_data, source_queues_data, text_member, text_members, shown_texts, shown_data, attributes_data, answered_data, message_data, received_data, entry_data, with_failure, failures, with_success, successes, batch_data, failure_word, task_values, value_member, value_members, task_data, tasks_data, answer_data}
 
 -- the attributes, where each test has a value
 answered_no_float : (count sent : Bool) (row : Row) (body digest id handle : List ℕ) → has_float (answered_data (attributes_data (record { receive_count = count; sent_timestamp = sent }) row) body digest id handle) ≡ false
@@ -90,6 +94,29 @@ items_no_float (task ∷ tasks) = rw (task_no_float task, items_no_float tasks) 
 tasks_no_float : (tasks : List Task) → has_float (tasks_data tasks) ≡ false
 tasks_no_float tasks = rw items_no_float refl
 
+failure_no_float : (id : List ℕ) (answer : Result EntryAnswer Refusal) (rest : List Data) → items_have_float (items_of (with_failure id answer rest)) ≡ items_have_float (items_of rest)
+failure_no_float id (Ok answer) rest = refl
+failure_no_float id (Err e) rest = refl
+
+failures_no_float : (told : List EntryResult) → items_have_float (items_of (failures told)) ≡ false
+failures_no_float [] = refl
+failures_no_float (t ∷ told) = failure_no_float t.id t.answer (failures told) ∙ failures_no_float told
+
+entry_no_float : (id : List ℕ) (answer : EntryAnswer) → has_float (entry_data id answer) ≡ false
+entry_no_float id (entry.Sent message digest) = refl
+entry_no_float id entry.Done = refl
+
+success_no_float : (id : List ℕ) (answer : Result EntryAnswer Refusal) (rest : List Data) → items_have_float (items_of (with_success id answer rest)) ≡ items_have_float (items_of rest)
+success_no_float id (Ok answer) rest = rw (entry_no_float id answer) refl
+success_no_float id (Err e) rest = refl
+
+successes_no_float : (told : List EntryResult) → items_have_float (items_of (successes told)) ≡ false
+successes_no_float [] = refl
+successes_no_float (t ∷ told) = success_no_float t.id t.answer (successes told) ∙ successes_no_float told
+
+batch_no_float : (told : List EntryResult) → has_float (batch_data told) ≡ false
+batch_no_float told = rw (failures_no_float told, successes_no_float told) refl
+
 pub answer_no_float : (answer : Answer) → has_float (answer_data answer) ≡ false
 answer_no_float (Queue name) = refl
 answer_no_float (Queues names) = queues_no_float names
@@ -97,6 +124,7 @@ answer_no_float (Sources names) = source_queues_no_float names
 answer_no_float (Attributes shown) = shown_no_float shown
 answer_no_float (Sent id digest) = refl
 answer_no_float (Received received) = received_no_float received.attributes received.home received.rows
+answer_no_float (Batch told) = batch_no_float told
 answer_no_float (Started task) = refl
 answer_no_float (Cancelled moved) = refl
 answer_no_float (Tasks tasks) = tasks_no_float tasks

@@ -3,7 +3,7 @@ use Rattle.std.specs.Prelude.{⊤, ℕ, List, [], ◌∷◌, ◌++◌, map, code
 use Rattle.std.specs.Int.{w128, to_be_bytes}
 use Rattle.hex.specs.Hex.{encode_lower}
 use Rattle.md5.specs.Md5.{md5}
-use Rattle.serde_json.specs.Data.{Data, object, array, string, number, unsigned, Members, member, no_members}
+use Rattle.serde_json.specs.Data.{Data, boolean, object, array, string, number, unsigned, Members, member, no_members}
 use Rattle.serde_json.specs.View.{items_of}
 use Rattle.serde_json.specs.Written.{compact_text}
 use Rattle.uuid.specs.Text.{hyphenated_text, lower}
@@ -11,13 +11,17 @@ use Rattle.sq_base.specs.declared.handle.Handle.{Handle}
 use Rattle.sq_base.specs.declared.ids.HomeId.{HomeId}
 use Rattle.sq_base.specs.declared.message_id.MessageId.{MessageId}
 use Rattle.sq_base.specs.declared.refusal.Refusal.{Refusal}
+use Rattle.sq_base.specs.declared.refusal.Refusal.TheVariants.{NoMemory, ClockRange, Worn}
 use Rattle.sq_base.specs.declared.row.Row.{Row}
 use Rattle.sq_base.specs.Handles.{handle_text}
 use Rattle.sq_base.specs.MessageIds.{id_number}
 use Rattle.sq_base.specs.Refusals.{name_of, number_of}
+use Rattle.sq_calls.specs.declared.batches.EntryAnswer.{EntryAnswer}
+use Rattle.sq_calls.specs.declared.batches.EntryAnswer.TheVariants as entry
+use Rattle.sq_calls.specs.declared.batches.EntryResult.{EntryResult}
 use Rattle.sq_calls.specs.declared.calls.AskedAttributes.{AskedAttributes}
 use Rattle.sq_calls.specs.declared.calls.Answer.{Answer}
-use Rattle.sq_calls.specs.declared.calls.Answer.TheVariants.{Queue, Queues, Sources, Attributes, Sent, Received, Started, Cancelled, Tasks, Done}
+use Rattle.sq_calls.specs.declared.calls.Answer.TheVariants.{Queue, Queues, Sources, Attributes, Sent, Received, Batch, Started, Cancelled, Tasks, Done}
 use Rattle.sq_calls.specs.declared.calls.Answered.{Answered}
 use Rattle.sq_calls.specs.declared.calls.Answered.TheVariants.{Call, Turn}
 use Rattle.sq_calls.specs.declared.calls.ShownAttributes.{ShownAttributes}
@@ -99,6 +103,49 @@ shown_data shown = object (member (codes "Attributes") (object (text_members (sh
 -- the digest of a body, and the UUID of the message
 abbrev pub sent_data : List ℕ → List ℕ → Data
 sent_data digest id = object (member (codes "MD5OfMessageBody") (string digest) (member (codes "MessageId") (string id) no_members))
+
+-- memory, the clock or a count at its end may refuse each step; all else is the fault of who sent the entry. Own
+abbrev pub is_senders_fault : Refusal → Bool
+is_senders_fault NoMemory = false
+is_senders_fault ClockRange = false
+is_senders_fault Worn = false
+is_senders_fault e = true
+
+-- an entry of a batch that failed (SQS API Reference, BatchResultErrorEntry: Code, Id, SenderFault)
+abbrev pub failed_data : List ℕ → Refusal → Data
+failed_data id e = object
+    (member (codes "Code") (string (name_of e))
+    (member (codes "Id") (string id)
+    (member (codes "SenderFault") (boolean (is_senders_fault e)) no_members)))
+
+-- and one that did not (SQS API Reference, SendMessageBatchResultEntry, DeleteMessageBatchResultEntry, ChangeMessageVisibilityBatchResultEntry)
+abbrev pub entry_data : List ℕ → EntryAnswer → Data
+entry_data id (entry.Sent message digest) = object
+    (member (codes "Id") (string id)
+    (member (codes "MD5OfMessageBody") (string digest)
+    (member (codes "MessageId") (string (id_text message)) no_members)))
+entry_data id entry.Done = object (member (codes "Id") (string id) no_members)
+
+-- what failed, and what did not, each in the order of the entries
+abbrev pub with_failure : List ℕ → Result EntryAnswer Refusal → List Data → List Data
+with_failure id (Ok answer) rest = rest
+with_failure id (Err e) rest = failed_data id e ∷ rest
+
+abbrev pub failures : List EntryResult → List Data
+failures [] = []
+failures (t ∷ rest) = with_failure t.id t.answer (failures rest)
+
+abbrev pub with_success : List ℕ → Result EntryAnswer Refusal → List Data → List Data
+with_success id (Ok answer) rest = entry_data id answer ∷ rest
+with_success id (Err e) rest = rest
+
+abbrev pub successes : List EntryResult → List Data
+successes [] = []
+successes (t ∷ rest) = with_success t.id t.answer (successes rest)
+
+-- (SQS API Reference, SendMessageBatch, Failed and Successful)
+abbrev pub batch_data : List EntryResult → Data
+batch_data told = object (member (codes "Failed") (array (items_of (failures told))) (member (codes "Successful") (array (items_of (successes told))) no_members))
 
 -- a member that is there where the test is true
 abbrev pub member_if : Bool → List ℕ → Data → Members → Members
@@ -198,6 +245,7 @@ answer_data (Sources names) = source_queues_data names
 answer_data (Attributes shown) = shown_data shown
 answer_data (Sent id digest) = sent_data digest (id_text id)
 answer_data (Received received) = received_data received.attributes received.home received.rows
+answer_data (Batch told) = batch_data told
 answer_data (Started task) = started_data task
 answer_data (Cancelled moved) = cancelled_data moved
 answer_data (Tasks tasks) = tasks_data tasks

@@ -1,6 +1,9 @@
 -- The answers of the worked cases.
-use Rattle.std.specs.Prelude.{ℕ, List, codes, true, false, Option, Some, None}
+use Rattle.std.specs.Prelude.{ℕ, List, codes, true, false, Option, Some, None, Ok, Err}
 use Rattle.serde_json.specs.Written.{compact_text}
+use Rattle.sq_base.specs.declared.refusal.Refusal.{Refusal}
+use Rattle.sq_calls.specs.declared.batches.EntryAnswer.TheVariants as entry
+use Rattle.sq_calls.specs.declared.batches.EntryResult.{EntryResult}
 use Rattle.sq_calls.specs.declared.calls.Answer.{Answer}
 use Rattle.sq_calls.specs.declared.calls.Answer.TheVariants.{Attributes}
 use Rattle.sq_calls.specs.declared.calls.AskedOfQueue.{AskedOfQueue}
@@ -37,3 +40,15 @@ back_from_d number status = record { number = number; source = record { number =
 -- one that moves it to queue q, two messages in a second, of which two came in
 abbrev pub moved_to_q : TaskStatus → Task
 moved_to_q status = record (back_from_d 1 status) { destination = Some (record { number = 2; name = codes "q" }); rate = Some 2; left = 3; moved = 2; second = 2; in_second = 1 }
+
+-- an entry that deleted a message
+abbrev pub deleted : List ℕ → EntryResult
+deleted id = record { id = id; answer = Ok entry.Done }
+
+-- one that sent a message to home 0 of queue 1
+abbrev pub sent_with : List ℕ → ℕ → List ℕ → EntryResult
+sent_with id serial digest = record { id = id; answer = Ok (entry.Sent (record { queue = 1; home = 0; serial = serial }) digest) }
+
+-- one that failed
+abbrev pub failed_with : List ℕ → Refusal → EntryResult
+failed_with id refusal = record { id = id; answer = Err refusal }

@@ -2,6 +2,7 @@
 #![tactic(auto)]
 
 mod attributes;
+mod batches;
 mod queues;
 pub mod reply;
 mod tasks;

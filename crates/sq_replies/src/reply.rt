@@ -6,6 +6,7 @@ ghost use Rattle.serde_json.specs.Written.{compact_text};
 ghost use Rattle.sq_replies.specs.Replies.{error_text, handle_of, sent_data, attributes_data, answered_data, message_data, id_text, received_data, answer_data, reply_text_of, OnTurned};
 
 use crate::attributes::shown_value;
+use crate::batches::batch_value;
 use crate::queues::{queue_value, queues_value, sources_value};
 use crate::tasks::{cancelled_value, started_value, tasks_value};
 use crate::text::{Text, ascii_text};
@@ -101,6 +102,7 @@ fn answer_value(alloc: Global, answer: &Answer) -> Result<Value, AllocError>
             sent_value(alloc, ascii_text(digest.digits()), id_text(id, &mut uuid))
         }
         Answer::Received(received) => received_value(alloc, received),
+        Answer::Batch(told) => batch_value(alloc, told.as_slice()),
         Answer::Started(task) => started_value(alloc, *task),
         Answer::Cancelled(moved) => cancelled_value(alloc, *moved),
         Answer::Tasks(tasks) => tasks_value(alloc, tasks.as_slice()),

@@ -2,13 +2,14 @@
 #![tactic(auto, unfolding(crate::proofs::OnLiterals::replies_on_literals))]
 
 ghost use Rattle.std.specs.Prelude.{◌≡◌, List, [], ◌∷◌, codes, Some, None, Ok};
-ghost use Rattle.sq_calls.specs.declared.calls.Answer.TheVariants.{Queues, Sources, Started, Cancelled, Tasks};
+ghost use Rattle.sq_base.specs.declared.refusal.Refusal.TheVariants.{NoMemory, ClockRange, Worn, InvalidParameterValue};
+ghost use Rattle.sq_calls.specs.declared.calls.Answer.TheVariants.{Queues, Sources, Batch, Started, Cancelled, Tasks};
 ghost use Rattle.sq_calls.specs.declared.calls.Answered.TheVariants.{Turn};
 ghost use Rattle.sq_calls.specs.declared.turns.Turned.TheVariants as came;
 ghost use Rattle.sq_model.specs.declared.task.FailureReason.TheVariants.{NoOrigin};
 ghost use Rattle.sq_model.specs.declared.task.TaskStatus.TheVariants.{Running, Cancelling, Failed};
 ghost use Rattle.sq_replies.specs.Replies.{reply_text_of};
-ghost use Rattle.sq_replies.specs.Worked.{text_of, none_asked, all_asked, redrive_asked, q_shown, back_from_d, moved_to_q};
+ghost use Rattle.sq_replies.specs.Worked.{text_of, none_asked, all_asked, redrive_asked, q_shown, back_from_d, moved_to_q, deleted, sent_with, failed_with};
 
 /// The URLs of no queue, of two queues, and of one queue that has another one for its dead letters.
 pub fn queues_are_listed_by_their_urls()
@@ -58,4 +59,12 @@ pub fn a_task_is_listed_with_what_it_has()
     ensures running { text_of (Tasks (moved_to_q Running ∷ [])) ≡ codes "{\"Results\":[{\"ApproximateNumberOfMessagesMoved\":2,\"DestinationArn\":\"arn:aws:sqs:local:000000000000:q\",\"MaxNumberOfMessagesPerSecond\":2,\"SourceArn\":\"arn:aws:sqs:local:000000000000:d\",\"StartedTimestamp\":1000,\"Status\":\"RUNNING\",\"TaskHandle\":\"task-0000000000000001\"}]}" }
     ensures cancelling { text_of (Tasks (moved_to_q Cancelling ∷ [])) ≡ codes "{\"Results\":[{\"ApproximateNumberOfMessagesMoved\":2,\"DestinationArn\":\"arn:aws:sqs:local:000000000000:q\",\"MaxNumberOfMessagesPerSecond\":2,\"SourceArn\":\"arn:aws:sqs:local:000000000000:d\",\"StartedTimestamp\":1000,\"Status\":\"CANCELLING\"}]}" }
     ensures failed { text_of (Tasks (back_from_d 1 (Failed NoOrigin) ∷ [])) ≡ codes "{\"Results\":[{\"ApproximateNumberOfMessagesMoved\":0,\"FailureReason\":\"CouldNotDetermineMessageSource\",\"SourceArn\":\"arn:aws:sqs:local:000000000000:d\",\"StartedTimestamp\":1000,\"Status\":\"FAILED\"}]}" }
+{}
+
+/// Two deletes of which none failed; a send that failed between two that did not; and entries that all failed, none of them by
+/// the fault of who sent them.
+pub fn a_batch_tells_failures_and_successes_apart()
+    ensures deleted { text_of (Batch (deleted (codes "x") ∷ deleted (codes "y") ∷ [])) ≡ codes "{\"Failed\":[],\"Successful\":[{\"Id\":\"x\"},{\"Id\":\"y\"}]}" }
+    ensures sent { text_of (Batch (sent_with (codes "a") 0 (codes "0cc175b9c0f1b6a831c399e269772661") ∷ failed_with (codes "b") InvalidParameterValue ∷ sent_with (codes "c") 1 (codes "4a8a08f09d37b73795649038408b5f33") ∷ [])) ≡ codes "{\"Failed\":[{\"Code\":\"InvalidParameterValue\",\"Id\":\"b\",\"SenderFault\":true}],\"Successful\":[{\"Id\":\"a\",\"MD5OfMessageBody\":\"0cc175b9c0f1b6a831c399e269772661\",\"MessageId\":\"00000000-0001-8000-8000-000000000000\"},{\"Id\":\"c\",\"MD5OfMessageBody\":\"4a8a08f09d37b73795649038408b5f33\",\"MessageId\":\"00000000-0001-8000-8000-000000000001\"}]}" }
+    ensures failed { text_of (Batch (failed_with (codes "x") NoMemory ∷ failed_with (codes "y") ClockRange ∷ failed_with (codes "z") Worn ∷ [])) ≡ codes "{\"Failed\":[{\"Code\":\"NoMemory\",\"Id\":\"x\",\"SenderFault\":false},{\"Code\":\"ClockRange\",\"Id\":\"y\",\"SenderFault\":false},{\"Code\":\"Worn\",\"Id\":\"z\",\"SenderFault\":false}],\"Successful\":[]}" }
 {}

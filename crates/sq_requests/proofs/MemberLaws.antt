@@ -8,8 +8,9 @@ use Rattle.sq_base.specs.declared.refusal.Refusal.TheVariants.{InvalidParameterV
 use Rattle.sq_calls.specs.TaskHandles.{task_handle_at}
 use Rattle.sq_calls.specs.declared.calls.Call.TheVariants as call
 use Rattle.sq_policy.specs.Amounts.{in_range}
+use Rattle.sq_policy.specs.Reading.{◌>>=◌}
 use Rattle.sq_policy.specs.declared.amount.Amount.{Amount}
-use Rattle.sq_requests.specs.Actions.{addressed, change_of, has_attributes_at, send_members, send_of}
+use Rattle.sq_requests.specs.Actions.{addressed, body_text, change_of, has_attributes_at, send_members, send_of}
 use Rattle.sq_requests.specs.Members.{amount_at, amount_if_at, arn_at, arn_if, arn_if_at, has_members_at, named_task, receipt_handle_at, text_at, text_if_at, url_at}
 use Rattle.sq_requests.specs.Tasks.{move_members}
 use Rattle.sq_requests.specs.declared.actions.Addressee.{Addressee}
@@ -37,8 +38,8 @@ pub either_given : (d : Data) (a b given : Bool) → Ok a ≡ has_members_at (co
 unfolding has_attributes_at
 either_given d a b given one other is = rw (← one, ← other, is) refl
 
-pub sends : (d : Data) (body : List ℕ) (members : SendMembers) (to : Addressee) → Ok body ≡ text_at (codes "MessageBody") d → Ok members ≡ send_members d → Ok to ≡ addressed members body
-    → send_of d ≡ Ok (call.SendMessage (record { queue = to.queue; body = body; delay = to.delay }))
+pub sends : (d : Data) (body : List ℕ) (members : SendMembers) (to : Addressee) → Ok body ≡ text_at (codes "MessageBody") d → Ok members ≡ send_members d → Ok to ≡ addressed members
+    → send_of d ≡ (body_text body >>= λ text. Ok (call.SendMessage (record { queue = to.queue; body = text; delay = to.delay })))
 unfolding send_of
 sends d body members to a b c = rw (← a, ← b, ← c) refl
 

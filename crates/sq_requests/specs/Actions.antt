@@ -1,6 +1,6 @@
 -- What the actions on messages ask (SQS API Reference, Actions): the checks in their order. First all members are read; then come
 -- UnsupportedOperation, InvalidAddress, InvalidAttributeName, InvalidAttributeValue, InvalidParameterValue.
-use Rattle.std.specs.Prelude.{ℕ, List, Bool, ◌||◌, ◌==◌, nat_lt, if◌then◌else◌, Result, Ok, Err, codes, ok_or, unwrap_or, length}
+use Rattle.std.specs.Prelude.{ℕ, List, Bool, ◌||◌, if◌then◌else◌, Result, Ok, Err, codes, ok_or, unwrap_or}
 use Rattle.serde_json.specs.Data.{Data}
 use Rattle.sq_base.specs.declared.refusal.Refusal.{Refusal}
 use Rattle.sq_base.specs.declared.refusal.Refusal.TheVariants.{InvalidParameterValue, InvalidAddress, UnsupportedOperation}
@@ -11,6 +11,7 @@ use Rattle.sq_requests.specs.Asked.{asked_at}
 use Rattle.sq_requests.specs.declared.actions.SendMembers.{SendMembers}
 use Rattle.sq_requests.specs.declared.actions.ReceiveMembers.{ReceiveMembers}
 use Rattle.sq_requests.specs.declared.actions.Addressee.{Addressee}
+use Rattle.sq_calls.specs.BodyTexts.{is_too_small_or_large}
 use Rattle.sq_calls.specs.declared.calls.Call.{Call}
 use Rattle.sq_calls.specs.declared.calls.Call.TheVariants as call
 
@@ -29,22 +30,23 @@ send_members d = do
   Ok (record { queue = queue; delay = delay; has_attributes = has_attributes })
 
 -- a body of 1 to 262144 bytes
-unfoldable pub is_too_small_or_large : List ℕ → Bool
-is_too_small_or_large body = length body == 0 || nat_lt 262144 (length body)
+abbrev pub body_text : List ℕ → Result (List ℕ) Refusal
+body_text body = if is_too_small_or_large body then Err InvalidParameterValue else Ok body
 
-unfoldable pub addressed : SendMembers → List ℕ → Result Addressee Refusal
-addressed members body =
+unfoldable pub addressed : SendMembers → Result Addressee Refusal
+addressed members =
     if members.has_attributes then Err UnsupportedOperation else (do
       queue ← ok_or members.queue InvalidAddress
       delay ← in_range_if 0 900 InvalidParameterValue members.delay
-      if is_too_small_or_large body then Err InvalidParameterValue else Ok (record { queue = queue; delay = delay }))
+      Ok (record { queue = queue; delay = delay }))
 
 unfoldable pub send_of : Data → Result Call Refusal
 send_of d = do
   body ← text_at (codes "MessageBody") d
   members ← send_members d
-  to ← addressed members body
-  Ok (call.SendMessage (record { queue = to.queue; body = body; delay = to.delay }))
+  to ← addressed members
+  text ← body_text body
+  Ok (call.SendMessage (record { queue = to.queue; body = text; delay = to.delay }))
 
 unfoldable pub receive_members : Data → Result ReceiveMembers Refusal
 receive_members d = do

@@ -3,6 +3,7 @@ pub mod Members
 pub mod Attributes
 pub mod Asked
 pub mod Actions
+pub mod Batches
 pub mod Queues
 pub mod Tasks
 pub mod Turns

@@ -1,5 +1,5 @@
 -- What a line asks.
-use Rattle.std.specs.Prelude.{◌≡◌, ◌<◌, ℕ, List, Bool, false, length, if◌then◌else◌, Option, Some, None, Result, Ok, Err, codes, is_some, nat_lt}
+use Rattle.std.specs.Prelude.{◌≡◌, ◌<◌, ℕ, List, Bool, false, length, if◌then◌else◌, Option, Some, None, Result, Ok, Err, codes, is_some, nat_lt, ◌||◌}
 use Rattle.std.specs.Str.{bytes_eq, is_utf8}
 use Rattle.serde_json.specs.Data.{Data, Num, unsigned, negative, float}
 use Rattle.serde_json.specs.Find.{get, as_number, as_object}
@@ -10,6 +10,9 @@ use Rattle.sq_policy.specs.Reading.{◌>>=◌}
 use Rattle.sq_requests.specs.Members.{text_at}
 use Rattle.sq_requests.specs.Queues.{create_of, create_asks, set_of, set_asks, get_of, get_url_of, list_of, purge_of, delete_queue_of, list_sources_of}
 use Rattle.sq_requests.specs.Actions.{send_of, receive_of, delete_of, change_of}
+use Rattle.sq_requests.specs.Batches.{batch_of}
+use Rattle.sq_requests.specs.declared.batches.BatchKind.{BatchKind}
+use Rattle.sq_requests.specs.declared.batches.BatchKind.TheVariants as kind
 use Rattle.sq_requests.specs.Tasks.{start_move_of, cancel_move_of, list_moves_of}
 use Rattle.sq_requests.specs.Turns.{dead_turn_of, task_turn_of}
 use Rattle.sq_calls.specs.declared.calls.Asked.{Asked}
@@ -56,6 +59,9 @@ call_of action d =
     else if bytes_eq action (codes "DeleteQueue") then delete_queue_of d
     else if bytes_eq action (codes "ListDeadLetterSourceQueues") then list_sources_of d
     else if bytes_eq action (codes "SendMessage") then send_of d
+    else if bytes_eq action (codes "SendMessageBatch") then batch_of kind.Send d
+    else if bytes_eq action (codes "DeleteMessageBatch") then batch_of kind.Delete d
+    else if bytes_eq action (codes "ChangeMessageVisibilityBatch") then batch_of kind.Change d
     else if bytes_eq action (codes "ReceiveMessage") then receive_of d
     else if bytes_eq action (codes "DeleteMessage") then delete_of d
     else if bytes_eq action (codes "ChangeMessageVisibility") then change_of d
@@ -89,12 +95,20 @@ plain_call_of action d =
     else if bytes_eq action (codes "ListDeadLetterSourceQueues") then list_sources_of d
     else message_call_of action d
 
--- memory is asked for the text of a policy and for a body
+-- what the entries of a batch do, where the action is one
+unfoldable pub kind_of : List ℕ → Option BatchKind
+kind_of action =
+    if bytes_eq action (codes "SendMessageBatch") then Some kind.Send
+    else if bytes_eq action (codes "DeleteMessageBatch") then Some kind.Delete
+    else if bytes_eq action (codes "ChangeMessageVisibilityBatch") then Some kind.Change
+    else None
+
+-- memory is asked for the text of a policy, for a body, and for the entries of a batch
 unfoldable pub call_asks : List ℕ → Data → Result Bool Refusal
 call_asks action d =
     if bytes_eq action (codes "CreateQueue") then create_asks d
     else if bytes_eq action (codes "SetQueueAttributes") then set_asks d
-    else call_of action d >>= λ call. Ok (bytes_eq action (codes "SendMessage"))
+    else call_of action d >>= λ call. Ok (bytes_eq action (codes "SendMessage") || is_some (kind_of action))
 
 -- a turn, or else a call; an EnterTurn asks nothing of its line
 unfoldable pub call_or_turn_of : List ℕ → Data → Result Asked Refusal

@@ -2,25 +2,24 @@
 ghost use Rattle.std.specs.Prelude.{◌≡◌};
 ghost use Rattle.serde_json.specs.View.{view};
 ghost use Rattle.sq_policy.specs.Reading.{Reads};
-ghost use Rattle.sq_requests.specs.Actions.{has_attributes_at, send_members, is_too_small_or_large, addressed, send_of, receive_members, receive_of, delete_of, change_of};
+ghost use Rattle.sq_requests.specs.Actions.{has_attributes_at, send_members, addressed, send_of, receive_members, receive_of, delete_of, change_of};
 
 use crate::asked::asked_at;
 use crate::members::{amount_at, amount_if_at, has_members_at, receipt_handle_at, text_at, url_at};
 use serde_json::Value;
-use sq_base::body::BODY_LIMIT;
 use sq_base::name::QueueName;
 use sq_base::ranges::{Delay, MaxMessages};
 use sq_base::refusal::Refusal;
+use sq_calls::body_text::BodyText;
 use sq_calls::calls::{
-    AskedAttributes, BodyText, Call, ChangeMessageVisibility, DeleteMessage, ReceiveMessage,
-    SendMessage,
+    AskedAttributes, Call, ChangeMessageVisibility, DeleteMessage, ReceiveMessage, SendMessage,
 };
 use sq_policy::amount::{Amount, in_range, in_range_if};
 use std::alloc::Global;
 
-// Whether message attributes or message system attributes are given.
+/// Whether message attributes or message system attributes are given.
 #[tactic(auto, using(crate::proofs::MemberLaws::either_given), unfolding(crate::specs::Actions::has_attributes_at))]
-fn has_attributes_at(value: &Value) -> Result<bool, Refusal>
+pub(crate) fn has_attributes_at(value: &Value) -> Result<bool, Refusal>
     ensures { result ≡ has_attributes_at (view value.now) }
 {
     let attributes = has_members_at(value, "MessageAttributes")?;
@@ -51,13 +50,6 @@ fn send_members(value: &Value) -> Result<SendMembers, Refusal>
     })
 }
 
-#[tactic(auto, unfolding(crate::specs::Actions::is_too_small_or_large))]
-fn is_too_small_or_large(body: &str) -> bool
-    ensures { result ≡ is_too_small_or_large body.now }
-{
-    body.is_empty() || body.len() > BODY_LIMIT
-}
-
 /// Where a message goes, and how long it is delayed.
 #[derive(Drop)]
 pub struct Addressee {
@@ -65,19 +57,16 @@ pub struct Addressee {
     pub delay: Option<Delay>,
 }
 
-// Where a body goes, where it can be sent.
+// Where a message goes, where it can be sent.
 #[tactic(auto, unfolding(crate::specs::Actions::addressed))]
-fn addressed(members: &SendMembers, body: &str) -> Result<Addressee, Refusal>
-    ensures { result ≡ addressed members.now body.now }
+fn addressed(members: &SendMembers) -> Result<Addressee, Refusal>
+    ensures { result ≡ addressed members.now }
 {
     if members.has_attributes {
         return Err(Refusal::UnsupportedOperation);
     }
     let queue = members.queue.ok_or(Refusal::InvalidAddress)?;
     let delay = in_range_if(members.delay, Refusal::InvalidParameterValue)?;
-    if is_too_small_or_large(body) {
-        return Err(Refusal::InvalidParameterValue);
-    }
     Ok(Addressee { queue, delay })
 }
 
@@ -88,7 +77,7 @@ pub fn send_of(alloc: Global, value: &Value) -> Result<Call, Refusal>
 {
     let body = text_at(value, "MessageBody")?;
     let members = send_members(value)?;
-    let Addressee { queue, delay } = addressed(&members, body)?;
+    let Addressee { queue, delay } = addressed(&members)?;
     let body = BodyText::new(alloc, body)?;
     Ok(Call::SendMessage(SendMessage { queue, body, delay }))
 }

@@ -4,6 +4,7 @@
 pub mod actions;
 pub mod asked;
 pub mod attributes;
+pub mod batches;
 pub mod members;
 pub mod queues;
 pub mod request;

@@ -3,9 +3,10 @@ ghost use Rattle.std.specs.Prelude.{◌≡◌};
 ghost use Rattle.serde_json.specs.Find.{get};
 ghost use Rattle.serde_json.specs.View.{view};
 ghost use Rattle.sq_requests.specs.Memory.{ReadsAsking};
-ghost use Rattle.sq_requests.specs.Requests.{reading, actor_at, task_call_of, message_call_of, plain_call_of, call_of, call_asks, call_or_turn_of, call_or_turn_asks, turn_of, request_of, request_asks, line_request, ReadsLine};
+ghost use Rattle.sq_requests.specs.Requests.{reading, actor_at, task_call_of, message_call_of, plain_call_of, kind_of, call_of, call_asks, call_or_turn_of, call_or_turn_asks, turn_of, request_of, request_asks, line_request, ReadsLine};
 
 use crate::actions::{change_of, delete_of, receive_of, send_of};
+use crate::batches::{BatchKind, batch_of};
 use crate::members::text_at;
 use crate::queues::{
     create_of, delete_queue_of, get_of, get_url_of, list_of, list_sources_of, purge_of, set_of,
@@ -91,6 +92,19 @@ fn plain_call_of(value: &Value, action: &str) -> Result<Call, Refusal>
     }
 }
 
+// What the entries of a batch do, where the action is one.
+#[tactic(auto, unfolding(crate::specs::Requests::kind_of))]
+fn kind_of(action: &str) -> Option<BatchKind>
+    ensures { result ≡ kind_of action.now }
+{
+    match action {
+        "SendMessageBatch" => Some(BatchKind::Send),
+        "DeleteMessageBatch" => Some(BatchKind::Delete),
+        "ChangeMessageVisibilityBatch" => Some(BatchKind::Change),
+        _ => None,
+    }
+}
+
 #[tactic(auto, using(crate::proofs::CallLaws::reads_create, crate::proofs::CallLaws::reads_set, crate::proofs::CallLaws::reads_send))]
 fn call_of(alloc: Global, value: &Value, action: &str) -> Result<Call, Refusal>
     ensures { let d = view value.now in
@@ -100,7 +114,10 @@ fn call_of(alloc: Global, value: &Value, action: &str) -> Result<Call, Refusal>
         "CreateQueue" => create_of(alloc, value),
         "SetQueueAttributes" => set_of(alloc, value),
         "SendMessage" => send_of(alloc, value),
-        _ => plain_call_of(value, action),
+        _ => match kind_of(action) {
+            Some(kind) => batch_of(alloc, value, kind),
+            None => plain_call_of(value, action),
+        },
     }
 }
 
@@ -150,7 +167,9 @@ fn request_of(alloc: Global, value: &Value) -> Result<Request, Refusal>
 
 /// What a line asks, or the first reason in order why it is refused: InvalidRequest (not an object, a member of a
 /// wrong type or missing), UnsupportedOperation, InvalidAddress, InvalidAttributeName, InvalidAttributeValue,
-/// InvalidParameterValue; NoMemory where a growth was refused, and so of no empty line.
+/// InvalidParameterValue, and of a batch EmptyBatchRequest, TooManyEntriesInBatchRequest, InvalidBatchEntryId,
+/// BatchEntryIdsNotDistinct, BatchRequestTooLong. What is wrong with an entry alone fails that entry, once its queue is
+/// found. NoMemory where a growth was refused, and so of no empty line.
 #[tactic(auto, unfolding(crate::specs::Requests::line_request))]
 pub fn read_request(alloc: Global, line: &[u8]) -> Result<Request, Refusal>
     ensures { ReadsLine result line.now }

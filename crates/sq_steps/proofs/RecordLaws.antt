@@ -154,6 +154,6 @@ filter_places others names place (n ∷ ns) =
     let q : Kept → Bool = λ m. not (place_of_kept others m == place) in
     let same : q n ≡ p (f n) = ap (λ (x : ℕ). not (x == place)) (sym (place_same others names n)) in
     let here : map f (cond (q n) (n ∷ filter q ns) (filter q ns)) ≡ cond (q n) (f n ∷ filter p (map f ns)) (filter p (map f ns)) =
-      (let rest = filter_places others names place ns in
-      elim (q n) as (λ v. map f (cond v (n ∷ filter q ns) (filter q ns)) ≡ cond v (f n ∷ filter p (map f ns)) (filter p (map f ns))) [ true ↦ ap (λ ys. f n ∷ ys) rest | false ↦ rest ]) in
+    (let rest = filter_places others names place ns in
+    elim (q n) as (λ v. map f (cond v (n ∷ filter q ns) (filter q ns)) ≡ cond v (f n ∷ filter p (map f ns)) (filter p (map f ns))) [ true ↦ ap (λ ys. f n ∷ ys) rest | false ↦ rest ]) in
     here ∙ ap (λ (v : Bool). cond v (f n ∷ filter p (map f ns)) (filter p (map f ns))) same

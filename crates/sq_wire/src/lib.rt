@@ -4,3 +4,6 @@
 pub mod audit;
 pub mod run;
 pub mod script;
+
+pub use sq_replies::reply::reply_text;
+pub use sq_requests::request::read_request;

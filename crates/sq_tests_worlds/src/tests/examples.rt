@@ -6,9 +6,9 @@ use sq_base::handle::Handle;
 use sq_base::message_id::MessageId;
 use sq_base::name::QueueName;
 use sq_base::ranges::{MaxMessages, MaxReceives, Receives, Timeout};
+use sq_calls::body_text::BodyText;
 use sq_calls::calls::{
-    Answer, AskedAttributes, BodyText, Call, CreateQueue, DeleteMessage, ReceiveMessage,
-    SendMessage,
+    Answer, AskedAttributes, Call, CreateQueue, DeleteMessage, ReceiveMessage, SendMessage,
 };
 use sq_calls::received_messages::ReceivedMessages;
 use sq_calls::turns::{Turn, Turned};

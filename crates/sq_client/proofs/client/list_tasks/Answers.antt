@@ -3,7 +3,8 @@ use Rattle.sq_steps.specs.declared.act.TaskAct.TheVariants as task
 use Rattle.sq_calls.specs.declared.calls.Answer.TheVariants as answer
 use Rattle.sq_model.specs.declared.ledger.LedgerReply.TheVariants as ledger
 use Rattle.sq_client.specs.Asks.{Found}
-use Rattle.sq_client.specs.Fits.{ByLedger, ListTasksFits, MakesTasks, named}
+use Rattle.sq_client.specs.Steps.{named}
+use Rattle.sq_client.specs.Fits.{ByLedger, ListTasksFits, MakesTasks}
 use Rattle.sq_client.proofs.PathLaws.{answered_one, answered_more}
 use Rattle.sq_client.proofs.ClientLaws.{ledger_refused, ledger_told}
 use Rattle.sq_client.proofs.client.list_tasks.Goals as goal

@@ -4,7 +4,8 @@ use Rattle.sq_steps.specs.declared.act.TaskAct.TheVariants as task
 use Rattle.sq_calls.specs.declared.calls.Answer.TheVariants as answer
 use Rattle.sq_model.specs.declared.ledger.LedgerReply.TheVariants as ledger
 use Rattle.sq_client.specs.Asks.{Ends}
-use Rattle.sq_client.specs.Fits.{ByLedger, MakesStarted, StartsBetween, redriven, start_between}
+use Rattle.sq_client.specs.Steps.{redriven}
+use Rattle.sq_client.specs.Fits.{ByLedger, MakesStarted, StartsBetween, start_between}
 use Rattle.sq_client.proofs.PathLaws.{answered_one, answered_more}
 use Rattle.sq_client.proofs.ClientLaws.{ledger_refused, ledger_told}
 use Rattle.sq_client.proofs.client.start_between.Goals as goal

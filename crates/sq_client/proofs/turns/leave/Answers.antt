@@ -1,7 +1,7 @@
 use Rattle.std.proofs.Common.{rules, ◌≡◌, refl, ap, inl, inr, Err}
 use Rattle.sq_base.specs.declared.refusal.Refusal.TheVariants.{QueueDoesNotExist}
 use Rattle.sq_client.specs.Asks.{moved_of}
-use Rattle.sq_client.specs.Fits.{named}
+use Rattle.sq_client.specs.Steps.{named}
 use Rattle.sq_client.proofs.PathLaws.{answered_one}
 use Rattle.sq_client.proofs.TurnLaws.{left_from}
 use Rattle.sq_client.proofs.turns.leave.Goals as goal

@@ -1,0 +1,287 @@
+//! What the actions on several messages ask.
+ghost use Rattle.std.specs.Prelude.{◌≡◌, ◌≢◌, ◌⊎◌, ◌<◌, ◌≤◌, is_ok, nat_lt, true, Ok, Err, IfOk, IfErr};
+ghost use Rattle.serde_json.specs.View.{view, items_view};
+ghost use Rattle.sq_policy.specs.Reading.{seen_as, Reads};
+ghost use Rattle.sq_requests.specs.Asked.{all_items, any_item};
+ghost use Rattle.sq_requests.specs.Batches.{as_ask, send_ask, change_ask, send_of_entry, change_of_entry, ask_of, entry_id, is_entry, has_id, have_same_id, repeat_an_id, body_length, bodies_length, items_at, members_of, batch_check, entry_of, entries_of, batch_of};
+
+use crate::actions::has_attributes_at;
+use crate::members::{amount_at, amount_if_at, receipt_handle_at, text_at, url_at};
+use serde_json::Value;
+use sq_base::body::BODY_LIMIT;
+use sq_base::handle::Handle;
+use sq_base::refusal::Refusal;
+use sq_calls::batches::{Batch, Entry, EntryAsk, EntryId};
+use sq_calls::body_text::BodyText;
+use sq_calls::calls::Call;
+use sq_model::listed::Listed;
+use sq_policy::amount::{Amount, in_range, in_range_if};
+use std::alloc::Global;
+
+/// How many entries a batch may have (SQS API Reference, SendMessageBatch).
+const MOST_ENTRIES: usize = 10;
+
+/// What all entries of a batch do.
+#[derive(Clone, Copy)]
+pub enum BatchKind {
+    Send,
+    Delete,
+    Change,
+}
+
+// What refuses an entry alone is what it asks; only want of memory stays a refusal.
+fn as_ask(asked: Result<EntryAsk, Refusal>) -> Result<EntryAsk, Refusal>
+    ensures ok { IfOk result (λ ask. (ask ≡ as_ask asked) × (asked ≢ Err Refusal.NoMemory)) }
+    ensures err { IfErr result (λ e. (e ≡ Refusal.NoMemory) × (asked ≡ Err Refusal.NoMemory)) }
+{
+    match asked {
+        Ok(ask) => Ok(ask),
+        Err(Refusal::NoMemory) => Err(Refusal::NoMemory),
+        Err(Refusal::UnsupportedOperation) => Ok(EntryAsk::Unsupported),
+        Err(_) => Ok(EntryAsk::OutOfRange),
+    }
+}
+
+fn send_ask(
+    alloc: Global,
+    has_attributes: bool,
+    delay: Option<Amount>,
+    body: &str,
+) -> Result<EntryAsk, Refusal>
+    ensures { Reads result (send_ask has_attributes delay body.now) }
+{
+    if has_attributes {
+        return Err(Refusal::UnsupportedOperation);
+    }
+    let delay = in_range_if(delay, Refusal::InvalidParameterValue)?;
+    let body = BodyText::new(alloc, body)?;
+    Ok(EntryAsk::Send(body, delay))
+}
+
+fn change_ask(handle: Option<Handle>, amount: Amount) -> Result<EntryAsk, Refusal>
+    ensures { result ≡ change_ask handle amount }
+{
+    let timeout = in_range(amount, Refusal::InvalidParameterValue)?;
+    Ok(EntryAsk::Change(handle, timeout))
+}
+
+fn send_of_entry(alloc: Global, value: &Value) -> Result<EntryAsk, Refusal>
+    ensures { Reads result (send_of_entry (view value.now)) }
+{
+    let body = text_at(value, "MessageBody")?;
+    let delay = amount_if_at(value, "DelaySeconds")?;
+    let has_attributes = has_attributes_at(value)?;
+    as_ask(send_ask(alloc, has_attributes, delay, body))
+}
+
+fn change_of_entry(value: &Value) -> Result<EntryAsk, Refusal>
+    ensures { result ≡ change_of_entry (view value.now) }
+{
+    let handle = receipt_handle_at(value)?;
+    let amount = amount_at(value, "VisibilityTimeout")?;
+    as_ask(change_ask(handle, amount))
+}
+
+// What an entry asks.
+#[tactic(auto, unfolding(crate::specs::Batches::delete_of_entry))]
+fn ask_of(alloc: Global, kind: BatchKind, value: &Value) -> Result<EntryAsk, Refusal>
+    ensures { Reads result (ask_of kind (view value.now)) }
+{
+    match kind {
+        BatchKind::Send => send_of_entry(alloc, value),
+        BatchKind::Delete => Ok(EntryAsk::Delete(receipt_handle_at(value)?)),
+        BatchKind::Change => change_of_entry(value),
+    }
+}
+
+// The text of an entry's id.
+#[tactic(auto, unfolding(crate::specs::Batches::entry_id))]
+fn entry_id<'a>(value: &'a Value) -> Result<&'a str, Refusal>
+    ensures { seen_as (λ t. t.now) result ≡ entry_id (view value.now) }
+{
+    text_at(value, "Id")
+}
+
+// Whether what an entry asks is there, each member with its type.
+#[tactic(auto, unfolding(crate::specs::Batches::send_of_entry, crate::specs::Batches::delete_of_entry, crate::specs::Batches::change_of_entry))]
+fn has_members_of(kind: BatchKind, value: &Value) -> bool
+    ensures { result ≡ is_ok (ask_of kind (view value.now)) }
+{
+    match kind {
+        BatchKind::Send => {
+            text_at(value, "MessageBody").is_ok()
+                && amount_if_at(value, "DelaySeconds").is_ok()
+                && has_attributes_at(value).is_ok()
+        }
+        BatchKind::Delete => receipt_handle_at(value).is_ok(),
+        BatchKind::Change => {
+            receipt_handle_at(value).is_ok() && amount_at(value, "VisibilityTimeout").is_ok()
+        }
+    }
+}
+
+fn is_entry(kind: BatchKind, value: &Value) -> bool
+    ensures { result ≡ is_entry kind (view value.now) }
+{
+    entry_id(value).is_ok() && has_members_of(kind, value)
+}
+
+fn are_entries(kind: BatchKind, entries: &[Value]) -> bool
+    ensures { result ≡ all_items (is_entry kind) (items_view entries.now) }
+{
+    entries.iter().all(|value| is_entry(kind, value))
+}
+
+// Whether the id of an entry is one.
+fn has_id(value: &Value) -> bool
+    ensures { result ≡ has_id (view value.now) }
+{
+    match entry_id(value) {
+        Ok(text) => EntryId::new(text.as_bytes()).is_some(),
+        Err(_) => false,
+    }
+}
+
+fn have_ids(entries: &[Value]) -> bool
+    ensures { result ≡ all_items has_id (items_view entries.now) }
+{
+    entries.iter().all(|value| has_id(value))
+}
+
+fn have_same_id(one: &Value, other: &Value) -> bool
+    ensures { result ≡ have_same_id (view one.now) (view other.now) }
+{
+    match (entry_id(one), entry_id(other)) {
+        (Ok(one), Ok(other)) => one == other,
+        _ => false,
+    }
+}
+
+// Whether an entry has the same id as one of others.
+fn is_repeated(one: &Value, others: &[Value]) -> bool
+    ensures { result ≡ any_item (have_same_id (view one.now)) (items_view others.now) }
+{
+    others.iter().any(|other| have_same_id(one, other))
+}
+
+// Whether two of these have the same id.
+fn repeat_an_id(entries: &[Value]) -> bool
+    ensures { result ≡ repeat_an_id (items_view entries.now) }
+{
+    let mut rest = entries;
+    while let Some((first, others)) = rest.split_first() {
+        if is_repeated(first, others) {
+            return true;
+        }
+        rest = others;
+    }
+    false
+}
+
+// How many bytes the body of an entry has; 0 where there is none.
+#[tactic(auto, unfolding(crate::specs::Batches::body_length))]
+fn body_length(kind: BatchKind, value: &Value) -> usize
+    ensures { result ≡ body_length kind (view value.now) }
+{
+    match kind {
+        BatchKind::Send => match text_at(value, "MessageBody") {
+            Ok(body) => body.len(),
+            Err(_) => 0,
+        },
+        _ => 0,
+    }
+}
+
+// Whether the bodies have more bytes together than one may have.
+fn are_too_long(kind: BatchKind, entries: &[Value]) -> bool
+    ensures { result ≡ nat_lt 262144 (bodies_length kind (items_view entries.now)) }
+{
+    let mut room = BODY_LIMIT;
+    for value in entries {
+        let length = body_length(kind, value);
+        if length > room {
+            return true;
+        }
+        room -= length;
+    }
+    false
+}
+
+// The list of a member that must be there.
+#[tactic(auto, unfolding(crate::specs::Batches::items_at))]
+fn items_at<'a>(value: &'a Value, name: &str) -> Result<&'a [Value], Refusal>
+    ensures { seen_as (λ items. items_view items.now) result ≡ items_at name.now (view value.now) }
+{
+    match value.get(name) {
+        Some(member) => match member.as_array() {
+            Some(items) => Ok(items),
+            None => Err(Refusal::InvalidRequest),
+        },
+        None => Err(Refusal::InvalidRequest),
+    }
+}
+
+// The first reason in order why a batch of these entries is refused.
+#[tactic(auto, unfolding(crate::specs::Batches::batch_check))]
+fn batch_check(kind: BatchKind, entries: &[Value]) -> Result<(), Refusal>
+    ensures { result ≡ batch_check kind (items_view entries.now) }
+{
+    if entries.is_empty() {
+        return Err(Refusal::EmptyBatchRequest);
+    }
+    if entries.len() > MOST_ENTRIES {
+        return Err(Refusal::TooManyEntriesInBatchRequest);
+    }
+    if !have_ids(entries) {
+        return Err(Refusal::InvalidBatchEntryId);
+    }
+    if repeat_an_id(entries) {
+        return Err(Refusal::BatchEntryIdsNotDistinct);
+    }
+    if are_too_long(kind, entries) {
+        return Err(Refusal::BatchRequestTooLong);
+    }
+    Ok(())
+}
+
+// An entry, whose id was checked.
+#[tactic(auto, unfolding(crate::specs::Batches::entry_of))]
+fn entry_of(alloc: Global, kind: BatchKind, value: &Value) -> Result<Entry, Refusal>
+    requires { has_id (view value.now) ≡ true }
+    ensures { Reads result (entry_of kind (view value.now)) }
+{
+    let id = EntryId::new(entry_id(value)?.as_bytes()).ok_or(Refusal::InvalidBatchEntryId)?;
+    let ask = ask_of(alloc, kind, value)?;
+    Ok(Entry { id, ask })
+}
+
+// The entries, in memory that is got for all of them first.
+fn entries_of(alloc: Global, kind: BatchKind, entries: &[Value]) -> Result<Listed<Entry>, Refusal>
+    requires { all_items has_id (items_view entries.now) ≡ true }
+    ensures ok { IfOk result (λ read. entries_of kind (items_view entries.now) ≡ Ok read) }
+    ensures err { IfErr result (λ e. (e ≡ Refusal.NoMemory) ⊎ (entries_of kind (items_view entries.now) ≡ Err e)) }
+{
+    let mut read = Vec::with_capacity(alloc, entries.len())?;
+    for value in entries {
+        read.push_reserved(entry_of(alloc, kind, value)?);
+    }
+    Ok(Listed::of(read))
+}
+
+/// SendMessageBatch, DeleteMessageBatch or ChangeMessageVisibilityBatch. Refused in order as InvalidRequest (a member of the
+/// line or of any entry), InvalidAddress, EmptyBatchRequest, TooManyEntriesInBatchRequest, InvalidBatchEntryId,
+/// BatchEntryIdsNotDistinct, BatchRequestTooLong; and as NoMemory only where none of these is. What is wrong with an entry
+/// alone is what it asks.
+pub fn batch_of(alloc: Global, value: &Value, kind: BatchKind) -> Result<Call, Refusal>
+    ensures { Reads result (batch_of kind (view value.now)) }
+{
+    let url = url_at(value)?;
+    let entries = items_at(value, "Entries")?;
+    if !are_entries(kind, entries) {
+        return Err(Refusal::InvalidRequest);
+    }
+    let queue = url.ok_or(Refusal::InvalidAddress)?;
+    batch_check(kind, entries)?;
+    let entries = entries_of(alloc, kind, entries)?;
+    Ok(Call::Batch(Batch { queue, entries }))
+}
