@@ -1,9 +1,9 @@
 -- What the entries of a batch give.
-use Rattle.std.proofs.Common.{◌≡◌, ◌≢◌, Bool, true, false, ℕ, List, [], ◌∷◌, ◌++◌, Option, Some, None, Result, Ok, Err, refl, sym, ◌∙◌, ◌<◌, ◌≤◌, length, not, arith, ◌⊎◌, inl, inr}
+use Rattle.std.proofs.Common.{◌≡◌, ◌≢◌, Bool, true, false, ℕ, List, [], ◌∷◌, ◌++◌, Option, Some, None, Result, Ok, Err, refl, sym, ◌∙◌, ◌<◌, ◌≤◌, length, not, arith, get_or, drop, ◌+◌, suc, append_assoc, drop-cons, add-one, ◌⊎◌, inl, inr}
 use Rattle.std.specs.Prelude.{is_ok, IfOk, IfErr, ◌==◌, nat_lt, ◌&&◌, if◌then◌else◌, codes, ok_or}
 use Rattle.std.proofs.lemmas.Bool.{and_parts, lt-ltb, le-ltb}
 use Rattle.serde_json.specs.Data.{Data, Items, no_items, item}
-use Rattle.serde_json.specs.View.{items_view}
+use Rattle.serde_json.specs.View.{view, items_view}
 use Rattle.serde_json.specs.declared.value.Value.{Value}
 use Rattle.sq_base.specs.declared.handle.Handle.{Handle}
 use Rattle.sq_base.specs.declared.refusal.Refusal.{Refusal}
@@ -44,9 +44,27 @@ pub changes_ask : (handle : Option Handle) (amount : Amount) (asked r : Result E
 changes_ask handle amount asked (Ok ask) is h none = rw (h.0, is) refl
 changes_ask handle amount asked (Err e) is h none = absurd (wants_none handle amount (sym is ∙ none.1))
 
+-- ---- the entries
+
 -- what is read once these entries and the rest are
 abbrev pub after : List Entry → Result (List Entry) Refusal → Result (List Entry) Refusal
 after read rest = rest >>= λ more. Ok (read ++ more)
+
+after_one_more : (read : List Entry) (entry : Entry) (rest : Result (List Entry) Refusal) → after read (rest >>= λ more. Ok (entry ∷ more)) ≡ after (read ++ entry ∷ []) rest
+after_one_more read entry (Ok more) = rw append_assoc refl
+after_one_more read entry (Err e) = refl
+
+pub one_more : (kind : BatchKind) (vs : List Value) (i : ℕ) (v : Value) (read : List Entry) (entry : Entry) → i < length vs → v ≡ get_or vs i v → entry_of kind (view v) ≡ Ok entry
+    → entries_of kind (items_view vs) ≡ after read (entries_of kind (items_view (drop i vs)))
+    → entries_of kind (items_view vs) ≡ after (read ++ entry ∷ []) (entries_of kind (items_view (drop (i + 1) vs)))
+one_more kind vs i v read entry lt at is so =
+    so ∙ rw (drop-cons vs i v, ← at, is, add-one) (after_one_more read entry (entries_of kind (items_view (drop (suc i) vs))))
+
+-- what holds of all that are left holds of those behind the first of them
+pub those_behind : (test : Data → Bool) (vs : List Value) (i : ℕ) (v : Value) → i < length vs → v ≡ get_or vs i v → all_items test (items_view (drop i vs)) ≡ true → all_items test (items_view (drop (i + 1) vs)) ≡ true
+those_behind test vs i v lt at all =
+    let split : (test (view (get_or vs i v)) && all_items test (items_view (drop (suc i) vs))) ≡ true = rw (drop-cons vs i v) at all in
+    rw add-one (and_parts _ _ split).1
 
 -- ---- the checks of a batch
 

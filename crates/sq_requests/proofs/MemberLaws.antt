@@ -1,14 +1,16 @@
 -- What members that were read give together.
-use Rattle.std.proofs.Common.{◌≡◌, ℕ, Bool, List, Option, Some, Ok, refl}
+use Rattle.std.proofs.Common.{◌≡◌, ℕ, Bool, List, Option, Some, Ok, Err, true, false, refl, ◌⊎◌, inl, inr}
 use Rattle.std.specs.Prelude.{◌||◌, codes}
 use Rattle.serde_json.specs.Data.{Data}
 use Rattle.sq_base.specs.Handles.{handle_at}
 use Rattle.sq_base.specs.declared.handle.Handle.{Handle}
-use Rattle.sq_base.specs.declared.refusal.Refusal.TheVariants.{InvalidParameterValue}
+use Rattle.sq_base.specs.declared.refusal.Refusal.{Refusal}
+use Rattle.sq_base.specs.declared.refusal.Refusal.TheVariants.{InvalidParameterValue, NoMemory}
+use Rattle.sq_calls.specs.BodyTexts.{is_too_small_or_large}
 use Rattle.sq_calls.specs.TaskHandles.{task_handle_at}
 use Rattle.sq_calls.specs.declared.calls.Call.TheVariants as call
 use Rattle.sq_policy.specs.Amounts.{in_range}
-use Rattle.sq_policy.specs.Reading.{◌>>=◌}
+use Rattle.sq_policy.specs.Reading.{◌>>=◌, Reads}
 use Rattle.sq_policy.specs.declared.amount.Amount.{Amount}
 use Rattle.sq_requests.specs.Actions.{addressed, body_text, change_of, has_attributes_at, send_members, send_of}
 use Rattle.sq_requests.specs.Members.{amount_at, amount_if_at, arn_at, arn_if, arn_if_at, has_members_at, named_task, receipt_handle_at, text_at, text_if_at, url_at}
@@ -42,6 +44,12 @@ pub sends : (d : Data) (body : List ℕ) (members : SendMembers) (to : Addressee
     → send_of d ≡ (body_text body >>= λ text. Ok (call.SendMessage (record { queue = to.queue; body = text; delay = to.delay })))
 unfolding send_of
 sends d body members to a b c = rw (← a, ← b, ← c) refl
+
+-- a body that has not the length of one, or for which there is no memory
+pub refuses_body : {A : Type 0} (body : List ℕ) (e : Refusal) (f : List ℕ → A)
+    → ((e ≡ InvalidParameterValue) × (is_too_small_or_large body ≡ true)) ⊎ ((e ≡ NoMemory) × (is_too_small_or_large body ≡ false)) → Reads (Err e) (body_text body >>= λ text. Ok (f text))
+refuses_body body e f (inl h) = rw (h.0, h.1) refl
+refuses_body body e f (inr h) = rw (h.0, h.1) tt
 
 pub changes : (d : Data) (queue : List ℕ) (handle : Option Handle) (amount : Amount) (timeout : ℕ)
     → Ok (Some queue) ≡ url_at d → Ok handle ≡ receipt_handle_at d → Ok amount ≡ amount_at (codes "VisibilityTimeout") d → Ok timeout ≡ in_range 0 43200 InvalidParameterValue amount

@@ -71,7 +71,6 @@ fn addressed(members: &SendMembers) -> Result<Addressee, Refusal>
 }
 
 /// SendMessage.
-#[tactic(auto, using(crate::proofs::MemberLaws::sends), unfolding(crate::specs::Actions::send_of))]
 pub fn send_of(alloc: Global, value: &Value) -> Result<Call, Refusal>
     ensures { Reads result (send_of (view value.now)) }
 {

@@ -1,9 +1,10 @@
 //! What the actions on several messages ask.
-ghost use Rattle.std.specs.Prelude.{◌≡◌, ◌≢◌, ◌⊎◌, ◌<◌, ◌≤◌, is_ok, nat_lt, true, Ok, Err, IfOk, IfErr};
+ghost use Rattle.std.specs.Prelude.{◌≡◌, ◌≢◌, ◌⊎◌, is_ok, nat_lt, true, Ok, Err, IfOk, IfErr};
 ghost use Rattle.serde_json.specs.View.{view, items_view};
 ghost use Rattle.sq_policy.specs.Reading.{seen_as, Reads};
 ghost use Rattle.sq_requests.specs.Asked.{all_items, any_item};
-ghost use Rattle.sq_requests.specs.Batches.{as_ask, send_ask, change_ask, send_of_entry, change_of_entry, ask_of, entry_id, is_entry, has_id, have_same_id, repeat_an_id, body_length, bodies_length, items_at, members_of, batch_check, entry_of, entries_of, batch_of};
+ghost use Rattle.sq_requests.specs.Members.{receipt_handle_at};
+ghost use Rattle.sq_requests.specs.Batches.{as_ask, send_ask, change_ask, send_of_entry, change_of_entry, ask_of, entry_id, is_entry, has_id, have_same_id, repeat_an_id, body_length, bodies_length, items_at, batch_check, entry_of, entries_of, batch_of};
 
 use crate::actions::has_attributes_at;
 use crate::members::{amount_at, amount_if_at, receipt_handle_at, text_at, url_at};
@@ -102,6 +103,14 @@ fn entry_id<'a>(value: &'a Value) -> Result<&'a str, Refusal>
     text_at(value, "Id")
 }
 
+// Whether the text of a receipt handle is there.
+#[tactic(auto, unfolding(crate::specs::Members::receipt_handle_at))]
+fn has_handle(value: &Value) -> bool
+    ensures { result ≡ is_ok (receipt_handle_at (view value.now)) }
+{
+    text_at(value, "ReceiptHandle").is_ok()
+}
+
 // Whether what an entry asks is there, each member with its type.
 #[tactic(auto, unfolding(crate::specs::Batches::send_of_entry, crate::specs::Batches::delete_of_entry, crate::specs::Batches::change_of_entry))]
 fn has_members_of(kind: BatchKind, value: &Value) -> bool
@@ -113,10 +122,8 @@ fn has_members_of(kind: BatchKind, value: &Value) -> bool
                 && amount_if_at(value, "DelaySeconds").is_ok()
                 && has_attributes_at(value).is_ok()
         }
-        BatchKind::Delete => receipt_handle_at(value).is_ok(),
-        BatchKind::Change => {
-            receipt_handle_at(value).is_ok() && amount_at(value, "VisibilityTimeout").is_ok()
-        }
+        BatchKind::Delete => has_handle(value),
+        BatchKind::Change => has_handle(value) && amount_at(value, "VisibilityTimeout").is_ok(),
     }
 }
 
