@@ -1,13 +1,9 @@
 -- Records as they are kept, one more or one fewer.
-use Rattle.std.proofs.Common.{◌≡◌, ◌∙◌, ℕ, zero, suc, Bool, cond, not, ◌+◌, ◌<◌, ◌≤◌, List, [], ◌∷◌, ◌++◌, true, false, length, map, Option, None, Some, slice_get, refl, ap, sym, subst, arith, inl, inr}
+use Rattle.std.proofs.Common.{◌≡◌, ◌∙◌, ℕ, zero, suc, Bool, cond, not, ◌+◌, ◌<◌, ◌≤◌, List, [], ◌∷◌, ◌++◌, true, false, length, map, Option, Some, slice_get, refl, ap, sym, subst, arith, inl, inr}
 use Rattle.std.specs.List.{AllByRecursion, list_any}
 use Rattle.std.specs.Prelude.{◌==◌, ◌||◌, filter, nat_le, if◌then◌else◌}
 use Rattle.std.proofs.lemmas.Grind.{common_steps}
 use Rattle.std.proofs.lemmas.List.{map-append, length-append}
-use Rattle.sq_base.specs.declared.ids.HomeId.{HomeId}
-use Rattle.sq_model.specs.declared.calls.HomeCall.{HomeCall}
-use Rattle.sq_model.specs.declared.event.StepRecord.{StepRecord}
-use Rattle.sq_model.specs.declared.replies.HomeReply.{HomeReply}
 use Rattle.sq_model.specs.RecordValues.{RecordValue, HomeRecordValue, OfHome, place_of_record}
 use Rattle.sq_history.specs.Records.{with_home}
 use Rattle.sq_steps.specs.declared.records.Kept.{Kept}

@@ -2,7 +2,7 @@ use Rattle.std.proofs.Common.{rules, ◌≡◌, ◌∙◌, ◌-◌, not, ap, sym
 use Rattle.std.specs.Prelude.{◌==◌, filter, vec_capacity, vec_len}
 use Rattle.std.specs.List.{list_any}
 use Rattle.std.proofs.lemmas.Fn.{filter_same}
-use Rattle.sq_steps.specs.Records.{IsIn, least, place_of_kept, values_of_kept}
+use Rattle.sq_steps.specs.Records.{IsIn, place_of_kept, values_of_kept}
 use Rattle.sq_steps.proofs.FilterLaws.{all_filter}
 use Rattle.sq_steps.proofs.RecordLaws.{any_places, filter_places, least_of_more}
 use Rattle.sq_steps.proofs.records.Records.drop_record.Goals as goal
