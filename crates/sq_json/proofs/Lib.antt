@@ -1,0 +1,3 @@
+mod LookUps
+mod Views
+mod Readings
