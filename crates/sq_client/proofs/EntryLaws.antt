@@ -2,6 +2,7 @@
 use Rattle.std.proofs.Common.{◌≡◌, ◌∙◌, ℕ, suc, ◌+◌, Bool, true, false, List, [], ◌∷◌, ◌++◌, length, refl, sym, ap, subst, inl, inr, arith, Option, Some, Result, Ok, Err, slice_get}
 use Rattle.std.specs.Prelude.{MatchResult, if◌then◌else◌}
 use Rattle.sq_base.specs.Bodies.{body_check}
+use Rattle.sq_base.specs.declared.handle.Handle.{Handle}
 use Rattle.sq_base.specs.declared.refusal.Refusal.{Refusal}
 use Rattle.sq_base.specs.declared.refusal.Refusal.TheVariants.{InvalidMessageContents, NoMemory}
 use Rattle.sq_calls.specs.BodyTexts.{is_too_small_or_large}
@@ -12,7 +13,10 @@ use Rattle.sq_calls.specs.declared.batches.EntryAsk.{EntryAsk}
 use Rattle.sq_calls.specs.declared.batches.EntryResult.{EntryResult}
 use Rattle.sq_calls.specs.declared.calls.Answer.TheVariants as answer
 use Rattle.sq_client.specs.Asks.{Ask, Gave, Done, HomeCounts}
-use Rattle.sq_client.specs.Entries.{are_allowed, SendAt, EntryFits, OneFits, EntriesFit, BatchAt, one_answered}
+use Rattle.sq_client.specs.Entries.{are_allowed, SendAt, HandleAt, EntryFits, OneFits, EntriesFit, BatchAt, one_answered}
+use Rattle.sq_client.specs.Messages.{act_of, asked_by}
+use Rattle.sq_client.specs.declared.message.OnMessage.{OnMessage}
+use Rattle.sq_client.specs.declared.message.OnMessage.TheVariants.{Delete, Change}
 use Rattle.sq_client.specs.Performs.{Path, Performs}
 use Rattle.sq_client.proofs.PathLaws.{path_append}
 
@@ -48,6 +52,11 @@ body_refused homes name queue body delay e in_bounds refused = refused_so homes 
 pub answered_as_entry : {S : Type 0} (stepped : S → Ask → Result Gave Refusal → S → Type 0) (G : List Done → Result EntryAnswer Refusal → Type 0) (homes : ℕ) (name : List ℕ) (asked : EntryAsk) (queue : ℕ) (old new : S) (told : Result EntryAnswer Refusal)
     → Performs stepped G old told new → ((ds : List Done) → G ds told → EntryFits homes name queue asked ds told) → Performs stepped (OneFits homes name asked queue) old (one_answered told) new
 answered_as_entry stepped G homes name asked queue old new told did fits = record { trace = did.trace; path = did.path; fits = (told, fits did.trace did.fits, refl) }
+
+-- a step on the message of a handle is one as an entry asks it
+pub handle_as_entry : (homes : ℕ) (name : List ℕ) (queue : ℕ) (handle : Option Handle) (what : OnMessage) (ds : List Done) (told : Result EntryAnswer Refusal) → HandleAt homes name queue handle (act_of what) ds told → EntryFits homes name queue (asked_by what handle) ds told
+handle_as_entry homes name queue handle Delete ds told fits = fits
+handle_as_entry homes name queue handle (Change timeout) ds told fits = fits
 
 -- ---- batches
 

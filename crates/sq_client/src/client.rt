@@ -3,8 +3,8 @@ ghost use Rattle.std.specs.Prelude.{◌≡◌, ◌≢◌, ◌⊎◌, ◌+◌, �
 ghost use Rattle.sq_model.specs.declared.replies.HomeReply.{HomeReply};
 ghost use Rattle.sq_model.specs.declared.directory.DirectoryCall.TheVariants.{List as ListNames, Read, Sources, Url};
 ghost use Rattle.sq_directory.specs.Makers.{name_asked};
-ghost use Rattle.sq_calls.specs.declared.batches.EntryAsk.TheVariants.{Send, Delete, Change};
-ghost use Rattle.sq_client.specs.Messages.{act_at_each};
+ghost use Rattle.sq_calls.specs.declared.batches.EntryAsk.TheVariants.{Send};
+ghost use Rattle.sq_client.specs.Messages.{act_at_each, asked_by};
 ghost use Rattle.sq_client.specs.Calls.{home_numbered, counted_homes, counts_with, changes_queue, received_from, AreFew};
 ghost use Rattle.sq_client.specs.Entries.{OneFits};
 ghost use Rattle.sq_client.specs.Fits.{ByName, AtAll, ByDirectory, ThenAll, CreateFits, SetFits, TellsUrl, TellsQueues, TellsSources, StartFits, StartsBetween, is_destination, CancelFits, ListTasksFits, source_refusal, CountsAt, Shows, ReceiveAt, CallFits};
@@ -14,14 +14,14 @@ ghost use Rattle.sq_client.specs.Performs.{Performs, LeavesRecords};
 use crate::batch::batch;
 use crate::lock_steps::LockSteps;
 use crate::message::{OnMessage, on_message, one_answered, send};
+use sq_base::handle::Handle;
 use sq_base::ids::{HomeId, HomeNo, QueueNo};
 use sq_base::name::QueueName;
 use sq_base::refusal::Refusal;
 use sq_base::settings::Settings;
 use sq_calls::calls::{
-    Answer, AskedOfQueue, Call, ChangeMessageVisibility, CreateQueue, DeleteMessage,
-    GetQueueAttributes, ListMessageMoveTasks, QueueCounts, ReceiveMessage, SendMessage,
-    SetQueueAttributes, ShownAttributes, StartMessageMoveTask,
+    Answer, AskedOfQueue, Call, CreateQueue, GetQueueAttributes, ListMessageMoveTasks, QueueCounts,
+    ReceiveMessage, SendMessage, SetQueueAttributes, ShownAttributes, StartMessageMoveTask,
 };
 use sq_calls::received_messages::ReceivedMessages;
 use sq_history::act::HomeAct;
@@ -63,8 +63,13 @@ fn answer<S: LockSteps>(steps: &mut S, call: &Call) -> Result<Answer, Refusal>
         Call::ListDeadLetterSourceQueues(name) => list_sources(steps, name),
         Call::SendMessage(call) => send_message(steps, call),
         Call::ReceiveMessage(call) => receive(steps, call),
-        Call::DeleteMessage(call) => delete_message(steps, call),
-        Call::ChangeMessageVisibility(call) => change_message(steps, call),
+        Call::DeleteMessage(call) => {
+            at_handle(steps, &call.queue, &call.handle, OnMessage::Delete)
+        }
+        Call::ChangeMessageVisibility(call) => {
+            let change = OnMessage::Change(call.timeout);
+            at_handle(steps, &call.queue, &call.handle, change)
+        }
         Call::Batch(call) => batch(steps, call),
         Call::StartMessageMoveTask(call) => start_task(steps, call),
         Call::CancelMessageMoveTask(number) => cancel_task(steps, number),
@@ -267,22 +272,17 @@ fn send_message<S: LockSteps>(steps: &mut S, call: &SendMessage) -> Result<Answe
     one_answered(send(steps, &of, &call.body, call.delay))
 }
 
-fn delete_message<S: LockSteps>(steps: &mut S, call: &DeleteMessage) -> Result<Answer, Refusal>
-    ensures { Performs S.stepped (ByName call.now.queue (OneFits (S.counts steps.old).homes call.now.queue (Delete call.now.handle))) steps.old result steps.new }
-{
-    let of = steps.resolve(&call.queue)?;
-    one_answered(on_message(steps, &of, &call.handle, OnMessage::Delete))
-}
-
-fn change_message<S: LockSteps>(
+// A call on the message of a handle.
+fn at_handle<S: LockSteps>(
     steps: &mut S,
-    call: &ChangeMessageVisibility,
+    queue: &QueueName,
+    handle: &Option<Handle>,
+    what: OnMessage,
 ) -> Result<Answer, Refusal>
-    ensures { Performs S.stepped (ByName call.now.queue (OneFits (S.counts steps.old).homes call.now.queue (Change call.now.handle call.now.timeout))) steps.old result steps.new }
+    ensures { Performs S.stepped (ByName queue.now (OneFits (S.counts steps.old).homes queue.now (asked_by what handle.now))) steps.old result steps.new }
 {
-    let of = steps.resolve(&call.queue)?;
-    let change = OnMessage::Change(call.timeout);
-    one_answered(on_message(steps, &of, &call.handle, change))
+    let of = steps.resolve(queue)?;
+    one_answered(on_message(steps, &of, handle, what))
 }
 
 fn receive<S: LockSteps>(steps: &mut S, call: &ReceiveMessage) -> Result<Answer, Refusal>

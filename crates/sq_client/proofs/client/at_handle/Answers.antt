@@ -1,9 +1,9 @@
 use Rattle.std.proofs.Common.{rules, ◌≡◌, Err}
-use Rattle.sq_calls.specs.declared.batches.EntryAsk.TheVariants.{Delete}
 use Rattle.sq_client.specs.Entries.{OneFits}
+use Rattle.sq_client.specs.Messages.{asked_by}
 use Rattle.sq_client.proofs.ClientLaws.{answered_found, answered_lost}
-use Rattle.sq_client.proofs.EntryLaws.{answered_as_entry}
-use Rattle.sq_client.proofs.client.delete_message.Goals as goal
+use Rattle.sq_client.proofs.EntryLaws.{answered_as_entry, handle_as_entry}
+use Rattle.sq_client.proofs.client.at_handle.Goals as goal
 
 pub returns-in_err-of : goal.returns-in_err-of
 returns-in_err-of g c =
@@ -12,8 +12,8 @@ returns-in_err-of g c =
 
 pub returns : goal.returns
 returns g c =
-    let name = c.args.call.now.queue in
-    let asked = Delete c.args.call.now.handle in
+    let name = c.args.queue.now in
+    let asked = asked_by c.args.what c.args.handle.now in
     rw c.one_answered.ensures
     (answered_found _ g.S.LockSteps.counts (λ n. OneFits n.homes name asked) _ _ _ _ name _ _ c.in_ok-of.ensures.did c.resolve.ensures.same_counts
-    (answered_as_entry _ _ _ name asked _ _ _ _ c.on_message.ensures.did (λ ds fits. rw c.in_ok-of.ensures.named at fits)) (λ ds fits. fits))
+    (answered_as_entry _ _ _ name asked _ _ _ _ c.on_message.ensures.did (λ ds fits. handle_as_entry _ name _ c.args.handle.now c.args.what ds _ (rw c.in_ok-of.ensures.named at fits))) (λ ds fits. fits))
