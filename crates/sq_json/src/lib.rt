@@ -4,3 +4,5 @@
 pub mod line;
 mod number;
 pub mod value;
+
+pub use json::Scratch;

@@ -1,12 +1,12 @@
 //! Whole numbers of JSON.
 ghost use Rattle.std.specs.Prelude.{◌≡◌};
 ghost use Rattle.serde_json.specs.Find.{as_number};
-ghost use Rattle.serde_json.specs.View.{view};
+ghost use Rattle.sq_json.specs.View.{view};
 ghost use Rattle.sq_policy.specs.Amounts.{amount_of, in_range, in_range_if, is_digits, amount_of_text, attribute_of};
 
-use serde_json::Value;
 use sq_base::ranges::Within;
 use sq_base::refusal::Refusal;
+use sq_json::value::Value;
 
 /// A whole number that is read, before its range is checked.
 #[derive(Clone, Copy)]
@@ -17,7 +17,7 @@ pub enum Amount {
 }
 
 /// A number as a whole number; InvalidRequest where it is none, or no number.
-pub fn amount_of(value: &Value) -> Result<Amount, Refusal>
+pub fn amount_of(value: &Value<'_, '_>) -> Result<Amount, Refusal>
     ensures { result ≡ amount_of (as_number (view value.now)) }
 {
     match value.as_u64() {
@@ -78,7 +78,7 @@ pub fn amount_of_text(text: &str) -> Amount
 /// A numeric attribute, a text or a whole number (SQS API Reference, CreateQueue, Attributes); InvalidRequest where
 /// it is neither.
 #[tactic(auto, unfolding(crate::specs::Amounts::attribute_of))]
-pub fn attribute_of(value: &Value) -> Result<Amount, Refusal>
+pub fn attribute_of(value: &Value<'_, '_>) -> Result<Amount, Refusal>
     ensures { result ≡ attribute_of (view value.now) }
 {
     match value.as_str() {

@@ -1,11 +1,13 @@
 //! The texts of queue policies.
-ghost use Rattle.std.specs.Prelude.{◌≡◌, ◌<◌, true, length, map, option_map, is_some, Ok, Some, IfOk, IfErr, OnOk, string_bytes};
+ghost use Rattle.std.specs.Prelude.{◌≡◌, ◌≢◌, [], true, map, option_map, option_and_then, is_some, Ok, Some, IfOk, IfErr, OnOk, string_bytes};
 ghost use Rattle.std.specs.List.{list_any, list_all};
 ghost use Rattle.std.specs.Str.{bytes_eq};
-ghost use Rattle.serde_json.specs.View.{view, items_view};
+ghost use Rattle.serde_json.specs.Find.{as_array};
+ghost use Rattle.serde_json.specs.View as tree;
 ghost use Rattle.serde_json.specs.Written.{compact_text};
 ghost use Rattle.sq_base.specs.Names.{is_name};
 ghost use Rattle.sq_base.specs.declared.refusal.Refusal.TheVariants.{NoMemory};
+ghost use Rattle.sq_json.specs.View.{view};
 ghost use Rattle.sq_model.specs.Policies as policies;
 ghost use Rattle.sq_model.specs.declared.policy.AllowPolicy.TheVariants.{ByQueue};
 ghost use Rattle.sq_policy.specs.Reading.{seen_as, Reads, ReadsText};
@@ -13,31 +15,38 @@ ghost use Rattle.sq_policy.specs.PolicyTexts.{valid, arn_in, target_in, receives
 
 use crate::amount::{attribute_of, in_range};
 use crate::arn::{arn_of, queue_of_arn};
-use serde_json::{Value, json};
+use serde_json::json;
 use sq_base::name::QueueName;
 use sq_base::ranges::MaxReceives;
 use sq_base::refusal::Refusal;
+use sq_json::Scratch;
+use sq_json::line::{Fault, Line};
+use sq_json::value::Value;
 use sq_model::listed::Listed;
 use sq_model::policy::{AllowPolicy, RedrivePolicy, SourceNames};
 use std::alloc::{AllocError, Global};
 
 // The value of a text that is not empty.
 #[tactic(auto, unfolding(crate::specs::PolicyTexts::data_of))]
-fn value_of(alloc: Global, text: &str) -> Result<Option<Value>, Refusal>
-    ensures { ReadsText (seen_as (λ v. option_map view v) result) text.now data_of }
+fn value_of<'a>(
+    alloc: Global,
+    scratch: &'a mut Scratch,
+    text: &'a str,
+) -> Result<Option<Line<'a>>, Refusal>
+    ensures { ReadsText (seen_as (λ l. option_map view l) result) text.now data_of }
 {
     if text.is_empty() {
         return Ok(None);
     }
-    match Value::from_str(alloc, text) {
-        Ok(value) => Ok(Some(value)),
-        Err(e) if e.is_memory() => Err(Refusal::NoMemory),
-        Err(_) => Err(Refusal::InvalidAttributeValue),
+    match Line::of_text(alloc, scratch, text) {
+        Ok(line) => Ok(Some(line)),
+        Err(Fault::Memory) => Err(Refusal::NoMemory),
+        Err(Fault::Invalid) => Err(Refusal::InvalidAttributeValue),
     }
 }
 
 // The queue of an ARN.
-fn arn_in(value: &Value) -> Result<QueueName, Refusal>
+fn arn_in(value: &Value<'_, '_>) -> Result<QueueName, Refusal>
     ensures { result ≡ valid (arn_in (view value.now)) }
 {
     match value.as_str() {
@@ -47,30 +56,30 @@ fn arn_in(value: &Value) -> Result<QueueName, Refusal>
 }
 
 #[tactic(auto, unfolding(crate::specs::PolicyTexts::target_in))]
-fn target_in(value: &Value) -> Result<QueueName, Refusal>
+fn target_in(value: &Value<'_, '_>) -> Result<QueueName, Refusal>
     ensures { result ≡ target_in (view value.now) }
 {
     match value.get("deadLetterTargetArn") {
-        Some(target) => arn_in(target),
+        Some(target) => arn_in(&target),
         None => Err(Refusal::InvalidAttributeValue),
     }
 }
 
 #[tactic(auto, unfolding(crate::specs::PolicyTexts::receives_in))]
-fn receives_in(value: &Value) -> Result<MaxReceives, Refusal>
+fn receives_in(value: &Value<'_, '_>) -> Result<MaxReceives, Refusal>
     ensures { result ≡ receives_in (view value.now) }
 {
     let Some(count) = value.get("maxReceiveCount") else {
         return Err(Refusal::InvalidAttributeValue);
     };
-    match attribute_of(count) {
+    match attribute_of(&count) {
         Ok(amount) => in_range(amount, Refusal::InvalidAttributeValue),
         Err(_) => Err(Refusal::InvalidAttributeValue),
     }
 }
 
 #[tactic(auto, unfolding(crate::specs::PolicyTexts::redrive_in))]
-fn redrive_in(value: &Value) -> Result<RedrivePolicy, Refusal>
+fn redrive_in(value: &Value<'_, '_>) -> Result<RedrivePolicy, Refusal>
     ensures { result ≡ redrive_in (view value.now) }
 {
     let target = target_in(value)?;
@@ -88,13 +97,14 @@ fn redrive_in(value: &Value) -> Result<RedrivePolicy, Refusal>
 pub fn read_redrive(alloc: Global, text: &str) -> Result<Option<RedrivePolicy>, Refusal>
     ensures { ReadsText result text.now redrive_of }
 {
-    match value_of(alloc, text)? {
-        Some(value) => Ok(Some(redrive_in(&value)?)),
+    let mut scratch = Scratch::new(alloc);
+    match value_of(alloc, &mut scratch, text)? {
+        Some(line) => Ok(Some(redrive_in(&line.root())?)),
         None => Ok(None),
     }
 }
 
-fn is_arn(value: &Value) -> bool
+fn is_arn(value: &Value<'_, '_>) -> bool
     ensures { result ≡ is_some (arn_in (view value.now)) }
 {
     match value.as_str() {
@@ -103,45 +113,54 @@ fn is_arn(value: &Value) -> bool
     }
 }
 
-fn are_arns(values: &[Value]) -> bool
-    ensures { result ≡ is_some (arn_names (items_view values.now)) }
+// Whether a value is a list of ARNs.
+fn are_arns(value: &Value<'_, '_>) -> bool
+    ensures { result ≡ is_some (option_and_then arn_names (as_array (view value.now))) }
 {
-    values.iter().all(|value| is_arn(value))
+    let Some(mut arns) = value.items() else {
+        return false;
+    };
+    'arns: while let Some(arn) = arns.next() {
+        if !is_arn(&arn) {
+            return false;
+        }
+    }
+    true
 }
 
 // The queues of a list of ARNs, in its order.
-fn arn_names(alloc: Global, arns: &[Value]) -> Result<Listed<QueueName>, Refusal>
-    ensures names { Reads result (valid (arn_names (items_view arns.now))) }
-    ensures err { IfErr result (λ e. e ≡ NoMemory → 0 < length arns.now) }
+fn arn_names(alloc: Global, value: &Value<'_, '_>) -> Result<Listed<QueueName>, Refusal>
+    ensures names { Reads result (valid (option_and_then arn_names (as_array (view value.now)))) }
+    ensures err { IfErr result (λ e. e ≡ NoMemory → option_and_then arn_names (as_array (view value.now)) ≢ Some []) }
 {
-    if !are_arns(arns) {
+    if !are_arns(value) {
         return Err(Refusal::InvalidAttributeValue);
     }
+    let Some(mut arns) = value.items() else {
+        return Err(Refusal::InvalidAttributeValue);
+    };
     let mut names = Listed::new(alloc);
-    for arn in arns {
-        names.push(arn_in(arn)?)?;
+    'arns: while let Some(arn) = arns.next() {
+        names.push(arn_in(&arn)?)?;
     }
     Ok(names)
 }
 
 // The queues of a member that is a list of 1 to 10 ARNs.
 #[tactic(auto, unfolding(crate::specs::PolicyTexts::sources_in))]
-fn sources_in(alloc: Global, value: &Value) -> Result<SourceNames, Refusal>
+fn sources_in(alloc: Global, value: &Value<'_, '_>) -> Result<SourceNames, Refusal>
     ensures { Reads result (sources_in (view value.now)) }
 {
-    let Some(arns) = value.as_array() else {
-        return Err(Refusal::InvalidAttributeValue);
-    };
     // Before memory is taken for more names than may be kept.
-    if arns.len() > 10 {
+    if value.at(10).is_some() {
         return Err(Refusal::InvalidAttributeValue);
     }
-    let names = arn_names(alloc, arns)?;
+    let names = arn_names(alloc, value)?;
     SourceNames::new(names).ok_or(Refusal::InvalidAttributeValue)
 }
 
 #[tactic(auto, unfolding(crate::specs::PolicyTexts::permission_in))]
-fn permission_in(value: &Value) -> Result<&str, Refusal>
+fn permission_in<'a>(value: &Value<'_, 'a>) -> Result<&'a str, Refusal>
     ensures { seen_as (λ t. t.now) result ≡ permission_in (view value.now) }
 {
     match value.get("redrivePermission") {
@@ -162,7 +181,11 @@ fn allow_unlisted(permission: &str) -> Result<AllowPolicy, Refusal>
 }
 
 #[tactic(auto, unfolding(crate::specs::PolicyTexts::allow_listed))]
-fn allow_listed(alloc: Global, permission: &str, list: &Value) -> Result<AllowPolicy, Refusal>
+fn allow_listed(
+    alloc: Global,
+    permission: &str,
+    list: &Value<'_, '_>,
+) -> Result<AllowPolicy, Refusal>
     ensures { Reads result (allow_listed permission.now (view list.now)) }
 {
     if permission != "byQueue" {
@@ -172,13 +195,13 @@ fn allow_listed(alloc: Global, permission: &str, list: &Value) -> Result<AllowPo
 }
 
 #[tactic(auto, unfolding(crate::specs::PolicyTexts::allow_in))]
-fn allow_in(alloc: Global, value: &Value) -> Result<AllowPolicy, Refusal>
+fn allow_in(alloc: Global, value: &Value<'_, '_>) -> Result<AllowPolicy, Refusal>
     ensures { Reads result (allow_in (view value.now)) }
 {
     let permission = permission_in(value)?;
     match value.get("sourceQueueArns") {
         None => allow_unlisted(permission),
-        Some(list) => allow_listed(alloc, permission, list),
+        Some(list) => allow_listed(alloc, permission, &list),
     }
 }
 
@@ -190,14 +213,15 @@ fn allow_in(alloc: Global, value: &Value) -> Result<AllowPolicy, Refusal>
 pub fn read_allow(alloc: Global, text: &str) -> Result<Option<AllowPolicy>, Refusal>
     ensures { ReadsText result text.now allow_of }
 {
-    match value_of(alloc, text)? {
-        Some(value) => Ok(Some(allow_in(alloc, &value)?)),
+    let mut scratch = Scratch::new(alloc);
+    match value_of(alloc, &mut scratch, text)? {
+        Some(line) => Ok(Some(allow_in(alloc, &line.root())?)),
         None => Ok(None),
     }
 }
 
-fn redrive_value(alloc: Global, policy: &RedrivePolicy) -> Result<Value, AllocError>
-    ensures data { IfOk result (λ v. view v ≡ redrive_data policy.now) }
+fn redrive_value(alloc: Global, policy: &RedrivePolicy) -> Result<serde_json::Value, AllocError>
+    ensures data { IfOk result (λ v. tree.view v ≡ redrive_data policy.now) }
     ensures reads { OnOk result (redrive_in (redrive_data policy.now) ≡ Ok policy.now) }
 {
     let target = arn_of(alloc, &policy.target)?;
@@ -215,27 +239,27 @@ pub fn redrive_text(alloc: Global, policy: &RedrivePolicy) -> Result<String, All
 }
 
 // The ARNs of names, in their order.
-fn arns_of(alloc: Global, names: &[QueueName]) -> Result<Vec<Value>, AllocError>
-    ensures arns { IfOk result (λ arns. map view arns.items ≡ map arn_data names.now) }
+fn arns_of(alloc: Global, names: &[QueueName]) -> Result<Vec<serde_json::Value>, AllocError>
+    ensures arns { IfOk result (λ arns. map tree.view arns.items ≡ map arn_data names.now) }
     ensures names { OnOk result (list_all is_name names.now ≡ true) }
 {
     let mut arns = Vec::new(alloc);
     for name in names {
-        arns.push(Value::String(arn_of(alloc, name)?))?;
+        arns.push(serde_json::Value::String(arn_of(alloc, name)?))?;
     }
     Ok(arns)
 }
 
-fn sources_value(alloc: Global, names: &SourceNames) -> Result<Value, AllocError>
-    ensures data { IfOk result (λ v. view v ≡ sources_data names.now) }
+fn sources_value(alloc: Global, names: &SourceNames) -> Result<serde_json::Value, AllocError>
+    ensures data { IfOk result (λ v. tree.view v ≡ sources_data names.now) }
     ensures reads { OnOk result (allow_in (sources_data names.now) ≡ Ok (ByQueue names.now)) }
 {
     let arns = arns_of(alloc, names.as_slice())?;
-    json!(in alloc; {"redrivePermission": "byQueue", "sourceQueueArns": Value::Array(arns)})
+    json!(in alloc; {"redrivePermission": "byQueue", "sourceQueueArns": serde_json::Value::Array(arns)})
 }
 
-fn allow_value(alloc: Global, policy: &AllowPolicy) -> Result<Value, AllocError>
-    ensures data { IfOk result (λ v. view v ≡ allow_data policy.now) }
+fn allow_value(alloc: Global, policy: &AllowPolicy) -> Result<serde_json::Value, AllocError>
+    ensures data { IfOk result (λ v. tree.view v ≡ allow_data policy.now) }
     ensures reads { OnOk result (allow_in (allow_data policy.now) ≡ Ok policy.now) }
 {
     match policy {

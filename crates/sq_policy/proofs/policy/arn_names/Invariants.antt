@@ -1,8 +1,13 @@
-use Rattle.std.proofs.Common.{◌≡◌, drop}
-use Rattle.serde_json.specs.View.{items_view}
+use Rattle.std.proofs.Common.{◌≡◌, length}
+use Rattle.std.specs.Prelude.{option_and_then}
+use Rattle.serde_json.specs.Find.{as_array}
+use Rattle.sq_json.specs.View.{view, items_view}
 use Rattle.sq_policy.specs.PolicyTexts.{arn_names}
 use Rattle.sq_policy.proofs.SourceLaws.{after}
 use Rattle.sq_policy.proofs.policy.arn_names.Given as goal
 
-abbrev pub invariant-loop-arn : goal.invariant-loop-arn
-invariant-loop-arn l = arn_names (items_view l.arns) ≡ after l.names (arn_names (items_view (drop l.arn-index l.arns)))
+abbrev pub invariant-arns : goal.invariant-arns
+invariant-arns l = option_and_then arn_names (as_array (view l.value)) ≡ after l.names (arn_names (items_view l.arns))
+
+abbrev pub decreases-arns : goal.decreases-arns
+decreases-arns l = length l.arns
