@@ -1,34 +1,61 @@
 -- What the entries of a batch give.
-use Rattle.std.proofs.Common.{◌≡◌, ◌≢◌, Bool, true, false, ℕ, List, [], ◌∷◌, ◌++◌, Option, Some, None, Result, Ok, Err, refl, sym, ◌∙◌, ◌<◌, ◌≤◌, length, not, arith, get_or, drop, ◌+◌, suc, append_assoc, drop-cons, add-one, ◌⊎◌, inl, inr}
-use Rattle.std.specs.Prelude.{is_ok, IfOk, IfErr, ◌==◌, nat_lt, ◌&&◌, if◌then◌else◌, codes, ok_or}
-use Rattle.std.proofs.lemmas.Bool.{and_parts, lt-ltb, le-ltb}
+use Rattle.std.proofs.Common.{◌≡◌, ◌≢◌, Bool, true, false, ℕ, List, [], ◌∷◌, ◌++◌, Option, Some, None, Result, Ok, Err, refl, sym, ap, ◌∙◌, ◌≤◌, not, arith, ◌+◌, suc, append_assoc, add-one, ◌⊎◌, inl, inr}
+use Rattle.std.specs.Prelude.{zero, is_ok, IfOk, IfErr, ◌==◌, nat_lt, ◌&&◌, ◌||◌, if◌then◌else◌, codes, ok_or}
+use Rattle.std.proofs.lemmas.Bool.{and_parts}
 use Rattle.serde_json.specs.Data.{Data, Items, no_items, item}
-use Rattle.serde_json.specs.View.{view, items_view}
-use Rattle.serde_json.specs.declared.value.Value.{Value}
 use Rattle.sq_base.specs.declared.handle.Handle.{Handle}
 use Rattle.sq_base.specs.declared.refusal.Refusal.{Refusal}
 use Rattle.sq_base.specs.declared.refusal.Refusal.TheVariants.{NoMemory, InvalidAddress, InvalidParameterValue, EmptyBatchRequest, TooManyEntriesInBatchRequest, InvalidBatchEntryId, BatchEntryIdsNotDistinct, BatchRequestTooLong}
+use Rattle.sq_calls.specs.BodyTexts.{is_too_small_or_large}
 use Rattle.sq_calls.specs.declared.batches.Entry.{Entry}
 use Rattle.sq_calls.specs.declared.batches.EntryAsk.{EntryAsk}
-use Rattle.sq_calls.specs.declared.batches.EntryAsk.TheVariants.{Change}
+use Rattle.sq_calls.specs.declared.batches.EntryAsk.TheVariants.{Send, Change}
 use Rattle.sq_calls.specs.declared.calls.Call.TheVariants as call
-use Rattle.sq_policy.specs.Amounts.{within}
-use Rattle.sq_policy.specs.Reading.{◌>>=◌, Reads}
+use Rattle.sq_policy.specs.Amounts.{within, in_range_if}
+use Rattle.sq_policy.specs.Reading.{◌>>=◌, IsUnrefused, Reads}
 use Rattle.sq_policy.specs.declared.amount.Amount.{Amount}
 use Rattle.sq_policy.specs.declared.amount.Amount.TheVariants.{Natural, Other}
-use Rattle.sq_requests.specs.Asked.{all_items}
-use Rattle.sq_requests.specs.Batches.{as_ask, ask_of, batch_check, batch_of, bodies_length, change_ask, entries_of, entry_of, has_id, how_many, entry_id, is_entry, items_at, members_of, repeat_an_id}
+use Rattle.sq_requests.specs.Asked.{any_item, all_items}
+use Rattle.sq_requests.specs.Batches.{as_ask, ask_of, send_ask, has_body, behind, batch_check, batch_of, bodies_length, change_ask, entries_of, entry_of, has_id, have_same_id, how_many, entry_id, is_entry, items_at, members_of, repeat_an_id}
+use Rattle.sq_requests.specs.Memory.{ReadsAsking}
 use Rattle.sq_requests.specs.Members.{url_at}
 use Rattle.sq_requests.specs.declared.batches.BatchKind.{BatchKind}
 
+-- a send that nothing refuses but want of memory has a body
+in_range_or_not : (n : Option ℕ) → (ok_or n InvalidParameterValue >>= λ n. Ok (Some n)) ≢ Err NoMemory
+in_range_or_not None h = cc
+in_range_or_not (Some n) h = cc
+
+delay_wants_none : (delay : Option Amount) → in_range_if 0 900 InvalidParameterValue delay ≢ Err NoMemory
+delay_wants_none None h = cc
+delay_wants_none (Some (Natural n)) h = in_range_or_not (within 0 900 n) h
+delay_wants_none (Some Other) h = cc
+
+by_delay : (delay : Result (Option ℕ) Refusal) (wrong : Bool) (body : List ℕ) → delay ≢ Err NoMemory
+    → IsUnrefused (delay >>= λ delay. (if wrong then Err InvalidParameterValue else Ok body) >>= λ text. Ok (Send text delay))
+    → has_body (as_ask (delay >>= λ delay. (if wrong then Err InvalidParameterValue else Ok body) >>= λ text. Ok (Send text delay))) ≡ true
+by_delay (Err e) wrong body none h = absurd (none (rw h refl))
+by_delay (Ok delay) true body none h = absurd (cc)
+by_delay (Ok delay) false body none h = refl
+
+sends_body : (has_attributes : Bool) (delay : Option Amount) (body : List ℕ) → IsUnrefused (send_ask has_attributes delay body) → has_body (as_ask (send_ask has_attributes delay body)) ≡ true
+sends_body true delay body h = absurd (cc)
+sends_body false delay body h = by_delay (in_range_if 0 900 InvalidParameterValue delay) (is_too_small_or_large body) body (delay_wants_none delay) h
+
 -- what refuses an entry alone is what was read of it, and want of memory is not
-pub reads_ask : (asked read r : Result EntryAsk Refusal) → Reads asked read → IfOk r (λ ask. (ask ≡ as_ask asked) × (asked ≢ Err NoMemory)) → IfErr r (λ e. (e ≡ NoMemory) × (asked ≡ Err NoMemory))
-    → Reads r (Ok (as_ask read))
-reads_ask (Ok ask) read (Ok a) reads h none = rw (reads, h.0) refl
-reads_ask (Err NoMemory) read (Ok a) reads h none = absurd (h.1 refl)
-reads_ask (Err e) read (Ok a) reads h none = rw (reads, h.0) refl
-reads_ask asked read (Err NoMemory) reads h none = tt
-reads_ask asked read (Err e) reads h none = absurd (cc)
+by_ask : (asked read r : Result EntryAsk Refusal) → (IsUnrefused read → has_body (as_ask read) ≡ true) → Reads asked read → IfOk r (λ ask. (ask ≡ as_ask asked) × (asked ≢ Err NoMemory)) → IfErr r (λ e. (e ≡ NoMemory) × (asked ≡ Err NoMemory))
+    → ReadsAsking (Ok (has_body (as_ask read))) r (Ok (as_ask read))
+by_ask (Ok ask) read (Ok a) sent reads h none = rw (reads, h.0) refl
+by_ask (Err NoMemory) read (Ok a) sent reads h none = absurd (h.1 refl)
+by_ask (Err e) read (Ok a) sent reads h none = rw (reads, h.0) refl
+by_ask (Err NoMemory) read (Err NoMemory) sent reads h none = sent reads
+by_ask asked read (Err NoMemory) sent reads h none = absurd (let is = none.1 in cc)
+by_ask asked read (Err e) sent reads h none = absurd (cc)
+
+pub reads_ask : (has_attributes : Bool) (delay : Option Amount) (body : List ℕ) (asked r : Result EntryAsk Refusal) → Reads asked (send_ask has_attributes delay body)
+    → IfOk r (λ ask. (ask ≡ as_ask asked) × (asked ≢ Err NoMemory)) → IfErr r (λ e. (e ≡ NoMemory) × (asked ≡ Err NoMemory))
+    → ReadsAsking (Ok (has_body (as_ask (send_ask has_attributes delay body)))) r (Ok (as_ask (send_ask has_attributes delay body)))
+reads_ask has_attributes delay body asked r reads h none = by_ask asked (send_ask has_attributes delay body) r (sends_body has_attributes delay body) reads h none
 
 -- a change asks for no memory
 out_of_range : (n : Option ℕ) (handle : Option Handle) → (ok_or n InvalidParameterValue >>= λ timeout. Ok (Change handle timeout)) ≢ Err NoMemory
@@ -54,17 +81,36 @@ after_one_more : (read : List Entry) (entry : Entry) (rest : Result (List Entry)
 after_one_more read entry (Ok more) = rw append_assoc refl
 after_one_more read entry (Err e) = refl
 
-pub one_more : (kind : BatchKind) (vs : List Value) (i : ℕ) (v : Value) (read : List Entry) (entry : Entry) → i < length vs → v ≡ get_or vs i v → entry_of kind (view v) ≡ Ok entry
-    → entries_of kind (items_view vs) ≡ after read (entries_of kind (items_view (drop i vs)))
-    → entries_of kind (items_view vs) ≡ after (read ++ entry ∷ []) (entries_of kind (items_view (drop (i + 1) vs)))
-one_more kind vs i v read entry lt at is so =
-    so ∙ rw (drop-cons vs i v, ← at, is, add-one) (after_one_more read entry (entries_of kind (items_view (drop (suc i) vs))))
+pub one_more : (kind : BatchKind) (found : Result (List Entry) Refusal) (ds rest : Items) (d : Data) (read : List Entry) (entry : Entry) → ds ≡ item d rest → entry_of kind d ≡ Ok entry
+    → found ≡ after read (entries_of kind ds) → found ≡ after (read ++ entry ∷ []) (entries_of kind rest)
+one_more kind found ds rest d read entry is one so = so ∙ rw (is, one) (after_one_more read entry (entries_of kind rest))
 
 -- what holds of all that are left holds of those behind the first of them
-pub those_behind : (test : Data → Bool) (vs : List Value) (i : ℕ) (v : Value) → i < length vs → v ≡ get_or vs i v → all_items test (items_view (drop i vs)) ≡ true → all_items test (items_view (drop (i + 1) vs)) ≡ true
-those_behind test vs i v lt at all =
-    let split : (test (view (get_or vs i v)) && all_items test (items_view (drop (suc i) vs))) ≡ true = rw (drop-cons vs i v) at all in
-    rw add-one (and_parts _ _ split).1
+pub those_behind : (test : Data → Bool) (ds rest : Items) (d : Data) → ds ≡ item d rest → all_items test ds ≡ true → (test d ≡ true) × (all_items test rest ≡ true)
+those_behind test ds rest d is all = let split : (test d && all_items test rest) ≡ true = rw is at all in and_parts _ _ split
+
+-- behind one more
+by_one : (n : ℕ) (ds rest : Items) (d : Data) → behind n ds ≡ item d rest → behind (suc n) ds ≡ rest
+by_one zero no_items rest d is = absurd (cc)
+by_one zero (item first others) rest d is = cc
+by_one (suc n) no_items rest d is = absurd (cc)
+by_one (suc n) (item first others) rest d is = by_one n others rest d is
+
+pub next_behind : (n : ℕ) (all ds rest : Items) (d : Data) → ds ≡ behind n all → ds ≡ item d rest → rest ≡ behind (n + 1) all
+next_behind n all ds rest d left is = rw add-one (sym (by_one n all rest d (sym left ∙ is)))
+
+-- behind all there is none
+pub behind_all : (n : ℕ) (all : Items) → how_many all ≤ n → behind n all ≡ no_items
+behind_all zero no_items le = refl
+behind_all (suc n) no_items le = refl
+behind_all zero (item d rest) le = absurd (omega arith)
+behind_all (suc n) (item d rest) le = behind_all n rest (omega arith)
+
+-- the first of these, and those behind it
+pub first_repeats : (n : ℕ) (all ds rest : Items) (d : Data) (b : Bool) → ds ≡ behind n all → ds ≡ item d rest → b ≡ any_item (have_same_id d) (behind (n + 1) all) → repeat_an_id ds ≡ (b || repeat_an_id rest)
+first_repeats n all ds rest d b left is twice =
+    let same : b ≡ any_item (have_same_id d) rest = twice ∙ ap (any_item (have_same_id d)) (sym (next_behind n all ds rest d left is)) in
+    rw (is, same) refl
 
 -- ---- the checks of a batch
 
@@ -77,24 +123,6 @@ by_tests none many ids twice long =
     else if twice then Err BatchEntryIdsNotDistinct
     else if long then Err BatchRequestTooLong
     else Ok tt
-
-counts : (vs : List Value) → how_many (items_view vs) ≡ length vs
-counts [] = refl
-counts (v ∷ vs) = omega (arith, counts vs)
-
-pub are_too_many : (kind : BatchKind) (vs : List Value) → false ≡ (length vs == 0) → 10 < length vs → Err TooManyEntriesInBatchRequest ≡ batch_check kind (items_view vs)
-unfolding batch_check
-are_too_many kind vs some lt =
-    let many : nat_lt 10 (length vs) ≡ true = lt-ltb _ _ lt in
-    rw (counts vs, ← some, many) refl
-
--- and the checks that come once there are neither none nor too many
-pub are_ten_at_most : (kind : BatchKind) (vs : List Value) → false ≡ (length vs == 0) → length vs ≤ 10
-    → batch_check kind (items_view vs) ≡ by_tests false false (all_items has_id (items_view vs)) (repeat_an_id (items_view vs)) (nat_lt 262144 (bodies_length kind (items_view vs)))
-unfolding batch_check
-are_ten_at_most kind vs some le =
-    let few : nat_lt 10 (length vs) ≡ false = le-ltb _ _ le in
-    rw (counts vs, ← some, few) refl
 
 -- a batch that is not refused has an id for each entry
 ids_if : (none many ids twice long : Bool) → by_tests none many ids twice long ≡ Ok tt → ids ≡ true

@@ -19,6 +19,7 @@ use Rattle.sq_requests.specs.declared.batches.BatchKind.TheVariants as kind
 use Rattle.sq_requests.specs.Memory.{IsAsked, ReadsAsking}
 use Rattle.sq_requests.specs.Queues.{create_of, create_asks, set_of, set_asks}
 use Rattle.sq_requests.specs.Turns.{dead_turn_of, task_turn_of}
+use Rattle.sq_requests.proofs.RequestLaws.{asks_refused}
 use Rattle.sq_requests.specs.Requests.{kind_of, task_call_of, message_call_of, plain_call_of, call_of, call_asks, call_or_turn_of, call_or_turn_asks, turn_of}
 
 pub reads_create : (action : List ℕ) (d : Data) (r : Result Call Refusal) → bytes_eq action (codes "CreateQueue") ≡ true → ReadsAsking (create_asks d) r (create_of d) → ReadsAsking (call_asks action d) r (call_of action d)
@@ -150,12 +151,8 @@ asks_by_turn action d = asks_by_names (bytes_eq action (codes "DeadTurn")) (byte
 pub asks_a_turn : (action : List ℕ) (d : Data) (turn : Turn) → turn_of action d ≡ Some (Ok turn) → ReadsAsking (call_or_turn_asks action d) (Ok (asked.Turn turn)) (call_or_turn_of action d)
 asks_a_turn action d turn is = by_turn action d ∙ rw is refl
 
-reads_so : {A : Type 0} (asks : Result Bool Refusal) (read : Result A Refusal) (e : Refusal) → asks ≡ Err e → read ≡ Err e → ReadsAsking asks (Err e) read
-reads_so asks read NoMemory none is = rw none refl
-reads_so asks read e none is = is
-
 pub refuses_a_turn : (action : List ℕ) (d : Data) (e : Refusal) → turn_of action d ≡ Some (Err e) → ReadsAsking (call_or_turn_asks action d) (Err e) (call_or_turn_of action d)
-refuses_a_turn action d e is = reads_so _ _ e (asks_by_turn action d ∙ rw is refl) (by_turn action d ∙ rw is refl)
+refuses_a_turn action d e is = asks_refused e _ _ (asks_by_turn action d ∙ rw is refl) (by_turn action d ∙ rw is refl)
 
 pub asks_a_call : (action : List ℕ) (d : Data) (call : Call) → turn_of action d ≡ None → ReadsAsking (call_asks action d) (Ok call) (call_of action d) → ReadsAsking (call_or_turn_asks action d) (Ok (asked.Call call)) (call_or_turn_of action d)
 asks_a_call action d call none reads = by_turn action d ∙ rw none (rw reads refl)

@@ -1,12 +1,9 @@
 -- Reading a request.
-use Rattle.std.proofs.Common.{◌≡◌, ℕ, Bool, true, false, not, List, [], ◌∷◌, length, refl, arith, ap, sym, ◌∙◌, ◌≤◌, Ok, Err, Result, Some, None, inl, inr, ◌⊎◌, ◌<◌, suc}
-use Rattle.std.specs.Prelude.{String, nat_lt, ◌||◌, ◌==◌}
+use Rattle.std.proofs.Common.{◌≡◌, ℕ, Bool, true, false, List, [], ◌∷◌, length, refl, arith, sym, ◌∙◌, ◌≤◌, Ok, Err, Result, Some, None, inl, inr, ◌⊎◌, ◌<◌}
+use Rattle.std.specs.Prelude.{nat_lt, ◌||◌, ◌==◌}
 use Rattle.sq_base.specs.declared.refusal.Refusal.{Refusal}
 use Rattle.sq_base.specs.declared.refusal.Refusal.TheVariants.{NoMemory}
 use Rattle.std.proofs.lemmas.Bool.{lt-ltb, le-ltb}
-use Rattle.std.specs.declared.alloc.Global.{Global}
-use Rattle.serde_json.specs.declared.value.Value.{Value}
-use Rattle.serde_json.specs.View.{members_view}
 use Rattle.json.specs.Json.{value}
 use Rattle.json.specs.Lex.{lex, punctuate}
 use Rattle.serde_json.specs.Data.{Data}
@@ -16,12 +13,16 @@ use Rattle.sq_policy.specs.Reading.{Reads}
 use Rattle.sq_requests.specs.Memory.{ReadsAsking}
 use Rattle.sq_requests.specs.Requests.{line_request, request_of, request_asks, ReadsLine}
 use Rattle.sq_requests.specs.declared.request.Request.{Request}
-use Rattle.sq_requests.specs.Members.{is_empty}
 
 -- what is refused reads so
 pub reads_refused : {A : Type 0} (e : Refusal) (read : Result A Refusal) → read ≡ Err e → Reads (Err e) read
 reads_refused NoMemory read h = rw h refl
 reads_refused e read h = h
+
+-- and so where nothing asked for memory before
+pub asks_refused : {A : Type 0} (e : Refusal) (asks : Result Bool Refusal) (read : Result A Refusal) → asks ≡ Err e → read ≡ Err e → ReadsAsking asks (Err e) read
+asks_refused NoMemory asks read none h = rw none refl
+asks_refused e asks read none h = h
 
 -- a line that is read has a byte
 none_read : read [] ≡ None
@@ -38,12 +39,6 @@ unfolding line_request
 reads_line line d (Ok request) utf8 e h = rw (utf8, e) h
 reads_line line d (Err NoMemory) utf8 e h = some_byte line d e
 reads_line line d (Err refusal) utf8 e h = rw (utf8, e) h
-
--- an object is empty where it has no entries
-pub empty_by : (es : List (String Global × Value)) (b : Bool) → (b ≡ true → length es ≡ 0) × (length es ≡ 0 → b ≡ true) → not b ≡ not (is_empty (members_view es))
-empty_by [] b h = ap not (h.1 refl)
-empty_by (e ∷ es) true h = absurd (let none : suc (length es) ≡ 0 = h.0 refl in omega (arith, none))
-empty_by (e ∷ es) false h = refl
 
 or_right : (a b : Bool) → b ≡ true → (a || b) ≡ true
 or_right true b e = refl

@@ -1,11 +1,12 @@
 -- The attributes that a request gives (SQS API Reference, CreateQueue and SetQueueAttributes: Attributes).
-use Rattle.std.specs.Prelude.{ℕ, List, [], ◌∷◌, Bool, false, not, ◌||◌, nat_lt, if◌then◌else◌, Option, Some, None, option_map, ok_or, Result, Ok, Err, codes, length}
+use Rattle.std.specs.Prelude.{ℕ, List, Bool, false, not, ◌||◌, nat_lt, if◌then◌else◌, Option, Some, None, option_map, ok_or, Result, Ok, Err, codes, length}
 use Rattle.std.specs.List.{list_any}
 use Rattle.std.specs.Str.{bytes_eq}
-use Rattle.serde_json.specs.Data.{Data, Members, no_members, member}
+use Rattle.serde_json.specs.Data.{Data, Members}
 use Rattle.serde_json.specs.Find.{get, as_object}
 use Rattle.sq_base.specs.declared.refusal.Refusal.{Refusal}
 use Rattle.sq_base.specs.declared.refusal.Refusal.TheVariants.{InvalidRequest, InvalidAttributeName, InvalidAttributeValue}
+use Rattle.sq_json.specs.View.{names_of}
 use Rattle.sq_policy.specs.Reading.{◌>>=◌}
 use Rattle.sq_policy.specs.Amounts.{attribute_of, received, in_range_if}
 use Rattle.sq_policy.specs.PolicyTexts.{redrive_of, allow_of}
@@ -40,13 +41,13 @@ is_settable name =
     || bytes_eq name (codes "ReceiveMessageWaitTimeSeconds") || bytes_eq name (codes "RedriveAllowPolicy")
     || bytes_eq name (codes "RedrivePolicy") || bytes_eq name (codes "VisibilityTimeout")
 
-abbrev pub names_of : Members → List (List ℕ)
-names_of no_members = []
-names_of (member name d rest) = name ∷ names_of rest
+-- another than these
+abbrev pub is_other : List ℕ → Bool
+is_other name = not (is_settable name)
 
--- whether another is among them
+-- whether one is among the names
 abbrev pub has_other : Members → Bool
-has_other members = list_any (λ name. not (is_settable name)) (names_of members)
+has_other members = list_any is_other (names_of members)
 
 -- what is given, a policy as its text
 pub record GivenTexts : Type 0 where

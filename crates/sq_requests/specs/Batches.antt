@@ -1,7 +1,7 @@
 -- What the actions on several messages ask (SQS API Reference, SendMessageBatch, DeleteMessageBatch, ChangeMessageVisibilityBatch): the checks in their order.
 -- First all members are read, those of each entry too; then come InvalidAddress, EmptyBatchRequest, TooManyEntriesInBatchRequest, InvalidBatchEntryId, BatchEntryIdsNotDistinct,
 -- BatchRequestTooLong. What else is wrong with an entry is its own.
-use Rattle.std.specs.Prelude.{ℕ, ◌+◌, ◌==◌, List, [], ◌∷◌, length, Bool, false, not, ◌&&◌, ◌||◌, nat_lt, if◌then◌else◌, Option, Some, None, Result, Ok, Err, codes, is_ok, ok_or}
+use Rattle.std.specs.Prelude.{ℕ, zero, suc, ◌+◌, ◌==◌, List, [], ◌∷◌, length, Bool, true, false, not, ◌&&◌, ◌||◌, nat_lt, if◌then◌else◌, Option, Some, None, Result, Ok, Err, codes, is_ok, ok_or}
 use Rattle.std.specs.Str.{bytes_eq}
 use Rattle.serde_json.specs.Data.{Data, Items, no_items, item}
 use Rattle.serde_json.specs.Find.{get, as_array}
@@ -66,6 +66,14 @@ ask_of kind.Send d = send_of_entry d
 ask_of kind.Delete d = delete_of_entry d
 ask_of kind.Change d = change_of_entry d
 
+-- memory is asked for the body of a send that nothing refuses
+abbrev pub has_body : EntryAsk → Bool
+has_body (ask.Send body delay) = true
+has_body other = false
+
+abbrev pub ask_asks : BatchKind → Data → Result Bool Refusal
+ask_asks kind d = ask_of kind d >>= λ asked. Ok (has_body asked)
+
 -- ---- what is read of all entries
 
 -- the id of an entry, as it is
@@ -110,6 +118,12 @@ abbrev pub bodies_length : BatchKind → Items → ℕ
 bodies_length kind no_items = 0
 bodies_length kind (item d rest) = body_length kind d + bodies_length kind rest
 
+-- those behind the first n
+abbrev pub behind : ℕ → Items → Items
+behind zero items = items
+behind (suc n) no_items = no_items
+behind (suc n) (item d rest) = behind n rest
+
 abbrev pub how_many : Items → ℕ
 how_many no_items = 0
 how_many (item d rest) = 1 + how_many rest
@@ -147,6 +161,9 @@ entry_of kind d = do
   id ← entry_id d
   asked ← ask_of kind d
   Ok (record { id = id; ask = asked })
+
+abbrev pub entry_asks : BatchKind → Data → Result Bool Refusal
+entry_asks kind d = entry_of kind d >>= λ entry. Ok (has_body entry.ask)
 
 abbrev pub entries_of : BatchKind → Items → Result (List Entry) Refusal
 entries_of kind no_items = Ok []

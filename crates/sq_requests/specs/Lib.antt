@@ -1,4 +1,5 @@
 pub mod Memory
+pub mod Lists
 pub mod Members
 pub mod Attributes
 pub mod Asked

@@ -1,11 +1,12 @@
 -- What a member of a request says. One of a wrong type is InvalidRequest, and so is a missing one that must be there.
-use Rattle.std.specs.Prelude.{ℕ, List, Bool, true, false, not, Option, Some, None, Result, Ok, Err, codes, option_and_then, ok_or}
-use Rattle.serde_json.specs.Data.{Data, Members, no_members, member}
+use Rattle.std.specs.Prelude.{ℕ, List, Bool, false, Option, Some, None, Result, Ok, Err, codes, option_and_then, ok_or}
+use Rattle.serde_json.specs.Data.{Data, Members}
 use Rattle.serde_json.specs.Find.{get, as_str, as_number, as_object}
 use Rattle.sq_base.specs.Handles.{handle_at}
 use Rattle.sq_base.specs.declared.handle.Handle.{Handle}
 use Rattle.sq_base.specs.declared.refusal.Refusal.{Refusal}
 use Rattle.sq_base.specs.declared.refusal.Refusal.TheVariants.{InvalidRequest}
+use Rattle.sq_json.specs.View.{has_any}
 use Rattle.sq_policy.specs.Reading.{◌>>=◌}
 use Rattle.sq_policy.specs.Amounts.{amount_of, received}
 use Rattle.sq_policy.specs.PolicyTexts.{name_behind, arn_name}
@@ -60,13 +61,9 @@ unfoldable pub named_task : Data → Result (Option ℕ) Refusal
 named_task d = text_at (codes "TaskHandle") d >>= λ handle. Ok (task_handle_at handle)
 
 -- whether a member that may be there is an object with members
-abbrev pub is_empty : Members → Bool
-is_empty no_members = true
-is_empty (member name d rest) = false
-
 abbrev pub as_members : Option Members → Result Bool Refusal
 as_members None = Err InvalidRequest
-as_members (Some members) = Ok (not (is_empty members))
+as_members (Some members) = Ok (has_any members)
 
 abbrev pub has_members : Option Data → Result Bool Refusal
 has_members None = Ok false

@@ -1,12 +1,11 @@
 //! What the actions on messages ask.
 ghost use Rattle.std.specs.Prelude.{◌≡◌};
-ghost use Rattle.serde_json.specs.View.{view};
+ghost use Rattle.sq_json.specs.View.{view};
 ghost use Rattle.sq_policy.specs.Reading.{Reads};
 ghost use Rattle.sq_requests.specs.Actions.{has_attributes_at, send_members, addressed, send_of, receive_members, receive_of, delete_of, change_of};
 
 use crate::asked::asked_at;
 use crate::members::{amount_at, amount_if_at, has_members_at, receipt_handle_at, text_at, url_at};
-use serde_json::Value;
 use sq_base::name::QueueName;
 use sq_base::ranges::{Delay, MaxMessages};
 use sq_base::refusal::Refusal;
@@ -14,12 +13,13 @@ use sq_calls::body_text::BodyText;
 use sq_calls::calls::{
     AskedAttributes, Call, ChangeMessageVisibility, DeleteMessage, ReceiveMessage, SendMessage,
 };
+use sq_json::value::Value;
 use sq_policy::amount::{Amount, in_range, in_range_if};
 use std::alloc::Global;
 
 /// Whether message attributes or message system attributes are given.
 #[tactic(auto, using(crate::proofs::MemberLaws::either_given), unfolding(crate::specs::Actions::has_attributes_at))]
-pub(crate) fn has_attributes_at(value: &Value) -> Result<bool, Refusal>
+pub(crate) fn has_attributes_at(value: &Value<'_, '_>) -> Result<bool, Refusal>
     ensures { result ≡ has_attributes_at (view value.now) }
 {
     let attributes = has_members_at(value, "MessageAttributes")?;
@@ -37,7 +37,7 @@ pub struct SendMembers {
 }
 
 #[tactic(auto, unfolding(crate::specs::Actions::send_members))]
-fn send_members(value: &Value) -> Result<SendMembers, Refusal>
+fn send_members(value: &Value<'_, '_>) -> Result<SendMembers, Refusal>
     ensures { result ≡ send_members (view value.now) }
 {
     let queue = url_at(value)?;
@@ -71,7 +71,7 @@ fn addressed(members: &SendMembers) -> Result<Addressee, Refusal>
 }
 
 /// SendMessage.
-pub fn send_of(alloc: Global, value: &Value) -> Result<Call, Refusal>
+pub fn send_of(alloc: Global, value: &Value<'_, '_>) -> Result<Call, Refusal>
     ensures { Reads result (send_of (view value.now)) }
 {
     let body = text_at(value, "MessageBody")?;
@@ -92,7 +92,7 @@ pub struct ReceiveMembers {
 }
 
 #[tactic(auto, unfolding(crate::specs::Actions::receive_members))]
-fn receive_members(value: &Value) -> Result<ReceiveMembers, Refusal>
+fn receive_members(value: &Value<'_, '_>) -> Result<ReceiveMembers, Refusal>
     ensures { result ≡ receive_members (view value.now) }
 {
     Ok(ReceiveMembers {
@@ -106,7 +106,7 @@ fn receive_members(value: &Value) -> Result<ReceiveMembers, Refusal>
 
 /// ReceiveMessage.
 #[tactic(auto, unfolding(crate::specs::Actions::receive_of))]
-pub fn receive_of(value: &Value) -> Result<Call, Refusal>
+pub fn receive_of(value: &Value<'_, '_>) -> Result<Call, Refusal>
     ensures { result ≡ receive_of (view value.now) }
 {
     let members = receive_members(value)?;
@@ -124,7 +124,7 @@ pub fn receive_of(value: &Value) -> Result<Call, Refusal>
 
 /// DeleteMessage.
 #[tactic(auto, unfolding(crate::specs::Actions::delete_of))]
-pub fn delete_of(value: &Value) -> Result<Call, Refusal>
+pub fn delete_of(value: &Value<'_, '_>) -> Result<Call, Refusal>
     ensures { result ≡ delete_of (view value.now) }
 {
     let url = url_at(value)?;
@@ -135,7 +135,7 @@ pub fn delete_of(value: &Value) -> Result<Call, Refusal>
 
 /// ChangeMessageVisibility.
 #[tactic(auto, using(crate::proofs::MemberLaws::changes), unfolding(crate::specs::Actions::change_of))]
-pub fn change_of(value: &Value) -> Result<Call, Refusal>
+pub fn change_of(value: &Value<'_, '_>) -> Result<Call, Refusal>
     ensures { result ≡ change_of (view value.now) }
 {
     let url = url_at(value)?;

@@ -1,15 +1,16 @@
 //! The attributes that a request gives (SQS API Reference, CreateQueue and SetQueueAttributes: Attributes).
 ghost use Rattle.std.specs.Prelude.{◌≡◌, ℕ, List, Option, Result, option_map, Ok};
-ghost use Rattle.serde_json.specs.View.{view, members_view};
+ghost use Rattle.std.specs.List.{list_any};
+ghost use Rattle.sq_json.specs.View.{view, names_view};
 ghost use Rattle.sq_policy.specs.Reading.{ReadsText, seen_as};
 ghost use Rattle.sq_policy.specs.PolicyTexts.{redrive_of, allow_of};
 ghost use Rattle.sq_base.specs.declared.refusal.Refusal.{Refusal};
 ghost use Rattle.sq_requests.specs.Memory.{ReadsAsking};
-ghost use Rattle.sq_requests.specs.Attributes.{attribute_at, amounts_in, is_settable, has_other, texts_of, given_in, given_at, given_if_at, numbers_of, named_numbers, if_given, has_text, attributes_of, attributes_ask};
+ghost use Rattle.sq_requests.specs.Attributes.{attribute_at, amounts_in, is_settable, is_other, texts_of, given_in, given_at, given_if_at, numbers_of, named_numbers, if_given, has_text, attributes_of, attributes_ask};
 
 use crate::members::text_if_at;
-use serde_json::{Map, Value};
 use sq_base::refusal::Refusal;
+use sq_json::value::{Names, Value};
 use sq_model::directory::Attributes;
 use sq_model::policy::{AllowPolicy, RedrivePolicy};
 use sq_policy::amount::{Amount, attribute_of, in_range_if};
@@ -39,17 +40,17 @@ pub struct Given<'a> {
 
 // The numeric attribute of a name, where it is given.
 #[tactic(auto, unfolding(crate::specs::Attributes::attribute_at))]
-fn attribute_at(attributes: &Value, name: &str) -> Result<Option<Amount>, Refusal>
+fn attribute_at(attributes: &Value<'_, '_>, name: &str) -> Result<Option<Amount>, Refusal>
     ensures { result ≡ attribute_at name.now (view attributes.now) }
 {
     match attributes.get(name) {
-        Some(member) => Ok(Some(attribute_of(member)?)),
+        Some(member) => Ok(Some(attribute_of(&member)?)),
         None => Ok(None),
     }
 }
 
 #[tactic(auto, unfolding(crate::specs::Attributes::amounts_in))]
-fn amounts_in(attributes: &Value) -> Result<Amounts, Refusal>
+fn amounts_in(attributes: &Value<'_, '_>) -> Result<Amounts, Refusal>
     ensures { result ≡ amounts_in (view attributes.now) }
 {
     Ok(Amounts {
@@ -73,17 +74,24 @@ pub fn is_settable(name: &str) -> bool
         || name == "VisibilityTimeout"
 }
 
-fn has_other(attributes: &Map<String, Value>) -> bool
-    ensures { result ≡ has_other (members_view attributes.now.entries) }
+// Whether an attribute is among these that cannot be set.
+fn has_other(names: Names<'_, '_>) -> bool
+    ensures { result ≡ list_any is_other (names_view names.entry) }
 {
-    attributes.keys().any(|name| !is_settable(name.as_str()))
+    let mut names = names;
+    'names: while let Some(name) = names.next() {
+        if !is_settable(name) {
+            return true;
+        }
+    }
+    false
 }
 
 #[tactic(auto, unfolding(crate::specs::Attributes::given_in))]
-fn given_in(attributes: &Value) -> Result<Given<'_>, Refusal>
+fn given_in<'a>(attributes: &Value<'_, 'a>) -> Result<Given<'a>, Refusal>
     ensures { seen_as texts_of result ≡ given_in (view attributes.now) }
 {
-    let Some(members) = attributes.as_object() else {
+    let Some(names) = attributes.names() else {
         return Err(Refusal::InvalidRequest);
     };
     let amounts = amounts_in(attributes)?;
@@ -93,29 +101,29 @@ fn given_in(attributes: &Value) -> Result<Given<'_>, Refusal>
         amounts,
         redrive,
         allow,
-        has_other: has_other(members),
+        has_other: has_other(names),
     })
 }
 
 /// What the member `Attributes` gives, which must be there (SQS API Reference, SetQueueAttributes); InvalidRequest where
 /// it is no object, a numeric attribute neither a text nor a whole number, or a policy no text.
 #[tactic(auto, unfolding(crate::specs::Attributes::given_at))]
-pub fn given_at(value: &Value) -> Result<Given<'_>, Refusal>
+pub fn given_at<'a>(value: &Value<'_, 'a>) -> Result<Given<'a>, Refusal>
     ensures { seen_as texts_of result ≡ given_at (view value.now) }
 {
     match value.get("Attributes") {
-        Some(attributes) => given_in(attributes),
+        Some(attributes) => given_in(&attributes),
         None => Err(Refusal::InvalidRequest),
     }
 }
 
 /// The same where it may be missing (SQS API Reference, CreateQueue).
 #[tactic(auto, unfolding(crate::specs::Attributes::given_if_at))]
-pub fn given_if_at(value: &Value) -> Result<Given<'_>, Refusal>
+pub fn given_if_at<'a>(value: &Value<'_, 'a>) -> Result<Given<'a>, Refusal>
     ensures { seen_as texts_of result ≡ given_if_at (view value.now) }
 {
     match value.get("Attributes") {
-        Some(attributes) => given_in(attributes),
+        Some(attributes) => given_in(&attributes),
         None => Ok(Given {
             amounts: Amounts {
                 delay: None,

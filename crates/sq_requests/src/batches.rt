@@ -1,20 +1,22 @@
 //! What the actions on several messages ask.
-ghost use Rattle.std.specs.Prelude.{◌≡◌, ◌≢◌, ◌⊎◌, is_ok, nat_lt, true, Ok, Err, IfOk, IfErr};
-ghost use Rattle.serde_json.specs.View.{view, items_view};
+ghost use Rattle.std.specs.Prelude.{◌≡◌, ◌≢◌, ◌⊎◌, ◌<◌, is_ok, nat_lt, true, length, if◌then◌else◌, None, Some, Ok, Err, IfOk, IfErr};
+ghost use Rattle.sq_json.specs.View.{view};
 ghost use Rattle.sq_policy.specs.Reading.{seen_as, Reads};
+ghost use Rattle.sq_requests.specs.Memory.{ReadsAsking};
+ghost use Rattle.sq_requests.specs.Lists.{listed};
 ghost use Rattle.sq_requests.specs.Asked.{all_items, any_item};
 ghost use Rattle.sq_requests.specs.Members.{receipt_handle_at};
-ghost use Rattle.sq_requests.specs.Batches.{as_ask, send_ask, change_ask, send_of_entry, change_of_entry, ask_of, entry_id, is_entry, has_id, have_same_id, repeat_an_id, body_length, bodies_length, items_at, batch_check, entry_of, entries_of, batch_of};
+ghost use Rattle.sq_requests.specs.Batches.{as_ask, send_ask, change_ask, send_of_entry, change_of_entry, ask_of, ask_asks, entry_asks, how_many, behind, entry_id, is_entry, has_id, have_same_id, repeat_an_id, body_length, bodies_length, items_at, batch_check, entry_of, entries_of, batch_of};
 
 use crate::actions::has_attributes_at;
 use crate::members::{amount_at, amount_if_at, receipt_handle_at, text_at, url_at};
-use serde_json::Value;
 use sq_base::body::BODY_LIMIT;
 use sq_base::handle::Handle;
 use sq_base::refusal::Refusal;
 use sq_calls::batches::{Batch, Entry, EntryAsk, EntryId};
 use sq_calls::body_text::BodyText;
 use sq_calls::calls::Call;
+use sq_json::value::Value;
 use sq_model::listed::Listed;
 use sq_policy::amount::{Amount, in_range, in_range_if};
 use std::alloc::Global;
@@ -66,8 +68,8 @@ fn change_ask(handle: Option<Handle>, amount: Amount) -> Result<EntryAsk, Refusa
     Ok(EntryAsk::Change(handle, timeout))
 }
 
-fn send_of_entry(alloc: Global, value: &Value) -> Result<EntryAsk, Refusal>
-    ensures { Reads result (send_of_entry (view value.now)) }
+fn send_of_entry(alloc: Global, value: &Value<'_, '_>) -> Result<EntryAsk, Refusal>
+    ensures { ReadsAsking (ask_asks BatchKind.Send (view value.now)) result (send_of_entry (view value.now)) }
 {
     let body = text_at(value, "MessageBody")?;
     let delay = amount_if_at(value, "DelaySeconds")?;
@@ -75,7 +77,7 @@ fn send_of_entry(alloc: Global, value: &Value) -> Result<EntryAsk, Refusal>
     as_ask(send_ask(alloc, has_attributes, delay, body))
 }
 
-fn change_of_entry(value: &Value) -> Result<EntryAsk, Refusal>
+fn change_of_entry(value: &Value<'_, '_>) -> Result<EntryAsk, Refusal>
     ensures { result ≡ change_of_entry (view value.now) }
 {
     let handle = receipt_handle_at(value)?;
@@ -85,8 +87,8 @@ fn change_of_entry(value: &Value) -> Result<EntryAsk, Refusal>
 
 // What an entry asks.
 #[tactic(auto, unfolding(crate::specs::Batches::delete_of_entry))]
-fn ask_of(alloc: Global, kind: BatchKind, value: &Value) -> Result<EntryAsk, Refusal>
-    ensures { Reads result (ask_of kind (view value.now)) }
+fn ask_of(alloc: Global, kind: BatchKind, value: &Value<'_, '_>) -> Result<EntryAsk, Refusal>
+    ensures { ReadsAsking (ask_asks kind (view value.now)) result (ask_of kind (view value.now)) }
 {
     match kind {
         BatchKind::Send => send_of_entry(alloc, value),
@@ -97,7 +99,7 @@ fn ask_of(alloc: Global, kind: BatchKind, value: &Value) -> Result<EntryAsk, Ref
 
 // The text of an entry's id.
 #[tactic(auto, unfolding(crate::specs::Batches::entry_id))]
-fn entry_id<'a>(value: &'a Value) -> Result<&'a str, Refusal>
+fn entry_id<'a>(value: &Value<'_, 'a>) -> Result<&'a str, Refusal>
     ensures { seen_as (λ t. t.now) result ≡ entry_id (view value.now) }
 {
     text_at(value, "Id")
@@ -105,7 +107,7 @@ fn entry_id<'a>(value: &'a Value) -> Result<&'a str, Refusal>
 
 // Whether the text of a receipt handle is there.
 #[tactic(auto, unfolding(crate::specs::Members::receipt_handle_at))]
-fn has_handle(value: &Value) -> bool
+fn has_handle(value: &Value<'_, '_>) -> bool
     ensures { result ≡ is_ok (receipt_handle_at (view value.now)) }
 {
     text_at(value, "ReceiptHandle").is_ok()
@@ -113,7 +115,7 @@ fn has_handle(value: &Value) -> bool
 
 // Whether what an entry asks is there, each member with its type.
 #[tactic(auto, unfolding(crate::specs::Batches::send_of_entry, crate::specs::Batches::delete_of_entry, crate::specs::Batches::change_of_entry))]
-fn has_members_of(kind: BatchKind, value: &Value) -> bool
+fn has_members_of(kind: BatchKind, value: &Value<'_, '_>) -> bool
     ensures { result ≡ is_ok (ask_of kind (view value.now)) }
 {
     match kind {
@@ -127,20 +129,29 @@ fn has_members_of(kind: BatchKind, value: &Value) -> bool
     }
 }
 
-fn is_entry(kind: BatchKind, value: &Value) -> bool
+fn is_entry(kind: BatchKind, value: &Value<'_, '_>) -> bool
     ensures { result ≡ is_entry kind (view value.now) }
 {
     entry_id(value).is_ok() && has_members_of(kind, value)
 }
 
-fn are_entries(kind: BatchKind, entries: &[Value]) -> bool
-    ensures { result ≡ all_items (is_entry kind) (items_view entries.now) }
+// Whether each of these is one.
+fn are_entries(kind: BatchKind, entries: &Value<'_, '_>) -> bool
+    ensures { result ≡ all_items (is_entry kind) (listed entries.now) }
 {
-    entries.iter().all(|value| is_entry(kind, value))
+    let Some(mut items) = entries.items() else {
+        return true;
+    };
+    'items: while let Some(entry) = items.next() {
+        if !is_entry(kind, &entry) {
+            return false;
+        }
+    }
+    true
 }
 
 // Whether the id of an entry is one.
-fn has_id(value: &Value) -> bool
+fn has_id(value: &Value<'_, '_>) -> bool
     ensures { result ≡ has_id (view value.now) }
 {
     match entry_id(value) {
@@ -149,13 +160,21 @@ fn has_id(value: &Value) -> bool
     }
 }
 
-fn have_ids(entries: &[Value]) -> bool
-    ensures { result ≡ all_items has_id (items_view entries.now) }
+fn have_ids(entries: &Value<'_, '_>) -> bool
+    ensures { result ≡ all_items has_id (listed entries.now) }
 {
-    entries.iter().all(|value| has_id(value))
+    let Some(mut items) = entries.items() else {
+        return true;
+    };
+    'items: while let Some(entry) = items.next() {
+        if !has_id(&entry) {
+            return false;
+        }
+    }
+    true
 }
 
-fn have_same_id(one: &Value, other: &Value) -> bool
+fn have_same_id(one: &Value<'_, '_>, other: &Value<'_, '_>) -> bool
     ensures { result ≡ have_same_id (view one.now) (view other.now) }
 {
     match (entry_id(one), entry_id(other)) {
@@ -164,30 +183,46 @@ fn have_same_id(one: &Value, other: &Value) -> bool
     }
 }
 
-// Whether an entry has the same id as one of others.
-fn is_repeated(one: &Value, others: &[Value]) -> bool
-    ensures { result ≡ any_item (have_same_id (view one.now)) (items_view others.now) }
+// Whether an entry has the same id as one of those behind the first `passed`.
+fn is_repeated(one: &Value<'_, '_>, entries: &Value<'_, '_>, passed: usize) -> bool
+    ensures { result ≡ any_item (have_same_id (view one.now)) (behind passed (listed entries.now)) }
 {
-    others.iter().any(|other| have_same_id(one, other))
-}
-
-// Whether two of these have the same id.
-fn repeat_an_id(entries: &[Value]) -> bool
-    ensures { result ≡ repeat_an_id (items_view entries.now) }
-{
-    let mut rest = entries;
-    while let Some((first, others)) = rest.split_first() {
-        if is_repeated(first, others) {
+    let Some(mut items) = entries.items() else {
+        return false;
+    };
+    let mut to_pass = passed;
+    'items: while let Some(other) = items.next() {
+        if to_pass > 0 {
+            to_pass -= 1;
+        } else if have_same_id(one, &other) {
             return true;
         }
-        rest = others;
+    }
+    false
+}
+
+// Whether two of so many entries have the same id.
+fn repeat_an_id(entries: &Value<'_, '_>, count: usize) -> bool
+    requires { count ≡ how_many (listed entries.now) }
+    ensures { result ≡ repeat_an_id (listed entries.now) }
+{
+    let Some(mut items) = entries.items() else {
+        return false;
+    };
+    for passed in 0..count {
+        let Some(one) = items.next() else {
+            return false;
+        };
+        if is_repeated(&one, entries, passed + 1) {
+            return true;
+        }
     }
     false
 }
 
 // How many bytes the body of an entry has; 0 where there is none.
 #[tactic(auto, unfolding(crate::specs::Batches::body_length))]
-fn body_length(kind: BatchKind, value: &Value) -> usize
+fn body_length(kind: BatchKind, value: &Value<'_, '_>) -> usize
     ensures { result ≡ body_length kind (view value.now) }
 {
     match kind {
@@ -200,12 +235,15 @@ fn body_length(kind: BatchKind, value: &Value) -> usize
 }
 
 // Whether the bodies have more bytes together than one may have.
-fn are_too_long(kind: BatchKind, entries: &[Value]) -> bool
-    ensures { result ≡ nat_lt 262144 (bodies_length kind (items_view entries.now)) }
+fn are_too_long(kind: BatchKind, entries: &Value<'_, '_>) -> bool
+    ensures { result ≡ nat_lt 262144 (bodies_length kind (listed entries.now)) }
 {
+    let Some(mut items) = entries.items() else {
+        return false;
+    };
     let mut room = BODY_LIMIT;
-    for value in entries {
-        let length = body_length(kind, value);
+    'items: while let Some(entry) = items.next() {
+        let length = body_length(kind, &entry);
         if length > room {
             return true;
         }
@@ -216,61 +254,88 @@ fn are_too_long(kind: BatchKind, entries: &[Value]) -> bool
 
 // The list of a member that must be there.
 #[tactic(auto, unfolding(crate::specs::Batches::items_at))]
-fn items_at<'a>(value: &'a Value, name: &str) -> Result<&'a [Value], Refusal>
-    ensures { seen_as (λ items. items_view items.now) result ≡ items_at name.now (view value.now) }
+fn items_at<'t, 'a>(value: &Value<'t, 'a>, name: &str) -> Result<Value<'t, 'a>, Refusal>
+    ensures { seen_as listed result ≡ items_at name.now (view value.now) }
 {
-    match value.get(name) {
-        Some(member) => match member.as_array() {
-            Some(items) => Ok(items),
-            None => Err(Refusal::InvalidRequest),
-        },
-        None => Err(Refusal::InvalidRequest),
+    let Some(member) = value.get(name) else {
+        return Err(Refusal::InvalidRequest);
+    };
+    if member.is_array() {
+        Ok(member)
+    } else {
+        Err(Refusal::InvalidRequest)
     }
 }
 
-// The first reason in order why a batch of these entries is refused.
-#[tactic(auto, unfolding(crate::specs::Batches::batch_check))]
-fn batch_check(kind: BatchKind, entries: &[Value]) -> Result<(), Refusal>
-    ensures { result ≡ batch_check kind (items_view entries.now) }
+// How many entries there are, where there are ten at most.
+fn count_of(entries: &Value<'_, '_>) -> Option<usize>
+    ensures { let count = how_many (listed entries.now) in
+        result ≡ (if nat_lt 10 count then None else Some count) }
 {
-    if entries.is_empty() {
-        return Err(Refusal::EmptyBatchRequest);
+    let Some(mut items) = entries.items() else {
+        return Some(0);
+    };
+    for count in 0..MOST_ENTRIES + 1 {
+        if items.next().is_none() {
+            return Some(count);
+        }
     }
-    if entries.len() > MOST_ENTRIES {
+    None
+}
+
+// How many entries a batch has, or the first reason in order why it is refused.
+#[tactic(auto, unfolding(crate::specs::Batches::batch_check))]
+fn batch_check(kind: BatchKind, entries: &Value<'_, '_>) -> Result<usize, Refusal>
+    ensures check { seen_as (λ count. tt) result ≡ batch_check kind (listed entries.now) }
+    ensures count { IfOk result (λ count. count ≡ how_many (listed entries.now)) }
+{
+    let Some(count) = count_of(entries) else {
         return Err(Refusal::TooManyEntriesInBatchRequest);
+    };
+    if count == 0 {
+        return Err(Refusal::EmptyBatchRequest);
     }
     if !have_ids(entries) {
         return Err(Refusal::InvalidBatchEntryId);
     }
-    if repeat_an_id(entries) {
+    if repeat_an_id(entries, count) {
         return Err(Refusal::BatchEntryIdsNotDistinct);
     }
     if are_too_long(kind, entries) {
         return Err(Refusal::BatchRequestTooLong);
     }
-    Ok(())
+    Ok(count)
 }
 
 // An entry, whose id was checked.
 #[tactic(auto, unfolding(crate::specs::Batches::entry_of))]
-fn entry_of(alloc: Global, kind: BatchKind, value: &Value) -> Result<Entry, Refusal>
+fn entry_of(alloc: Global, kind: BatchKind, value: &Value<'_, '_>) -> Result<Entry, Refusal>
     requires { has_id (view value.now) ≡ true }
-    ensures { Reads result (entry_of kind (view value.now)) }
+    ensures { ReadsAsking (entry_asks kind (view value.now)) result (entry_of kind (view value.now)) }
 {
     let id = EntryId::new(entry_id(value)?.as_bytes()).ok_or(Refusal::InvalidBatchEntryId)?;
     let ask = ask_of(alloc, kind, value)?;
     Ok(Entry { id, ask })
 }
 
-// The entries, in memory that is got for all of them first.
-fn entries_of(alloc: Global, kind: BatchKind, entries: &[Value]) -> Result<Listed<Entry>, Refusal>
-    requires { all_items has_id (items_view entries.now) ≡ true }
-    ensures ok { IfOk result (λ read. entries_of kind (items_view entries.now) ≡ Ok read) }
-    ensures err { IfErr result (λ e. (e ≡ Refusal.NoMemory) ⊎ (entries_of kind (items_view entries.now) ≡ Err e)) }
+// So many entries, in memory that is got for all of them first.
+fn entries_of(
+    alloc: Global,
+    kind: BatchKind,
+    entries: &Value<'_, '_>,
+    count: usize,
+) -> Result<Listed<Entry>, Refusal>
+    requires count { count ≡ how_many (listed entries.now) }
+    requires ids { all_items has_id (listed entries.now) ≡ true }
+    ensures ok { IfOk result (λ read. entries_of kind (listed entries.now) ≡ Ok read) }
+    ensures err { IfErr result (λ e. (e ≡ Refusal.NoMemory) ⊎ (entries_of kind (listed entries.now) ≡ Err e)) }
 {
-    let mut read = Vec::with_capacity(alloc, entries.len())?;
-    for value in entries {
-        read.push_reserved(entry_of(alloc, kind, value)?);
+    let mut read = Vec::with_capacity(alloc, count)?;
+    let Some(mut items) = entries.items() else {
+        return Ok(Listed::of(read));
+    };
+    'items: while let Some(entry) = items.next() {
+        read.push_reserved(entry_of(alloc, kind, &entry)?);
     }
     Ok(Listed::of(read))
 }
@@ -279,16 +344,16 @@ fn entries_of(alloc: Global, kind: BatchKind, entries: &[Value]) -> Result<Liste
 /// line or of any entry), InvalidAddress, EmptyBatchRequest, TooManyEntriesInBatchRequest, InvalidBatchEntryId,
 /// BatchEntryIdsNotDistinct, BatchRequestTooLong; and as NoMemory only where none of these is. What is wrong with an entry
 /// alone is what it asks.
-pub fn batch_of(alloc: Global, value: &Value, kind: BatchKind) -> Result<Call, Refusal>
+pub fn batch_of(alloc: Global, value: &Value<'_, '_>, kind: BatchKind) -> Result<Call, Refusal>
     ensures { Reads result (batch_of kind (view value.now)) }
 {
     let url = url_at(value)?;
     let entries = items_at(value, "Entries")?;
-    if !are_entries(kind, entries) {
+    if !are_entries(kind, &entries) {
         return Err(Refusal::InvalidRequest);
     }
     let queue = url.ok_or(Refusal::InvalidAddress)?;
-    batch_check(kind, entries)?;
-    let entries = entries_of(alloc, kind, entries)?;
+    let count = batch_check(kind, &entries)?;
+    let entries = entries_of(alloc, kind, &entries, count)?;
     Ok(Call::Batch(Batch { queue, entries }))
 }

@@ -1,14 +1,14 @@
 //! The members of a request's object.
-ghost use Rattle.std.specs.Prelude.{◌≡◌, not, option_map};
-ghost use Rattle.serde_json.specs.View.{view, members_view};
+ghost use Rattle.std.specs.Prelude.{◌≡◌, option_map};
+ghost use Rattle.sq_json.specs.View.{view};
 ghost use Rattle.sq_policy.specs.Reading.{seen_as};
-ghost use Rattle.sq_requests.specs.Members.{url_name, text_at, text_if_at, url_at, receipt_handle_at, arn_at, arn_if, arn_if_at, named_task, is_empty, has_members_at, amount_at, amount_if_at};
+ghost use Rattle.sq_requests.specs.Members.{url_name, text_at, text_if_at, url_at, receipt_handle_at, arn_at, arn_if, arn_if_at, named_task, has_members_at, amount_at, amount_if_at};
 
-use serde_json::{Map, Value};
 use sq_base::handle::{Handle, read_handle};
 use sq_base::name::QueueName;
 use sq_base::refusal::Refusal;
 use sq_calls::task_handle::read_task_handle;
+use sq_json::value::Value;
 use sq_model::item::TaskNo;
 use sq_policy::amount::{Amount, amount_of};
 use sq_policy::arn::{name_behind, queue_of_arn};
@@ -26,7 +26,7 @@ fn queue_at(url: &str) -> Option<QueueName>
 
 /// The text of a member that must be there.
 #[tactic(auto, unfolding(crate::specs::Members::text_at))]
-pub fn text_at<'a>(value: &'a Value, name: &str) -> Result<&'a str, Refusal>
+pub fn text_at<'a>(value: &Value<'_, 'a>, name: &str) -> Result<&'a str, Refusal>
     ensures { seen_as (λ t. t.now) result ≡ text_at name.now (view value.now) }
 {
     match value.get(name) {
@@ -40,7 +40,7 @@ pub fn text_at<'a>(value: &'a Value, name: &str) -> Result<&'a str, Refusal>
 
 /// The text of a member that may be there.
 #[tactic(auto, unfolding(crate::specs::Members::text_if_at))]
-pub fn text_if_at<'a>(value: &'a Value, name: &str) -> Result<Option<&'a str>, Refusal>
+pub fn text_if_at<'a>(value: &Value<'_, 'a>, name: &str) -> Result<Option<&'a str>, Refusal>
     ensures { seen_as (option_map (λ t. t.now)) result ≡ text_if_at name.now (view value.now) }
 {
     match value.get(name) {
@@ -54,7 +54,7 @@ pub fn text_if_at<'a>(value: &'a Value, name: &str) -> Result<Option<&'a str>, R
 
 /// The queue of the member `QueueUrl`; none where that is no queue's URL.
 #[tactic(auto, unfolding(crate::specs::Members::url_at))]
-pub fn url_at(value: &Value) -> Result<Option<QueueName>, Refusal>
+pub fn url_at(value: &Value<'_, '_>) -> Result<Option<QueueName>, Refusal>
     ensures { result ≡ url_at (view value.now) }
 {
     let url = text_at(value, "QueueUrl")?;
@@ -63,7 +63,7 @@ pub fn url_at(value: &Value) -> Result<Option<QueueName>, Refusal>
 
 /// The handle of the member `ReceiptHandle`; none where that is no handle.
 #[tactic(auto, using(crate::proofs::MemberLaws::names_receipt), unfolding(crate::specs::Members::receipt_handle_at))]
-pub fn receipt_handle_at(value: &Value) -> Result<Option<Handle>, Refusal>
+pub fn receipt_handle_at(value: &Value<'_, '_>) -> Result<Option<Handle>, Refusal>
     ensures { result ≡ receipt_handle_at (view value.now) }
 {
     let handle = text_at(value, "ReceiptHandle")?;
@@ -72,7 +72,7 @@ pub fn receipt_handle_at(value: &Value) -> Result<Option<Handle>, Refusal>
 
 /// The queue of a member that must be an ARN; none where its text is none.
 #[tactic(auto, unfolding(crate::specs::Members::arn_at))]
-pub fn arn_at(value: &Value, name: &str) -> Result<Option<QueueName>, Refusal>
+pub fn arn_at(value: &Value<'_, '_>, name: &str) -> Result<Option<QueueName>, Refusal>
     ensures { result ≡ arn_at name.now (view value.now) }
 {
     let arn = text_at(value, name)?;
@@ -90,7 +90,7 @@ fn arn_if(arn: Option<&str>) -> Option<Option<QueueName>>
 
 /// The same of a member that may be there.
 #[tactic(auto, using(crate::proofs::MemberLaws::may_name), unfolding(crate::specs::Members::arn_if_at))]
-pub fn arn_if_at(value: &Value, name: &str) -> Result<Option<Option<QueueName>>, Refusal>
+pub fn arn_if_at(value: &Value<'_, '_>, name: &str) -> Result<Option<Option<QueueName>>, Refusal>
     ensures { result ≡ arn_if_at name.now (view value.now) }
 {
     let arn = text_if_at(value, name)?;
@@ -99,28 +99,22 @@ pub fn arn_if_at(value: &Value, name: &str) -> Result<Option<Option<QueueName>>,
 
 /// The task of the member `TaskHandle`; none where that is the handle of none.
 #[tactic(auto, using(crate::proofs::MemberLaws::names_task), unfolding(crate::specs::Members::named_task))]
-pub fn named_task(value: &Value) -> Result<Option<TaskNo>, Refusal>
+pub fn named_task(value: &Value<'_, '_>) -> Result<Option<TaskNo>, Refusal>
     ensures { result ≡ named_task (view value.now) }
 {
     let handle = text_at(value, "TaskHandle")?;
     Ok(read_task_handle(handle.as_bytes()))
 }
 
-fn has_members(members: &Map<String, Value>) -> bool
-    ensures { result ≡ not (is_empty (members_view members.now.entries)) }
-{
-    !members.is_empty()
-}
-
 /// Whether a member that may be there is an object with members.
 #[tactic(auto, unfolding(crate::specs::Members::has_members_at))]
-pub fn has_members_at(value: &Value, name: &str) -> Result<bool, Refusal>
+pub fn has_members_at(value: &Value<'_, '_>, name: &str) -> Result<bool, Refusal>
     ensures { result ≡ has_members_at name.now (view value.now) }
 {
     match value.get(name) {
         None => Ok(false),
-        Some(member) => match member.as_object() {
-            Some(members) => Ok(has_members(members)),
+        Some(member) => match member.has_members() {
+            Some(has_members) => Ok(has_members),
             None => Err(Refusal::InvalidRequest),
         },
     }
@@ -128,22 +122,22 @@ pub fn has_members_at(value: &Value, name: &str) -> Result<bool, Refusal>
 
 /// The whole number of a member that must be there.
 #[tactic(auto, unfolding(crate::specs::Members::amount_at))]
-pub fn amount_at(value: &Value, name: &str) -> Result<Amount, Refusal>
+pub fn amount_at(value: &Value<'_, '_>, name: &str) -> Result<Amount, Refusal>
     ensures { result ≡ amount_at name.now (view value.now) }
 {
     match value.get(name) {
-        Some(member) => amount_of(member),
+        Some(member) => amount_of(&member),
         None => Err(Refusal::InvalidRequest),
     }
 }
 
 /// The whole number of a member that may be there.
 #[tactic(auto, unfolding(crate::specs::Members::amount_if_at))]
-pub fn amount_if_at(value: &Value, name: &str) -> Result<Option<Amount>, Refusal>
+pub fn amount_if_at(value: &Value<'_, '_>, name: &str) -> Result<Option<Amount>, Refusal>
     ensures { result ≡ amount_if_at name.now (view value.now) }
 {
     match value.get(name) {
-        Some(member) => Ok(Some(amount_of(member)?)),
+        Some(member) => Ok(Some(amount_of(&member)?)),
         None => Ok(None),
     }
 }

@@ -1,23 +1,23 @@
 //! What the actions on queues ask.
 ghost use Rattle.std.specs.Prelude.{◌≡◌, option_map};
-ghost use Rattle.serde_json.specs.View.{view};
+ghost use Rattle.sq_json.specs.View.{view};
 ghost use Rattle.sq_requests.specs.Memory.{ReadsAsking};
 ghost use Rattle.sq_requests.specs.Queues.{create_of, create_asks, set_of, set_asks, get_of, get_url_of, prefix_of, prefix_if, list_of, named_queue, purge_of, delete_queue_of, list_sources_of};
 
 use crate::asked::{asked_of_queue, names_at};
 use crate::attributes::{attributes_of, given_at, given_if_at};
 use crate::members::{text_at, text_if_at, url_at};
-use serde_json::Value;
 use sq_base::name::QueueName;
 use sq_base::refusal::Refusal;
 use sq_calls::calls::{Call, CreateQueue, GetQueueAttributes, SetQueueAttributes};
+use sq_json::value::Value;
 use sq_model::directory::NamePrefix;
 use std::alloc::Global;
 
 /// What a CreateQueue asks (SQS API Reference, CreateQueue). A text that is no queue name is InvalidParameterValue, after
 /// all refusals of attributes; NoMemory only of a policy whose text is not empty.
 #[tactic(auto, unfolding(crate::specs::Queues::create_of, crate::specs::Queues::create_asks))]
-pub fn create_of(alloc: Global, value: &Value) -> Result<Call, Refusal>
+pub fn create_of(alloc: Global, value: &Value<'_, '_>) -> Result<Call, Refusal>
     ensures { let d = view value.now in
         ReadsAsking (create_asks d) result (create_of d) }
 {
@@ -31,7 +31,7 @@ pub fn create_of(alloc: Global, value: &Value) -> Result<Call, Refusal>
 /// What a SetQueueAttributes asks (SQS API Reference, SetQueueAttributes). A URL that is no queue's is InvalidAddress,
 /// before the attributes' names and values; NoMemory only of a policy whose text is not empty.
 #[tactic(auto, unfolding(crate::specs::Queues::set_of, crate::specs::Queues::set_asks))]
-pub fn set_of(alloc: Global, value: &Value) -> Result<Call, Refusal>
+pub fn set_of(alloc: Global, value: &Value<'_, '_>) -> Result<Call, Refusal>
     ensures { let d = view value.now in
         ReadsAsking (set_asks d) result (set_of d) }
 {
@@ -45,19 +45,19 @@ pub fn set_of(alloc: Global, value: &Value) -> Result<Call, Refusal>
 /// What a GetQueueAttributes asks (SQS API Reference, GetQueueAttributes); nothing without names. A URL that is no
 /// queue's is InvalidAddress, and then a name that is none of the ten and not `All` is InvalidAttributeName.
 #[tactic(auto, unfolding(crate::specs::Queues::get_of))]
-pub fn get_of(value: &Value) -> Result<Call, Refusal>
+pub fn get_of(value: &Value<'_, '_>) -> Result<Call, Refusal>
     ensures { result ≡ get_of (view value.now) }
 {
     let url = url_at(value)?;
     let names = names_at(value, "AttributeNames")?;
     let queue = url.ok_or(Refusal::InvalidAddress)?;
-    let asked = asked_of_queue(names)?;
+    let asked = asked_of_queue(&names)?;
     Ok(Call::GetQueueAttributes(GetQueueAttributes { queue, asked }))
 }
 
 /// What a GetQueueUrl asks (SQS API Reference, GetQueueUrl). A text that is no queue name is InvalidParameterValue.
 #[tactic(auto, unfolding(crate::specs::Queues::get_url_of))]
-pub fn get_url_of(value: &Value) -> Result<Call, Refusal>
+pub fn get_url_of(value: &Value<'_, '_>) -> Result<Call, Refusal>
     ensures { result ≡ get_url_of (view value.now) }
 {
     let text = text_at(value, "QueueName")?;
@@ -89,7 +89,7 @@ fn prefix_if(text: Option<&str>) -> NamePrefix
 
 /// What a ListQueues asks (SQS API Reference, ListQueues); all names without a prefix.
 #[tactic(auto, unfolding(crate::specs::Queues::list_of))]
-pub fn list_of(value: &Value) -> Result<Call, Refusal>
+pub fn list_of(value: &Value<'_, '_>) -> Result<Call, Refusal>
     ensures { result ≡ list_of (view value.now) }
 {
     let text = text_if_at(value, "QueueNamePrefix")?;
@@ -98,7 +98,7 @@ pub fn list_of(value: &Value) -> Result<Call, Refusal>
 
 /// The queue of a request that asks no more than that. A URL that is no queue's is InvalidAddress.
 #[tactic(auto, unfolding(crate::specs::Queues::named_queue))]
-pub fn named_queue(value: &Value) -> Result<QueueName, Refusal>
+pub fn named_queue(value: &Value<'_, '_>) -> Result<QueueName, Refusal>
     ensures { result ≡ named_queue (view value.now) }
 {
     url_at(value)?.ok_or(Refusal::InvalidAddress)
@@ -106,7 +106,7 @@ pub fn named_queue(value: &Value) -> Result<QueueName, Refusal>
 
 /// What a PurgeQueue asks (SQS API Reference, PurgeQueue).
 #[tactic(auto, unfolding(crate::specs::Queues::purge_of))]
-pub fn purge_of(value: &Value) -> Result<Call, Refusal>
+pub fn purge_of(value: &Value<'_, '_>) -> Result<Call, Refusal>
     ensures { result ≡ purge_of (view value.now) }
 {
     let queue = named_queue(value)?;
@@ -115,7 +115,7 @@ pub fn purge_of(value: &Value) -> Result<Call, Refusal>
 
 /// What a DeleteQueue asks (SQS API Reference, DeleteQueue).
 #[tactic(auto, unfolding(crate::specs::Queues::delete_queue_of))]
-pub fn delete_queue_of(value: &Value) -> Result<Call, Refusal>
+pub fn delete_queue_of(value: &Value<'_, '_>) -> Result<Call, Refusal>
     ensures { result ≡ delete_queue_of (view value.now) }
 {
     let queue = named_queue(value)?;
@@ -124,7 +124,7 @@ pub fn delete_queue_of(value: &Value) -> Result<Call, Refusal>
 
 /// What a ListDeadLetterSourceQueues asks (SQS API Reference, ListDeadLetterSourceQueues).
 #[tactic(auto, unfolding(crate::specs::Queues::list_sources_of))]
-pub fn list_sources_of(value: &Value) -> Result<Call, Refusal>
+pub fn list_sources_of(value: &Value<'_, '_>) -> Result<Call, Refusal>
     ensures { result ≡ list_sources_of (view value.now) }
 {
     let queue = named_queue(value)?;

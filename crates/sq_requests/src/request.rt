@@ -1,7 +1,7 @@
 //! What a line asks.
 ghost use Rattle.std.specs.Prelude.{◌≡◌};
 ghost use Rattle.serde_json.specs.Find.{get};
-ghost use Rattle.serde_json.specs.View.{view};
+ghost use Rattle.sq_json.specs.View.{view};
 ghost use Rattle.sq_requests.specs.Memory.{ReadsAsking};
 ghost use Rattle.sq_requests.specs.Requests.{reading, actor_at, task_call_of, message_call_of, plain_call_of, kind_of, call_of, call_asks, call_or_turn_of, call_or_turn_asks, turn_of, request_of, request_asks, line_request, ReadsLine};
 
@@ -13,10 +13,12 @@ use crate::queues::{
 };
 use crate::tasks::{cancel_move_of, list_moves_of, start_move_of};
 use crate::turns::{dead_turn_of, task_turn_of};
-use serde_json::Value;
 use sq_base::refusal::Refusal;
 use sq_calls::calls::{Asked, Call};
 use sq_calls::turns::Turn;
+use sq_json::Scratch;
+use sq_json::line::{Fault, Line};
+use sq_json::value::Value;
 use std::alloc::Global;
 
 /// A request, who makes it (0 to 63), and the clock reading of its line in ms, where it has one.
@@ -29,7 +31,7 @@ pub struct Request {
 
 // The whole number of a member that may be there, from 0 upwards.
 #[tactic(auto, unfolding(crate::specs::Requests::reading))]
-fn reading_at(value: &Value, name: &str) -> Result<Option<u64>, Refusal>
+fn reading_at(value: &Value<'_, '_>, name: &str) -> Result<Option<u64>, Refusal>
     ensures { result ≡ reading (get name.now (view value.now)) }
 {
     match value.get(name) {
@@ -40,7 +42,7 @@ fn reading_at(value: &Value, name: &str) -> Result<Option<u64>, Refusal>
 
 // The number of the actor of a line.
 #[tactic(auto, unfolding(crate::specs::Requests::actor_at))]
-fn actor_at(value: &Value) -> Result<u32, Refusal>
+fn actor_at(value: &Value<'_, '_>) -> Result<u32, Refusal>
     ensures { result ≡ actor_at (view value.now) }
 {
     match reading_at(value, "Actor")? {
@@ -52,7 +54,7 @@ fn actor_at(value: &Value) -> Result<u32, Refusal>
 
 // A call on move tasks.
 #[tactic(auto, unfolding(crate::specs::Requests::task_call_of))]
-fn task_call_of(value: &Value, action: &str) -> Result<Call, Refusal>
+fn task_call_of(value: &Value<'_, '_>, action: &str) -> Result<Call, Refusal>
     ensures { result ≡ task_call_of action.now (view value.now) }
 {
     match action {
@@ -65,7 +67,7 @@ fn task_call_of(value: &Value, action: &str) -> Result<Call, Refusal>
 
 // A call on a message that is there, or else one on move tasks.
 #[tactic(auto, unfolding(crate::specs::Requests::message_call_of))]
-fn message_call_of(value: &Value, action: &str) -> Result<Call, Refusal>
+fn message_call_of(value: &Value<'_, '_>, action: &str) -> Result<Call, Refusal>
     ensures { result ≡ message_call_of action.now (view value.now) }
 {
     match action {
@@ -78,7 +80,7 @@ fn message_call_of(value: &Value, action: &str) -> Result<Call, Refusal>
 
 // A call for which no memory is asked: on a queue, or else on messages or move tasks.
 #[tactic(auto, unfolding(crate::specs::Requests::plain_call_of))]
-fn plain_call_of(value: &Value, action: &str) -> Result<Call, Refusal>
+fn plain_call_of(value: &Value<'_, '_>, action: &str) -> Result<Call, Refusal>
     ensures { result ≡ plain_call_of action.now (view value.now) }
 {
     match action {
@@ -106,7 +108,7 @@ fn kind_of(action: &str) -> Option<BatchKind>
 }
 
 #[tactic(auto, using(crate::proofs::CallLaws::reads_create, crate::proofs::CallLaws::reads_set, crate::proofs::CallLaws::reads_send))]
-fn call_of(alloc: Global, value: &Value, action: &str) -> Result<Call, Refusal>
+fn call_of(alloc: Global, value: &Value<'_, '_>, action: &str) -> Result<Call, Refusal>
     ensures { let d = view value.now in
         ReadsAsking (call_asks action.now d) result (call_of action.now d) }
 {
@@ -123,7 +125,7 @@ fn call_of(alloc: Global, value: &Value, action: &str) -> Result<Call, Refusal>
 
 // The turn that an action names, if it names one.
 #[tactic(auto, unfolding(crate::specs::Requests::turn_of))]
-fn turn_of(value: &Value, action: &str) -> Option<Result<Turn, Refusal>>
+fn turn_of(value: &Value<'_, '_>, action: &str) -> Option<Result<Turn, Refusal>>
     ensures { result ≡ turn_of action.now (view value.now) }
 {
     match action {
@@ -136,7 +138,7 @@ fn turn_of(value: &Value, action: &str) -> Option<Result<Turn, Refusal>>
 
 // A turn, or else a call.
 #[tactic(auto, using(crate::proofs::CallLaws::asks_a_turn, crate::proofs::CallLaws::refuses_a_turn, crate::proofs::CallLaws::asks_a_call, crate::proofs::CallLaws::refuses_a_call))]
-fn call_or_turn_of(alloc: Global, value: &Value, action: &str) -> Result<Asked, Refusal>
+fn call_or_turn_of(alloc: Global, value: &Value<'_, '_>, action: &str) -> Result<Asked, Refusal>
     ensures { let d = view value.now in
         ReadsAsking (call_or_turn_asks action.now d) result (call_or_turn_of action.now d) }
 {
@@ -147,7 +149,7 @@ fn call_or_turn_of(alloc: Global, value: &Value, action: &str) -> Result<Asked, 
 }
 
 #[tactic(auto, unfolding(crate::specs::Requests::request_of, crate::specs::Requests::request_asks, crate::specs::Requests::clock_at))]
-fn request_of(alloc: Global, value: &Value) -> Result<Request, Refusal>
+fn request_of(alloc: Global, value: &Value<'_, '_>) -> Result<Request, Refusal>
     ensures { let d = view value.now in
         ReadsAsking (request_asks d) result (request_of d) }
 {
@@ -169,14 +171,14 @@ fn request_of(alloc: Global, value: &Value) -> Result<Request, Refusal>
 /// wrong type or missing), UnsupportedOperation, InvalidAddress, InvalidAttributeName, InvalidAttributeValue,
 /// InvalidParameterValue, and of a batch EmptyBatchRequest, TooManyEntriesInBatchRequest, InvalidBatchEntryId,
 /// BatchEntryIdsNotDistinct, BatchRequestTooLong. What is wrong with an entry alone fails that entry, once its queue is
-/// found. NoMemory where a growth was refused, and so of no empty line.
+/// found. NoMemory where a growth was refused, and so of no empty line. The scratch is kept from line to line.
 #[tactic(auto, unfolding(crate::specs::Requests::line_request))]
-pub fn read_request(alloc: Global, line: &[u8]) -> Result<Request, Refusal>
+pub fn read_request(alloc: Global, scratch: &mut Scratch, line: &[u8]) -> Result<Request, Refusal>
     ensures { ReadsLine result line.now }
 {
-    match Value::from_slice(alloc, line) {
-        Ok(value) => request_of(alloc, &value),
-        Err(e) if e.is_memory() => Err(Refusal::NoMemory),
-        Err(_) => Err(Refusal::InvalidRequest),
+    match Line::parse(alloc, scratch, line) {
+        Ok(line) => request_of(alloc, &line.root()),
+        Err(Fault::Memory) => Err(Refusal::NoMemory),
+        Err(Fault::Invalid) => Err(Refusal::InvalidRequest),
     }
 }

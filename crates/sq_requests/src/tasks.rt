@@ -1,14 +1,14 @@
 //! What the actions on message move tasks ask.
 ghost use Rattle.std.specs.Prelude.{◌≡◌};
-ghost use Rattle.serde_json.specs.View.{view};
+ghost use Rattle.sq_json.specs.View.{view};
 ghost use Rattle.sq_requests.specs.Tasks.{move_members, destination_of, is_destination, start_move_of, cancel_move_of, list_moves_of};
 
 use crate::members::{amount_if_at, arn_at, arn_if_at, named_task};
-use serde_json::Value;
 use sq_base::name::QueueName;
 use sq_base::ranges::MaxResults;
 use sq_base::refusal::Refusal;
 use sq_calls::calls::{Call, ListMessageMoveTasks, StartMessageMoveTask};
+use sq_json::value::Value;
 use sq_policy::amount::{Amount, in_range_if};
 
 /// The members of a StartMessageMoveTask.
@@ -22,7 +22,7 @@ pub struct MoveMembers {
 }
 
 #[tactic(auto, using(crate::proofs::MemberLaws::moves), unfolding(crate::specs::Tasks::move_members))]
-fn move_members(value: &Value) -> Result<MoveMembers, Refusal>
+fn move_members(value: &Value<'_, '_>) -> Result<MoveMembers, Refusal>
     ensures { result ≡ move_members (view value.now) }
 {
     Ok(MoveMembers {
@@ -56,7 +56,7 @@ fn is_destination(source: &QueueName, destination: &Option<QueueName>) -> bool
 /// What a StartMessageMoveTask asks (SQS API Reference, StartMessageMoveTask). A text that is no ARN is InvalidAddress; and
 /// then a rate out of its range, or a source that is the destination too, is InvalidParameterValue.
 #[tactic(auto, unfolding(crate::specs::Tasks::start_move_of))]
-pub fn start_move_of(value: &Value) -> Result<Call, Refusal>
+pub fn start_move_of(value: &Value<'_, '_>) -> Result<Call, Refusal>
     ensures { result ≡ start_move_of (view value.now) }
 {
     let members = move_members(value)?;
@@ -75,7 +75,7 @@ pub fn start_move_of(value: &Value) -> Result<Call, Refusal>
 
 /// What a CancelMessageMoveTask asks (SQS API Reference, CancelMessageMoveTask).
 #[tactic(auto, unfolding(crate::specs::Tasks::cancel_move_of))]
-pub fn cancel_move_of(value: &Value) -> Result<Call, Refusal>
+pub fn cancel_move_of(value: &Value<'_, '_>) -> Result<Call, Refusal>
     ensures { result ≡ cancel_move_of (view value.now) }
 {
     let task = named_task(value)?;
@@ -85,7 +85,7 @@ pub fn cancel_move_of(value: &Value) -> Result<Call, Refusal>
 /// What a ListMessageMoveTasks asks (SQS API Reference, ListMessageMoveTasks); one task without a number. A text that is no
 /// ARN is InvalidAddress, and then a number out of its range is InvalidParameterValue.
 #[tactic(auto, unfolding(crate::specs::Tasks::list_moves_of))]
-pub fn list_moves_of(value: &Value) -> Result<Call, Refusal>
+pub fn list_moves_of(value: &Value<'_, '_>) -> Result<Call, Refusal>
     ensures { result ≡ list_moves_of (view value.now) }
 {
     let arn = arn_at(value, "SourceArn")?;

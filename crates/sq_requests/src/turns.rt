@@ -1,17 +1,17 @@
 //! What the turns of a script ask.
 ghost use Rattle.std.specs.Prelude.{◌≡◌};
-ghost use Rattle.serde_json.specs.View.{view};
+ghost use Rattle.sq_json.specs.View.{view};
 ghost use Rattle.sq_requests.specs.Turns.{dead_turn_of, task_turn_of};
 
 use crate::members::named_task;
 use crate::queues::named_queue;
-use serde_json::Value;
 use sq_base::refusal::Refusal;
 use sq_calls::turns::Turn;
+use sq_json::value::Value;
 
 /// What a DeadTurn asks. A URL that is no queue's is InvalidAddress.
 #[tactic(auto, unfolding(crate::specs::Turns::dead_turn_of))]
-pub fn dead_turn_of(value: &Value) -> Result<Turn, Refusal>
+pub fn dead_turn_of(value: &Value<'_, '_>) -> Result<Turn, Refusal>
     ensures { result ≡ dead_turn_of (view value.now) }
 {
     let queue = named_queue(value)?;
@@ -20,7 +20,7 @@ pub fn dead_turn_of(value: &Value) -> Result<Turn, Refusal>
 
 /// What a TaskTurn asks: of a task, where the text is a task's handle.
 #[tactic(auto, unfolding(crate::specs::Turns::task_turn_of))]
-pub fn task_turn_of(value: &Value) -> Result<Turn, Refusal>
+pub fn task_turn_of(value: &Value<'_, '_>) -> Result<Turn, Refusal>
     ensures { result ≡ task_turn_of (view value.now) }
 {
     let task = named_task(value)?;

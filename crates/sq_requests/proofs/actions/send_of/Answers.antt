@@ -1,5 +1,5 @@
 use Rattle.std.proofs.Common.{◌≡◌, rules, refl, false, Err}
-use Rattle.serde_json.specs.View.{view}
+use Rattle.sq_json.specs.View.{view}
 use Rattle.sq_calls.specs.BodyTexts.{is_too_small_or_large}
 use Rattle.sq_requests.specs.Actions.{send_of}
 use Rattle.sq_requests.proofs.MemberLaws.{refuses_body, sends}

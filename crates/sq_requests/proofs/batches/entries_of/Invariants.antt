@@ -1,14 +1,18 @@
-use Rattle.std.proofs.Common.{◌≡◌, drop, length, true, vec_len, vec_capacity}
-use Rattle.serde_json.specs.View.{items_view}
+use Rattle.std.proofs.Common.{◌≡◌, length, ◌+◌, true, vec_len, vec_capacity}
+use Rattle.sq_json.specs.View.{items_view}
+use Rattle.sq_requests.specs.Lists.{listed}
 use Rattle.sq_requests.specs.Asked.{all_items}
-use Rattle.sq_requests.specs.Batches.{entries_of, has_id}
+use Rattle.sq_requests.specs.Batches.{entries_of, has_id, how_many}
 use Rattle.sq_requests.proofs.BatchLaws.{after}
 use Rattle.sq_requests.proofs.batches.entries_of.Given as goal
 
-abbrev pub invariant-loop-value : goal.invariant-loop-value
-invariant-loop-value l = record {
-  ids : all_items has_id (items_view (drop l.value-index l.entries)) ≡ true;
-  read : entries_of l.kind (items_view l.entries) ≡ after l.read.items (entries_of l.kind (items_view (drop l.value-index l.entries)));
-  listed : vec_len l.read ≡ l.value-index;
-  room : vec_capacity l.read ≡ length l.entries;
+abbrev pub invariant-items : goal.invariant-items
+invariant-items l = record {
+  ids : all_items has_id (items_view l.items) ≡ true;
+  read : entries_of l.kind (listed l.entries) ≡ after l.read.items (entries_of l.kind (items_view l.items));
+  left : vec_len l.read + how_many (items_view l.items) ≡ l.count;
+  room : vec_capacity l.read ≡ l.count;
 }
+
+abbrev pub decreases-items : goal.decreases-items
+decreases-items l = length l.items

@@ -1,10 +1,11 @@
-use Rattle.std.proofs.Common.{◌≡◌, length}
-use Rattle.serde_json.specs.View.{items_view}
-use Rattle.sq_requests.specs.Batches.{repeat_an_id}
+use Rattle.std.proofs.Common.{◌≡◌}
+use Rattle.sq_json.specs.View.{items_view}
+use Rattle.sq_requests.specs.Lists.{listed}
+use Rattle.sq_requests.specs.Batches.{behind, repeat_an_id}
 use Rattle.sq_requests.proofs.batches.repeat_an_id.Given as goal
 
-abbrev pub invariant-loop-first : goal.invariant-loop-first
-invariant-loop-first l = repeat_an_id (items_view l.fn.entries) ≡ repeat_an_id (items_view l.rest)
-
-abbrev pub decreases-loop-first : goal.decreases-loop-first
-decreases-loop-first l = length l.rest
+abbrev pub invariant-loop-passed : goal.invariant-loop-passed
+invariant-loop-passed l = record {
+  left : items_view l.items ≡ behind l.passed (listed l.entries);
+  same : repeat_an_id (listed l.entries) ≡ repeat_an_id (items_view l.items);
+}

@@ -1,5 +1,5 @@
 use Rattle.std.proofs.Common.{rules, sym}
-use Rattle.serde_json.specs.View.{view}
+use Rattle.sq_json.specs.View.{view}
 use Rattle.sq_requests.proofs.CallLaws.{reads_batch, reads_plain}
 use Rattle.sq_requests.proofs.request.call_of.Goals as goal
 

@@ -1,0 +1,10 @@
+use Rattle.std.proofs.Common.{◌≡◌, length}
+use Rattle.sq_json.specs.View.{items_view}
+use Rattle.sq_requests.specs.Asked.{all_items, is_text}
+use Rattle.sq_requests.proofs.asked.are_texts.Given as goal
+
+abbrev pub invariant-names : goal.invariant-names
+invariant-names l = all_items is_text (items_view l.fn.names) ≡ all_items is_text (items_view l.names)
+
+abbrev pub decreases-names : goal.decreases-names
+decreases-names l = length l.names
