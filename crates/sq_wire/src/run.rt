@@ -5,6 +5,7 @@ ghost use Rattle.sq_wire.specs.Scripts.{script_at};
 ghost use Rattle.sq_wire.specs.Runs.{Writes, StopsAt, IsOfCall};
 
 use crate::script::answer;
+use sq_json::Scratch;
 use sq_lines::counted::Counted;
 use sq_lines::lines::{LineFault, Lines};
 use sq_lines::put::put_line;
@@ -51,6 +52,9 @@ pub fn run_script<R: Read, W: Write>(
     let Ok(mut lines) = Lines::new(alloc) else {
         return Err(ServeFault::NoMemory(0));
     };
+    let Ok(mut scratch) = Box::new(alloc, Scratch::new(alloc)) else {
+        return Err(ServeFault::NoMemory(0));
+    };
     let mut clock = 0;
     for answered in 0..TURNS {
         let line = match lines.next_line(alloc, reader) {
@@ -60,7 +64,7 @@ pub fn run_script<R: Read, W: Write>(
             Err(LineFault::NoMemory) => return Err(ServeFault::NoMemory(answered)),
             Err(LineFault::TooLong) => return Err(ServeFault::TooLong(answered)),
         };
-        let Ok(text) = answer(alloc, world, &mut clock, &line) else {
+        let Ok(text) = answer(alloc, &mut scratch, world, &mut clock, &line) else {
             return Err(ServeFault::NoMemory(answered));
         };
         let Ok(()) = put_line(writer, text.as_bytes()) else {

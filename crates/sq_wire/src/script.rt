@@ -4,6 +4,7 @@ ghost use Rattle.sq_wire.specs.Scripts.{script_at, IsDoneAt, LineAnswered, LineR
 
 use sq_base::refusal::Refusal;
 use sq_calls::calls::{Answered, Asked};
+use sq_json::Scratch;
 use sq_merge::world::World;
 use sq_replies::reply::reply_text;
 use sq_replies::text::Text;
@@ -11,10 +12,16 @@ use sq_requests::request::read_request;
 use std::alloc::{AllocError, Global};
 
 // Does what a line asks; its clock reading stands for the lines after it that have none.
-fn tell(alloc: Global, world: &mut World, clock: &mut u64, line: &[u8]) -> Result<Answered, Refusal>
+fn tell(
+    alloc: Global,
+    scratch: &mut Scratch,
+    world: &mut World,
+    clock: &mut u64,
+    line: &[u8],
+) -> Result<Answered, Refusal>
     ensures { LineAnswered (script_at world.old clock.old) line.now result (script_at world.new clock.new) }
 {
-    let request = read_request(alloc, line)?;
+    let request = read_request(alloc, scratch, line)?;
     if let Some(reading) = request.clock {
         *clock = reading;
     }
@@ -48,6 +55,7 @@ fn do_at(
 #[tactic(auto, unfolding(crate::specs::Scripts::LineReplies, crate::specs::Scripts::LineUnanswered))]
 pub fn answer(
     alloc: Global,
+    scratch: &mut Scratch,
     world: &mut World,
     clock: &mut u64,
     line: &[u8],
@@ -55,6 +63,6 @@ pub fn answer(
     ensures ok { IfOk result (λ text. LineReplies (script_at world.old clock.old) line.now text (script_at world.new clock.new)) }
     ensures err { OnErr result (LineUnanswered (script_at world.old clock.old) line.now (script_at world.new clock.new)) }
 {
-    let answered = tell(alloc, world, clock, line);
+    let answered = tell(alloc, scratch, world, clock, line);
     reply_text(alloc, &answered)
 }
