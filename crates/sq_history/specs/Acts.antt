@@ -1,9 +1,9 @@
 -- What is done at a home, as its call.
-use Rattle.std.specs.Prelude.{ℕ}
+use Rattle.std.specs.Prelude.{◌≡◌, ℕ, None}
 use Rattle.sq_model.specs.declared.calls.HomeCall.{HomeCall}
 use Rattle.sq_model.specs.declared.place.Site.{Site}
 use Rattle.sq_model.specs.declared.calls.HomeCall.TheVariants as call
-use Rattle.sq_model.specs.Homes.{Home}
+use Rattle.sq_model.specs.Homes.{Home, home_refusal}
 use Rattle.sq_shard.specs.Looks.{GivesAny}
 use Rattle.sq_history.specs.declared.act.HomeAct.{HomeAct}
 use Rattle.sq_history.specs.declared.act.HomeAct.TheVariants.{Configure, Close, Send, Look, Delete, Change, Purge, Count}
@@ -46,19 +46,8 @@ HoldsAny (call.TurnBack item) = ⊥
 HoldsAny (call.GiveBack item) = ⊥
 HoldsAny (call.GiveUp item) = ⊥
 
--- memory is got for what it is answered, or for its row, where it is done at this home at this moment: a message that is put, rows that may be given, a message on its way
+-- memory is got for its row, or for what it is answered, where it is done at this home at this moment: a message that is put, where nothing refuses it; rows that may be given. What is shared with the ledger is not done so.
 abbrev pub CopiesBytes : Site → Home → ℕ → HomeCall → Type 0
-CopiesBytes site home m (call.Configure settings version) = ⊥
-CopiesBytes site home m call.Close = ⊥
-CopiesBytes site home m (call.Send body delay) = Unit {0}
+CopiesBytes site home m (call.Send body delay) = home_refusal site home m (call.Send body delay) ≡ None
 CopiesBytes site home m (call.Look max timeout) = GivesAny site home m
-CopiesBytes site home m (call.Delete receipt) = ⊥
-CopiesBytes site home m (call.Change receipt timeout) = ⊥
-CopiesBytes site home m call.Purge = ⊥
-CopiesBytes site home m call.Count = ⊥
-CopiesBytes site home m call.LeaveDead = Unit {0}
-CopiesBytes site home m (call.LeaveTask task) = Unit {0}
-CopiesBytes site home m (call.Enter item) = Unit {0}
-CopiesBytes site home m (call.TurnBack item) = Unit {0}
-CopiesBytes site home m (call.GiveBack item) = Unit {0}
-CopiesBytes site home m (call.GiveUp item) = Unit {0}
+CopiesBytes site home m other = ⊥
