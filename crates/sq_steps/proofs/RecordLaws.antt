@@ -1,7 +1,8 @@
 -- Records as they are kept, one more or one fewer.
-use Rattle.std.proofs.Common.{◌≡◌, ◌∙◌, ℕ, zero, suc, Bool, cond, not, ◌+◌, ◌<◌, ◌≤◌, List, [], ◌∷◌, ◌++◌, true, false, length, map, Option, Some, slice_get, refl, ap, sym, subst, arith, inl, inr}
+use Rattle.std.proofs.Common.{◌≡◌, ◌∙◌, ℕ, zero, suc, Bool, cond, not, ◌+◌, ◌<◌, ◌≤◌, List, [], ◌∷◌, ◌++◌, true, false, length, map, Option, Some, slice_get, refl, ap, sym, subst, arith}
 use Rattle.std.specs.List.{AllByRecursion, list_any}
 use Rattle.std.specs.Prelude.{◌==◌, ◌||◌, filter, nat_le, if◌then◌else◌}
+use Rattle.std.specs.Str.{bytes_eq}
 use Rattle.std.proofs.lemmas.Grind.{common_steps}
 use Rattle.std.proofs.lemmas.List.{map-append, length-append}
 use Rattle.sq_model.specs.RecordValues.{RecordValue, HomeRecordValue, OfHome, place_of_record}
@@ -48,11 +49,11 @@ keeps_all : (names : List (List ℕ)) → KeepsNames names names
 keeps_all names = record { least = omega arith; same = λ i h. refl }
 
 keeps_put : (old new : List (List ℕ)) (name : List ℕ) (at : ℕ) → HasPut old new name at → KeepsNames old new
-keeps_put old new name at put = elim put.grown [
-  | inl same ↦ subst (KeepsNames old) (sym same) (keeps_all old)
-  | inr more ↦ (let longer : length (old ++ name ∷ []) ≡ length old + 1 = length-append old (name ∷ []) in
-      subst (KeepsNames old) (sym more) (record { least = omega (arith, longer); same = get_front old name }))
-]
+keeps_put old new name at put =
+    let longer : length (old ++ name ∷ []) ≡ length old + 1 = length-append old (name ∷ []) in
+    subst (KeepsNames old) (sym put.put)
+    (elim (list_any (bytes_eq name) old) as (λ v. KeepsNames old (if v then old else old ++ name ∷ []))
+    [ true ↦ keeps_all old | false ↦ record { least = omega (arith, longer); same = get_front old name } ])
 
 -- a record of a home that is kept: the names that were there stay, it is the record, and what it points to is there
 keeps_kept : (old new : List (List ℕ)) (n : HomeRecordValue) (kept : Kept) → IsKeptAs old new n kept → KeepsNames old new

@@ -1,5 +1,7 @@
 -- Records as they are lent, and as they are kept.
-use Rattle.std.specs.Prelude.{ℕ, ◌≡◌, ◌⊎◌, ◌<◌, ◌++◌, ◌∷◌, [], List, map, nat_le, if◌then◌else◌, Option, None, Some, slice_get}
+use Rattle.std.specs.Prelude.{ℕ, ◌≡◌, ◌<◌, ◌++◌, ◌∷◌, [], List, map, nat_le, if◌then◌else◌, Option, None, Some, slice_get}
+use Rattle.std.specs.List.{list_any}
+use Rattle.std.specs.Str.{bytes_eq}
 use Rattle.sq_base.specs.Stamps.{start}
 use Rattle.sq_model.specs.declared.ledger.LedgerCall.TheVariants.{FinishTask}
 use Rattle.sq_model.specs.declared.ledger.LedgerReply.TheVariants.{Finished}
@@ -55,10 +57,14 @@ pub record NamesValue : Type 0 where
   pub names : List (List ℕ)
   pub reserved : ℕ
 
--- a name is there, at this place, and no other was put
+-- the names with this one, which is put last where it is not there
+abbrev pub with_name : List ℕ → List (List ℕ) → List (List ℕ)
+with_name name names = if list_any (bytes_eq name) names then names else names ++ name ∷ []
+
+-- a name is there, at this place: it was put where it was not there, and no other was
 pub record HasPut (old new : List (List ℕ)) (name : List ℕ) (at : ℕ) : Type 0 where
   pub there : slice_get new at ≡ Some name
-  pub grown : (new ≡ old) ⊎ (new ≡ old ++ name ∷ [])
+  pub put : new ≡ with_name name old
 
 -- a record of a home is kept so, and the name that was used is there
 abbrev pub IsKeptAs : List (List ℕ) → List (List ℕ) → HomeRecordValue → Kept → Type 0

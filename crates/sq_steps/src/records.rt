@@ -65,9 +65,10 @@ impl Model for Records {
 }
 
 impl Records {
-    /// No record, and memory for none.
+    /// No record; it shows room for none.
     pub(crate) fn new(alloc: Global) -> Records
-        ensures { result ≡ record { items = []; room = 0; reserved = 0 } }
+        ensures items { result.items ≡ [] }
+        ensures room { result.room ≡ 0 }
     {
         Records {
             kept: Vec::new(alloc),
