@@ -1,5 +1,4 @@
 pub mod AsciiLaws
+pub mod TellLaws
 pub mod BatchLaws
-pub mod FloatLaws
-pub mod TextLaws
 pub mod OnLiterals

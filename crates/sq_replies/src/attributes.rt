@@ -1,43 +1,37 @@
 //! The attributes of a queue as a reply shows them.
-ghost use Rattle.std.specs.Prelude.{◌≡◌, ◌∷◌, [], codes, decimal, if◌then◌else◌, None, option_map, IfOk, OnOk, string_bytes};
+ghost use Rattle.std.specs.Prelude.{◌≡◌, codes, if◌then◌else◌, None, option_map, IfOk, string_bytes};
 ghost use Rattle.serde_json.specs.Data.{Data};
-ghost use Rattle.serde_json.specs.View.{view, members_view};
 ghost use Rattle.serde_json.specs.Written.{compact_text};
 ghost use Rattle.sq_policy.specs.PolicyTexts.{arn_text, redrive_data, allow_data};
-ghost use Rattle.sq_replies.specs.Puts.{put_text, put_texts};
-ghost use Rattle.sq_replies.specs.Replies.{if_asked, shown_data, shown_texts, text_members};
+ghost use Rattle.sq_replies.specs.Replies.{if_asked, shown_data, shown_texts};
+ghost use Rattle.sq_replies.specs.Told.{Adds, tokens_of, text_tokens, texts_tokens};
 
-use serde_json::{Map, Value, json};
+use crate::writing::{Writer, begin_member, write_count_if, write_text};
 use sq_base::name::QueueName;
-use sq_calls::calls::{AskedOfQueue, QueueCounts, ShownAttributes};
+use sq_calls::calls::ShownAttributes;
 use sq_model::policy::{AllowPolicy, RedrivePolicy};
 use sq_policy::arn::arn_of;
 use sq_policy::policy::{allow_text, redrive_text};
 use std::alloc::{AllocError, Global};
 
 /// The attributes that are asked for (SQS API Reference, GetQueueAttributes).
-pub(crate) fn shown_value(alloc: Global, shown: &ShownAttributes) -> Result<Value, AllocError>
-    ensures { IfOk result (λ v. view v ≡ shown_data shown.now) }
-{
-    let members = shown_members(alloc, shown)?;
-    json!(in alloc; {"Attributes": Value::Object(members)})
-}
-
-fn shown_members(alloc: Global, shown: &ShownAttributes) -> Result<Map<String, Value>, AllocError>
-    ensures { IfOk result (λ members. members_view members.entries ≡ text_members (shown_texts shown.now)) }
-{
-    let mut members = Map::new(alloc);
-    put_shown(alloc, &mut members, shown)?;
-    Ok(members)
-}
-
-// Those that are asked for are put in the order of their names.
-fn put_shown(
+pub(crate) fn write_shown(
     alloc: Global,
-    members: &mut Map<String, Value>,
+    out: &mut Writer,
     shown: &ShownAttributes,
 ) -> Result<(), AllocError>
-    ensures { OnOk result (members_view members.new.entries ≡ put_texts (shown_texts shown.now) (members_view members.old.entries)) }
+    ensures { Adds result out.old out.new (tokens_of (shown_data shown.now)) }
+{
+    out.begin_object()?;
+    begin_member(out, "Attributes")?;
+    write_members(alloc, out, shown)?;
+    out.end_object()?;
+    out.end_object()
+}
+
+// Those that are asked for, in the order of their names.
+fn write_members(alloc: Global, out: &mut Writer, shown: &ShownAttributes) -> Result<(), AllocError>
+    ensures { Adds result out.old out.new (texts_tokens (shown_texts shown.now)) }
 {
     let asked = &shown.asked;
     let settings = &shown.attributes.settings;
@@ -45,94 +39,51 @@ fn put_shown(
     let retention = settings.retention.get() as u64;
     let wait_time = settings.wait_time.get() as u64;
     let timeout = settings.timeout.get() as u64;
-    put_counts(alloc, members, asked, &shown.counts)?;
-    put_number(alloc, members, "DelaySeconds", asked.delay, delay)?;
-    put_number(
-        alloc,
-        members,
-        "MessageRetentionPeriod",
-        asked.retention,
-        retention,
+    let (allow, redrive) = (&shown.attributes.allow, &shown.attributes.redrive);
+    let counts = &shown.counts;
+    write_count_if(
+        out,
+        "ApproximateNumberOfMessages",
+        asked.visible,
+        counts.visible,
     )?;
-    put_arn(alloc, members, asked.arn, &shown.queue)?;
-    put_number(
-        alloc,
-        members,
+    write_count_if(
+        out,
+        "ApproximateNumberOfMessagesDelayed",
+        asked.delayed,
+        counts.delayed,
+    )?;
+    write_count_if(
+        out,
+        "ApproximateNumberOfMessagesNotVisible",
+        asked.flying,
+        counts.flying,
+    )?;
+    write_count_if(out, "DelaySeconds", asked.delay, delay)?;
+    write_count_if(out, "MessageRetentionPeriod", asked.retention, retention)?;
+    write_arn_if(alloc, out, asked.arn, &shown.queue)?;
+    write_count_if(
+        out,
         "ReceiveMessageWaitTimeSeconds",
         asked.wait_time,
         wait_time,
     )?;
-    let (allow, redrive) = (&shown.attributes.allow, &shown.attributes.redrive);
-    put_policy(alloc, members, "RedriveAllowPolicy", asked.allow, allow)?;
-    put_policy(alloc, members, "RedrivePolicy", asked.redrive, redrive)?;
-    put_number(alloc, members, "VisibilityTimeout", asked.timeout, timeout)
+    write_policy_if(alloc, out, "RedriveAllowPolicy", asked.allow, allow)?;
+    write_policy_if(alloc, out, "RedrivePolicy", asked.redrive, redrive)?;
+    write_count_if(out, "VisibilityTimeout", asked.timeout, timeout)
 }
 
-fn put_counts(
+fn write_arn_if(
     alloc: Global,
-    members: &mut Map<String, Value>,
-    asked: &AskedOfQueue,
-    counts: &QueueCounts,
-) -> Result<(), AllocError>
-    ensures { OnOk result (members_view members.new.entries
-        ≡ put_texts ((codes "ApproximateNumberOfMessages", if_asked asked.now.visible (decimal counts.now.visible))
-        ∷ (codes "ApproximateNumberOfMessagesDelayed", if_asked asked.now.delayed (decimal counts.now.delayed))
-        ∷ (codes "ApproximateNumberOfMessagesNotVisible", if_asked asked.now.flying (decimal counts.now.flying))
-        ∷ []) (members_view members.old.entries)) }
-{
-    let (visible, delayed, flying) = (counts.visible, counts.delayed, counts.flying);
-    put_number(
-        alloc,
-        members,
-        "ApproximateNumberOfMessages",
-        asked.visible,
-        visible,
-    )?;
-    put_number(
-        alloc,
-        members,
-        "ApproximateNumberOfMessagesDelayed",
-        asked.delayed,
-        delayed,
-    )?;
-    put_number(
-        alloc,
-        members,
-        "ApproximateNumberOfMessagesNotVisible",
-        asked.flying,
-        flying,
-    )
-}
-
-fn put_number(
-    alloc: Global,
-    members: &mut Map<String, Value>,
-    name: &str,
-    asked: bool,
-    number: u64,
-) -> Result<(), AllocError>
-    ensures { OnOk result (members_view members.new.entries
-        ≡ put_text name.now (if_asked asked (decimal number)) (members_view members.old.entries)) }
-{
-    if asked {
-        let text = Value::String(number.to_string(alloc)?);
-        serde_json::put(members, alloc, name, text)?;
-    }
-    Ok(())
-}
-
-fn put_arn(
-    alloc: Global,
-    members: &mut Map<String, Value>,
+    out: &mut Writer,
     asked: bool,
     queue: &QueueName,
 ) -> Result<(), AllocError>
-    ensures { OnOk result (members_view members.new.entries
-        ≡ put_text (codes "QueueArn") (if_asked asked (arn_text queue.now)) (members_view members.old.entries)) }
+    ensures { Adds result out.old out.new (text_tokens (codes "QueueArn") (if_asked asked (arn_text queue.now))) }
 {
     if asked {
-        let text = Value::String(arn_of(alloc, queue)?);
-        serde_json::put(members, alloc, "QueueArn", text)?;
+        let arn = arn_of(alloc, queue)?;
+        return write_text(out, "QueueArn", arn.as_str());
     }
     Ok(())
 }
@@ -161,20 +112,20 @@ impl Policy for RedrivePolicy {
     }
 }
 
-fn put_policy<P: Policy>(
+fn write_policy_if<P: Policy>(
     alloc: Global,
-    members: &mut Map<String, Value>,
+    out: &mut Writer,
     name: &str,
     asked: bool,
     policy: &Option<P>,
 ) -> Result<(), AllocError>
-    ensures { OnOk result (members_view members.new.entries
-        ≡ put_text name.now (if asked then option_map (λ p. compact_text (P.written p)) policy.now else None) (members_view members.old.entries)) }
+    ensures { Adds result out.old out.new
+        (text_tokens name.now (if asked then option_map (λ p. compact_text (P.written p)) policy.now else None)) }
 {
     match policy {
         Some(policy) if asked => {
-            let text = Value::String(policy.text(alloc)?);
-            serde_json::put(members, alloc, name, text)
+            let text = policy.text(alloc)?;
+            write_text(out, name, text.as_str())
         }
         _ => Ok(()),
     }

@@ -1,76 +1,73 @@
 //! What is told of the entries of a batch.
-ghost use Rattle.std.specs.Prelude.{◌≡◌, IfOk};
-ghost use Rattle.serde_json.specs.Data.{array};
-ghost use Rattle.serde_json.specs.View.{view, items_of};
+ghost use Rattle.std.specs.Prelude.{◌≡◌};
 ghost use Rattle.sq_replies.specs.Replies.{is_senders_fault, failed_data, entry_data, failures, successes, batch_data};
+ghost use Rattle.sq_replies.specs.Told.{Adds, tokens_of, all_tokens};
 
 use crate::reply::id_text;
 use crate::text::ascii_text;
-use serde_json::{Value, json};
+use crate::writing::{
+    Writer, begin_list, begin_text, end_flag, end_list, end_text, next_list, write_only_text,
+    write_text,
+};
 use sq_base::refusal::Refusal;
 use sq_calls::batches::{EntryAnswer, EntryId, EntryResult};
-use std::alloc::{AllocError, Global};
+use std::alloc::AllocError;
 use uuid::Uuid;
 
 /// What failed, and what did not (SQS API Reference, SendMessageBatch, DeleteMessageBatch, ChangeMessageVisibilityBatch).
-pub(crate) fn batch_value(alloc: Global, told: &[EntryResult]) -> Result<Value, AllocError>
-    ensures { IfOk result (λ v. view v ≡ batch_data told.now) }
+pub(crate) fn write_batch(out: &mut Writer, told: &[EntryResult]) -> Result<(), AllocError>
+    ensures { Adds result out.old out.new (tokens_of (batch_data told.now)) }
 {
-    json!(in alloc; {
-        "Failed": failures_value(alloc, told)?,
-        "Successful": successes_value(alloc, told)?
-    })
+    begin_list(out, "Failed")?;
+    write_failures(out, told)?;
+    next_list(out, "Successful")?;
+    write_successes(out, told)?;
+    end_list(out)
 }
 
 #[tactic(auto, using(crate::proofs::BatchLaws::failures_grow))]
-fn failures_value(alloc: Global, told: &[EntryResult]) -> Result<Value, AllocError>
-    ensures { IfOk result (λ v. view v ≡ array (items_of (failures told.now))) }
+fn write_failures(out: &mut Writer, told: &[EntryResult]) -> Result<(), AllocError>
+    ensures { Adds result out.old out.new (all_tokens (failures told.now)) }
 {
-    let mut list = Vec::new(alloc);
     for entry in told {
         if let Err(refusal) = &entry.answer {
-            list.push(failed_value(alloc, &entry.id, *refusal)?)?;
+            write_failed(out, &entry.id, *refusal)?;
         }
     }
-    Ok(Value::Array(list))
+    Ok(())
 }
 
 #[tactic(auto, using(crate::proofs::BatchLaws::successes_grow))]
-fn successes_value(alloc: Global, told: &[EntryResult]) -> Result<Value, AllocError>
-    ensures { IfOk result (λ v. view v ≡ array (items_of (successes told.now))) }
+fn write_successes(out: &mut Writer, told: &[EntryResult]) -> Result<(), AllocError>
+    ensures { Adds result out.old out.new (all_tokens (successes told.now)) }
 {
-    let mut list = Vec::new(alloc);
     for entry in told {
         if let Ok(answer) = &entry.answer {
-            list.push(entry_value(alloc, &entry.id, answer)?)?;
+            write_entry(out, &entry.id, answer)?;
         }
     }
-    Ok(Value::Array(list))
+    Ok(())
 }
 
-fn failed_value(alloc: Global, id: &EntryId, refusal: Refusal) -> Result<Value, AllocError>
-    ensures { IfOk result (λ v. view v ≡ failed_data id.now refusal) }
+fn write_failed(out: &mut Writer, id: &EntryId, refusal: Refusal) -> Result<(), AllocError>
+    ensures { Adds result out.old out.new (tokens_of (failed_data id.now refusal)) }
 {
-    json!(in alloc; {
-        "Code": refusal.name(),
-        "Id": id.as_str(),
-        "SenderFault": is_senders_fault(refusal)
-    })
+    begin_text(out, "Code", refusal.name())?;
+    write_text(out, "Id", id.as_str())?;
+    end_flag(out, "SenderFault", is_senders_fault(refusal))
 }
 
-fn entry_value(alloc: Global, id: &EntryId, answer: &EntryAnswer) -> Result<Value, AllocError>
-    ensures { IfOk result (λ v. view v ≡ entry_data id.now answer.now) }
+fn write_entry(out: &mut Writer, id: &EntryId, answer: &EntryAnswer) -> Result<(), AllocError>
+    ensures { Adds result out.old out.new (tokens_of (entry_data id.now answer.now)) }
 {
     match answer {
         EntryAnswer::Sent(message, digest) => {
             let mut uuid = Uuid::encode_buffer();
-            json!(in alloc; {
-                "Id": id.as_str(),
-                "MD5OfMessageBody": ascii_text(digest.digits()),
-                "MessageId": id_text(message, &mut uuid)
-            })
+            begin_text(out, "Id", id.as_str())?;
+            write_text(out, "MD5OfMessageBody", ascii_text(digest.digits()))?;
+            end_text(out, "MessageId", id_text(message, &mut uuid))
         }
-        EntryAnswer::Done => json!(in alloc; {"Id": id.as_str()}),
+        EntryAnswer::Done => write_only_text(out, "Id", id.as_str()),
     }
 }
 

@@ -9,3 +9,4 @@ mod tasks;
 pub mod text;
 mod turns;
 pub mod worked;
+mod writing;

@@ -1,41 +1,60 @@
 //! Queues as replies show them: by their URLs.
-ghost use Rattle.std.specs.Prelude.{◌≡◌, IfOk, string_bytes};
-ghost use Rattle.serde_json.specs.View.{view};
-ghost use Rattle.sq_replies.specs.Replies.{queue_url, queue_data, urls_data, queues_data, source_queues_data};
+ghost use Rattle.std.specs.Prelude.{◌≡◌, map, IfOk, string_bytes};
+ghost use Rattle.serde_json.specs.Data.{string};
+ghost use Rattle.sq_replies.specs.Replies.{queue_url, queue_data, queues_data, source_queues_data};
+ghost use Rattle.sq_replies.specs.Told.{Adds, tokens_of, all_tokens};
 
-use serde_json::{Value, json};
+use crate::writing::{Writer, begin_list, end_list, write_only_text};
 use sq_base::name::QueueName;
 use std::alloc::{AllocError, Global};
 
 /// The URL of a queue as an answer (SQS API Reference, CreateQueue and GetQueueUrl).
-pub(crate) fn queue_value(alloc: Global, name: &QueueName) -> Result<Value, AllocError>
-    ensures { IfOk result (λ v. view v ≡ queue_data name.now) }
+pub(crate) fn write_queue(
+    alloc: Global,
+    out: &mut Writer,
+    name: &QueueName,
+) -> Result<(), AllocError>
+    ensures { Adds result out.old out.new (tokens_of (queue_data name.now)) }
 {
-    json!(in alloc; {"QueueUrl": Value::String(queue_url(alloc, name)?)})
+    let url = queue_url(alloc, name)?;
+    write_only_text(out, "QueueUrl", url.as_str())
 }
 
 /// The URLs of queues, in the order of their names (SQS API Reference, ListQueues).
-pub(crate) fn queues_value(alloc: Global, names: &[QueueName]) -> Result<Value, AllocError>
-    ensures { IfOk result (λ v. view v ≡ queues_data names.now) }
+pub(crate) fn write_queues(
+    alloc: Global,
+    out: &mut Writer,
+    names: &[QueueName],
+) -> Result<(), AllocError>
+    ensures { Adds result out.old out.new (tokens_of (queues_data names.now)) }
 {
-    json!(in alloc; {"QueueUrls": urls_value(alloc, names)?})
+    begin_list(out, "QueueUrls")?;
+    write_urls(alloc, out, names)?;
+    end_list(out)
 }
 
 /// The same under another name (SQS API Reference, ListDeadLetterSourceQueues).
-pub(crate) fn sources_value(alloc: Global, names: &[QueueName]) -> Result<Value, AllocError>
-    ensures { IfOk result (λ v. view v ≡ source_queues_data names.now) }
+pub(crate) fn write_sources(
+    alloc: Global,
+    out: &mut Writer,
+    names: &[QueueName],
+) -> Result<(), AllocError>
+    ensures { Adds result out.old out.new (tokens_of (source_queues_data names.now)) }
 {
-    json!(in alloc; {"queueUrls": urls_value(alloc, names)?})
+    begin_list(out, "queueUrls")?;
+    write_urls(alloc, out, names)?;
+    end_list(out)
 }
 
-fn urls_value(alloc: Global, names: &[QueueName]) -> Result<Value, AllocError>
-    ensures { IfOk result (λ v. view v ≡ urls_data names.now) }
+#[tactic(auto, using(crate::proofs::TellLaws::urls_grow))]
+fn write_urls(alloc: Global, out: &mut Writer, names: &[QueueName]) -> Result<(), AllocError>
+    ensures { Adds result out.old out.new (all_tokens (map (λ name. string (queue_url name)) names.now)) }
 {
-    let mut list = Vec::new(alloc);
     for name in names {
-        list.push(Value::String(queue_url(alloc, name)?))?;
+        let url = queue_url(alloc, name)?;
+        out.string(url.as_str())?;
     }
-    Ok(Value::Array(list))
+    Ok(())
 }
 
 fn queue_url(alloc: Global, name: &QueueName) -> Result<String, AllocError>

@@ -1,17 +1,22 @@
 //! The text of a reply.
-ghost use Rattle.std.specs.Prelude.{◌≡◌, ◌≤◌, decimal, IfOk, OnErr, IsOk, option_map, string_bytes};
-ghost use Rattle.serde_json.specs.Data.{string};
-ghost use Rattle.serde_json.specs.View.{view};
+ghost use Rattle.std.specs.Prelude.{◌≡◌, ◌≤◌, ◌||◌, ◌∷◌, [], codes, map, IfOk, OnErr, IsOk};
+ghost use Rattle.json.specs.Token.{begin_object, end_object};
+ghost use Rattle.hex.specs.Hex.{encode_lower};
+ghost use Rattle.md5.specs.Md5.{md5};
 ghost use Rattle.serde_json.specs.Written.{compact_text};
-ghost use Rattle.sq_replies.specs.Replies.{error_text, handle_of, sent_data, attributes_data, answered_data, message_data, id_text, received_data, answer_data, reply_text_of, OnTurned};
+ghost use Rattle.sq_base.specs.Handles.{handle_text};
+ghost use Rattle.sq_replies.specs.Replies.{error_text, handle_of, sent_data, attributes_data, message_data, id_text, received_data, answer_data, reply_text_of, OnTurned};
+ghost use Rattle.sq_replies.specs.Told.{Adds, tokens_of, all_tokens, value_tokens, parts_tokens};
 
-use crate::attributes::shown_value;
-use crate::batches::batch_value;
-use crate::queues::{queue_value, queues_value, sources_value};
-use crate::tasks::{cancelled_value, started_value, tasks_value};
+use crate::attributes::write_shown;
+use crate::batches::write_batch;
+use crate::queues::{write_queue, write_queues, write_sources};
+use crate::tasks::{write_cancelled, write_started, write_tasks};
 use crate::text::{Text, ascii_text};
 use crate::turns::turned_text;
-use serde_json::{Value, json};
+use crate::writing::{
+    Writer, begin_list, begin_member, begin_text, end_list, end_text, write_count_if, write_text,
+};
 use sq_base::handle::{Handle, write_handle};
 use sq_base::ids::HomeId;
 use sq_base::message_id::MessageId;
@@ -83,137 +88,119 @@ fn error_text(refusal: Refusal) -> &'static str
     }
 }
 
-fn answer_text(alloc: Global, answer: &Answer) -> Result<String, AllocError>
-    ensures { IfOk result (λ text. string_bytes text ≡ compact_text (answer_data answer.now)) }
+fn answer_text(alloc: Global, answer: &Answer) -> Result<Vec<u8>, AllocError>
+    ensures { IfOk result (λ bytes. bytes.items ≡ compact_text (answer_data answer.now)) }
 {
-    answer_value(alloc, answer)?.to_string(alloc)
+    let mut out = Writer::new(alloc)?;
+    write_answer(alloc, &mut out, answer)?;
+    Ok(out.into_bytes())
 }
 
-fn answer_value(alloc: Global, answer: &Answer) -> Result<Value, AllocError>
-    ensures { IfOk result (λ v. view v ≡ answer_data answer.now) }
+fn write_answer(alloc: Global, out: &mut Writer, answer: &Answer) -> Result<(), AllocError>
+    ensures { Adds result out.old out.new (tokens_of (answer_data answer.now)) }
 {
     match answer {
-        Answer::Queue(name) => queue_value(alloc, name),
-        Answer::Queues(names) => queues_value(alloc, names.as_slice()),
-        Answer::Sources(names) => sources_value(alloc, names.as_slice()),
-        Answer::Attributes(shown) => shown_value(alloc, shown),
-        Answer::Sent(id, digest) => {
-            let mut uuid = Uuid::encode_buffer();
-            sent_value(alloc, ascii_text(digest.digits()), id_text(id, &mut uuid))
-        }
-        Answer::Received(received) => received_value(alloc, received),
-        Answer::Batch(told) => batch_value(alloc, told.as_slice()),
-        Answer::Started(task) => started_value(alloc, *task),
-        Answer::Cancelled(moved) => cancelled_value(alloc, *moved),
-        Answer::Tasks(tasks) => tasks_value(alloc, tasks.as_slice()),
-        Answer::Done => json!(in alloc; {}),
+        Answer::Queue(name) => write_queue(alloc, out, name),
+        Answer::Queues(names) => write_queues(alloc, out, names.as_slice()),
+        Answer::Sources(names) => write_sources(alloc, out, names.as_slice()),
+        Answer::Attributes(shown) => write_shown(alloc, out, shown),
+        Answer::Sent(id, digest) => write_sent(out, id, digest),
+        Answer::Received(received) => write_received(out, received),
+        Answer::Batch(told) => write_batch(out, told.as_slice()),
+        Answer::Started(task) => write_started(out, *task),
+        Answer::Cancelled(moved) => write_cancelled(out, *moved),
+        Answer::Tasks(tasks) => write_tasks(alloc, out, tasks.as_slice()),
+        Answer::Done => write_empty(out),
     }
 }
 
-fn sent_value(alloc: Global, digest: &str, id: &str) -> Result<Value, AllocError>
-    ensures { IfOk result (λ v. view v ≡ sent_data digest.now id.now) }
+fn write_sent(out: &mut Writer, id: &MessageId, digest: &Digest) -> Result<(), AllocError>
+    ensures { Adds result out.old out.new (tokens_of (sent_data digest.now (id_text id.now))) }
 {
-    json!(in alloc; {"MD5OfMessageBody": digest, "MessageId": id})
+    let mut uuid = Uuid::encode_buffer();
+    begin_text(out, "MD5OfMessageBody", ascii_text(digest.digits()))?;
+    end_text(out, "MessageId", id_text(id, &mut uuid))
 }
 
-fn received_value(alloc: Global, received: &ReceivedMessages) -> Result<Value, AllocError>
-    ensures { IfOk result (λ v. view v ≡ received_data received.now.attributes received.now.home received.now.rows) }
+fn write_empty(out: &mut Writer) -> Result<(), AllocError>
+    ensures { Adds result out.old out.new (begin_object ∷ end_object ∷ []) }
+{
+    out.begin_object()?;
+    out.end_object()
+}
+
+fn write_received(out: &mut Writer, received: &ReceivedMessages) -> Result<(), AllocError>
+    ensures { Adds result out.old out.new (tokens_of (received_data received.now.attributes received.now.home received.now.rows)) }
+{
+    begin_list(out, "Messages")?;
+    write_messages(out, received)?;
+    end_list(out)
+}
+
+#[tactic(auto, using(crate::proofs::TellLaws::messages_grow))]
+fn write_messages(out: &mut Writer, received: &ReceivedMessages) -> Result<(), AllocError>
+    ensures { Adds result out.old out.new (all_tokens (map (message_data received.now.attributes received.now.home) received.now.rows)) }
 {
     let asked = received.attributes();
     let home = received.home();
-    let mut list = Vec::new(alloc);
     for row in received.rows() {
-        list.push(message_value(alloc, asked, home, row)?)?;
+        write_message(out, asked, home, row)?;
     }
-    json!(in alloc; {"Messages": Value::Array(list)})
+    Ok(())
 }
 
-fn message_value(
-    alloc: Global,
+fn write_message(
+    out: &mut Writer,
     asked: &AskedAttributes,
     home: &HomeId,
     row: &Row,
-) -> Result<Value, AllocError>
+) -> Result<(), AllocError>
     requires { 1 ≤ row.now.receives }
-    ensures { IfOk result (λ v. view v ≡ message_data asked.now home.now row.now) }
+    ensures { Adds result out.old out.new (tokens_of (message_data asked.now home.now row.now)) }
 {
-    let digest = Digest::of(&row.body);
-    let mut uuid = Uuid::encode_buffer();
-    let id = id_text(&row.id, &mut uuid);
-    let mut handle = [0u8; 51];
-    write_handle(&handle_of(home, row), &mut handle);
-    let attributes = attributes_value(alloc, asked, row)?;
-    let body = row.body.as_str();
-    let handle = ascii_text(&handle);
-    answered_value(
-        alloc,
-        attributes,
-        body,
-        ascii_text(digest.digits()),
-        id,
-        handle,
-    )
+    out.begin_object()?;
+    write_attributes(out, asked, row)?;
+    write_parts(out, home, row)
 }
 
 // The attributes of a message that are asked for, where one is.
-fn attributes_value(
-    alloc: Global,
-    asked: &AskedAttributes,
-    row: &Row,
-) -> Result<Option<Value>, AllocError>
-    ensures { IfOk result (λ v. option_map view v ≡ attributes_data asked.now row.now) }
+fn write_attributes(out: &mut Writer, asked: &AskedAttributes, row: &Row) -> Result<(), AllocError>
+    ensures { Adds result out.old out.new (value_tokens (codes "Attributes") (attributes_data asked.now row.now)) }
 {
-    let attributes = match (asked.receive_count, asked.sent_timestamp) {
-        (true, true) => json!(in alloc; {
-            "ApproximateReceiveCount": count_value(alloc, row)?,
-            "SentTimestamp": moment_value(alloc, row)?
-        })?,
-        (true, false) => { json!(in alloc; {"ApproximateReceiveCount": count_value(alloc, row)?})? }
-        (false, true) => json!(in alloc; {"SentTimestamp": moment_value(alloc, row)?})?,
-        (false, false) => return Ok(None),
-    };
-    Ok(Some(attributes))
-}
-
-// How often a message was received.
-fn count_value(alloc: Global, row: &Row) -> Result<Value, AllocError>
-    ensures { IfOk result (λ v. view v ≡ string (decimal row.now.receives)) }
-{
-    Ok(Value::String(row.receives.to_string(alloc)?))
-}
-
-// When it was sent.
-fn moment_value(alloc: Global, row: &Row) -> Result<Value, AllocError>
-    ensures { IfOk result (λ v. view v ≡ string (decimal row.now.enqueued)) }
-{
-    Ok(Value::String(row.enqueued.to_string(alloc)?))
-}
-
-fn answered_value(
-    alloc: Global,
-    attributes: Option<Value>,
-    body: &str,
-    digest: &str,
-    id: &str,
-    handle: &str,
-) -> Result<Value, AllocError>
-    ensures { IfOk result (λ v. view v ≡ answered_data (option_map view attributes) body.now digest.now id.now handle.now) }
-{
-    match attributes {
-        Some(attributes) => json!(in alloc; {
-            "Attributes": attributes,
-            "Body": body,
-            "MD5OfBody": digest,
-            "MessageId": id,
-            "ReceiptHandle": handle
-        }),
-        None => json!(in alloc; {
-            "Body": body,
-            "MD5OfBody": digest,
-            "MessageId": id,
-            "ReceiptHandle": handle
-        }),
+    if !is_any_asked(asked) {
+        return Ok(());
     }
+    begin_member(out, "Attributes")?;
+    write_count_if(
+        out,
+        "ApproximateReceiveCount",
+        asked.receive_count,
+        row.receives as u64,
+    )?;
+    write_count_if(out, "SentTimestamp", asked.sent_timestamp, row.enqueued)?;
+    out.end_object()
+}
+
+fn is_any_asked(asked: &AskedAttributes) -> bool
+    ensures { result ≡ (asked.now.receive_count || asked.now.sent_timestamp) }
+{
+    asked.receive_count || asked.sent_timestamp
+}
+
+// What a message has besides, and the end of its object.
+fn write_parts(out: &mut Writer, home: &HomeId, row: &Row) -> Result<(), AllocError>
+    requires { 1 ≤ row.now.receives }
+    ensures { Adds result out.old out.new
+        (parts_tokens row.now.body (encode_lower (md5 row.now.body)) (id_text row.now.id) (handle_text (handle_of home.now row.now))) }
+{
+    let digest = Digest::of(&row.body);
+    let mut uuid = Uuid::encode_buffer();
+    let mut handle = [0u8; 51];
+    write_handle(&handle_of(home, row), &mut handle);
+    write_text(out, "Body", row.body.as_str())?;
+    write_text(out, "MD5OfBody", ascii_text(digest.digits()))?;
+    write_text(out, "MessageId", id_text(&row.id, &mut uuid))?;
+    end_text(out, "ReceiptHandle", ascii_text(&handle))
 }
 
 /// The UUID of an id in lower case, written into a buffer.

@@ -1,15 +1,16 @@
 //! Message move tasks as replies show them.
-ghost use Rattle.std.specs.Prelude.{◌≡◌, IfOk, OnOk, Some, None, if◌then◌else◌, codes, option_map};
+ghost use Rattle.std.specs.Prelude.{◌≡◌, Some, None, if◌then◌else◌, codes, map, option_map};
 ghost use Rattle.serde_json.specs.Data.{number, string, unsigned};
-ghost use Rattle.serde_json.specs.View.{view, members_view};
 ghost use Rattle.sq_calls.specs.TaskHandles.{task_handle_text};
 ghost use Rattle.sq_model.specs.Tasks.{is_running};
 ghost use Rattle.sq_policy.specs.PolicyTexts.{arn_text};
-ghost use Rattle.sq_replies.specs.Puts.{put_value, put_values};
-ghost use Rattle.sq_replies.specs.Replies.{started_data, cancelled_data, status_word, reason_word, failure_word, task_values, value_members, task_data, tasks_data};
+ghost use Rattle.sq_replies.specs.Replies.{started_data, cancelled_data, status_word, reason_word, failure_word, task_values, task_data, tasks_data};
+ghost use Rattle.sq_replies.specs.Told.{Adds, tokens_of, all_tokens, value_tokens, values_tokens};
 
 use crate::text::ascii_text;
-use serde_json::{Map, Value, json};
+use crate::writing::{
+    Writer, begin_list, end_list, write_number, write_only_number, write_only_text, write_text,
+};
 use sq_calls::task_handle::task_handle;
 use sq_model::item::TaskNo;
 use sq_model::task::{FailureReason, NamedQueue, Task, TaskStatus};
@@ -17,148 +18,118 @@ use sq_policy::arn::arn_of;
 use std::alloc::{AllocError, Global};
 
 /// The handle of a task that was started (SQS API Reference, StartMessageMoveTask).
-pub(crate) fn started_value(alloc: Global, task: TaskNo) -> Result<Value, AllocError>
-    ensures { IfOk result (λ v. view v ≡ started_data task) }
+pub(crate) fn write_started(out: &mut Writer, task: TaskNo) -> Result<(), AllocError>
+    ensures { Adds result out.old out.new (tokens_of (started_data task)) }
 {
-    json!(in alloc; {"TaskHandle": handle_value(alloc, task)?})
+    let handle = task_handle(task);
+    write_only_text(out, "TaskHandle", ascii_text(&handle))
 }
 
 /// How many messages a cancelled task had moved (SQS API Reference, CancelMessageMoveTask).
-pub(crate) fn cancelled_value(alloc: Global, moved: u64) -> Result<Value, AllocError>
-    ensures { IfOk result (λ v. view v ≡ cancelled_data moved) }
+pub(crate) fn write_cancelled(out: &mut Writer, moved: u64) -> Result<(), AllocError>
+    ensures { Adds result out.old out.new (tokens_of (cancelled_data moved)) }
 {
-    json!(in alloc; {"ApproximateNumberOfMessagesMoved": moved})
+    write_only_number(out, "ApproximateNumberOfMessagesMoved", moved)
 }
 
 /// Tasks, in their order (SQS API Reference, ListMessageMoveTasks).
-pub(crate) fn tasks_value(alloc: Global, tasks: &[Task]) -> Result<Value, AllocError>
-    ensures { IfOk result (λ v. view v ≡ tasks_data tasks.now) }
+pub(crate) fn write_tasks(alloc: Global, out: &mut Writer, tasks: &[Task]) -> Result<(), AllocError>
+    ensures { Adds result out.old out.new (tokens_of (tasks_data tasks.now)) }
 {
-    let mut list = Vec::new(alloc);
+    begin_list(out, "Results")?;
+    write_each(alloc, out, tasks)?;
+    end_list(out)
+}
+
+#[tactic(auto, using(crate::proofs::TellLaws::tasks_grow))]
+fn write_each(alloc: Global, out: &mut Writer, tasks: &[Task]) -> Result<(), AllocError>
+    ensures { Adds result out.old out.new (all_tokens (map task_data tasks.now)) }
+{
     for task in tasks {
-        list.push(task_value(alloc, task)?)?;
+        write_task(alloc, out, task)?;
     }
-    json!(in alloc; {"Results": Value::Array(list)})
+    Ok(())
 }
 
-fn task_value(alloc: Global, task: &Task) -> Result<Value, AllocError>
-    ensures { IfOk result (λ v. view v ≡ task_data task.now) }
+fn write_task(alloc: Global, out: &mut Writer, task: &Task) -> Result<(), AllocError>
+    ensures { Adds result out.old out.new (tokens_of (task_data task.now)) }
 {
-    Ok(Value::Object(task_members(alloc, task)?))
+    out.begin_object()?;
+    write_members(alloc, out, task)?;
+    out.end_object()
 }
 
-fn task_members(alloc: Global, task: &Task) -> Result<Map<String, Value>, AllocError>
-    ensures { IfOk result (λ members. members_view members.entries ≡ value_members (task_values task.now)) }
+// Its members, in the order of their names.
+fn write_members(alloc: Global, out: &mut Writer, task: &Task) -> Result<(), AllocError>
+    ensures { Adds result out.old out.new (values_tokens (task_values task.now)) }
 {
-    let mut members = Map::new(alloc);
-    put_task(alloc, &mut members, task)?;
-    Ok(members)
+    write_number(out, "ApproximateNumberOfMessagesMoved", task.moved)?;
+    write_arn_if(alloc, out, "DestinationArn", &task.destination)?;
+    write_word_if(out, "FailureReason", failure_word(&task.status))?;
+    write_rate_if(out, task)?;
+    write_arn(alloc, out, "SourceArn", &task.source)?;
+    write_number(out, "StartedTimestamp", task.started)?;
+    write_text(out, "Status", status_word(&task.status))?;
+    write_handle_if(out, task)
 }
 
-// Its members are put in the order of their names.
-fn put_task(alloc: Global, members: &mut Map<String, Value>, task: &Task) -> Result<(), AllocError>
-    ensures { OnOk result (members_view members.new.entries ≡ put_values (task_values task.now) (members_view members.old.entries)) }
-{
-    let (moved, started) = (Some(task.moved), Some(task.started));
-    let (source, destination) = (&Some(task.source), &task.destination);
-    let failure = failure_word(&task.status);
-    let status = Some(status_word(&task.status));
-    put_number(alloc, members, "ApproximateNumberOfMessagesMoved", moved)?;
-    put_arn(alloc, members, "DestinationArn", destination)?;
-    put_word(alloc, members, "FailureReason", failure)?;
-    put_rate(alloc, members, task)?;
-    put_arn(alloc, members, "SourceArn", source)?;
-    put_number(alloc, members, "StartedTimestamp", started)?;
-    put_word(alloc, members, "Status", status)?;
-    put_handle(alloc, members, task)
-}
-
-fn put_number(
-    alloc: Global,
-    members: &mut Map<String, Value>,
-    name: &str,
-    count: Option<u64>,
-) -> Result<(), AllocError>
-    ensures { OnOk result (members_view members.new.entries
-        ≡ put_value name.now (option_map (λ n. number (unsigned n)) count) (members_view members.old.entries)) }
-{
-    match count {
-        Some(count) => serde_json::put(members, alloc, name, Value::from(count)),
-        None => Ok(()),
-    }
-}
-
-fn put_rate(alloc: Global, members: &mut Map<String, Value>, task: &Task) -> Result<(), AllocError>
-    ensures { OnOk result (members_view members.new.entries
-        ≡ put_value (codes "MaxNumberOfMessagesPerSecond") (option_map (λ rate. number (unsigned rate)) task.now.rate) (members_view members.old.entries)) }
+fn write_rate_if(out: &mut Writer, task: &Task) -> Result<(), AllocError>
+    ensures { Adds result out.old out.new
+        (value_tokens (codes "MaxNumberOfMessagesPerSecond") (option_map (λ rate. number (unsigned rate)) task.now.rate)) }
 {
     match task.rate {
-        Some(rate) => {
-            let name = "MaxNumberOfMessagesPerSecond";
-            serde_json::put(members, alloc, name, Value::from(rate.get()))
-        }
+        Some(rate) => write_number(out, "MaxNumberOfMessagesPerSecond", rate.get() as u64),
         None => Ok(()),
     }
 }
 
-fn put_arn(
+fn write_arn(
     alloc: Global,
-    members: &mut Map<String, Value>,
+    out: &mut Writer,
+    name: &str,
+    queue: &NamedQueue,
+) -> Result<(), AllocError>
+    ensures { Adds result out.old out.new (value_tokens name.now (Some (string (arn_text queue.now.name)))) }
+{
+    let arn = arn_of(alloc, &queue.name)?;
+    write_text(out, name, arn.as_str())
+}
+
+fn write_arn_if(
+    alloc: Global,
+    out: &mut Writer,
     name: &str,
     queue: &Option<NamedQueue>,
 ) -> Result<(), AllocError>
-    ensures { OnOk result (members_view members.new.entries
-        ≡ put_value name.now (option_map (λ queue. string (arn_text queue.name)) queue.now) (members_view members.old.entries)) }
+    ensures { Adds result out.old out.new
+        (value_tokens name.now (option_map (λ queue. string (arn_text queue.name)) queue.now)) }
 {
     match queue {
-        Some(queue) => {
-            let arn = Value::String(arn_of(alloc, &queue.name)?);
-            serde_json::put(members, alloc, name, arn)
-        }
+        Some(queue) => write_arn(alloc, out, name, queue),
         None => Ok(()),
     }
 }
 
-fn put_word(
-    alloc: Global,
-    members: &mut Map<String, Value>,
-    name: &str,
-    word: Option<&'static str>,
-) -> Result<(), AllocError>
-    ensures { OnOk result (members_view members.new.entries
-        ≡ put_value name.now (option_map string (option_map (λ word. word.now) word.entry)) (members_view members.old.entries)) }
+fn write_word_if(out: &mut Writer, name: &str, word: Option<&'static str>) -> Result<(), AllocError>
+    ensures { Adds result out.old out.new
+        (value_tokens name.now (option_map string (option_map (λ word. word.now) word.entry))) }
 {
     match word {
-        Some(word) => {
-            let text = Value::String(String::from_str(alloc, word)?);
-            serde_json::put(members, alloc, name, text)
-        }
+        Some(word) => write_text(out, name, word),
         None => Ok(()),
     }
 }
 
 // A task that is over, or is being cancelled, has no handle.
-fn put_handle(
-    alloc: Global,
-    members: &mut Map<String, Value>,
-    task: &Task,
-) -> Result<(), AllocError>
-    ensures { OnOk result (members_view members.new.entries
-        ≡ put_value (codes "TaskHandle") (if is_running task.now.status then Some (string (task_handle_text task.now.number)) else None) (members_view members.old.entries)) }
+fn write_handle_if(out: &mut Writer, task: &Task) -> Result<(), AllocError>
+    ensures { Adds result out.old out.new
+        (value_tokens (codes "TaskHandle") (if is_running task.now.status then Some (string (task_handle_text task.now.number)) else None)) }
 {
     if !is_running(&task.status) {
         return Ok(());
     }
-    let handle = handle_value(alloc, task.number)?;
-    serde_json::put(members, alloc, "TaskHandle", handle)
-}
-
-fn handle_value(alloc: Global, task: TaskNo) -> Result<Value, AllocError>
-    ensures { IfOk result (λ v. view v ≡ string (task_handle_text task)) }
-{
-    let handle = task_handle(task);
-    let text = String::from_str(alloc, ascii_text(&handle))?;
-    Ok(Value::String(text))
+    let handle = task_handle(task.number);
+    write_text(out, "TaskHandle", ascii_text(&handle))
 }
 
 fn is_running(status: &TaskStatus) -> bool

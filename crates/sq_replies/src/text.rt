@@ -1,13 +1,12 @@
 //! The text of a reply.
 ghost use Rattle.std.specs.Prelude.{◌≡◌};
 ghost use Rattle.std.specs.Str.{IsAscii};
-ghost use Rattle.std.specs.String.{string_bytes};
 
 use std::marker::Model;
 
 #[derive(Drop)]
 enum Kept {
-    Made(String),
+    Made(Vec<u8>),
     Fixed(&'static str),
 }
 
@@ -30,8 +29,8 @@ impl Model for Text {
 
 impl Text {
     /// A text that was made.
-    pub fn made(text: String) -> Text
-        ensures { result ≡ string_bytes text }
+    pub fn made(text: Vec<u8>) -> Text
+        ensures { result ≡ text.items }
     {
         Text {
             kept: Kept::Made(text),
@@ -51,7 +50,7 @@ impl Text {
         ensures { result.now ≡ self.now }
     {
         match &self.kept {
-            Kept::Made(text) => text.as_bytes(),
+            Kept::Made(text) => text.as_slice(),
             Kept::Fixed(text) => text.as_bytes(),
         }
     }

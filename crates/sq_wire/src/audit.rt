@@ -43,7 +43,7 @@ pub fn audit_text(alloc: Global, run: &Run<'_>) -> Result<Text, Refusal>
     ensures memory { IfErr result (λ e. e ≡ Refusal.NoMemory) }
 {
     let places = places_of(alloc, run)?;
-    Ok(Text::made(audit_string(alloc, run.events(), &places)?))
+    Ok(Text::made(audit_string(alloc, run.events(), &places)?.into_bytes()))
 }
 
 fn audit_string(

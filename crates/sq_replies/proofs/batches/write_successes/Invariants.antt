@@ -1,0 +1,7 @@
+use Rattle.std.proofs.Common.{◌≡◌, ◌++◌, take}
+use Rattle.sq_replies.specs.Replies.{successes}
+use Rattle.sq_replies.specs.Told.{all_tokens}
+use Rattle.sq_replies.proofs.batches.write_successes.Given as goal
+
+abbrev pub invariant-loop-entry : goal.invariant-loop-entry
+invariant-loop-entry l = l.out ≡ l.fn.out ++ all_tokens (successes (take l.entry-index l.told))

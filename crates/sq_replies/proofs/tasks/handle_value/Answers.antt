@@ -1,5 +1,0 @@
-use Rattle.sq_replies.proofs.AsciiLaws.{task_handle_ascii}
-use Rattle.sq_replies.proofs.tasks.handle_value.Goals as goal
-
-pub ascii_text-requires : goal.ascii_text-requires
-ascii_text-requires c = rw c.task_handle-handle.ensures (task_handle_ascii _)
