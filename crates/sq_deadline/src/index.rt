@@ -52,6 +52,13 @@ impl DeadlineIndex {
         self.tree.len()
     }
 
+    /// For how many deadlines there is memory in all, with those that are there.
+    pub fn space(&self) -> usize
+        ensures { result ≡ length self.now.deadlines + self.now.reserved }
+    {
+        self.spare.len() + self.tree.len()
+    }
+
     /// Gets memory for so many deadlines more, in time by those that it lacks. Refused as NoMemory where there was less.
     pub fn reserve(&mut self, more: usize) -> Result<(), Refusal>
         ensures deadlines { self.new.deadlines ≡ self.old.deadlines }

@@ -46,8 +46,8 @@ HoldsAny (call.TurnBack item) = ⊥
 HoldsAny (call.GiveBack item) = ⊥
 HoldsAny (call.GiveUp item) = ⊥
 
--- memory is got for its row, or for what it is answered, where it is done at this home at this moment: a message that is put, where nothing refuses it; rows that may be given. What is shared with the ledger is not done so.
-abbrev pub CopiesBytes : Site → Home → ℕ → HomeCall → Type 0
-CopiesBytes site home m (call.Send body delay) = home_refusal site home m (call.Send body delay) ≡ None
-CopiesBytes site home m (call.Look max timeout) = GivesAny site home m
-CopiesBytes site home m other = ⊥
+-- memory is got for its row, or for what it is answered, where it is done at this home at this moment: a message that is put, where nothing refuses it and there is room for no row; rows that may be given. What is shared with the ledger is not done so.
+abbrev pub CopiesBytes : Site → Home → ℕ → ℕ → HomeCall → Type 0
+CopiesBytes site home row_room m (call.Send body delay) = (home_refusal site home m (call.Send body delay) ≡ None) × (row_room ≡ 0)
+CopiesBytes site home row_room m (call.Look max timeout) = GivesAny site home m
+CopiesBytes site home row_room m other = ⊥

@@ -14,6 +14,7 @@ use Rattle.sq_model.specs.Homes.{Unopened, HomeStep, home_refusal}
 use Rattle.sq_model.specs.Replays.{HomeEvent, Replays, StampsRise}
 use Rattle.sq_model.specs.Systems.{is_alone}
 use Rattle.sq_model.specs.RecordValues.{HomeRecordValue}
+use Rattle.sq_shard.specs.Moves.{KeepsRowRoom}
 use Rattle.sq_history.specs.Acts.{CopiesBytes, HoldsAny}
 use Rattle.sq_history.specs.Logs.{event_by, IsUnready}
 use Rattle.sq_history.specs.Rooms.{KeepsRoom}
@@ -35,6 +36,7 @@ pub record RecordsStep (old new : HistoryValue) (by : Actor) (now : ℕ) (name :
   pub last : new.last ≡ its_record.stamp
   pub events : new.events ≡ old.events ++ new_event its_record.stamp by old.site.home call its_record.reply ∷ []
   pub room : KeepsRoom old.room new.room
+  pub row_room : KeepsRowRoom call old.row_room new.row_room
   pub record_is : its_record ≡ new_record its_record.stamp by old.site.home (length old.events) call its_record.reply name
 
 -- Exactly one event was added: a step that the home shares with the ledger, at a stamp that was drawn before, above the home's last and above what the actor had seen. The record is its own.
@@ -47,6 +49,7 @@ pub record RecordsShared (old new : HistoryValue) (by : Actor) (stamp : StampVal
   pub last : new.last ≡ stamp
   pub events : new.events ≡ old.events ++ new_event stamp by old.site.home call its_record.reply ∷ []
   pub room : KeepsRoom old.room new.room
+  pub row_room : KeepsRowRoom call old.row_room new.row_room
   pub record_is : its_record ≡ new_record stamp by old.site.home (length old.events) call its_record.reply name
 
 -- No memory was found for the event or for what it holds, or the clock's or the counts' check fails; then no memory was found for copies, or the home's first check that fails.
@@ -55,7 +58,7 @@ IsRefused old by now call e =
     ((e ≡ NoMemory) × ((old.room ≡ 0) ⊎ HoldsAny call))
     ⊎ (after old.last by.seen now ≡ Err e)
     ⊎ ((stamp : StampValue) × (after old.last by.seen now ≡ Ok stamp)
-    × (((e ≡ NoMemory) × CopiesBytes old.site old.home stamp.moment call) ⊎ (home_refusal old.site old.home stamp.moment call ≡ Some e)))
+    × (((e ≡ NoMemory) × CopiesBytes old.site old.home old.row_room stamp.moment call) ⊎ (home_refusal old.site old.home stamp.moment call ≡ Some e)))
 
 -- No step of this call is begun: its event cannot be, or no memory was found for what it holds.
 abbrev pub IsUnbegun : LogValue HomeCall HomeReply → Actor → ℕ → HomeCall → Refusal → Type 0

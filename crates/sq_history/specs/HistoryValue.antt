@@ -12,3 +12,5 @@ pub record HistoryValue : Type 0 where
   pub events : List HomeEvent
   -- for how many events more there was memory when the last one was added
   pub room : ℕ
+  -- for how many rows more there was memory when the last one came in
+  pub row_room : ℕ

@@ -1,10 +1,11 @@
 //! What may be asked of a home alone, and what its rows answer.
-ghost use Rattle.std.specs.Prelude.{◌≡◌, ◌⊎◌, ◌<◌, Some, IfOk, IfErr, OnErr};
+ghost use Rattle.std.specs.Prelude.{◌≡◌, ◌⊎◌, ◌<◌, Some, IfOk, IfErr, OnErr, OnOk};
 ghost use Rattle.sq_base.specs.Stamps.{stamp_end};
 ghost use Rattle.sq_model.specs.Homes.{HomeStep, home_refusal};
 ghost use Rattle.sq_model.specs.declared.calls.HomeCall.TheVariants.{Look as AsLook};
 ghost use Rattle.sq_model.specs.declared.replies.HomeReply.TheVariants.{Done, Sent, Counted, Entered, NoLiveRow, NoOrigin, SourceClosed};
 ghost use Rattle.sq_shard.specs.Looks.{look_reply, GivesAny, GivesRows};
+ghost use Rattle.sq_shard.specs.Moves.{KeepsRowRoom};
 ghost use Rattle.sq_history.specs.Acts.{call_of, CopiesBytes, HasBytes, HoldsAny};
 
 use sq_base::body::Body;
@@ -99,7 +100,8 @@ impl HomeAct {
         requires { moment < stamp_end }
         ensures step { IfOk result (λ reply. HomeStep shard.old.site shard.old.home moment (call_of self) reply shard.new.home) }
         ensures site { shard.new.site ≡ shard.old.site }
-        ensures refusal { IfErr result (λ e. ((e ≡ Refusal.NoMemory) × CopiesBytes shard.old.site shard.old.home moment (call_of self)) ⊎ (home_refusal shard.old.site shard.old.home moment (call_of self) ≡ Some e)) }
+        ensures room { OnOk result (KeepsRowRoom (call_of self) shard.old.room shard.new.room) }
+        ensures refusal { IfErr result (λ e. ((e ≡ Refusal.NoMemory) × CopiesBytes shard.old.site shard.old.home shard.old.room moment (call_of self)) ⊎ (home_refusal shard.old.site shard.old.home moment (call_of self) ≡ Some e)) }
         ensures err { OnErr result (shard.new ≡ shard.old) }
     {
         match self {
@@ -253,6 +255,7 @@ fn look<S: Store>(
     requires { moment < stamp_end }
     ensures step { IfOk result (λ reply. HomeStep shard.old.site shard.old.home moment (AsLook max timeout) reply shard.new.home) }
     ensures site { shard.new.site ≡ shard.old.site }
+    ensures room { shard.new.room ≡ shard.old.room }
     ensures refusal { IfErr result (λ e. ((e ≡ Refusal.NoMemory) × GivesAny shard.old.site shard.old.home moment) ⊎ (home_refusal shard.old.site shard.old.home moment (AsLook max timeout) ≡ Some e)) }
     ensures err { OnErr result (shard.new ≡ shard.old) }
 {

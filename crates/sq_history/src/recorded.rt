@@ -43,9 +43,9 @@ impl<S: Store> Model for Recorded<S> {
 
     ghost Value = { HistoryValue };
 
-    ghost view = { λ a. record { site = a.shard.site; home = a.shard.home; last = a.log.last; events = a.log.events; room = a.log.room } };
+    ghost view = { λ a. record { site = a.shard.site; home = a.shard.home; last = a.log.last; events = a.log.events; room = a.log.room; row_room = a.shard.room } };
 
-    ghost invariant = { λ a. IsKept (record { site = a.shard.site; home = a.shard.home; last = a.log.last; events = a.log.events; room = a.log.room }) };
+    ghost invariant = { λ a. IsKept (record { site = a.shard.site; home = a.shard.home; last = a.log.last; events = a.log.events; room = a.log.room; row_room = a.shard.room }) };
 }
 
 impl<S: Store> Recorded<S> {
@@ -54,7 +54,7 @@ impl<S: Store> Recorded<S> {
     /// A home that was never opened, with no event.
     pub fn unopened(alloc: Global, shard: Shard<S>) -> Recorded<S>
         requires { shard.home ≡ Never }
-        ensures { result ≡ record { site = shard.site; home = Never; last = start; events = []; room = 0 } }
+        ensures { result ≡ record { site = shard.site; home = Never; last = start; events = []; room = 0; row_room = shard.room } }
     {
         Recorded {
             shard,
@@ -79,7 +79,7 @@ impl<S: Store> Recorded<S> {
 
     /// Does one act, at its stamp. What it tells is what its record says.
     /// Refused as NoMemory (the history has room for none, or a body or settings are held), ClockRange, Worn, and then as the
-    /// home's call, or as NoMemory for a send's row and the rows that a look gives: QueueDoesNotExist (not serving; closed already, where
+    /// home's call, or as NoMemory for a send's row (it shows room for none) and the rows that a look gives: QueueDoesNotExist (not serving; closed already, where
     /// it is configured or closed), Worn and OverLimit (a send, for want of serials or full), ReceiptHandleIsInvalid (a
     /// serial that was never given), MessageNotInflight (a change, with no row in flight on which slot, serial and
     /// receive number agree), InvalidParameterValue (a change, later than 12 hours after the last receive).

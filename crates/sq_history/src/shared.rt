@@ -9,7 +9,7 @@ ghost use Rattle.sq_model.specs.declared.calls.HomeCall.TheVariants.{LeaveDead, 
 ghost use Rattle.sq_model.specs.declared.replies.HomeReply.TheVariants.{Left};
 ghost use Rattle.sq_model.specs.Homes.{HomeStep, IsFrom, IsIdle};
 ghost use Rattle.sq_model.specs.ItemActs.{call_with, replied_by};
-ghost use Rattle.sq_shard.specs.Moves.{item_refusal};
+ghost use Rattle.sq_shard.specs.Moves.{KeepsRowRoom, item_refusal};
 ghost use Rattle.sq_history.specs.Halves.{DoesHalf, IsActRefused, IsLeaveRefused, IsItemRefused, IsTaker, IsTaskAnswer, IsTaskRefused, IsThrottled};
 ghost use Rattle.sq_history.specs.Histories.{new_event, new_record};
 ghost use Rattle.sq_history.specs.Rooms.{IsReady, KeepsRoom};
@@ -229,6 +229,7 @@ fn act_on<'a, S: Store>(
     ensures ledger_reply { IfOk result (λ done. done.2.1 ≡ done.2.0) }
     ensures step { IfOk result (λ done. HomeStep shard.old.site shard.old.home moment (call_with act done.0.now) done.2.0 shard.new.home) }
     ensures site { shard.new.site ≡ shard.old.site }
+    ensures room { IfOk result (λ done. KeepsRowRoom (call_with act done.0.now) shard.old.room shard.new.room) }
     ensures refusal { IfErr result (IsActRefused (item_refusal act shard.old.site shard.old.home moment (option_map (λ i. i.now) item.entry))) }
     ensures err { OnErr result (shard.new ≡ shard.old) }
 {

@@ -22,7 +22,7 @@ pub record IsServed (o : Options) : Type 0 where
 
 -- a home that was never opened
 abbrev pub never_opened : ℕ → Limits → ℕ → HistoryValue
-never_opened per_queue limits at = record { site = record { home = home_id per_queue at; limits = limits }; home = Unopened; last = start; events = []; room = 0 }
+never_opened per_queue limits at = record { site = record { home = home_id per_queue at; limits = limits }; home = Unopened; last = start; events = []; room = 0; row_room = 0 }
 
 -- so many of them
 abbrev pub never_opened_homes : ℕ → Limits → ℕ → List HistoryValue

@@ -1,9 +1,12 @@
 -- Messages that leave a home or come in, as the home sees it.
-use Rattle.std.specs.Prelude.{◌≡◌, ℕ, ◌+◌, Bool, true, false, not, List, [], ◌∷◌, ◌++◌, Option, Some, None}
+use Rattle.std.specs.Prelude.{◌≡◌, ℕ, ◌+◌, ◌≤◌, Bool, true, false, not, List, [], ◌∷◌, ◌++◌, Option, Some, None}
 use Rattle.std.specs.List.{Contains, list_any}
 use Rattle.sq_base.specs.declared.refusal.Refusal.{Refusal}
 use Rattle.sq_base.specs.declared.refusal.Refusal.TheVariants.{QueueDoesNotExist, UnsupportedOperation}
 use Rattle.sq_base.specs.declared.row.Row.{Row}
+use Rattle.sq_model.specs.declared.calls.HomeCall.{HomeCall}
+use Rattle.sq_model.specs.declared.calls.HomeCall.TheVariants.{Send}
+use Rattle.sq_model.specs.declared.calls.HomeCall.TheVariants as call
 use Rattle.sq_model.specs.declared.place.Site.{Site}
 use Rattle.sq_model.specs.Homes.{Home, Unopened, Serving, Closed, HasPlace, dead_target, place_refusal, refused_if}
 use Rattle.sq_model.specs.Rows.{trimmed, is_dead, is_live, Takes}
@@ -71,6 +74,20 @@ IsPut site (Serving s v n rows) m row slot after =
     HasPlace site.limits n slot (trimmed s m rows) × (after ≡ Serving s v (n + 1) (trimmed s m rows ++ record row { serial = n; slot = slot } ∷ []))
 IsPut site Unopened m row slot after = ⊥
 IsPut site Closed m row slot after = ⊥
+
+-- a row that comes in uses memory for one, and no other call does
+abbrev pub KeepsRowRoom : HomeCall → ℕ → ℕ → Type 0
+KeepsRowRoom (Send body delay) old new = old ≤ new + 1
+KeepsRowRoom (call.Enter item) old new = old ≤ new + 1
+KeepsRowRoom (call.GiveBack item) old new = old ≤ new + 1
+KeepsRowRoom other old new = new ≡ old
+
+-- a row comes in
+abbrev pub PutsRow : ItemAct → Type 0
+PutsRow Enter = Unit {0}
+PutsRow TurnBack = ⊥
+PutsRow GiveBack = Unit {0}
+PutsRow GiveUp = ⊥
 
 -- the next serial of a home
 abbrev pub IsNextOf : Home → ℕ → Type 0

@@ -10,6 +10,8 @@ use Rattle.sq_shard.specs.declared.shard.Status.TheVariants.{Unopened, Serving, 
 pub record ShardValue : Type 0 where
   pub site : Site
   pub home : Home
+  -- for how many rows more there was memory when the last one came in
+  pub room : ℕ
 
 abbrev pub home_with : Status → Settings → ℕ → ℕ → List Row → Home
 home_with Unopened settings version next rows = Never

@@ -44,6 +44,14 @@ impl SlotStore {
         self.holds(settings, moment, receipt) && rows::is_late(moment, timeout, row.last_receive)
     }
 
+    /// For how many rows more there is memory, in the table and in every list.
+    pub(crate) fn spare_rows(&self) -> usize
+        ensures { result ≡ reserved_in self.now }
+    {
+        let lists = self.visible.space().min(self.ages.space());
+        self.table.spare().min(lists - self.table.len())
+    }
+
     /// Makes room for one more row, in the table and in every list, in time by the memory that it lacks. Refused as NoMemory,
     /// only where there is room for none.
     pub(crate) fn make_room(&mut self) -> Result<(), Refusal>

@@ -1,11 +1,11 @@
 //! Messages that leave a home or come in, as the home sees it.
-ghost use Rattle.std.specs.Prelude.{◌≡◌, ◌<◌, Bool, true, false, Some, None, option_map, IfOk, IfErr, IfSome, IfNone, OnErr, OnOk};
+ghost use Rattle.std.specs.Prelude.{◌≡◌, ◌<◌, ◌≤◌, ◌+◌, Bool, true, false, Some, None, option_map, IfOk, IfErr, IfSome, IfNone, OnErr, OnOk};
 ghost use Rattle.sq_model.specs.declared.calls.HomeCall.TheVariants.{LeaveDead, Enter, GiveBack};
 ghost use Rattle.sq_model.specs.declared.replies.HomeReply.TheVariants.{Entered};
 ghost use Rattle.sq_model.specs.Homes.{HomeStep, IsIdle, home_refusal, may_enter, may_return};
 ghost use Rattle.sq_model.specs.ItemActs.{call_with, is_its, may_act, replied_by};
 ghost use Rattle.sq_model.specs.Homes.{Closed as Gone};
-ghost use Rattle.sq_shard.specs.Moves.{IsDeadAt, IsLiveAt, HasRow, GoesWithout, IsFor, has_live_row, is_opened, target_at, trimmed_home, coming_refusal, closed_refusal, item_refusal};
+ghost use Rattle.sq_shard.specs.Moves.{IsDeadAt, IsLiveAt, HasRow, GoesWithout, IsFor, KeepsRowRoom, PutsRow, has_live_row, is_opened, target_at, trimmed_home, coming_refusal, closed_refusal, item_refusal};
 
 use crate::rows;
 use crate::shard::{Shard, Status};
@@ -71,6 +71,7 @@ impl<S: Store> Shard<S> {
     pub fn trim(&mut self, moment: u64)
         ensures home { self.new.home ≡ trimmed_home self.old.home moment }
         ensures site { self.new.site ≡ self.old.site }
+        ensures room { self.new.room ≡ self.old.room }
     {
         let Shard {
             store,
@@ -96,6 +97,7 @@ impl<S: Store> Shard<S> {
         ensures row { result ≡ row.now }
         ensures home { GoesWithout self.old.home moment row.now self.new.home }
         ensures site { self.new.site ≡ self.old.site }
+        ensures room { self.new.room ≡ self.old.room }
     {
         self.store.trim(&self.settings, moment);
         match self.store.take_out(row.slot, row.serial) {
@@ -127,8 +129,8 @@ impl<S: Store> Shard<S> {
         its(act, &self.site.home, item)
     }
 
-    /// Does this with an item, as `check_item` found: with the row that came in, where one did. Refused only where memory
-    /// is out.
+    /// Does this with an item, as `check_item` found: with the row that came in, where one did. Refused only where one is to
+    /// come in and memory is out.
     #[tactic(auto, using(crate::proofs::MoveLaws::turned_at, crate::proofs::MoveLaws::given_up_at))]
     pub fn item_step(
         &mut self,
@@ -140,7 +142,8 @@ impl<S: Store> Shard<S> {
         requires place { IsFor act self.old.site self.old.home moment }
         ensures step { IfOk result (λ entered. HomeStep self.old.site self.old.home moment (call_with act item.now) (replied_by entered) self.new.home) }
         ensures site { self.new.site ≡ self.old.site }
-        ensures refused { IfErr result (λ e. e ≡ Refusal.NoMemory) }
+        ensures room { OnOk result (KeepsRowRoom (call_with act item.now) self.old.room self.new.room) }
+        ensures refused { IfErr result (λ e. (e ≡ Refusal.NoMemory) × PutsRow act) }
         ensures err { OnErr result (self.new ≡ self.old) }
     {
         match act {
@@ -157,6 +160,7 @@ impl<S: Store> Shard<S> {
         requires place { coming_refusal self.old.site self.old.home moment None ≡ None }
         ensures step { IfOk result (λ entered. HomeStep self.old.site self.old.home moment (Enter item.now) (Entered entered) self.new.home) }
         ensures site { self.new.site ≡ self.old.site }
+        ensures room { self.old.room ≤ self.new.room + 1 }
         ensures refused { IfErr result (λ e. e ≡ Refusal.NoMemory) }
         ensures err { OnErr result (self.new ≡ self.old) }
     {
@@ -173,6 +177,7 @@ impl<S: Store> Shard<S> {
         requires place { coming_refusal self.old.site self.old.home moment None ≡ None }
         ensures step { IfOk result (λ entered. HomeStep self.old.site self.old.home moment (GiveBack item.now) (Entered entered) self.new.home) }
         ensures site { self.new.site ≡ self.old.site }
+        ensures room { self.old.room ≤ self.new.room + 1 }
         ensures refused { IfErr result (λ e. e ≡ Refusal.NoMemory) }
         ensures err { OnErr result (self.new ≡ self.old) }
     {

@@ -84,6 +84,10 @@ impl Store for PlainStore {
         rows::pick(alloc, &self.rows, settings, moment, until, max)
     }
 
+    fn spare(&self) -> usize {
+        self.rows.capacity() - self.rows.len()
+    }
+
     fn reserve(&mut self) -> Result<(), Refusal> {
         self.rows.try_reserve(1)?;
         Ok(())

@@ -1,5 +1,5 @@
 //! One home: its status, its settings and its rows.
-ghost use Rattle.std.specs.Prelude.{◌≡◌, ◌⊎◌, ◌↔◌, ◌<◌, ◌+◌, true, Option, Some, None, IfOk, IfErr, OnOk, OnErr, []};
+ghost use Rattle.std.specs.Prelude.{◌≡◌, ◌⊎◌, ◌↔◌, ◌<◌, ◌≤◌, ◌+◌, true, Option, Some, None, IfOk, IfErr, OnOk, OnErr, []};
 ghost use Rattle.sq_base.specs.Stamps.{stamp_end};
 ghost use Rattle.sq_model.specs.Homes.{HomeStep, home_refusal};
 ghost use Rattle.sq_model.specs.Homes.{Unopened as Never, Closed as Gone};
@@ -33,6 +33,20 @@ fn after_seconds(moment: u64, seconds: u32) -> u64
     moment + seconds as u64 * 1000
 }
 
+// Gets memory for one row more, where a store shows room for none. Refused as NoMemory.
+fn make_room<S: Store>(store: &mut S, room: usize) -> Result<(), Refusal>
+    requires { room ≤ S.reserved store.old }
+    ensures rows { S.rows store.new ≡ S.rows store.old }
+    ensures ready { OnOk result (0 < S.reserved store.new) }
+    ensures kept { room ≤ S.reserved store.new }
+    ensures refused { IfErr result (λ e. (e ≡ Refusal.NoMemory) × (room ≡ 0)) }
+{
+    if room == 0 {
+        store.reserve()?;
+    }
+    Ok(())
+}
+
 #[derive(Clone, Copy, PartialEq, Eq, Debug)]
 pub(crate) enum Status {
     Unopened,
@@ -42,7 +56,8 @@ pub(crate) enum Status {
 
 /// One home of a queue, over a store of its rows. Moments are in ms, below 2^62.
 ///
-/// A call that is refused leaves the home as it was, without a trim.
+/// A call that is refused leaves the home as it was, without a trim. It shows for how many rows more there was memory when the
+/// last one came in, at least.
 #[derive(Drop)]
 pub struct Shard<S: Store> {
     pub(crate) site: Site,
@@ -51,6 +66,7 @@ pub struct Shard<S: Store> {
     version: u64,
     pub(crate) next: Serial,
     pub(crate) store: S,
+    room: usize,
 }
 
 impl<S: Store> Model for Shard<S> {
@@ -60,18 +76,18 @@ impl<S: Store> Model for Shard<S> {
 
     ghost Value = { ShardValue };
 
-    ghost view = { λ a. record { site = a.site; home = home_with a.status a.settings a.version a.next (S.rows a.store) } };
+    ghost view = { λ a. record { site = a.site; home = home_with a.status a.settings a.version a.next (S.rows a.store); room = a.room } };
 
     ghost use Rattle.sq_shard.specs.declared.shard.Status.TheVariants.{Unopened, Closed};
 
-    ghost invariant = { λ a. record { rising : RisesFrom 0 (S.rows a.store) a.next; empty : a.status ≡ Unopened → S.rows a.store ≡ []; left : a.status ≡ Closed → S.rows a.store ≡ []; within : length (S.rows a.store) ≤ a.site.limits.rows } };
+    ghost invariant = { λ a. record { rising : RisesFrom 0 (S.rows a.store) a.next; empty : a.status ≡ Unopened → S.rows a.store ≡ []; left : a.status ≡ Closed → S.rows a.store ≡ []; within : length (S.rows a.store) ≤ a.site.limits.rows; room : a.room ≤ S.reserved a.store } };
 }
 
 impl<S: Store> Shard<S> {
-    /// A home that was never opened, over a store without rows.
+    /// A home that was never opened, over a store without rows. It shows room for none.
     pub fn unopened(site: Site, store: S) -> Shard<S>
         requires { S.rows store ≡ [] }
-        ensures { result ≡ record { site = site; home = Never } }
+        ensures { result ≡ record { site = site; home = Never; room = 0 } }
     {
         Shard {
             site,
@@ -80,6 +96,7 @@ impl<S: Store> Shard<S> {
             version: 0,
             next: Serial::first(),
             store,
+            room: 0,
         }
     }
 
@@ -102,6 +119,7 @@ impl<S: Store> Shard<S> {
     ) -> Result<(), Refusal>
         ensures step { OnOk result (HomeStep self.old.site self.old.home moment (Configure settings version) Done self.new.home) }
         ensures site { self.new.site ≡ self.old.site }
+        ensures room { self.new.room ≡ self.old.room }
         ensures refusal { IfErr result (λ e. home_refusal self.old.site self.old.home moment (Configure settings version) ≡ Some e) }
         ensures err { OnErr result (self.new ≡ self.old) }
     {
@@ -126,7 +144,8 @@ impl<S: Store> Shard<S> {
     }
 
     /// Puts a message last; without a delay the home's is taken.
-    /// Refused as QueueDoesNotExist (not serving), Worn (no serial is left), OverLimit (full), NoMemory.
+    /// Refused as QueueDoesNotExist (not serving), Worn (no serial is left), OverLimit (full), NoMemory (it shows room for no
+    /// row).
     #[tactic(auto, unfolding(sq_model::specs::Homes::HomeStep, sq_model::specs::Homes::home_refusal), using(sq_model::proofs::RowLaws::rises_trimmed, crate::proofs::Few::few_trimmed, sq_model::proofs::RowLaws::rises_push, crate::proofs::Few::few_pushed, crate::proofs::Few::full_refused, crate::proofs::Few::place_left))]
     pub fn send(
         &mut self,
@@ -137,7 +156,8 @@ impl<S: Store> Shard<S> {
         requires { moment < stamp_end }
         ensures step { IfOk result (λ sent. HomeStep self.old.site self.old.home moment (Send body delay) (Sent sent) self.new.home) }
         ensures site { self.new.site ≡ self.old.site }
-        ensures refusal { IfErr result (λ e. ((e ≡ Refusal.NoMemory) × (home_refusal self.old.site self.old.home moment (Send body delay) ≡ None)) ⊎ (home_refusal self.old.site self.old.home moment (Send body delay) ≡ Some e)) }
+        ensures room { self.old.room ≤ self.new.room + 1 }
+        ensures refusal { IfErr result (λ e. ((e ≡ Refusal.NoMemory) × (home_refusal self.old.site self.old.home moment (Send body delay) ≡ None) × (self.old.room ≡ 0)) ⊎ (home_refusal self.old.site self.old.home moment (Send body delay) ≡ Some e)) }
         ensures err { OnErr result (self.new ≡ self.old) }
     {
         // What refuses a message is checked before it asks for memory.
@@ -168,19 +188,21 @@ impl<S: Store> Shard<S> {
         Ok(())
     }
 
-    // Puts a row last, with the next serial, and gives its slot. Refused as NoMemory.
+    // Puts a row last, with the next serial, and gives its slot. Refused as NoMemory where it shows room for none.
     pub(crate) fn put(&mut self, moment: u64, row: Row) -> Result<u32, Refusal>
         requires { coming_refusal self.old.site self.old.home moment None ≡ None }
         ensures put { IfOk result (λ slot. IsPut self.old.site self.old.home moment row slot self.new.home) }
         ensures site { self.new.site ≡ self.old.site }
-        ensures refused { IfErr result (λ e. e ≡ Refusal.NoMemory) }
+        ensures room { self.old.room ≤ self.new.room + 1 }
+        ensures refused { IfErr result (λ e. (e ≡ Refusal.NoMemory) × (self.old.room ≡ 0)) }
         ensures err { OnErr result (self.new ≡ self.old) }
     {
-        self.store.reserve()?;
+        make_room(&mut self.store, self.room)?;
         self.store.trim(&self.settings, moment);
         let mut row = row;
         row.serial = self.next;
         let slot = self.store.insert(row);
+        self.room = self.store.spare();
         if let Some(after) = Serial::new(self.next.get() + 1) {
             self.next = after;
         }
@@ -231,6 +253,7 @@ impl<S: Store> Shard<S> {
         requires picked { MayBeGiven self.old.home moment picked.now }
         ensures home { self.new.home ≡ look_after self.old.home moment timeout picked.now }
         ensures site { self.new.site ≡ self.old.site }
+        ensures room { self.new.room ≡ self.old.room }
     {
         let Status::Serving = self.status else {
             return;
@@ -257,6 +280,7 @@ impl<S: Store> Shard<S> {
         requires { moment < stamp_end }
         ensures step { IfOk result (λ picked. HomeStep self.old.site self.old.home moment (Look max timeout) (look_reply picked) self.new.home) }
         ensures site { self.new.site ≡ self.old.site }
+        ensures room { self.new.room ≡ self.old.room }
         ensures refusal { IfErr result (λ e. ((e ≡ Refusal.NoMemory) × GivesAny self.old.site self.old.home moment) ⊎ (home_refusal self.old.site self.old.home moment (Look max timeout) ≡ Some e)) }
         ensures err { OnErr result (self.new ≡ self.old) }
     {
@@ -272,6 +296,7 @@ impl<S: Store> Shard<S> {
     pub fn delete(&mut self, moment: u64, receipt: Receipt) -> Result<(), Refusal>
         ensures step { OnOk result (HomeStep self.old.site self.old.home moment (Delete receipt) Done self.new.home) }
         ensures site { self.new.site ≡ self.old.site }
+        ensures room { self.new.room ≡ self.old.room }
         ensures refusal { IfErr result (λ e. home_refusal self.old.site self.old.home moment (Delete receipt) ≡ Some e) }
         ensures err { OnErr result (self.new ≡ self.old) }
     {
@@ -296,6 +321,7 @@ impl<S: Store> Shard<S> {
         requires { moment < stamp_end }
         ensures step { OnOk result (HomeStep self.old.site self.old.home moment (Change receipt timeout) Done self.new.home) }
         ensures site { self.new.site ≡ self.old.site }
+        ensures room { self.new.room ≡ self.old.room }
         ensures refusal { IfErr result (λ e. home_refusal self.old.site self.old.home moment (Change receipt timeout) ≡ Some e) }
         ensures err { OnErr result (self.new ≡ self.old) }
     {
@@ -326,6 +352,7 @@ impl<S: Store> Shard<S> {
     pub fn purge(&mut self, moment: u64) -> Result<(), Refusal>
         ensures step { OnOk result (HomeStep self.old.site self.old.home moment Purge Done self.new.home) }
         ensures site { self.new.site ≡ self.old.site }
+        ensures room { self.new.room ≡ self.old.room }
         ensures refusal { IfErr result (λ e. home_refusal self.old.site self.old.home moment Purge ≡ Some e) }
         ensures err { OnErr result (self.new ≡ self.old) }
     {
@@ -342,6 +369,7 @@ impl<S: Store> Shard<S> {
     pub fn count(&mut self, moment: u64) -> Result<Counts, Refusal>
         ensures step { IfOk result (λ counts. HomeStep self.old.site self.old.home moment Count (Counted counts) self.new.home) }
         ensures site { self.new.site ≡ self.old.site }
+        ensures room { self.new.room ≡ self.old.room }
         ensures refusal { IfErr result (λ e. home_refusal self.old.site self.old.home moment Count ≡ Some e) }
         ensures err { OnErr result (self.new ≡ self.old) }
     {
@@ -358,6 +386,7 @@ impl<S: Store> Shard<S> {
     pub fn close(&mut self, moment: u64) -> Result<(), Refusal>
         ensures step { OnOk result (HomeStep self.old.site self.old.home moment Close Done self.new.home) }
         ensures site { self.new.site ≡ self.old.site }
+        ensures room { self.new.room ≡ self.old.room }
         ensures refusal { IfErr result (λ e. home_refusal self.old.site self.old.home moment Close ≡ Some e) }
         ensures err { OnErr result (self.new ≡ self.old) }
     {

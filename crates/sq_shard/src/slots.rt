@@ -200,6 +200,10 @@ impl Store for SlotStore {
         self.pick_live(alloc, settings, moment, until, max)
     }
 
+    fn spare(&self) -> usize {
+        self.spare_rows()
+    }
+
     fn reserve(&mut self) -> Result<(), Refusal> {
         self.make_room()
     }

@@ -81,6 +81,10 @@ pub trait Store: Drop {
         ensures look { IfOk result (λ picked. IsLook settings.now moment until max (trimmed settings.now moment (rows self.now)) picked) }
         ensures err { IfErr result (λ e. e ≡ Refusal.NoMemory) };
 
+    /// For how many more rows there is memory.
+    fn spare(&self) -> usize
+        ensures { result ≡ reserved self.now };
+
     /// Makes room for one more row. Refused as NoMemory, only where there is room for none.
     fn reserve(&mut self) -> Result<(), Refusal>
         ensures rows { rows self.new ≡ rows self.old }

@@ -1,7 +1,7 @@
 //! From when the rows of a home are visible.
-ghost use Rattle.std.specs.Prelude.{◌≡◌, ◌<◌, [], true, OnOk, IfErr};
+ghost use Rattle.std.specs.Prelude.{◌≡◌, ◌<◌, [], true, min, OnOk, IfErr};
 ghost use Rattle.sq_shard.specs.Visible.{first_list, AreBoth, HasSpace, IsCleared, IsOrdered, IsSet, KeepsSpace, LacksSpace};
-ghost use Rattle.sq_shard.specs.Due.{is_again, is_fresh, is_spent};
+ghost use Rattle.sq_shard.specs.Due.{is_again, is_fresh, is_spent, space};
 
 use sq_base::refusal::Refusal;
 use sq_deadline::deadline::Deadline;
@@ -34,6 +34,15 @@ impl VisibleFrom {
             spent: DeadlineIndex::new(alloc),
             most: u32::MAX,
         }
+    }
+
+    /// For how many rows there is memory in all, whatever becomes of them.
+    pub(crate) fn space(&self) -> usize
+        ensures { result ≡ min (space self.now.fresh) (min (space self.now.again) (space self.now.spent)) }
+    {
+        self.fresh
+            .space()
+            .min(self.again.space().min(self.spent.space()))
     }
 
     /// Gets memory for so many rows in all, whatever becomes of them. Refused as NoMemory, only where there was memory for fewer.

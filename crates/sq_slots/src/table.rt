@@ -63,6 +63,17 @@ impl SlotTable {
         Ok(())
     }
 
+    /// For how many rows more there is memory, where all slots are below 2^32.
+    pub fn spare(&self) -> usize
+        ensures { result ≡ self.now.reserved }
+    {
+        let places = self.rows.capacity();
+        if places > 4_294_967_296 {
+            return 0;
+        }
+        places - self.rows.len()
+    }
+
     /// The slot of the next row; none where it would be at or past 2^32.
     pub fn next_slot(&self) -> Option<u32>
         ensures slot { IfSome result (λ slot. slot ≡ self.now.next) }

@@ -25,6 +25,7 @@ invariant_of-self g c =
       empty = (λ e. let k : Serving ≡ Unopened = sym serves ∙ e in cc);
       left = (λ e. let k : Serving ≡ Closed = sym serves ∙ e in cc);
       within = few_rest (trimmed s c.args.moment rows) (g.S.Store.rows c.take_out.new.self) c.in-Some.row c.self.inside.site.limits.rows (search rules) (few_trimmed s c.args.moment rows c.self.inside.site.limits.rows c.self.invariant.within);
+      room = search rules;
     }
 
 pub returns-clause-row : goal.returns-clause-row
