@@ -16,6 +16,7 @@ use sq_calls::body_text::BodyText;
 use sq_calls::calls::Answer;
 use sq_calls::digest::Digest;
 use sq_history::act::HomeAct;
+use sq_history::sent_body::SentBody;
 use sq_model::calls::Receipt;
 use sq_model::replies::HomeReply;
 use sq_model::task::NamedQueue;
@@ -56,14 +57,16 @@ pub(crate) fn send<S: LockSteps>(
     ensures same_counts { S.counts steps.new ≡ S.counts steps.old }
 {
     let body = Body::new(steps.alloc(), body.as_str(), BODY_LIMIT)?;
-    put(steps, of, body, delay)
+    // Its event and its record own it too, so that its step asks for no memory for them.
+    let sent = SentBody::new(body)?;
+    put(steps, of, sent, delay)
 }
 
 // Puts a body last at one of the queue's homes.
 fn put<S: LockSteps>(
     steps: &mut S,
     of: &NamedQueue,
-    body: Body,
+    body: SentBody,
     delay: Option<Delay>,
 ) -> Result<EntryAnswer, Refusal>
     requires { S.knows steps.old of.now.name of.now.number }
@@ -71,7 +74,7 @@ fn put<S: LockSteps>(
     ensures known { S.knows steps.new of.now.name of.now.number }
     ensures same_counts { S.counts steps.new ≡ S.counts steps.old }
 {
-    let digest = Digest::of(&body);
+    let digest = Digest::of(body.body());
     let home = steps.pick();
     match steps.at_home(of, home, HomeAct::Send(body, delay))? {
         HomeReply::Sent(sent) => Ok(EntryAnswer::Sent(sent.id, digest)),

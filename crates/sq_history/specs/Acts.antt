@@ -6,6 +6,8 @@ use Rattle.sq_model.specs.declared.calls.HomeCall.TheVariants as call
 use Rattle.sq_model.specs.Homes.{Home, home_refusal}
 use Rattle.sq_shard.specs.Looks.{GivesAny}
 use Rattle.sq_history.specs.declared.act.HomeAct.{HomeAct}
+use Rattle.sq_history.specs.declared.act.RowAct.{RowAct}
+use Rattle.sq_history.specs.declared.act.RowAct.TheVariants as rows
 use Rattle.sq_history.specs.declared.act.HomeAct.TheVariants.{Configure, Close, Send, Look, Delete, Change, Purge, Count}
 
 abbrev pub call_of : HomeAct → HomeCall
@@ -18,6 +20,17 @@ call_of (Change receipt timeout) = call.Change receipt timeout
 call_of Purge = call.Purge
 call_of Count = call.Count
 
+-- what a home's rows are asked, as the call
+abbrev pub rows_call : RowAct → HomeCall
+rows_call (rows.Configure t w) = call.Configure t w
+rows_call rows.Close = call.Close
+rows_call (rows.Send body delay) = call.Send body delay
+rows_call (rows.Look max timeout) = call.Look max timeout
+rows_call (rows.Delete receipt) = call.Delete receipt
+rows_call (rows.Change receipt timeout) = call.Change receipt timeout
+rows_call rows.Purge = call.Purge
+rows_call rows.Count = call.Count
+
 -- a copy of the act takes memory
 abbrev pub HasBytes : HomeAct → Type 0
 HasBytes (Send body delay) = Unit {0}
@@ -29,22 +42,10 @@ HasBytes (Change receipt timeout) = ⊥
 HasBytes Purge = ⊥
 HasBytes Count = ⊥
 
--- its event and its record hold something that stands apart: a body, settings
+-- memory is got for what its event and its record hold together: settings
 abbrev pub HoldsAny : HomeCall → Type 0
 HoldsAny (call.Configure settings version) = Unit {0}
-HoldsAny call.Close = ⊥
-HoldsAny (call.Send body delay) = Unit {0}
-HoldsAny (call.Look max timeout) = ⊥
-HoldsAny (call.Delete receipt) = ⊥
-HoldsAny (call.Change receipt timeout) = ⊥
-HoldsAny call.Purge = ⊥
-HoldsAny call.Count = ⊥
-HoldsAny call.LeaveDead = ⊥
-HoldsAny (call.LeaveTask task) = ⊥
-HoldsAny (call.Enter item) = ⊥
-HoldsAny (call.TurnBack item) = ⊥
-HoldsAny (call.GiveBack item) = ⊥
-HoldsAny (call.GiveUp item) = ⊥
+HoldsAny other = ⊥
 
 -- memory is got for its row, or for what it is answered, where it is done at this home at this moment: a message that is put, where nothing refuses it and there is room for no row; rows that may be given. What is shared with the ledger is not done so.
 abbrev pub CopiesBytes : Site → Home → ℕ → ℕ → HomeCall → Type 0

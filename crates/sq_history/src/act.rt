@@ -2,12 +2,13 @@
 ghost use Rattle.std.specs.Prelude.{◌≡◌, ◌⊎◌, ◌<◌, Some, IfOk, IfErr, OnErr, OnOk};
 ghost use Rattle.sq_base.specs.Stamps.{stamp_end};
 ghost use Rattle.sq_model.specs.Homes.{HomeStep, home_refusal};
-ghost use Rattle.sq_model.specs.declared.calls.HomeCall.TheVariants.{Look as AsLook};
+ghost use Rattle.sq_model.specs.declared.calls.HomeCall.TheVariants.{Configure as AsConfigure, Look as AsLook};
 ghost use Rattle.sq_model.specs.declared.replies.HomeReply.TheVariants.{Done, Sent, Counted, Entered, NoLiveRow, NoOrigin, SourceClosed};
 ghost use Rattle.sq_shard.specs.Looks.{look_reply, GivesAny, GivesRows};
 ghost use Rattle.sq_shard.specs.Moves.{KeepsRowRoom};
-ghost use Rattle.sq_history.specs.Acts.{call_of, CopiesBytes, HasBytes, HoldsAny};
+ghost use Rattle.sq_history.specs.Acts.{call_of, rows_call, CopiesBytes, HasBytes, HoldsAny};
 
+use crate::sent_body::SentBody;
 use sq_base::body::Body;
 use sq_base::ids::Serial;
 use sq_base::ranges::{Delay, MaxMessages, Timeout};
@@ -28,7 +29,7 @@ use std::marker::Model;
 pub enum HomeAct {
     Configure(Settings, u64),
     Close,
-    Send(Body, Option<Delay>),
+    Send(SentBody, Option<Delay>),
     Look(MaxMessages, Option<Timeout>),
     Delete(Receipt),
     Change(Receipt, Timeout),
@@ -54,43 +55,63 @@ impl HomeAct {
         })
     }
 
-    // Its call for its event and for its record; both hold the same body or settings. Refused as NoMemory, of these alone.
-    pub(crate) fn calls(&self, alloc: Global) -> Result<(HomeCall, HomeCall), Refusal>
-        ensures kept { IfOk result (λ calls. calls.0 ≡ call_of self.now) }
-        ensures recorded { IfOk result (λ calls. calls.1 ≡ call_of self.now) }
-        ensures refused { IfErr result (λ e. (e ≡ Refusal.NoMemory) × HoldsAny (call_of self.now)) }
-    {
-        let kept = self.call(alloc)?;
-        let recorded = match &kept {
-            HomeCall::Configure(settings, version) => {
-                HomeCall::Configure(settings.copy()?, *version)
-            }
-            _ => self.call(alloc)?,
-        };
-        Ok((kept, recorded))
-    }
-
-    // Its call. Refused as NoMemory, of a send and of settings alone.
-    fn call(&self, alloc: Global) -> Result<HomeCall, Refusal>
-        ensures call { IfOk result (λ call. call ≡ call_of self.now) }
-        ensures refused { IfErr result (λ e. (e ≡ Refusal.NoMemory) × HoldsAny (call_of self.now)) }
+    // What its rows are asked, and its call for its event and for its record; these hold its body or its settings. Refused as
+    // NoMemory, of settings alone.
+    pub(crate) fn split(self, alloc: Global) -> Result<(RowAct, (HomeCall, HomeCall)), Refusal>
+        ensures rows { IfOk result (λ split. rows_call split.0 ≡ call_of self) }
+        ensures kept { IfOk result (λ split. split.1.0 ≡ call_of self) }
+        ensures recorded { IfOk result (λ split. split.1.1 ≡ call_of self) }
+        ensures refused { IfErr result (λ e. (e ≡ Refusal.NoMemory) × HoldsAny (call_of self)) }
     {
         Ok(match self {
             HomeAct::Configure(settings, version) => {
-                HomeCall::Configure(held(alloc, settings)?, *version)
+                let (kept, recorded) = configure_calls(alloc, &settings, version)?;
+                (RowAct::Configure(settings, version), (kept, recorded))
             }
-            HomeAct::Close => HomeCall::Close,
-            HomeAct::Send(body, delay) => HomeCall::Send(body.copy()?, *delay),
-            HomeAct::Look(max, timeout) => HomeCall::Look(*max, *timeout),
-            HomeAct::Delete(receipt) => HomeCall::Delete(*receipt),
-            HomeAct::Change(receipt, timeout) => HomeCall::Change(*receipt, *timeout),
-            HomeAct::Purge => HomeCall::Purge,
-            HomeAct::Count => HomeCall::Count,
+            HomeAct::Close => (RowAct::Close, (HomeCall::Close, HomeCall::Close)),
+            HomeAct::Send(body, delay) => {
+                let (row, kept, recorded) = body.split();
+                let kept = HomeCall::Send(kept, delay);
+                let recorded = HomeCall::Send(recorded, delay);
+                (RowAct::Send(row, delay), (kept, recorded))
+            }
+            HomeAct::Look(max, timeout) => {
+                let kept = HomeCall::Look(max, timeout);
+                let recorded = HomeCall::Look(max, timeout);
+                (RowAct::Look(max, timeout), (kept, recorded))
+            }
+            HomeAct::Delete(receipt) => {
+                let kept = HomeCall::Delete(receipt);
+                let recorded = HomeCall::Delete(receipt);
+                (RowAct::Delete(receipt), (kept, recorded))
+            }
+            HomeAct::Change(receipt, timeout) => {
+                let kept = HomeCall::Change(receipt, timeout);
+                let recorded = HomeCall::Change(receipt, timeout);
+                (RowAct::Change(receipt, timeout), (kept, recorded))
+            }
+            HomeAct::Purge => (RowAct::Purge, (HomeCall::Purge, HomeCall::Purge)),
+            HomeAct::Count => (RowAct::Count, (HomeCall::Count, HomeCall::Count)),
         })
     }
+}
 
-    // Asks it of a home's rows at a moment in ms. Refused as NoMemory (of a send, and of a look that gives messages),
-    // and then as the home's call.
+/// What a home's rows are asked: an act, without what its event and its record hold.
+#[derive(Drop)]
+pub(crate) enum RowAct {
+    Configure(Settings, u64),
+    Close,
+    Send(Body, Option<Delay>),
+    Look(MaxMessages, Option<Timeout>),
+    Delete(Receipt),
+    Change(Receipt, Timeout),
+    Purge,
+    Count,
+}
+
+impl RowAct {
+    // Asks it of a home's rows at a moment in ms. Refused as the home's call; and where nothing refuses it as NoMemory (a send
+    // where there is room for no row, and a look that gives messages).
     pub(crate) fn ask<S: Store>(
         self,
         alloc: Global,
@@ -98,36 +119,36 @@ impl HomeAct {
         moment: u64,
     ) -> Result<Answer, Refusal>
         requires { moment < stamp_end }
-        ensures step { IfOk result (λ reply. HomeStep shard.old.site shard.old.home moment (call_of self) reply shard.new.home) }
+        ensures step { IfOk result (λ reply. HomeStep shard.old.site shard.old.home moment (rows_call self) reply shard.new.home) }
         ensures site { shard.new.site ≡ shard.old.site }
-        ensures room { OnOk result (KeepsRowRoom (call_of self) shard.old.room shard.new.room) }
-        ensures refusal { IfErr result (λ e. ((e ≡ Refusal.NoMemory) × CopiesBytes shard.old.site shard.old.home shard.old.room moment (call_of self)) ⊎ (home_refusal shard.old.site shard.old.home moment (call_of self) ≡ Some e)) }
+        ensures room { OnOk result (KeepsRowRoom (rows_call self) shard.old.room shard.new.room) }
+        ensures refusal { IfErr result (λ e. ((e ≡ Refusal.NoMemory) × CopiesBytes shard.old.site shard.old.home shard.old.room moment (rows_call self)) ⊎ (home_refusal shard.old.site shard.old.home moment (rows_call self) ≡ Some e)) }
         ensures err { OnErr result (shard.new ≡ shard.old) }
     {
         match self {
-            HomeAct::Configure(settings, version) => {
+            RowAct::Configure(settings, version) => {
                 shard.configure(moment, settings, version)?;
                 Ok(Answer::done())
             }
-            HomeAct::Close => {
+            RowAct::Close => {
                 shard.close(moment)?;
                 Ok(Answer::done())
             }
-            HomeAct::Send(body, delay) => Ok(Answer::sent(shard.send(moment, body, delay)?)),
-            HomeAct::Look(max, timeout) => look(alloc, shard, moment, max, timeout),
-            HomeAct::Delete(receipt) => {
+            RowAct::Send(body, delay) => Ok(Answer::sent(shard.send(moment, body, delay)?)),
+            RowAct::Look(max, timeout) => look(alloc, shard, moment, max, timeout),
+            RowAct::Delete(receipt) => {
                 shard.delete(moment, receipt)?;
                 Ok(Answer::done())
             }
-            HomeAct::Change(receipt, timeout) => {
+            RowAct::Change(receipt, timeout) => {
                 shard.change(moment, receipt, timeout)?;
                 Ok(Answer::done())
             }
-            HomeAct::Purge => {
+            RowAct::Purge => {
                 shard.purge(moment)?;
                 Ok(Answer::done())
             }
-            HomeAct::Count => Ok(Answer::counted(shard.count(moment)?)),
+            RowAct::Count => Ok(Answer::counted(shard.count(moment)?)),
         }
     }
 }
@@ -228,20 +249,28 @@ impl Answer {
     }
 }
 
-// Settings, for an event or a record. Refused as NoMemory.
-fn held(alloc: Global, settings: &Settings) -> Result<Held<Settings>, Refusal>
-    ensures settings { IfOk result (λ held. held ≡ settings.now) }
+// The call that configures a home so, for its event and for its record, which hold the settings together. Refused as NoMemory.
+fn configure_calls(
+    alloc: Global,
+    settings: &Settings,
+    version: u64,
+) -> Result<(HomeCall, HomeCall), Refusal>
+    ensures kept { IfOk result (λ calls. calls.0 ≡ AsConfigure settings.now version) }
+    ensures recorded { IfOk result (λ calls. calls.1 ≡ AsConfigure settings.now version) }
     ensures refused { IfErr result (λ e. e ≡ Refusal.NoMemory) }
 {
     // A part is named, so that the toolchain's borrow checker sees its type.
     let redrive = settings.redrive;
-    Held::new(
-        alloc,
-        Settings {
-            redrive,
-            ..*settings
-        },
-    )
+    let same = Settings {
+        redrive,
+        ..*settings
+    };
+    let kept = Held::new(alloc, same)?;
+    let recorded = kept.copy()?;
+    Ok((
+        HomeCall::Configure(kept, version),
+        HomeCall::Configure(recorded, version),
+    ))
 }
 
 // A look; the rows that it gives are copied before anything changes.

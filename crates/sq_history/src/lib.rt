@@ -8,5 +8,6 @@ pub mod growing;
 pub mod log;
 pub mod record;
 pub mod recorded;
+pub mod sent_body;
 pub mod shared;
 pub mod task_leave;

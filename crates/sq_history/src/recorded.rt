@@ -3,11 +3,11 @@ ghost use Rattle.std.specs.Prelude.{◌≡◌, ◌↔◌, ◌++◌, ◌∷◌, t
 ghost use Rattle.sq_base.specs.Stamps.{Below, after, start};
 ghost use Rattle.sq_model.specs.Homes.{Unopened as Never, Closed as Gone};
 ghost use Rattle.sq_model.specs.Replays.{StampsRise};
-ghost use Rattle.sq_history.specs.Acts.{call_of};
+ghost use Rattle.sq_history.specs.Acts.{call_of, rows_call};
 ghost use Rattle.sq_history.specs.Histories.{IsUnbegun, new_event, new_record};
 ghost use Rattle.sq_history.specs.Rooms.{IsReady, KeepsRoom};
 
-use crate::act::{Answer, HomeAct};
+use crate::act::{Answer, HomeAct, RowAct};
 use crate::log::Log;
 use crate::record::HomeRecord;
 use sq_base::ids::HomeId;
@@ -78,7 +78,7 @@ impl<S: Store> Recorded<S> {
     }
 
     /// Does one act, at its stamp. What it tells is what its record says.
-    /// Refused as NoMemory (the history has room for none, or a body or settings are held), ClockRange, Worn, and then as the
+    /// Refused as NoMemory (the history has room for none, or settings are held), ClockRange, Worn, and then as the
     /// home's call, or as NoMemory for a send's row (it shows room for none) and the rows that a look gives: QueueDoesNotExist (not serving; closed already, where
     /// it is configured or closed), Worn and OverLimit (a send, for want of serials or full), ReceiptHandleIsInvalid (a
     /// serial that was never given), MessageNotInflight (a change, with no row in flight on which slot, serial and
@@ -96,8 +96,8 @@ impl<S: Store> Recorded<S> {
         ensures refusal { IfErr result (IsRefused self.old by.now now (call_of act)) }
         ensures err { OnErr result (self.new ≡ self.old) }
     {
-        let (stamp, calls) = begin(alloc, &mut self.log, by, now, &act)?;
-        let answer = act.ask(alloc, &mut self.shard, stamp.moment)?;
+        let (stamp, asked, calls) = begin(alloc, &mut self.log, by, now, act)?;
+        let answer = asked.ask(alloc, &mut self.shard, stamp.moment)?;
         let home = self.shard.site().home;
         Ok(add_step(&mut self.log, by, stamp, &home, name, calls, answer))
     }
@@ -110,29 +110,30 @@ impl<S: Store> Recorded<S> {
     }
 }
 
-// Begins a step that does this: its call for the event and for the record, and then its stamp.
-// Refused as NoMemory (the history has room for none, or a body or settings are held), ClockRange, Worn.
+// Begins a step that does this: its stamp, what the rows are asked, and its call for the event and for the record.
+// Refused as NoMemory (the history has room for none, or settings are held), ClockRange, Worn.
 fn begin(
     alloc: Global,
     log: &mut Log<HomeCall, HomeReply>,
     by: &Actor,
     now: u64,
-    act: &HomeAct,
-) -> Result<(Stamp, (HomeCall, HomeCall)), Refusal>
+    act: HomeAct,
+) -> Result<(Stamp, RowAct, (HomeCall, HomeCall)), Refusal>
     ensures last { log.new.last ≡ log.old.last }
     ensures events { log.new.events ≡ log.old.events }
     ensures room { log.new.room ≡ log.old.room }
     ensures ready { OnOk result (IsReady log.new.room log.new.reserved) }
     ensures stamped { IfOk result (λ begun. after log.old.last by.now.seen now ≡ Ok begun.0) }
     ensures above { IfOk result (λ begun. Below log.old.last begun.0) }
-    ensures kept_call { IfOk result (λ begun. begun.1.0 ≡ call_of act.now) }
-    ensures recorded_call { IfOk result (λ begun. begun.1.1 ≡ call_of act.now) }
-    ensures refused { IfErr result (IsUnbegun log.old by.now now (call_of act.now)) }
+    ensures asked { IfOk result (λ begun. rows_call begun.1 ≡ call_of act) }
+    ensures kept_call { IfOk result (λ begun. begun.2.0 ≡ call_of act) }
+    ensures recorded_call { IfOk result (λ begun. begun.2.1 ≡ call_of act) }
+    ensures refused { IfErr result (IsUnbegun log.old by.now now (call_of act)) }
 {
     log.reserve()?;
-    let calls = act.calls(alloc)?;
+    let (asked, calls) = act.split(alloc)?;
     let stamp = log.next_stamp(by, now)?;
-    Ok((stamp, calls))
+    Ok((stamp, asked, calls))
 }
 
 // Adds the event of a step that was done. Gives what is answered, and the actor's record.

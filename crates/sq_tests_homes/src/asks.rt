@@ -4,6 +4,7 @@ use sq_base::refusal::Refusal;
 use sq_base::row::Row;
 use sq_base::settings::Settings;
 use sq_history::act::HomeAct;
+use sq_history::sent_body::SentBody;
 use sq_model::replies::HomeReply;
 use sq_tests_values::setup::{hello, receipt};
 use std::alloc::Global;
@@ -51,7 +52,7 @@ pub fn home_act(alloc: Global, ask: Ask) -> Result<HomeAct, Refusal> {
     Ok(match ask {
         Ask::Open => HomeAct::Configure(Settings::standard(), 1),
         Ask::Configure(settings, version) => HomeAct::Configure(settings, version),
-        Ask::Send(delay) => HomeAct::Send(hello(alloc)?, delay),
+        Ask::Send(delay) => HomeAct::Send(SentBody::new(hello(alloc)?)?, delay),
         Ask::Look(timeout) => HomeAct::Look(MaxMessages::of(10), timeout),
         Ask::Delete(slot, serial, receive) => HomeAct::Delete(receipt(slot, serial, receive)),
         Ask::Change(slot, serial, receive, timeout) => {
