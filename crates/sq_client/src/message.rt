@@ -74,7 +74,8 @@ fn put<S: LockSteps>(
     ensures known { S.knows steps.new of.now.name of.now.number }
     ensures same_counts { S.counts steps.new ≡ S.counts steps.old }
 {
-    let digest = Digest::of(body.body());
+    let text = body.body();
+    let digest = Digest::of(text);
     let home = steps.pick();
     match steps.at_home(of, home, HomeAct::Send(body, delay))? {
         HomeReply::Sent(sent) => Ok(EntryAnswer::Sent(sent.id, digest)),

@@ -15,4 +15,4 @@ returns-in_err-sent-clause-did g c =
 pub returns-clause-did : goal.returns-clause-did
 returns-clause-did g c =
     answered_one _ _ _ _ _ _ (at_home c.args.of.now.name c.args.of.now.number c.pick-home.result (Send c.args.body c.args.delay) (Ok (reply.Sent c.in-Sent.sent))) c.pick-home.ensures.unchanged (rw (← c.in-Sent.is) c.in_ok-sent.ensures.did)
-    (c.pick-home.result, c.pick-home.ensures.below, inl (reply.Sent c.in-Sent.sent, answer.Sent c.in-Sent.sent.id c.of-digest.result, refl, (c.in-Sent.sent, refl, rw (c.of-digest.ensures, c.body.ensures) refl), refl))
+    (c.pick-home.result, c.pick-home.ensures.below, inl (reply.Sent c.in-Sent.sent, answer.Sent c.in-Sent.sent.id c.of-digest.result, refl, (c.in-Sent.sent, refl, rw (c.of-digest.ensures, c.body-text.ensures) refl), refl))
