@@ -1,5 +1,6 @@
 pub mod JournalLaws
 pub mod JournalListLaws
+pub mod DistinctLaws
 pub mod DropLaws
 pub mod FilterLaws
 pub mod RecordLaws

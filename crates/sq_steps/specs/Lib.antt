@@ -2,3 +2,4 @@ pub mod Records
 pub mod Journals
 pub mod SharedSteps
 pub mod TaskActs
+pub mod Reads

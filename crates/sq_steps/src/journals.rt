@@ -65,6 +65,19 @@ pub fn journal_at(journals: &[Journal], actor: u32) -> Option<usize>
     journals.iter().position(|journal| journal.actor() == actor)
 }
 
+/// Whether each actor is there once. It compares each with those before it.
+pub fn are_distinct(journals: &[Journal]) -> bool
+    ensures { result ≡ true ↔ AreDistinct journals.now }
+{
+    for at in 0..journals.len() {
+        match journal_at(&journals[..at], journals[at].actor()) {
+            Some(_first) => return false,
+            None => {}
+        }
+    }
+    true
+}
+
 /// Where what an actor has stands, which is made where it is not there. Refused as NoMemory of a new actor alone.
 pub fn open(journals: &mut Vec<Journal>, alloc: Global, actor: u32) -> Result<usize, Refusal>
     ensures index { IfOk result (λ at. at ≡ index_in actor journals.old.items) }

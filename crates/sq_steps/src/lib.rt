@@ -6,6 +6,7 @@ pub mod capacity;
 pub mod journal;
 pub mod journals;
 mod names;
+pub mod reads;
 pub mod record;
 mod records;
 pub mod shared;
