@@ -16,6 +16,8 @@ pub struct Parts {
     pub ledger: TransitLedger,
     pub homes: Homes,
     pub records: Journals,
+    /// How many actors there ever were. Where as many left their records, none is missing.
+    pub made: u64,
 }
 
 impl Parts {

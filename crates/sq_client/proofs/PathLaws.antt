@@ -7,7 +7,7 @@ use Rattle.sq_base.specs.StampValue.{StampValue}
 use Rattle.sq_base.specs.Stamps.{Below}
 use Rattle.sq_base.specs.declared.refusal.Refusal.{Refusal}
 use Rattle.sq_model.specs.RecordValues.{RecordValue, stamp_of, Journal}
-use Rattle.sq_client.specs.Asks.{Ask, Resolve, Directed, AtHome, Moving, Next, Redriven, Ledgered, Walking, Walked, Gave, Found, Answered, Replied, Nothing, Peeked, Ends, Told, Walks, Noted, Done, AreOfStep, AreOf, IsNext, LeavesOf, Follow, Gains}
+use Rattle.sq_client.specs.Asks.{Ask, Resolve, Directed, AtHome, Moving, Peek, Redriven, Ledgered, ReadTask, Gave, Found, Answered, Replied, Nothing, Peeked, Ends, Told, TaskFound, Done, AreOfStep, AreOf, IsNext, LeavesOf, Follow, Gains}
 use Rattle.sq_directory.specs.Makers.{IsSeen}
 use Rattle.sq_steps.specs.Journals.{having_seen}
 use Rattle.sq_steps.proofs.JournalLaws.{later_first}
@@ -89,20 +89,18 @@ step_records (Directed call) (Ok (Answered reply)) a b h = (h.0 ∷ [], (h.0, h.
 step_records (AtHome name home act) (Ok (Replied reply)) a b h = (h.0 ∷ [], (h.0, h.1, refl), next_gain a b h.0 h.2)
 step_records (Moving name home what) (Ok (Replied reply)) a b h = (h.0 ∷ [], (h.0, h.1, refl), next_gain a b h.0 h.2)
 step_records (Moving name home what) (Ok Nothing) a b h = ([], refl, no_gain a b h)
-step_records Next (Ok (Peeked next)) a b h = ([], refl, read_gain a b h.0 h.1)
+step_records (Peek number) (Ok (Peeked next)) a b h = ([], refl, read_gain a b h.0 h.1)
 step_records (Redriven source destination) (Ok (Ends ends)) a b h = ([], refl, read_gain a b h.0 h.1)
 step_records (Ledgered what) (Ok (Told reply)) a b h = (h.0 ∷ [], (h.0, h.1, refl), next_gain a b h.0 h.2)
-step_records (Walking number) (Ok (Walks found walk)) a b h = ([], refl, read_gain a b h.0 h.1)
-step_records (Walked walk) (Ok Noted) a b h = ([], refl, no_gain a b h)
+step_records (ReadTask number) (Ok (TaskFound found)) a b h = ([], refl, read_gain a b h.0 h.1)
 step_records (Resolve name) (Err e) a b h = ([], refl, no_gain a b h)
 step_records (Directed call) (Err e) a b h = ([], refl, no_gain a b h)
 step_records (AtHome name home act) (Err e) a b h = ([], refl, no_gain a b h)
 step_records (Moving name home what) (Err e) a b h = ([], refl, no_gain a b h)
-step_records Next (Err e) a b h = ([], refl, no_gain a b h)
+step_records (Peek number) (Err e) a b h = ([], refl, no_gain a b h)
 step_records (Redriven source destination) (Err e) a b h = ([], refl, no_gain a b h)
 step_records (Ledgered what) (Err e) a b h = ([], refl, no_gain a b h)
-step_records (Walking number) (Err e) a b h = ([], refl, no_gain a b h)
-step_records (Walked walk) (Err e) a b h = ([], refl, no_gain a b h)
+step_records (ReadTask number) (Err e) a b h = ([], refl, no_gain a b h)
 step_records ask answered a b h = elim h [ ]
 
 follow_lower : (next next2 : ℕ) (seen seen2 : StampValue) (ns : List RecordValue) → next2 ≡ next → IsSeen seen seen2 → Follow next2 seen2 ns → Follow next seen ns

@@ -3,6 +3,7 @@ use Rattle.std.proofs.Common.{◌≡◌, ◌⊎◌, ℕ, ◌<◌, List, [], ◌�
 use Rattle.sq_model.specs.declared.ledger.LedgerReply.{LedgerReply}
 use Rattle.sq_model.specs.declared.task.Task.{Task}
 use Rattle.sq_steps.specs.declared.act.TaskAct.TheVariants.{Finish}
+use Rattle.sq_client.specs.declared.progress.Progress.{Progress}
 use Rattle.sq_client.specs.declared.walk.Walk.{Walk}
 use Rattle.sq_base.specs.declared.ids.HomeId.{HomeId}
 use Rattle.sq_base.specs.declared.refusal.Refusal.{Refusal}
@@ -11,11 +12,12 @@ use Rattle.sq_calls.specs.declared.turns.Turned.{Turned}
 use Rattle.sq_calls.specs.declared.turns.Turned.TheVariants as word
 use Rattle.sq_model.specs.declared.shared.SharedAct.TheVariants.{LeaveDead, LeaveTask}
 use Rattle.sq_steps.specs.declared.act.NextItem.{NextItem}
-use Rattle.sq_client.specs.Asks.{Ask, Resolve, Moving, Next, Ledgered, Walking, Walked, Gave, Found, Peeked, Walks, Noted, HomeCounts, told_of}
+use Rattle.sq_client.specs.Asks.{Ask, Resolve, Moving, Peek, Ledgered, ReadTask, Gave, Found, Peeked, TaskFound, HomeCounts, told_of}
 use Rattle.sq_client.specs.Calls.{home_numbered}
 use Rattle.sq_client.specs.Steps.{ledgered, named}
 use Rattle.sq_client.specs.Performs.{Performs}
-use Rattle.sq_client.specs.Turns.{moving, trying, walking, walked, WordFor, LeaveFits, home_ahead, comes_in, goes_back, Brings, BringFits, walk_after, LeavesFor, walk_waiting, finish_word, Finishes, ServesTask, TaskFits}
+use Rattle.sq_client.specs.Progresses.{walk_for, with_item, with_walk}
+use Rattle.sq_client.specs.Turns.{moving, peeking, task_read, WordFor, LeaveFits, home_ahead, comes_in, goes_back, Brings, BringFits, walk_after, LeavesFor, walk_waiting, finish_word, Finishes, ServesTask, TaskFits}
 use Rattle.sq_client.proofs.PathLaws.{answered_one, answered_more}
 
 -- a queue was found, and one of its homes was asked for a dead letter
@@ -29,13 +31,13 @@ left_from {S} stepped counts old found picked new name said queue home by answer
 }
 
 -- the next item was brought to one of the homes of the queue that it goes to
-pub brought : {S : Type 0} (stepped : S → Ask → Result Gave Refusal → S → Type 0) (counts : S → HomeCounts) (old found picked new : S) (next : NextItem) (home : ℕ) (answered : Result Turned Refusal)
-    → stepped old Next (Ok (Peeked (Some next))) found → counts found ≡ counts old → picked ≡ found → home < (counts found).homes → Performs stepped (Brings next (home_ahead next home)) picked answered new
-    → Performs stepped (BringFits (counts old).homes) old answered new
-brought {S} stepped counts old found picked new next home answered h same unchanged below rest =
-    answered_more stepped (BringFits (counts old).homes) (Brings next (home_ahead next home)) old found new answered (trying (Ok (Peeked (Some next)))) h
+pub brought : {S : Type 0} (stepped : S → Ask → Result Gave Refusal → S → Type 0) (counts : S → HomeCounts) (old found picked new : S) (before after : Progress) (next : NextItem) (home : ℕ) (answered : Result Turned Refusal)
+    → stepped old (Peek before.item) (Ok (Peeked (Some next))) found → counts found ≡ counts old → picked ≡ found → home < (counts found).homes → Performs stepped (Brings next (home_ahead next home)) picked answered new
+    → after ≡ with_item next.number before → Performs stepped (BringFits (counts old).homes before after) old answered new
+brought {S} stepped counts old found picked new before after next home answered h same unchanged below rest tried =
+    answered_more stepped (BringFits (counts old).homes before after) (Brings next (home_ahead next home)) old found new answered (peeking before.item (Ok (Peeked (Some next)))) h
     (subst (λ (s : S). Performs stepped (Brings next (home_ahead next home)) s answered new) unchanged rest)
-    (λ ds fits. inr (inr (next, home, ds, subst (λ (n : HomeCounts). home < n.homes) same below, refl, fits)))
+    (λ ds fits. inr (inr (next, home, ds, subst (λ (n : HomeCounts). home < n.homes) same below, refl, fits, tried)))
 
 -- an item came in, or was refused otherwise than by a home that does not serve
 pub came : {S : Type 0} (stepped : S → Ask → Result Gave Refusal → S → Type 0) (old new : S) (next : NextItem) (home : HomeId) (by : Result Gave Refusal) (answered : Result Turned Refusal)
@@ -52,29 +54,23 @@ went_back stepped old mid new next home by answered h k words = record {
   fits = inr (by, refl, words);
 }
 
--- a task was read, with the walk for it, and then served
-pub served : {S : Type 0} (stepped : S → Ask → Result Gave Refusal → S → Type 0) (counts : S → HomeCounts) (old mid new : S) (number : ℕ) (task : Task) (walk : Walk) (answered : Result Turned Refusal)
-    → stepped old (Walking number) (Ok (Walks task walk)) mid → counts mid ≡ counts old → Performs stepped (ServesTask (counts mid).homes number task walk) mid answered new
-    → Performs stepped (TaskFits (counts old).homes (Some number)) old answered new
-served stepped counts old mid new number task walk answered h same rest =
-    answered_more stepped (TaskFits (counts old).homes (Some number)) (ServesTask (counts mid).homes number task walk) old mid new answered (walking number (Ok (Walks task walk))) h rest
-    (λ ds fits. inr (task, walk, ds, refl, subst (λ (n : HomeCounts). ServesTask n.homes number task walk ds answered) same fits))
+-- a task was read, and then served by the walk for it
+pub served : {S : Type 0} (stepped : S → Ask → Result Gave Refusal → S → Type 0) (counts : S → HomeCounts) (old mid new : S) (number : ℕ) (before after : Progress) (task : Task) (begin walk : Walk) (answered : Result Turned Refusal)
+    → stepped old (ReadTask number) (Ok (TaskFound task)) mid → counts mid ≡ counts old → begin ≡ walk_for number before.walk → Performs stepped (ServesTask (counts mid).homes number task begin walk) mid answered new
+    → after ≡ with_walk walk before → Performs stepped (TaskFits (counts old).homes (Some number) before after) old answered new
+served stepped counts old mid new number before after task begin walk answered h same begins rest kept =
+    answered_more stepped (TaskFits (counts old).homes (Some number) before after) (ServesTask (counts mid).homes number task begin walk) old mid new answered (task_read number (Ok (TaskFound task))) h rest
+    (λ ds fits. inr (task, walk, ds, refl, subst (λ (b : Walk). ServesTask (counts old).homes number task b walk ds answered) begins (subst (λ (n : HomeCounts). ServesTask n.homes number task begin walk ds answered) same fits), kept))
 
 -- a home was asked for a message of a task's source, and the walk went on
-pub left_for : {S : Type 0} (stepped : S → Ask → Result Gave Refusal → S → Type 0) (homes number : ℕ) (task : Task) (walk : Walk) (old mid new : S) (by : Result Gave Refusal) (answered : Result Turned Refusal)
-    → stepped old (Moving None (home_numbered task.source.number walk.home) (LeaveTask number)) by mid → stepped mid (Walked (walk_after homes walk by)) (Ok Noted) new
-    → WordFor (LeaveTask number) by answered ⊎ ((by ≡ Err QueueDoesNotExist) × (answered ≡ Err QueueDoesNotExist)) → Performs stepped (LeavesFor homes number task walk) old answered new
-left_for stepped homes number task walk old mid new by answered h k words = record {
-  trace = moving None (home_numbered task.source.number walk.home) (LeaveTask number) by ∷ walked (walk_after homes walk by) ∷ [];
-  path = (mid, h, (new, k, refl));
-  fits = (by, refl, words);
-}
+pub left_for : {S : Type 0} (stepped : S → Ask → Result Gave Refusal → S → Type 0) (homes number : ℕ) (task : Task) (before after : Walk) (old new : S) (by : Result Gave Refusal) (answered : Result Turned Refusal)
+    → stepped old (Moving None (home_numbered task.source.number before.home) (LeaveTask number)) by new → after ≡ walk_after homes before by
+    → WordFor (LeaveTask number) by answered ⊎ ((by ≡ Err QueueDoesNotExist) × (answered ≡ Err QueueDoesNotExist)) → Performs stepped (LeavesFor homes number task before after) old answered new
+left_for stepped homes number task before after old new by answered h goes words =
+    answered_one stepped (LeavesFor homes number task before after) old old new answered (moving None (home_numbered task.source.number before.home) (LeaveTask number) by) refl h (by, refl, goes, words)
 
 -- a task was to finish, and the walk waits or stays
-pub finished_by : {S : Type 0} (stepped : S → Ask → Result Gave Refusal → S → Type 0) (number : ℕ) (walk : Walk) (old mid new : S) (by : Result LedgerReply Refusal) (answered : Result Turned Refusal)
-    → stepped old (Ledgered (Finish number)) (told_of by) mid → stepped mid (Walked (walk_waiting walk by)) (Ok Noted) new → answered ≡ finish_word by → Performs stepped (Finishes number walk) old answered new
-finished_by stepped number walk old mid new by answered h k said = record {
-  trace = ledgered (Finish number) by ∷ walked (walk_waiting walk by) ∷ [];
-  path = (mid, h, (new, k, refl));
-  fits = (by, refl, said);
-}
+pub finished_by : {S : Type 0} (stepped : S → Ask → Result Gave Refusal → S → Type 0) (number : ℕ) (before after : Walk) (old new : S) (by : Result LedgerReply Refusal) (answered : Result Turned Refusal)
+    → stepped old (Ledgered (Finish number)) (told_of by) new → after ≡ walk_waiting before by → answered ≡ finish_word by → Performs stepped (Finishes number before after) old answered new
+finished_by stepped number before after old new by answered h waits said =
+    answered_one stepped (Finishes number before after) old old new answered (ledgered (Finish number) by) refl h (by, refl, waits, said)

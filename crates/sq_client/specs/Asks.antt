@@ -33,23 +33,21 @@ use Rattle.sq_steps.specs.declared.act.NextItem.{NextItem}
 use Rattle.sq_steps.specs.declared.act.TaskAct.{TaskAct}
 use Rattle.sq_steps.specs.declared.act.TaskAct.TheVariants as task
 use Rattle.sq_steps.specs.TaskActs.{task_call}
-use Rattle.sq_client.specs.declared.walk.Walk.{Walk}
 use Rattle.sq_model.specs.declared.task.NamedQueue.{NamedQueue}
 use Rattle.sq_calls.specs.ReceivedValue.{AreReceived}
 
 -- What a step asks: the number of the queue of a name, which is a read; a step of the directory; a step of a home, by the queue's name that was used; a step that a home shares
--- with the ledger, by the name that was used, if any; which item in transit is tried next, which is a read; between which queues messages may be moved, which is a read; a step of the
--- ledger alone; a task, and how far the actor's walk for it is, which is a read; and that the walk is so far now.
+-- with the ledger, by the name that was used, if any; which item in transit comes after a number, which is a read; between which queues messages may be moved, which is a read; a step of
+-- the ledger alone; and a task, which is a read.
 pub data Ask : Type 0 where
   Resolve : (name : List ℕ) → Ask
   Directed : (call : DirectoryCall) → Ask
   AtHome : (name : List ℕ) (home : HomeId) (act : HomeAct) → Ask
   Moving : (name : Option (List ℕ)) (home : HomeId) (what : SharedAct) → Ask
-  Next : Ask
+  Peek : (after : ℕ) → Ask
   Redriven : (source : List ℕ) (destination : Option (List ℕ)) → Ask
   Ledgered : (what : TaskAct) → Ask
-  Walking : (number : ℕ) → Ask
-  Walked : (walk : Walk) → Ask
+  ReadTask : (number : ℕ) → Ask
 
 -- what it is answered where it is not refused
 pub data Gave : Type 0 where
@@ -60,8 +58,7 @@ pub data Gave : Type 0 where
   Peeked : (next : Option NextItem) → Gave
   Ends : (ends : MoveEnds) → Gave
   Told : (reply : LedgerReply) → Gave
-  Walks : (found : Task) (walk : Walk) → Gave
-  Noted : Gave
+  TaskFound : (found : Task) → Gave
 
 abbrev pub found_of : Result NamedQueue Refusal → Result Gave Refusal
 found_of (Ok of) = Ok (Found of.number)
@@ -93,9 +90,9 @@ abbrev pub told_of : Result LedgerReply Refusal → Result Gave Refusal
 told_of (Ok reply) = Ok (Told reply)
 told_of (Err e) = Err e
 
-abbrev pub walks_of : Result (Task × Walk) Refusal → Result Gave Refusal
-walks_of (Ok found) = Ok (Walks found.0 found.1)
-walks_of (Err e) = Err e
+abbrev pub task_found_of : Result Task Refusal → Result Gave Refusal
+task_found_of (Ok found) = Ok (TaskFound found)
+task_found_of (Err e) = Err e
 
 -- a step that was asked, and what was answered; what is refused is no step of the system, and is asked all the same
 pub record Done : Type 0 where
@@ -192,11 +189,10 @@ MayRefuse (Resolve name) e = (e ≡ QueueDoesNotExist) ⊎ (e ≡ NoMemory)
 MayRefuse (Directed call) e = IsOfAnyStep e ⊎ IsOfDirectory call e
 MayRefuse (AtHome name home act) e = IsOfAnyStep e ⊎ (e ≡ QueueDoesNotExist) ⊎ IsOfAct act e
 MayRefuse (Moving name home what) e = MayRefuseMove what e
-MayRefuse Next e = e ≡ NoMemory
+MayRefuse (Peek after) e = e ≡ NoMemory
 MayRefuse (Redriven source destination) e = (e ≡ ResourceNotFoundException) ⊎ (e ≡ UnsupportedOperation) ⊎ (e ≡ NoMemory)
 MayRefuse (Ledgered what) e = IsOfAnyStep e ⊎ IsOfTask what e
-MayRefuse (Walking number) e = (e ≡ ResourceNotFoundException) ⊎ (e ≡ NoMemory)
-MayRefuse (Walked walk) e = ⊥
+MayRefuse (ReadTask number) e = (e ≡ ResourceNotFoundException) ⊎ (e ≡ NoMemory)
 
 -- a record of a step of the directory
 pub record IsDirectoryRecord (call : DirectoryCall) (answered : DirectoryReply) (n : RecordValue) : Type 0 where
@@ -238,18 +234,17 @@ IsHomeRecord name home what answered n = IsStepRecord (Some name) home (λ call.
 abbrev pub IsMoveRecord : Option (List ℕ) → HomeId → SharedAct → HomeReply → RecordValue → Type 0
 IsMoveRecord name home what answered n = IsStepRecord name home (IsCallFor what) answered n
 
--- the records of a step that was done: its own, and none of a read, nor where nothing was there to leave, nor of how far a walk is
+-- the records of a step that was done: its own, and none of a read, nor where nothing was there to leave
 abbrev pub AreOfReply : Ask → Gave → List RecordValue → Type 0
 AreOfReply (Resolve name) (Found queue) ns = ns ≡ []
 AreOfReply (Directed call) (Answered reply) ns = (n : RecordValue) × IsDirectoryRecord call reply n × (ns ≡ n ∷ [])
 AreOfReply (AtHome name home act) (Replied reply) ns = (n : RecordValue) × IsHomeRecord name home act reply n × (ns ≡ n ∷ [])
 AreOfReply (Moving name home what) (Replied reply) ns = (n : RecordValue) × IsMoveRecord name home what reply n × (ns ≡ n ∷ [])
 AreOfReply (Moving name home what) Nothing ns = ns ≡ []
-AreOfReply Next (Peeked next) ns = ns ≡ []
+AreOfReply (Peek after) (Peeked next) ns = ns ≡ []
 AreOfReply (Redriven source destination) (Ends ends) ns = ns ≡ []
 AreOfReply (Ledgered what) (Told reply) ns = (n : RecordValue) × IsLedgerRecord what reply n × (ns ≡ n ∷ [])
-AreOfReply (Walking number) (Walks found walk) ns = ns ≡ []
-AreOfReply (Walked walk) Noted ns = ns ≡ []
+AreOfReply (ReadTask number) (TaskFound found) ns = ns ≡ []
 AreOfReply ask gave ns = ⊥
 
 -- the records of a step; what was refused has none
@@ -273,20 +268,18 @@ LeavesOf (Directed call) (Ok (Answered reply)) before after = (n : RecordValue) 
 LeavesOf (AtHome name home act) (Ok (Replied reply)) before after = (n : RecordValue) × IsHomeRecord name home act reply n × IsNext before n after
 LeavesOf (Moving name home what) (Ok (Replied reply)) before after = (n : RecordValue) × IsMoveRecord name home what reply n × IsNext before n after
 LeavesOf (Moving name home what) (Ok Nothing) before after = after ≡ before
-LeavesOf Next (Ok (Peeked next)) before after = (last : StampValue) × (after ≡ having_seen before last)
+LeavesOf (Peek number) (Ok (Peeked next)) before after = (last : StampValue) × (after ≡ having_seen before last)
 LeavesOf (Redriven source destination) (Ok (Ends ends)) before after = (last : StampValue) × (after ≡ having_seen before last)
 LeavesOf (Ledgered what) (Ok (Told reply)) before after = (n : RecordValue) × IsLedgerRecord what reply n × IsNext before n after
-LeavesOf (Walking number) (Ok (Walks found walk)) before after = (last : StampValue) × (after ≡ having_seen before last)
-LeavesOf (Walked walk) (Ok Noted) before after = after ≡ before
+LeavesOf (ReadTask number) (Ok (TaskFound found)) before after = (last : StampValue) × (after ≡ having_seen before last)
 LeavesOf (Resolve name) (Err e) before after = after ≡ before
 LeavesOf (Directed call) (Err e) before after = after ≡ before
 LeavesOf (AtHome name home act) (Err e) before after = after ≡ before
 LeavesOf (Moving name home what) (Err e) before after = after ≡ before
-LeavesOf Next (Err e) before after = after ≡ before
+LeavesOf (Peek number) (Err e) before after = after ≡ before
 LeavesOf (Redriven source destination) (Err e) before after = after ≡ before
 LeavesOf (Ledgered what) (Err e) before after = after ≡ before
-LeavesOf (Walking number) (Err e) before after = after ≡ before
-LeavesOf (Walked walk) (Err e) before after = after ≡ before
+LeavesOf (ReadTask number) (Err e) before after = after ≡ before
 LeavesOf ask answered before after = ⊥
 
 -- these records have this number and the numbers after it, and each a stamp above this one and above those before it

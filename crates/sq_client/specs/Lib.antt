@@ -1,4 +1,5 @@
 pub mod Walks
+pub mod Progresses
 pub mod Asks
 pub mod Messages
 pub mod Performs

@@ -1,4 +1,4 @@
--- Which steps a turn does, and its word, up to a refusal; nothing here speaks of states. Own.
+-- Which steps a turn does, its word, up to a refusal, and what it makes of how far its actor is; nothing here speaks of states. Own.
 use Rattle.std.specs.Prelude.{◌≡◌, ◌⊎◌, ℕ, ◌<◌, Bool, true, false, ◌&&◌, nat_lt, List, [], ◌∷◌, if◌then◌else◌, Option, Some, None, Result, Ok, Err}
 use Rattle.sq_base.specs.declared.ids.HomeId.{HomeId}
 use Rattle.sq_base.specs.declared.refusal.Refusal.{Refusal}
@@ -17,25 +17,23 @@ use Rattle.sq_model.specs.declared.shared.SharedAct.{SharedAct}
 use Rattle.sq_model.specs.declared.shared.SharedAct.TheVariants.{LeaveDead, LeaveTask, Enter, TurnBack, GiveBack, GiveUp}
 use Rattle.sq_steps.specs.declared.act.NextItem.{NextItem}
 use Rattle.sq_steps.specs.declared.act.TaskAct.TheVariants.{Finish}
+use Rattle.sq_client.specs.declared.progress.Progress.{Progress}
 use Rattle.sq_client.specs.declared.walk.Walk.{Walk}
-use Rattle.sq_client.specs.Asks.{Resolve, Moving, Next, Walking, Walked, Gave, Found, Replied, Nothing, Peeked, Walks, Noted, Done, IsOfAnyStep, MayRefuse}
+use Rattle.sq_client.specs.Asks.{Resolve, Moving, Peek, ReadTask, Gave, Found, Replied, Nothing, Peeked, TaskFound, Done, IsOfAnyStep, MayRefuse}
 use Rattle.sq_client.specs.Calls.{home_numbered}
 use Rattle.sq_client.specs.Steps.{ledgered, named}
 use Rattle.sq_client.specs.Walks.{after_nothing, after_other, row_again}
+use Rattle.sq_client.specs.Progresses.{walk_for, with_item, with_walk}
 
--- a home and the ledger are asked; the item that is tried next is read
+-- a home and the ledger are asked; the item after a number is read; a task is read
 abbrev pub moving : Option (List ℕ) → HomeId → SharedAct → Result Gave Refusal → Done
 moving name home what answered = record { ask = Moving name home what; answered = answered }
 
-abbrev pub trying : Result Gave Refusal → Done
-trying answered = record { ask = Next; answered = answered }
+abbrev pub peeking : ℕ → Result Gave Refusal → Done
+peeking after answered = record { ask = Peek after; answered = answered }
 
--- a task is read, with the actor's walk for it; the walk is so far now
-abbrev pub walking : ℕ → Result Gave Refusal → Done
-walking number answered = record { ask = Walking number; answered = answered }
-
-abbrev pub walked : Walk → Done
-walked walk = record { ask = Walked walk; answered = Ok Noted }
+abbrev pub task_read : ℕ → Result Gave Refusal → Done
+task_read number answered = record { ask = ReadTask number; answered = answered }
 
 -- The word for a leave for a task: no message was live; the task failed, since a message has no queue to go to, or its source is closed; or a message left. What such a leave never replies counts as that.
 abbrev pub left_word : HomeReply → Turned
@@ -118,12 +116,13 @@ Brings next home trace answered =
     ⊎ ((by : Result Gave Refusal) × (trace ≡ moving None home (comes_in next) (Err QueueDoesNotExist) ∷ moving None home (goes_back next) by ∷ [])
     × (WordFor (goes_back next) by answered ⊎ ((by ≡ Err QueueDoesNotExist) × (answered ≡ Ok word.Full))))
 
--- EnterTurn: the next item is brought to one of the homes of the queue that it goes to.
-abbrev pub BringFits : ℕ → List Done → Result Turned Refusal → Type 0
-BringFits homes trace answered =
-    ((e : Refusal) × MayRefuse Next e × (trace ≡ trying (Err e) ∷ []) × (answered ≡ Err e))
-    ⊎ ((trace ≡ trying (Ok (Peeked None)) ∷ []) × (answered ≡ Ok word.Nothing))
-    ⊎ ((next : NextItem) × (home : ℕ) × (rest : List Done) × (home < homes) × (trace ≡ trying (Ok (Peeked (Some next))) ∷ rest) × Brings next (home_ahead next home) rest answered)
+-- EnterTurn: the item after the one that was tried last is brought to one of the homes of the queue that it goes to. It counts as tried whatever is answered then.
+abbrev pub BringFits : ℕ → Progress → Progress → List Done → Result Turned Refusal → Type 0
+BringFits homes before after trace answered =
+    ((e : Refusal) × MayRefuse (Peek before.item) e × (trace ≡ peeking before.item (Err e) ∷ []) × (answered ≡ Err e) × (after ≡ before))
+    ⊎ ((trace ≡ peeking before.item (Ok (Peeked None)) ∷ []) × (answered ≡ Ok word.Nothing) × (after ≡ before))
+    ⊎ ((next : NextItem) × (home : ℕ) × (rest : List Done) × (home < homes) × (trace ≡ peeking before.item (Ok (Peeked (Some next))) ∷ rest) × Brings next (home_ahead next home) rest answered
+    × (after ≡ with_item next.number before))
 
 -- A walk after a home was asked for a message. It stays where the task is at its rate, and where memory, the clock or a count refused the step; a home that has none counts in the row; and
 -- any other answer ends the row.
@@ -136,9 +135,9 @@ walk_after homes walk (Err Worn) = walk
 walk_after homes walk other = after_other homes walk
 
 -- A message leaves the home of the task's source that the walk is at.
-abbrev pub LeavesFor : ℕ → ℕ → Task → Walk → List Done → Result Turned Refusal → Type 0
-LeavesFor homes number task walk trace answered =
-    (by : Result Gave Refusal) × (trace ≡ moving None (home_numbered task.source.number walk.home) (LeaveTask number) by ∷ walked (walk_after homes walk by) ∷ [])
+abbrev pub LeavesFor : ℕ → ℕ → Task → Walk → Walk → List Done → Result Turned Refusal → Type 0
+LeavesFor homes number task before after trace answered =
+    (by : Result Gave Refusal) × (trace ≡ moving None (home_numbered task.source.number before.home) (LeaveTask number) by ∷ []) × (after ≡ walk_after homes before by)
     × (WordFor (LeaveTask number) by answered ⊎ ((by ≡ Err QueueDoesNotExist) × (answered ≡ Err QueueDoesNotExist)))
 
 -- the walk after the task was to finish: where it waits, the row starts again
@@ -153,30 +152,31 @@ finish_word (Err UnsupportedOperation) = Ok word.Waiting
 finish_word (Err e) = Err e
 
 -- The task is to finish.
-abbrev pub Finishes : ℕ → Walk → List Done → Result Turned Refusal → Type 0
-Finishes number walk trace answered =
-    (by : Result LedgerReply Refusal) × (trace ≡ ledgered (Finish number) by ∷ walked (walk_waiting walk by) ∷ []) × (answered ≡ finish_word by)
+abbrev pub Finishes : ℕ → Walk → Walk → List Done → Result Turned Refusal → Type 0
+Finishes number before after trace answered =
+    (by : Result LedgerReply Refusal) × (trace ≡ ledgered (Finish number) by ∷ []) × (after ≡ walk_waiting before by) × (answered ≡ finish_word by)
 
 -- the task takes messages, and not each home in a row had none
 abbrev pub goes_on : ℕ → Task → Walk → Bool
 goes_on homes task walk = is_running task.status && nat_lt walk.nothings homes
 
--- What is done for a task that was read, with the walk for it. One that is over has ended.
-abbrev pub ServesTask : ℕ → ℕ → Task → Walk → List Done → Result Turned Refusal → Type 0
-ServesTask homes number task walk trace answered =
-    ((is_active task.status ≡ false) × (trace ≡ []) × (answered ≡ Ok word.Ended))
-    ⊎ ((goes_on homes task walk ≡ true) × LeavesFor homes number task walk trace answered)
-    ⊎ ((is_active task.status ≡ true) × (goes_on homes task walk ≡ false) × Finishes number walk trace answered)
+-- What is done for a task that was read, by a walk for it, and the walk after that. A task that is over has ended.
+abbrev pub ServesTask : ℕ → ℕ → Task → Walk → Walk → List Done → Result Turned Refusal → Type 0
+ServesTask homes number task before after trace answered =
+    ((is_active task.status ≡ false) × (trace ≡ []) × (answered ≡ Ok word.Ended) × (after ≡ before))
+    ⊎ ((goes_on homes task before ≡ true) × LeavesFor homes number task before after trace answered)
+    ⊎ ((is_active task.status ≡ true) × (goes_on homes task before ≡ false) × Finishes number before after trace answered)
 
--- TaskTurn: the task is read, with the actor's walk for it, and then served. A text that is no handle names no task.
-abbrev pub TaskFits : ℕ → Option ℕ → List Done → Result Turned Refusal → Type 0
-TaskFits homes None trace answered = (trace ≡ []) × (answered ≡ Err ResourceNotFoundException)
-TaskFits homes (Some number) trace answered =
-    ((e : Refusal) × MayRefuse (Walking number) e × (trace ≡ walking number (Err e) ∷ []) × (answered ≡ Err e))
-    ⊎ ((task : Task) × (walk : Walk) × (rest : List Done) × (trace ≡ walking number (Ok (Walks task walk)) ∷ rest) × ServesTask homes number task walk rest answered)
+-- TaskTurn: the task is read, and then served by the walk for it, which is kept from then on. A text that is no handle names no task.
+abbrev pub TaskFits : ℕ → Option ℕ → Progress → Progress → List Done → Result Turned Refusal → Type 0
+TaskFits homes None before after trace answered = (trace ≡ []) × (answered ≡ Err ResourceNotFoundException) × (after ≡ before)
+TaskFits homes (Some number) before after trace answered =
+    ((e : Refusal) × MayRefuse (ReadTask number) e × (trace ≡ task_read number (Err e) ∷ []) × (answered ≡ Err e) × (after ≡ before))
+    ⊎ ((task : Task) × (walk : Walk) × (rest : List Done) × (trace ≡ task_read number (Ok (TaskFound task)) ∷ rest) × ServesTask homes number task (walk_for number before.walk) walk rest answered
+    × (after ≡ with_walk walk before))
 
--- These steps are the turn's, and its word is made of them.
-abbrev pub TurnFits : ℕ → Turn → List Done → Result Turned Refusal → Type 0
-TurnFits homes (turn.DeadTurn name) trace answered = LeaveFits homes name trace answered
-TurnFits homes turn.EnterTurn trace answered = BringFits homes trace answered
-TurnFits homes (turn.TaskTurn number) trace answered = TaskFits homes number trace answered
+-- These steps are the turn's, and its word and how far its actor is after it are made of them.
+abbrev pub TurnFits : ℕ → Turn → Progress → Progress → List Done → Result Turned Refusal → Type 0
+TurnFits homes (turn.DeadTurn name) before after trace answered = LeaveFits homes name trace answered × (after ≡ before)
+TurnFits homes turn.EnterTurn before after trace answered = BringFits homes before after trace answered
+TurnFits homes (turn.TaskTurn number) before after trace answered = TaskFits homes number before after trace answered

@@ -1,13 +1,12 @@
 //! The steps that calls of clients are made of: each is done under one lock, or changes nothing.
-ghost use Rattle.std.specs.Prelude.{◌≡◌, ◌<◌, ◌≤◌, ℕ, List, Some, Result, Ok, IfOk, IfErr, IfSome};
+ghost use Rattle.std.specs.Prelude.{◌≡◌, ◌<◌, ◌≤◌, ℕ, List, Some, Result, IfOk, IfErr, IfSome};
 ghost use Rattle.rand.specs.Sample.{IsSampleOf};
 ghost use Rattle.sq_base.specs.declared.refusal.Refusal.{Refusal};
 ghost use Rattle.sq_directory.specs.Makers.{name_asked, queue_answered};
 ghost use Rattle.sq_model.specs.RecordValues.{Journal};
-ghost use Rattle.sq_client.specs.Asks.{Ask, Resolve, Directed, AtHome, Moving, Next, Redriven, Ledgered, Walking, Walked, Gave, Noted, found_of, answered_of, replied_of, moved_of, peeked_of, ends_of, told_of, walks_of, HomeCounts, IsAnswerTo, IsReplyTo, IsToldTo, MayRefuse, LeavesOf};
+ghost use Rattle.sq_client.specs.Asks.{Ask, Resolve, Directed, AtHome, Moving, Peek, Redriven, Ledgered, ReadTask, Gave, found_of, answered_of, replied_of, moved_of, peeked_of, ends_of, told_of, task_found_of, HomeCounts, IsAnswerTo, IsReplyTo, IsToldTo, MayRefuse, LeavesOf};
 ghost use Rattle.sq_client.specs.Calls.{home_numbered};
 
-use crate::walk::Walk;
 use sq_base::ids::{HomeId, HomeNo};
 use sq_base::name::QueueName;
 use sq_base::refusal::Refusal;
@@ -82,11 +81,10 @@ pub trait LockSteps {
         ensures refusal { IfErr result (MayRefuse (Moving name home.now what)) }
         ensures same_counts { counts self.new ≡ counts self.old };
 
-    /// Where the item in transit goes that comes after the one that the actor tried last; it counts as tried now. Refused
-    /// only where memory is out.
-    fn next_item(&mut self) -> Result<Option<NextItem>, Refusal>
-        ensures did { stepped self.old Next (peeked_of result) self.new }
-        ensures refusal { IfErr result (MayRefuse Next) }
+    /// Where the item in transit goes that comes after the one of this number. Refused only where memory is out.
+    fn peek(&mut self, after: u64) -> Result<Option<NextItem>, Refusal>
+        ensures did { stepped self.old (Peek after) (peeked_of result) self.new }
+        ensures refusal { IfErr result (MayRefuse (Peek after)) }
         ensures same_counts { counts self.new ≡ counts self.old };
 
     /// Between which queues a task may move messages: the source, and the destination, where one is given.
@@ -108,15 +106,10 @@ pub trait LockSteps {
         ensures refusal { IfErr result (MayRefuse (Ledgered act.now)) }
         ensures same_counts { counts self.new ≡ counts self.old };
 
-    /// The task of a number, and how far the actor's walk for it is. Refused as ResourceNotFoundException, NoMemory.
-    fn walking(&mut self, number: TaskNo) -> Result<(Task, Walk), Refusal>
-        ensures did { stepped self.old (Walking number) (walks_of result) self.new }
-        ensures refusal { IfErr result (MayRefuse (Walking number)) }
-        ensures same_counts { counts self.new ≡ counts self.old };
-
-    /// The actor's walk is so far now.
-    fn walked(&mut self, walk: Walk)
-        ensures did { stepped self.old (Walked walk) (Ok Noted) self.new }
+    /// The task of a number. Refused as ResourceNotFoundException, NoMemory.
+    fn read_task(&mut self, number: TaskNo) -> Result<Task, Refusal>
+        ensures did { stepped self.old (ReadTask number) (task_found_of result) self.new }
+        ensures refusal { IfErr result (MayRefuse (ReadTask number)) }
         ensures same_counts { counts self.new ≡ counts self.old };
 
     /// One home of a queue.

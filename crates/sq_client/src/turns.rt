@@ -6,6 +6,7 @@ ghost use Rattle.sq_client.specs.Turns.{TurnFits, LeaveFits, BringFits, Brings, 
 ghost use Rattle.sq_model.specs.Tasks.{is_active};
 
 use crate::lock_steps::LockSteps;
+use crate::progress::Progress;
 use crate::walk::Walk;
 use sq_base::ids::{HomeId, HomeNo};
 use sq_base::name::QueueName;
@@ -18,22 +19,30 @@ use sq_model::task::{Task, TaskStatus};
 use sq_sample::sampler::HomeCount;
 use sq_steps::act::{NextItem, SharedAct, TaskAct};
 
-/// Does a turn.
-pub fn turn<S: LockSteps>(steps: &mut S, turn: &Turn) -> Result<Turned, Refusal>
-    ensures answered { Performs S.stepped (TurnFits (S.counts steps.old).homes turn.now) steps.old result steps.new }
-    ensures leaves_records { LeavesRecords (TurnFits (S.counts steps.old).homes turn.now) (S.journal steps.old) result (S.journal steps.new) }
+/// Does a turn; what it makes of its actor's progress, which it is lent, is there after it, whatever it answers.
+pub fn turn<S: LockSteps>(
+    steps: &mut S,
+    progress: &mut Progress,
+    turn: &Turn,
+) -> Result<Turned, Refusal>
+    ensures answered { Performs S.stepped (TurnFits (S.counts steps.old).homes turn.now progress.old progress.new) steps.old result steps.new }
+    ensures leaves_records { LeavesRecords (TurnFits (S.counts steps.old).homes turn.now progress.old progress.new) (S.journal steps.old) result (S.journal steps.new) }
 {
-    word(steps, turn)
+    word(steps, progress, turn)
 }
 
 // The word of a turn, by the steps of its kind.
-fn word<S: LockSteps>(steps: &mut S, turn: &Turn) -> Result<Turned, Refusal>
-    ensures { Performs S.stepped (TurnFits (S.counts steps.old).homes turn.now) steps.old result steps.new }
+fn word<S: LockSteps>(
+    steps: &mut S,
+    progress: &mut Progress,
+    turn: &Turn,
+) -> Result<Turned, Refusal>
+    ensures { Performs S.stepped (TurnFits (S.counts steps.old).homes turn.now progress.old progress.new) steps.old result steps.new }
 {
     match turn {
         Turn::DeadTurn(name) => leave(steps, name),
-        Turn::EnterTurn => bring(steps),
-        Turn::TaskTurn(number) => serve(steps, number),
+        Turn::EnterTurn => bring(steps, progress),
+        Turn::TaskTurn(number) => serve(steps, progress, number),
     }
 }
 
@@ -53,12 +62,13 @@ fn leave<S: LockSteps>(steps: &mut S, name: &QueueName) -> Result<Turned, Refusa
     }
 }
 
-// The next item in transit is brought to one of the homes of the queue that it goes to.
-fn bring<S: LockSteps>(steps: &mut S) -> Result<Turned, Refusal>
-    ensures { Performs S.stepped (BringFits (S.counts steps.old).homes) steps.old result steps.new }
+// The next item in transit is brought to one of the homes of the queue that it goes to; it counts as tried now.
+fn bring<S: LockSteps>(steps: &mut S, progress: &mut Progress) -> Result<Turned, Refusal>
+    ensures { Performs S.stepped (BringFits (S.counts steps.old).homes progress.old progress.new) steps.old result steps.new }
 {
-    match steps.next_item()? {
+    match steps.peek(progress.item)? {
         Some(next) => {
+            progress.item = next.number.get();
             let home = home_ahead(&next, steps.pick());
             bring_to(steps, &next, &home)
         }
@@ -83,26 +93,33 @@ fn bring_to<S: LockSteps>(steps: &mut S, next: &NextItem, home: &HomeId) -> Resu
 }
 
 // A message leaves for the task of a number, or that task is to finish. Without a number there is none.
-fn serve<S: LockSteps>(steps: &mut S, number: &Option<TaskNo>) -> Result<Turned, Refusal>
-    ensures { Performs S.stepped (TaskFits (S.counts steps.old).homes number.now) steps.old result steps.new }
+fn serve<S: LockSteps>(
+    steps: &mut S,
+    progress: &mut Progress,
+    number: &Option<TaskNo>,
+) -> Result<Turned, Refusal>
+    ensures { Performs S.stepped (TaskFits (S.counts steps.old).homes number.now progress.old progress.new) steps.old result steps.new }
 {
     let Some(number) = number else {
         return Err(Refusal::ResourceNotFoundException);
     };
-    let (task, walk) = steps.walking(*number)?;
-    serve_on(steps, *number, &task, walk)
+    let task = steps.read_task(*number)?;
+    let mut walk = progress.walk_for(*number);
+    let word = serve_on(steps, *number, &task, &mut walk);
+    progress.walk = Some(walk);
+    word
 }
 
-// What is done for a task, as the actor's walk for it is.
+// What is done for a task, as the walk for it is.
 fn serve_on<S: LockSteps>(
     steps: &mut S,
     number: TaskNo,
     task: &Task,
-    walk: Walk,
+    walk: &mut Walk,
 ) -> Result<Turned, Refusal>
-    ensures { Performs S.stepped (ServesTask (S.counts steps.old).homes number task.now walk) steps.old result steps.new }
+    ensures { Performs S.stepped (ServesTask (S.counts steps.old).homes number task.now walk.old walk.new) steps.old result steps.new }
 {
-    if goes_on(steps.homes(), task, &walk) {
+    if goes_on(steps.homes(), task, walk) {
         leave_for(steps, number, task, walk)
     } else if is_active(task) {
         finish(steps, number, walk)
@@ -116,10 +133,10 @@ fn leave_for<S: LockSteps>(
     steps: &mut S,
     number: TaskNo,
     task: &Task,
-    walk: Walk,
+    walk: &mut Walk,
 ) -> Result<Turned, Refusal>
-    requires few { walk.nothings < 4294967295 }
-    ensures { Performs S.stepped (LeavesFor (S.counts steps.old).homes number task.now walk) steps.old result steps.new }
+    requires few { walk.old.nothings < 4294967295 }
+    ensures { Performs S.stepped (LeavesFor (S.counts steps.old).homes number task.now walk.old walk.new) steps.old result steps.new }
 {
     let home = HomeId {
         queue: task.source.number,
@@ -127,7 +144,7 @@ fn leave_for<S: LockSteps>(
     };
     let homes = steps.homes();
     let answered = steps.moving(None, &home, SharedAct::LeaveTask(number));
-    steps.walked(walk_after(homes, walk, &answered));
+    *walk = walk_after(homes, *walk, &answered);
     match word_for(SharedAct::LeaveTask(number), answered)? {
         Some(word) => Ok(word),
         None => Err(Refusal::QueueDoesNotExist),
@@ -135,11 +152,11 @@ fn leave_for<S: LockSteps>(
 }
 
 // The task is to finish.
-fn finish<S: LockSteps>(steps: &mut S, number: TaskNo, walk: Walk) -> Result<Turned, Refusal>
-    ensures { Performs S.stepped (Finishes number walk) steps.old result steps.new }
+fn finish<S: LockSteps>(steps: &mut S, number: TaskNo, walk: &mut Walk) -> Result<Turned, Refusal>
+    ensures { Performs S.stepped (Finishes number walk.old walk.new) steps.old result steps.new }
 {
     let answered = steps.ledgered(&TaskAct::Finish(number));
-    steps.walked(walk_waiting(walk, &answered));
+    *walk = walk_waiting(*walk, &answered);
     finish_word(answered)
 }
 

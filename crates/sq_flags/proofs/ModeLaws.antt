@@ -12,7 +12,7 @@ use Rattle.clap.specs.declared.parser.matches.SubCommand.{SubCommand}
 use Rattle.std.specs.Box.{box_value}
 use Rattle.std.specs.Prelude.{Box}
 use Rattle.clap.proofs.WalkLemmas.{first_value-rows}
-use Rattle.sq_merge.specs.declared.options.Options.{Options}
+use Rattle.sq_opening.specs.declared.options.Options.{Options}
 use Rattle.sq_flags.specs.CommandLine.{program_app}
 use Rattle.sq_flags.specs.Flags.{AreOptionsOf, AsksForScript, ParsesTo, IsFlagOf, IsKindFor, IsMistake, IsRefusalOf}
 use Rattle.sq_flags.specs.declared.flags.ScriptMode.{ScriptMode}

@@ -5,8 +5,8 @@ use Rattle.clap.specs.Words.{IsAmong, Kinds, Row, Text, fault_of, first_of, kind
 use Rattle.clap.specs.declared.error.kind.ErrorKind.{ErrorKind}
 use Rattle.clap.specs.declared.error.kind.ErrorKind.TheVariants.{DisplayHelp, DisplayVersion, OutOfMemory}
 use Rattle.clap.specs.declared.error.Error.{Error}
-use Rattle.sq_merge.specs.declared.options.Options.{Options}
-use Rattle.sq_merge.specs.declared.options.TheConstants.{MOST_HOMES, MOST_QUEUES, MOST_ROWS, MOST_FLIGHTS, MOST_TRANSIT}
+use Rattle.sq_opening.specs.declared.options.Options.{Options}
+use Rattle.sq_opening.specs.declared.options.TheConstants.{MOST_HOMES, MOST_QUEUES, MOST_ROWS, MOST_FLIGHTS, MOST_TRANSIT}
 use Rattle.sq_flags.specs.CommandLine.{program_app}
 use Rattle.sq_flags.specs.declared.flags.ScriptMode.{ScriptMode}
 use Rattle.sq_flags.specs.declared.flags.Mode.{Mode}

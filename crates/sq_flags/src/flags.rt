@@ -4,14 +4,16 @@ ghost use Rattle.clap.specs.Words.{app_of, first_value, found_of, rule_of, kind_
 ghost use Rattle.clap.specs.declared.error.kind.ErrorKind.TheVariants.{ValueValidation};
 ghost use Rattle.clap.specs.declared.Command.TheViews.{out-Command as fields_of};
 ghost use Rattle.sq_flags.specs.CommandLine.{audit_rule, number_rule, numbers_app, program_app, script_app, with_audit, with_number};
-ghost use Rattle.sq_merge.specs.declared.options.Options.{Options as OptionsValue};
+ghost use Rattle.sq_opening.specs.declared.options.Options.{Options as OptionsValue};
 ghost use Rattle.sq_flags.specs.declared.flags.Refused.TheVariants.{NoMemory as RefusedNoMemory};
 ghost use Rattle.sq_flags.specs.Flags.{IsWhole, IsNumberOf, IsFlagOf, AreOptionsOf, IsRefusalOf, ParsesTo};
 
 use clap::builder::ValueParser;
 use clap::error::ErrorKind;
 use clap::{Arg, ArgAction, ArgMatches, Command, Error};
-use sq_merge::options::{MOST_FLIGHTS, MOST_HOMES, MOST_QUEUES, MOST_ROWS, MOST_TRANSIT, Options};
+use sq_opening::options::{
+    MOST_FLIGHTS, MOST_HOMES, MOST_QUEUES, MOST_ROWS, MOST_TRANSIT, Options,
+};
 use std::alloc::{AllocError, Global};
 
 /// How the lines of the standard input are answered.

@@ -1,12 +1,31 @@
 -- What an actor does at a world that it borrows, as done at that world.
-use Rattle.std.proofs.Common.{◌≡◌, ℕ, List, Result, refl, ap, subst}
+use Rattle.std.proofs.Common.{◌≡◌, ℕ, List, Result, Ok, Err, refl, ap, subst}
 use Rattle.sq_base.specs.declared.refusal.Refusal.{Refusal}
 use Rattle.sq_steps.specs.Journals.{journal_of}
-use Rattle.sq_merge.specs.Acting.{ActorStepped}
-use Rattle.sq_client.specs.Asks.{Ask, Gave, Done}
+use Rattle.sq_merge.specs.Acting.{ActorDoes, ActorStepped}
+use Rattle.sq_merge.specs.WorldValue.{WorldValue}
+use Rattle.sq_client.specs.Asks.{Ask, Resolve, Directed, AtHome, Moving, Peek, Redriven, Ledgered, ReadTask, Gave, Found, Answered, Replied, Nothing, Peeked, Ends, Told, TaskFound, Done}
 use Rattle.sq_client.specs.Performs.{Performs, LeavesRecords}
 use Rattle.sq_merge.specs.declared.acting.Acting.{Acting}
+use Rattle.sq_merge.specs.declared.progress.ActorProgress.{ActorProgress}
 use Rattle.sq_client.proofs.PathLaws.{path_inside}
+
+-- no step changes how far the turns of actors are
+does_progress : (actor now : ℕ) (s t : WorldValue) (ask : Ask) (gave : Gave) → ActorDoes actor now s ask gave t → t.progress ≡ s.progress
+does_progress actor now s t (Resolve name) (Found queue) h = ap (λ (v : WorldValue). v.progress) h.1
+does_progress actor now s t (Directed call) (Answered reply) h = ap (λ (v : WorldValue). v.progress) h.changed
+does_progress actor now s t (AtHome name id act) (Replied reply) h = ap (λ (v : WorldValue). v.progress) h.changed
+does_progress actor now s t (Moving name id what) (Replied reply) h = ap (λ (v : WorldValue). v.progress) h.changed
+does_progress actor now s t (Moving name id what) Nothing h = ap (λ (v : WorldValue). v.progress) h.unchanged
+does_progress actor now s t (Peek number) (Peeked next) h = ap (λ (v : WorldValue). v.progress) h.1
+does_progress actor now s t (Redriven source destination) (Ends ends) h = ap (λ (v : WorldValue). v.progress) h.1
+does_progress actor now s t (Ledgered what) (Told reply) h = ap (λ (v : WorldValue). v.progress) h.changed
+does_progress actor now s t (ReadTask number) (TaskFound task) h = ap (λ (v : WorldValue). v.progress) h.1
+does_progress actor now s t ask gave h = elim h [ ]
+
+steps_progress : (actor now : ℕ) (s t : WorldValue) (ask : Ask) (answered : Result Gave Refusal) → ActorStepped actor now s ask answered t → t.progress ≡ s.progress
+steps_progress actor now s t ask (Ok gave) h = does_progress actor now s t ask gave h
+steps_progress actor now s t ask (Err e) h = ap (λ (v : WorldValue). v.progress) h.1
 
 -- a step at the world that is borrowed; the reference, the actor and the clock reading stay
 abbrev pub ActingStepped : Acting → Ask → Result Gave Refusal → Acting → Type 0
@@ -14,10 +33,13 @@ ActingStepped s ask answered t = ActorStepped s.actor s.clock s.world.now ask an
 
 pub at_world : {A : Type 0} (Fits : List Done → Result A Refusal → Type 0) (old new : Acting) (answered : Result A Refusal) → Performs ActingStepped Fits old answered new
     → LeavesRecords Fits (journal_of old.actor old.world.now.journals) answered (journal_of new.actor new.world.now.journals)
-    → (new.world.ghost_name ≡ old.world.ghost_name) × Performs (ActorStepped old.actor old.clock) Fits old.world.now answered new.world.now × LeavesRecords Fits (journal_of old.actor old.world.now.journals) answered (journal_of old.actor new.world.now.journals)
+    → (new.world.ghost_name ≡ old.world.ghost_name) × (new.world.now.progress ≡ old.world.now.progress) × Performs (ActorStepped old.actor old.clock) Fits old.world.now answered new.world.now
+    × LeavesRecords Fits (journal_of old.actor old.world.now.journals) answered (journal_of old.actor new.world.now.journals)
 at_world Fits old new answered h leaves =
-    let inside = path_inside ActingStepped (λ (n : _ × ℕ × ℕ). ActorStepped n.1 n.2) (λ a. a.world.now) (λ a. (a.world.ghost_name, a.actor, a.clock)) (λ s t ask gave h. (h.0, rw (h.1, h.2, h.3) refl)) old new h.trace h.path in (
+    let inside = path_inside ActingStepped (λ (n : _ × List ActorProgress × ℕ × ℕ). ActorStepped n.2 n.3) (λ a. a.world.now) (λ a. (a.world.ghost_name, a.world.now.progress, a.actor, a.clock))
+    (λ s t ask gave h. (h.0, rw (h.1, steps_progress s.actor s.clock s.world.now t.world.now ask gave h.0, h.2, h.3) refl)) old new h.trace h.path in (
       ap (λ n. n.0) inside.1,
+      ap (λ n. n.1) inside.1,
       record { trace = h.trace; path = inside.0; fits = h.fits },
-      subst (λ (n : ℕ). LeavesRecords Fits (journal_of old.actor old.world.now.journals) answered (journal_of n new.world.now.journals)) (ap (λ n. n.1) inside.1) leaves,
+      subst (λ (n : ℕ). LeavesRecords Fits (journal_of old.actor old.world.now.journals) answered (journal_of n new.world.now.journals)) (ap (λ n. n.2) inside.1) leaves,
     )

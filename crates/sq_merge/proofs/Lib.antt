@@ -1,7 +1,6 @@
 pub mod WorldLaws
 pub mod ScheduleLaws
 pub mod StepLaws
-pub mod ReceivedLaws
 pub mod KnownLaws
 pub mod ActingLaws
 pub mod BorrowedLaws

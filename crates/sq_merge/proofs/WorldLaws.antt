@@ -31,7 +31,7 @@ use Rattle.sq_ledger.specs.LedgerHistories.{own_event, shared_event}
 use Rattle.sq_directory.specs.DirectoryHistories.{directory_event}
 use Rattle.sq_steps.specs.Journals.{new_journal, journal_of, put_journal, with_record, having_seen}
 use Rattle.sq_merge.specs.WorldValue.{WorldValue}
-use Rattle.sq_merge.specs.declared.progress.Progress.{Progress}
+use Rattle.sq_merge.specs.declared.progress.ActorProgress.{ActorProgress}
 use Rattle.sq_audit.specs.HomeIds.{history_of, histories_of, home_id}
 use Rattle.sq_merge.specs.Worlds.{IsKnown, IsKeptWorld, HomeStepped, SharedStepped, DirectoryStepped, LedgerStepped, having_seen_at}
 use Rattle.sq_directory.proofs.MakerLaws.{seen_below}
@@ -494,7 +494,7 @@ kept_seen w actor stamp kept =
     }
 
 -- how far the turns of an actor are is no record and no event
-pub kept_progress : (w : WorldValue) (progress : List Progress) → IsKeptWorld w → IsKeptWorld (record w { progress = progress })
+pub kept_progress : (w : WorldValue) (progress : List ActorProgress) → IsKeptWorld w → IsKeptWorld (record w { progress = progress })
 kept_progress w progress kept = record {
   numbered = kept.numbered;
   has_its_event = kept.has_its_event;

@@ -1,12 +1,19 @@
--- What the steps of a call do to a world.
-use Rattle.std.specs.Prelude.{◌≡◌, ℕ, List, Option, Some, Result, Ok, Err}
+-- What the steps of a call do to a world, and what a turn does.
+use Rattle.std.specs.Prelude.{◌≡◌, ◌⊎◌, ℕ, List, Option, Some, None, position, Result, Ok, Err}
 use Rattle.sq_base.specs.declared.refusal.Refusal.{Refusal}
+use Rattle.sq_base.specs.declared.refusal.Refusal.TheVariants.{NoMemory}
+use Rattle.sq_calls.specs.declared.turns.Turn.{Turn}
+use Rattle.sq_calls.specs.declared.turns.Turned.{Turned}
 use Rattle.sq_model.specs.Directories.{number_named}
 use Rattle.sq_history.specs.Acts.{call_of}
 use Rattle.sq_steps.specs.Journals.{journal_of}
-use Rattle.sq_client.specs.Asks.{Ask, Resolve, Directed, AtHome, Moving, Next, Redriven, Ledgered, Walking, Walked, Gave, Found, Answered, Replied, Nothing, Peeked, Ends, Told, Walks, Noted, HomeCounts}
+use Rattle.sq_client.specs.Asks.{Ask, Resolve, Directed, AtHome, Moving, Peek, Redriven, Ledgered, ReadTask, Gave, Found, Answered, Replied, Nothing, Peeked, Ends, Told, TaskFound, HomeCounts}
+use Rattle.sq_client.specs.declared.progress.Progress.{Progress}
+use Rattle.sq_client.specs.Performs.{Performs}
+use Rattle.sq_client.specs.Turns.{TurnFits}
+use Rattle.sq_merge.specs.Progresses.{is_progress_of, placed, progress_of, put_progress}
 use Rattle.sq_merge.specs.WorldValue.{WorldValue}
-use Rattle.sq_merge.specs.Worlds.{IsKnown, HomeStepped, HomeRefused, DirectoryStepped, DirectoryRefused, NameRefused, having_read, SharedStepped, NothingLeaves, SharedRefused, having_tried, next_tried, NextRefused, EndsRead, EndsUnread, LedgerStepped, LedgerRefused, WalkRead, WalkUnread, having_walked}
+use Rattle.sq_merge.specs.Worlds.{IsKnown, HomeStepped, HomeRefused, DirectoryStepped, DirectoryRefused, NameRefused, having_read, SharedStepped, NothingLeaves, SharedRefused, ItemRead, IsUnread, EndsRead, EndsUnread, LedgerStepped, LedgerRefused, TaskRead, TaskUnread}
 
 abbrev pub counts_of : WorldValue → HomeCounts
 counts_of w = record { homes = w.per_queue; sample = w.sample }
@@ -22,11 +29,10 @@ ActorDoes actor now w (Directed call) (Answered reply) t = DirectoryStepped w t 
 ActorDoes actor now w (AtHome name id act) (Replied reply) t = HomeStepped w t actor now (Some name) id (call_of act) reply
 ActorDoes actor now w (Moving name id what) (Replied reply) t = SharedStepped w t actor now name id what reply
 ActorDoes actor now w (Moving name id what) Nothing t = NothingLeaves w t actor now id what
-ActorDoes actor now w Next (Peeked next) t = (next ≡ next_tried w actor) × (t ≡ having_tried w actor next)
+ActorDoes actor now w (Peek number) (Peeked next) t = ItemRead w t actor number next
 ActorDoes actor now w (Redriven source destination) (Ends ends) t = EndsRead w t actor source destination ends
 ActorDoes actor now w (Ledgered what) (Told reply) t = LedgerStepped w t actor now what reply
-ActorDoes actor now w (Walking number) (Walks task walk) t = WalkRead w t actor number task walk
-ActorDoes actor now w (Walked walk) Noted t = t ≡ having_walked w actor walk
+ActorDoes actor now w (ReadTask number) (TaskFound task) t = TaskRead w t actor number task
 ActorDoes actor now w ask gave t = ⊥
 
 -- why one is refused
@@ -35,13 +41,26 @@ ActorRefused actor now w (Resolve name) e = NameRefused w actor name e
 ActorRefused actor now w (Directed call) e = DirectoryRefused w actor now call e
 ActorRefused actor now w (AtHome name id act) e = HomeRefused w actor now id (call_of act) e
 ActorRefused actor now w (Moving name id what) e = SharedRefused w actor now id what e
-ActorRefused actor now w Next e = NextRefused w actor e
+ActorRefused actor now w (Peek number) e = IsUnread w actor e
 ActorRefused actor now w (Redriven source destination) e = EndsUnread w actor source destination e
 ActorRefused actor now w (Ledgered what) e = LedgerRefused w actor now what e
-ActorRefused actor now w (Walking number) e = WalkUnread w actor number e
-ActorRefused actor now w (Walked walk) e = ⊥
+ActorRefused actor now w (ReadTask number) e = TaskUnread w actor number e
 
 -- One step of a call by an actor at a clock reading; what is refused changes nothing.
 abbrev pub ActorStepped : ℕ → ℕ → WorldValue → Ask → Result Gave Refusal → WorldValue → Type 0
 ActorStepped actor now w ask (Ok gave) t = ActorDoes actor now w ask gave t
 ActorStepped actor now w ask (Err e) t = ActorRefused actor now w ask e × (t ≡ w)
+
+-- A turn of an actor at a clock reading. The actor has a place for its progress first; then the steps of the turn are done, which leave what stands in such places; and what the turn made of the actor's progress is put there.
+pub record TurnStepped (actor now : ℕ) (turn : Turn) (old : WorldValue) (answered : Result Turned Refusal) (new : WorldValue) : Type 0 where
+  pub after : Progress
+  pub mid : WorldValue
+  pub steps : Performs (ActorStepped actor now) (TurnFits old.per_queue turn (progress_of actor old.progress) after) (record old { progress = placed actor old.progress }) answered mid
+  pub put : new ≡ record mid { progress = put_progress actor after old.progress }
+
+-- no memory was found for the place of an actor's first turn, and nothing was done; or else this is so
+abbrev pub UnlessNoPlace : ℕ → WorldValue → Result Turned Refusal → WorldValue → Type 0 → Type 0
+UnlessNoPlace actor old answered new P = ((position (is_progress_of actor) old.progress ≡ None) × (answered ≡ Err NoMemory) × (new ≡ old)) ⊎ P
+
+abbrev pub TurnDone : ℕ → ℕ → Turn → WorldValue → Result Turned Refusal → WorldValue → Type 0
+TurnDone actor now turn old answered new = UnlessNoPlace actor old answered new (TurnStepped actor now turn old answered new)

@@ -1,5 +1,5 @@
 -- The parts of a world.
-use Rattle.std.specs.Prelude.{◌≡◌}
+use Rattle.std.specs.Prelude.{◌≡◌, length}
 use Rattle.sq_merge.specs.WorldValue.{WorldValue}
 use Rattle.sq_audit.specs.declared.parts.Parts.{Parts}
 
@@ -9,3 +9,4 @@ pub record ArePartsOf (w : WorldValue) (parts : Parts) : Type 0 where
   pub ledger : parts.ledger.history ≡ w.ledger
   pub homes : parts.homes ≡ record { per_queue = w.per_queue; homes = w.homes }
   pub records : parts.records ≡ w.journals
+  pub made : parts.made ≡ length w.journals

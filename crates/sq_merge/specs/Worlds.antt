@@ -34,8 +34,7 @@ use Rattle.sq_history.specs.declared.act.HomeAct.{HomeAct}
 use Rattle.sq_history.specs.Acts.{call_of, HasBytes}
 use Rattle.sq_steps.specs.Journals.{is_of, journal_of, put_journal, having_seen, HomeMoves, DirectoryMoves, LedgerMoves, IsHomeRefused, IsDirectoryStepRefused, IsLedgerStepRefused, AreDistinct}
 use Rattle.sq_directory.specs.DirectoryHistory.{DirectoryHistory}
-use Rattle.sq_merge.specs.Progresses.{is_progress_of, progress_of, put_progress, walk_for, walked_on, with_item, with_walk}
-use Rattle.sq_client.specs.declared.walk.Walk.{Walk}
+use Rattle.sq_steps.specs.Reads.{next_of}
 use Rattle.sq_merge.specs.WorldValue.{WorldValue}
 use Rattle.sq_audit.specs.HomeIds.{histories_of, IsNumbered}
 use Rattle.sq_directory.specs.Makers.{IsMadeBy}
@@ -108,10 +107,6 @@ pub record LedgerStepped (old new : WorldValue) (actor now : ℕ) (what : TaskAc
 abbrev pub LedgerRefused : WorldValue → ℕ → ℕ → TaskAct → Refusal → Type 0
 LedgerRefused w actor now what e = IsLedgerStepRefused w.ledger (journal_of actor w.journals) now (task_call what) e
 
--- where an item goes
-abbrev pub next_of : Item → NextItem
-next_of item = record { number = item.number; source = item.source; target = item.target; homeward = item.homeward }
-
 -- an actor has read a part whose last stamp is this
 abbrev pub having_seen_at : WorldValue → ℕ → StampValue → WorldValue
 having_seen_at w actor last = record w { journals = put_journal (having_seen (journal_of actor w.journals) last) w.journals }
@@ -120,18 +115,9 @@ having_seen_at w actor last = record w { journals = put_journal (having_seen (jo
 abbrev pub having_peeked : WorldValue → ℕ → WorldValue
 having_peeked w actor = having_seen_at w actor w.ledger.last
 
--- an actor has read which item comes after the one that it tried last; from now on that is the one that it tried last
-abbrev pub having_tried : WorldValue → ℕ → Option NextItem → WorldValue
-having_tried w actor None = having_peeked w actor
-having_tried w actor (Some next) = record (having_peeked w actor) { progress = put_progress (with_item next.number (progress_of actor w.progress)) w.progress }
-
--- that item
-abbrev pub next_tried : WorldValue → ℕ → Option NextItem
-next_tried w actor = option_map next_of (peek (progress_of actor w.progress).item w.ledger.ledger)
-
--- why it is not read: the actor is new, or tries its first item and named no task, and no memory was found for that
-abbrev pub NextRefused : WorldValue → ℕ → Refusal → Type 0
-NextRefused w actor e = (e ≡ NoMemory) × ((position (is_of actor) w.journals ≡ None) ⊎ ((position (is_progress_of actor) w.progress ≡ None) × ((next : NextItem) × (next_tried w actor ≡ Some next))))
+-- an actor has read where the item goes that comes after a number
+abbrev pub ItemRead : WorldValue → WorldValue → ℕ → ℕ → Option NextItem → Type 0
+ItemRead old new actor number next = (next ≡ option_map next_of (peek number old.ledger.ledger)) × (new ≡ having_peeked old actor)
 
 -- an actor has read the directory
 abbrev pub having_read : WorldValue → ℕ → WorldValue
@@ -155,26 +141,6 @@ TaskUnread w actor number e =
     ((task_of number w.ledger.ledger ≡ None) × (e ≡ ResourceNotFoundException))
     ⊎ (((task : Task) × (task_of number w.ledger.ledger ≡ Some task)) × IsUnread w actor e)
 
--- an actor's walk is so far now
-abbrev pub having_walk : WorldValue → ℕ → Walk → WorldValue
-having_walk w actor walk = record w { progress = put_progress (with_walk walk (progress_of actor w.progress)) w.progress }
-
--- an actor has read the task of a number, and how far its walk for it is; a walk that is new is its walk from now on
-pub record WalkRead (old new : WorldValue) (actor number : ℕ) (task : Task) (walk : Walk) : Type 0 where
-  pub found : task_of number old.ledger.ledger ≡ Some task
-  pub walk_is : walk ≡ walk_for number (progress_of actor old.progress).walk
-  pub changed : new ≡ having_walk (having_peeked old actor) actor walk
-
--- why it is not read: there is no such task; or there is one, and no memory was found for a new actor, or for the first walk of one that tried no item
-abbrev pub WalkUnread : WorldValue → ℕ → ℕ → Refusal → Type 0
-WalkUnread w actor number e =
-    ((task_of number w.ledger.ledger ≡ None) × (e ≡ ResourceNotFoundException))
-    ⊎ (((task : Task) × (task_of number w.ledger.ledger ≡ Some task)) × (e ≡ NoMemory) × ((position (is_of actor) w.journals ≡ None) ⊎ (position (is_progress_of actor) w.progress ≡ None)))
-
--- an actor's walk goes on so, where it has a place
-abbrev pub having_walked : WorldValue → ℕ → Walk → WorldValue
-having_walked w actor walk = record w { progress = walked_on actor walk w.progress }
-
 -- an actor has read between which queues messages may be moved
 abbrev pub EndsRead : WorldValue → WorldValue → ℕ → List ℕ → Option (List ℕ) → MoveEnds → Type 0
 EndsRead old new actor source destination ends = (can_redrive source destination old.directory.directory ≡ Ok ends) × (new ≡ having_read old actor)
@@ -193,7 +159,7 @@ StepDone old new actor now act.Names (answered.Named names) = (names ≡ all_nam
 StepDone old new actor now (act.Home id what) (answered.Home reply) = HomeStepped old new actor now None id (call_of what) reply
 StepDone old new actor now (act.Shared id what) (answered.Home reply) = SharedStepped old new actor now None id what reply
 StepDone old new actor now (act.Shared id what) answered.Nothing = NothingLeaves old new actor now id what
-StepDone old new actor now (act.Peek number) (answered.Peeked next) = (next ≡ option_map next_of (peek number old.ledger.ledger)) × (new ≡ having_peeked old actor)
+StepDone old new actor now (act.Peek number) (answered.Peeked next) = ItemRead old new actor number next
 StepDone old new actor now (act.Ledger what) (answered.Ledger reply) = LedgerStepped old new actor now what reply
 StepDone old new actor now (act.ReadTask number) (answered.Task task) = TaskRead old new actor number task
 StepDone old new actor now (act.LastTask source) (answered.LastTask task) = (task ≡ last_task source old.ledger.ledger) × (new ≡ having_peeked old actor)

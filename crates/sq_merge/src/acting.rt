@@ -14,7 +14,7 @@ use sq_base::refusal::Refusal;
 use sq_calls::calls::{Answer, Call};
 use sq_calls::turns::{Turn, Turned};
 use sq_client::lock_steps::LockSteps;
-use sq_client::walk::Walk;
+use sq_client::progress::Progress;
 use sq_client::{client, turns};
 use sq_history::act::HomeAct;
 use sq_model::directory::{DirectoryCall, DirectoryReply};
@@ -89,8 +89,8 @@ impl<'a> LockSteps for Acting<'a> {
             .shared(self.alloc, self.actor, self.clock, name, home, what)
     }
 
-    fn next_item(&mut self) -> Result<Option<NextItem>, Refusal> {
-        self.world.next_item(self.alloc, self.actor)
+    fn peek(&mut self, after: u64) -> Result<Option<NextItem>, Refusal> {
+        self.world.peek(self.alloc, self.actor, after)
     }
 
     fn can_redrive(
@@ -106,12 +106,8 @@ impl<'a> LockSteps for Acting<'a> {
         self.world.ledgered(self.alloc, self.actor, self.clock, act)
     }
 
-    fn walking(&mut self, number: TaskNo) -> Result<(Task, Walk), Refusal> {
-        self.world.walking(self.alloc, self.actor, number)
-    }
-
-    fn walked(&mut self, walk: Walk) {
-        self.world.walked(self.actor, walk);
+    fn read_task(&mut self, number: TaskNo) -> Result<Task, Refusal> {
+        self.world.read_task(self.alloc, self.actor, number)
     }
 
     fn pick(&mut self) -> HomeNo {
@@ -134,11 +130,16 @@ pub(crate) fn call_at(acting: &mut Acting<'_>, call: &Call) -> Result<Answer, Re
     client::call(acting, call)
 }
 
-// Does a turn at the world that is borrowed.
-pub(crate) fn turn_at(acting: &mut Acting<'_>, turn: &Turn) -> Result<Turned, Refusal>
+// Does a turn at the world that is borrowed; it is lent its actor's progress.
+pub(crate) fn turn_at(
+    acting: &mut Acting<'_>,
+    progress: &mut Progress,
+    turn: &Turn,
+) -> Result<Turned, Refusal>
     ensures same_reference { acting.new.world.ghost_name ≡ acting.old.world.ghost_name }
-    ensures answered { Performs (ActorStepped acting.old.actor acting.old.clock) (TurnFits (counts_of acting.old.world.now).homes turn.now) acting.old.world.now result acting.new.world.now }
-    ensures leaves_records { LeavesRecords (TurnFits (counts_of acting.old.world.now).homes turn.now) (journal_of acting.old.actor acting.old.world.now.journals) result (journal_of acting.old.actor acting.new.world.now.journals) }
+    ensures same_progress { acting.new.world.now.progress ≡ acting.old.world.now.progress }
+    ensures answered { Performs (ActorStepped acting.old.actor acting.old.clock) (TurnFits (counts_of acting.old.world.now).homes turn.now progress.old progress.new) acting.old.world.now result acting.new.world.now }
+    ensures leaves_records { LeavesRecords (TurnFits (counts_of acting.old.world.now).homes turn.now progress.old progress.new) (journal_of acting.old.actor acting.old.world.now.journals) result (journal_of acting.old.actor acting.new.world.now.journals) }
 {
-    turns::turn(acting, turn)
+    turns::turn(acting, progress, turn)
 }

@@ -1,45 +1,14 @@
-//! The homes that a service begins with.
-ghost use Rattle.std.specs.Prelude.{◌≡◌, ◌*◌, ◌≤◌, ◌<◌, nat_le, if◌then◌else◌, IfOk, IfErr};
-ghost use Rattle.sq_base.specs.Stamps.{stamp_end};
-ghost use Rattle.sq_base.specs.declared.refusal.Refusal.TheVariants.{ClockRange, QueueDoesNotExist};
-ghost use Rattle.sq_merge.specs.Openings.{never_opened, never_opened_homes};
-ghost use Rattle.sq_merge.specs.declared.options.TheConstants.{MOST_QUEUES};
+//! The homes that a world begins with.
+ghost use Rattle.std.specs.Prelude.{◌≡◌, ◌*◌, ◌≤◌, IfOk, IfErr};
+ghost use Rattle.sq_merge.specs.Openings.{never_opened_homes};
+ghost use Rattle.sq_opening.specs.declared.options.TheConstants.{MOST_QUEUES};
 
-use sq_base::ids::{HomeId, HomeNo, QueueNo};
 use sq_base::refusal::Refusal;
-use sq_base::stamp::STAMP_END;
-use sq_history::recorded::{Home, Recorded};
-use sq_model::place::{Limits, Site};
+use sq_history::recorded::Home;
+use sq_model::place::Limits;
+use sq_opening::homes::never_opened;
 use sq_sample::sampler::HomeCount;
-use sq_shard::shard::Shard;
-use sq_shard::slots::SlotStore;
 use std::alloc::Global;
-
-/// Why a step of a home that is not there is refused.
-pub(crate) fn no_such_home(now: u64) -> Refusal
-    ensures { result ≡ (if nat_le stamp_end now then ClockRange else QueueDoesNotExist) }
-{
-    if now >= STAMP_END {
-        Refusal::ClockRange
-    } else {
-        Refusal::QueueDoesNotExist
-    }
-}
-
-// The home at an index; no queue is made for it yet.
-fn never_opened(alloc: Global, per_queue: HomeCount, limits: &Limits, index: u32) -> Home
-    ensures { result ≡ never_opened per_queue limits.now index }
-{
-    let homes = per_queue.get();
-    let site = Site {
-        home: HomeId {
-            queue: QueueNo::following(index / homes),
-            home: HomeNo::of((index % homes) as u8),
-        },
-        limits: *limits,
-    };
-    Recorded::unopened(alloc, Shard::unopened(site, SlotStore::new(alloc)))
-}
 
 /// The homes of so many queues; none is opened yet.
 pub(crate) fn never_opened_homes(

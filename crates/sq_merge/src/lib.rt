@@ -3,7 +3,6 @@
 
 pub mod acting;
 mod homes;
-pub mod options;
 pub mod progress;
 pub mod world;
 

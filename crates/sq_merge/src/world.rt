@@ -6,21 +6,23 @@ ghost use Rattle.sq_directory.specs.MoveQueues.{as_ends};
 ghost use Rattle.sq_directory.specs.Makers.{IsAnsweredByName};
 ghost use Rattle.sq_history.specs.Acts.{call_of};
 ghost use Rattle.sq_steps.specs.Journals.{is_of, journal_of};
-ghost use Rattle.sq_merge.specs.Worlds.{SharedStepped, NothingLeaves, SharedRefused, next_of, having_peeked, next_tried, having_tried, NextRefused, LedgerStepped, LedgerRefused, IsUnread, NamesUnread, TaskRead, TaskUnread, WalkRead, WalkUnread, having_walked, EndsRead, EndsUnread, HomeStepped, HomeRefused, DirectoryStepped, DirectoryRefused, NameRefused, having_read, having_seen_at, StepDone, StepRefused, Schedule, IsKeptWorld};
+ghost use Rattle.sq_merge.specs.Worlds.{SharedStepped, NothingLeaves, SharedRefused, having_peeked, ItemRead, LedgerStepped, LedgerRefused, IsUnread, NamesUnread, TaskRead, TaskUnread, EndsRead, EndsUnread, HomeStepped, HomeRefused, DirectoryStepped, DirectoryRefused, NameRefused, having_read, having_seen_at, StepDone, StepRefused, Schedule, IsKeptWorld};
+ghost use Rattle.sq_steps.specs.Reads.{next_of};
 ghost use Rattle.sq_audit.specs.HomeIds.{histories_of};
-ghost use Rattle.sq_merge.specs.Acting.{counts_of, IsKnownTo, ActorStepped};
+ghost use Rattle.sq_merge.specs.Acting.{counts_of, IsKnownTo, ActorStepped, TurnDone, UnlessNoPlace};
+ghost use Rattle.sq_merge.specs.Progresses.{progress_of};
 ghost use Rattle.sq_client.specs.Fits.{CallFits};
 ghost use Rattle.sq_client.specs.Turns.{TurnFits};
 ghost use Rattle.sq_client.specs.Performs.{Performs, LeavesRecords};
-ghost use Rattle.sq_merge.specs.Openings.{IsServed, new_world};
+ghost use Rattle.sq_merge.specs.Openings.{new_world};
+ghost use Rattle.sq_opening.specs.Openings.{IsServed};
 ghost use Rattle.sq_merge.specs.PartsValue.{ArePartsOf};
 ghost use Rattle.sq_model.specs.Ledgers.{last_task, peek};
 ghost use Rattle.sq_model.specs.Matches.{IsMatched, IsPaired};
 
 use crate::acting::{Acting, call_at, turn_at};
-use crate::homes::{never_opened_homes, no_such_home};
-use crate::options::{MOST_FLIGHTS, MOST_HOMES, MOST_QUEUES, MOST_ROWS, MOST_TRANSIT, Options};
-use crate::progress::{Progress, progress_of, put_progress, walk_on};
+use crate::homes::never_opened_homes;
+use crate::progress::{ActorProgress, place_of};
 use sq_audit::homes::{Homes, home_index};
 use sq_audit::parts::Parts;
 use sq_base::ids::{HomeId, HomeNo, QueueNo};
@@ -29,7 +31,7 @@ use sq_base::refusal::Refusal;
 use sq_base::stamp::Stamp;
 use sq_calls::calls::{Answer, Call};
 use sq_calls::turns::{Turn, Turned};
-use sq_client::walk::Walk;
+use sq_client::progress::Progress;
 use sq_directory::directory::Directory;
 use sq_history::recorded::Home;
 use sq_ledger::ledger::TransitLedger;
@@ -37,9 +39,10 @@ use sq_model::directory::{DirectoryCall, DirectoryReply};
 use sq_model::item::TaskNo;
 use sq_model::ledger::LedgerReply;
 use sq_model::listed::Listed;
-use sq_model::place::Limits;
 use sq_model::replies::HomeReply;
 use sq_model::task::{NamedQueue, Task};
+use sq_opening::homes::no_such_home;
+use sq_opening::options::Options;
 use sq_sample::sampler::{HomeCount, Sampler};
 use sq_steps::act::{Act, HomeAct, NextItem, Outcome, SharedAct, Step, TaskAct};
 use sq_steps::journal::{Journal, directory_step, home_step, ledger_step};
@@ -57,7 +60,7 @@ pub struct World {
     sample: HomeCount,
     homes: Vec<Home>,
     journals: Vec<Journal>,
-    progress: Vec<Progress>,
+    progress: Vec<ActorProgress>,
     sampler: Sampler,
 }
 
@@ -85,14 +88,11 @@ impl World {
         ensures served { IfOk result (λ _. IsServed options) }
         ensures refused { IfErr result (λ e. ((e ≡ Refusal.NoMemory) × IsServed options) ⊎ ((e ≡ Refusal.InvalidParameterValue) × (¬ IsServed options))) }
     {
-        if !is_served(&options) {
+        if !options.are_served() {
             return Err(Refusal::InvalidParameterValue);
         }
         let per_queue = HomeCount::of(options.homes);
-        let limits = Limits {
-            rows: options.rows,
-            flights: options.flights / options.homes,
-        };
+        let limits = options.limits();
         Ok(World {
             directory: Directory::new(alloc, options.queues)?,
             ledger: TransitLedger::new(alloc, options.transit),
@@ -196,8 +196,10 @@ impl World {
     /// A turn of an actor at a clock reading in ms: one step of moving messages, beside reads. A dead letter leaves a home of
     /// the queue that is named; or the item in transit that comes after the one that the actor tried last comes in where it
     /// goes to, is sent back where that home is closed, comes back, or is given up; or a message leaves for the task that is
-    /// named, or the task is to finish. Refused as QueueDoesNotExist, of a queue that is named or a home that was never
-    /// opened; ResourceNotFoundException, of a task that is named; NoMemory; ClockRange; Worn. All else is a word of the answer.
+    /// named, or the task is to finish. The turn is lent how far the actor is, and what it makes of that is kept.
+    /// Refused as NoMemory of an actor's first turn, before anything is done; QueueDoesNotExist, of a queue that is named or
+    /// a home that was never opened; ResourceNotFoundException, of a task that is named; NoMemory; ClockRange; Worn. All else
+    /// is a word of the answer.
     pub fn turn(
         &mut self,
         alloc: Global,
@@ -205,8 +207,28 @@ impl World {
         now: u64,
         turn: &Turn,
     ) -> Result<Turned, Refusal>
-        ensures answered { Performs (ActorStepped actor now) (TurnFits (counts_of self.old).homes turn.now) self.old result self.new }
-        ensures leaves_records { LeavesRecords (TurnFits (counts_of self.old).homes turn.now) (journal_of actor self.old.journals) result (journal_of actor self.new.journals) }
+        ensures answered { TurnDone actor now turn.now self.old result self.new }
+        ensures leaves_records { UnlessNoPlace actor self.old result self.new (LeavesRecords (TurnFits (counts_of self.old).homes turn.now (progress_of actor self.old.progress) (progress_of actor self.new.progress)) (journal_of actor self.old.journals) result (journal_of actor self.new.journals)) }
+    {
+        let at = place_of(&mut self.progress, actor)?;
+        let mut progress = self.progress[at].progress;
+        let answered = self.turn_with(alloc, actor, now, &mut progress, turn);
+        self.progress[at] = ActorProgress { actor, progress };
+        answered
+    }
+
+    // A turn that is lent its actor's progress. What the world keeps of progress stays.
+    fn turn_with(
+        &mut self,
+        alloc: Global,
+        actor: u32,
+        now: u64,
+        progress: &mut Progress,
+        turn: &Turn,
+    ) -> Result<Turned, Refusal>
+        ensures same_progress { self.new.progress ≡ self.old.progress }
+        ensures answered { Performs (ActorStepped actor now) (TurnFits (counts_of self.old).homes turn.now progress.old progress.new) self.old result self.new }
+        ensures leaves_records { LeavesRecords (TurnFits (counts_of self.old).homes turn.now progress.old progress.new) (journal_of actor self.old.journals) result (journal_of actor self.new.journals) }
     {
         let mut acting = Acting {
             alloc,
@@ -214,7 +236,7 @@ impl World {
             actor,
             clock: now,
         };
-        turn_at(&mut acting, turn)
+        turn_at(&mut acting, progress, turn)
     }
 
     /// One step after another, and how many were not refused. What is refused changes nothing.
@@ -252,6 +274,7 @@ impl World {
             directory,
             ledger,
             homes: Homes::of(per_queue, homes),
+            made: journals.len() as u64,
             records: Journals::of(journals),
         }
     }
@@ -511,88 +534,13 @@ impl World {
         actor: u32,
         number: u64,
     ) -> Result<Option<NextItem>, Refusal>
-        ensures read { IfOk result (λ next. (next ≡ option_map next_of (peek number self.old.ledger.ledger)) × (self.new ≡ having_peeked self.old actor)) }
+        ensures read { IfOk result (ItemRead self.old self.new actor number) }
         ensures refused { IfErr result (IsUnread self.old actor) }
         ensures err { OnErr result (self.new ≡ self.old) }
     {
         let last = self.ledger.last();
         self.see(alloc, actor, last)?;
         Ok(next_after(&self.ledger, number))
-    }
-
-    // Reads where the item goes that comes after the one that the actor tried last, and which it tries now.
-    pub(crate) fn next_item(
-        &mut self,
-        alloc: Global,
-        actor: u32,
-    ) -> Result<Option<NextItem>, Refusal>
-        ensures read { IfOk result (λ next. (next ≡ next_tried self.old actor) × (self.new ≡ having_tried self.old actor next)) }
-        ensures refusal { IfErr result (NextRefused self.old actor) }
-        ensures err { OnErr result (self.new ≡ self.old) }
-    {
-        let count = self.journals.len();
-        let last = self.ledger.last();
-        let at = open(&mut self.journals, alloc, actor)?;
-        let progress = progress_of(&self.progress, actor);
-        match next_after(&self.ledger, progress.item) {
-            Some(next) => {
-                let now = progress.with_item(next.number.get());
-                match put_progress(&mut self.progress, now) {
-                    Ok(()) => {
-                        self.journals[at].see(last);
-                        Ok(Some(next))
-                    }
-                    Err(refusal) => {
-                        self.journals.truncate(count);
-                        Err(refusal)
-                    }
-                }
-            }
-            None => {
-                self.journals[at].see(last);
-                Ok(None)
-            }
-        }
-    }
-
-    // Reads the task of a number, and how far the actor's walk for it is; a new walk is kept.
-    pub(crate) fn walking(
-        &mut self,
-        alloc: Global,
-        actor: u32,
-        number: TaskNo,
-    ) -> Result<(Task, Walk), Refusal>
-        ensures read { IfOk result (λ found. WalkRead self.old self.new actor number found.0 found.1) }
-        ensures refusal { IfErr result (WalkUnread self.old actor number) }
-        ensures err { OnErr result (self.new ≡ self.old) }
-    {
-        let Some(task) = self.ledger.read_task(number) else {
-            return Err(Refusal::ResourceNotFoundException);
-        };
-        let task = *task;
-        let count = self.journals.len();
-        let last = self.ledger.last();
-        let at = open(&mut self.journals, alloc, actor)?;
-        let before = progress_of(&self.progress, actor);
-        let walk = before.walk_for(number);
-        let kept = before.with_walk(&walk);
-        match put_progress(&mut self.progress, kept) {
-            Ok(()) => {
-                self.journals[at].see(last);
-                Ok((task, walk))
-            }
-            Err(refusal) => {
-                self.journals.truncate(count);
-                Err(refusal)
-            }
-        }
-    }
-
-    // The actor's walk is so far now, where it has one.
-    pub(crate) fn walked(&mut self, actor: u32, walk: Walk)
-        ensures { self.new ≡ having_walked self.old actor walk }
-    {
-        walk_on(&mut self.progress, actor, walk);
     }
 }
 
@@ -607,16 +555,4 @@ fn next_after(ledger: &TransitLedger, number: u64) -> Option<NextItem>
         target: item.target,
         homeward: item.homeward,
     })
-}
-
-// Whether all options are in their ranges.
-fn is_served(o: &Options) -> bool
-    ensures { result ≡ true ↔ IsServed o.now }
-{
-    (1 <= o.homes && o.homes <= MOST_HOMES)
-        && (1 <= o.sample && o.sample <= o.homes)
-        && (1 <= o.queues && o.queues <= MOST_QUEUES)
-        && (1 <= o.rows && o.rows <= MOST_ROWS)
-        && (o.homes <= o.flights && o.flights <= MOST_FLIGHTS)
-        && (1 <= o.transit && o.transit <= MOST_TRANSIT)
 }

@@ -1,7 +1,8 @@
 //! The program as a function of its words, its input and its outputs.
 ghost use Rattle.std.specs.Prelude.{◌≡◌, ◌≢◌, ◌⊎◌, ℕ, map, codes, length, ◌<◌, IfOk, IfErr};
 ghost use Rattle.sq_base.specs.StampValue.{StampValue};
-ghost use Rattle.sq_merge.specs.Openings.{new_world, IsServed};
+ghost use Rattle.sq_merge.specs.Openings.{new_world};
+ghost use Rattle.sq_opening.specs.Openings.{IsServed};
 ghost use Rattle.sq_wire.specs.Audits.{IsAudit};
 ghost use Rattle.sq_program.specs.Endings.{stream, EndsFor, Ends, EndsWritten, IsHelp, IsAuditLine};
 ghost use Rattle.sq_program.specs.Faults.{fault_name, fault_count};
@@ -13,8 +14,8 @@ use sq_flags::flags::{Mode, Refused, ScriptMode, flags};
 use sq_lines::counted::Counted;
 use sq_lines::put::{Unwritten, put_line, put_out};
 use sq_merge::AuditFault;
-use sq_merge::options::Options;
 use sq_merge::world::World;
+use sq_opening::options::Options;
 use sq_replies::text::Text;
 use sq_wire::audit::audit_world;
 use sq_wire::run::{ServeFault, run_script};

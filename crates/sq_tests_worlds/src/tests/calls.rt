@@ -1,7 +1,7 @@
 //! Lines of clients: what no row shows, since it follows from the seed or from a home that is closed.
 use super::service::Service;
 use super::setup::{Line, NO_FAULT, answered, fault, is_answered, options, play};
-use sq_merge::options::Options;
+use sq_opening::options::Options;
 use sq_tests_homes::asks::{Answers, Ask};
 use std::alloc::Global;
 use std::process::Abort;

@@ -12,9 +12,9 @@ use sq_calls::calls::{
 };
 use sq_calls::received_messages::ReceivedMessages;
 use sq_calls::turns::{Turn, Turned};
-use sq_merge::options::Options;
 use sq_model::directory::Attributes;
 use sq_model::policy::RedrivePolicy;
+use sq_opening::options::Options;
 use sq_places::message_pass::place_of;
 use sq_tests_values::setup::id as never_sent;
 use sq_wire::audit::place_name;

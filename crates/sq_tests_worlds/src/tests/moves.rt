@@ -6,8 +6,8 @@ use super::setup::{
 use sq_audit::parts::Parts;
 use sq_base::ids::{HomeId, HomeNo, QueueNo};
 use sq_base::refusal::Refusal;
-use sq_merge::options::Options;
 use sq_model::item::ItemNo;
+use sq_opening::options::Options;
 use sq_steps::act::{Act, SharedAct};
 use sq_tests_homes::asks::Answers;
 use sq_tests_values::setup::CLOCK_END;

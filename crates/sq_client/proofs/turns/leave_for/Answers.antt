@@ -7,13 +7,13 @@ use Rattle.sq_client.proofs.turns.leave_for.Goals as goal
 pub returns-in_err-word : goal.returns-in_err-word
 returns-in_err-word g c =
     let is : c.from_residual.result ≡ Err c.in_err-word.field-0.0 = search rules in
-    left_for _ _ _ c.args.task.now c.args.walk _ _ _ (moved_of c.moving-answered.result) _ c.moving-answered.ensures.did (rw (c.walk_after.ensures, c.homes-homes.ensures) at c.walked.ensures.did) (inl (rw is c.in_err-word.ensures.refused))
+    left_for _ _ _ c.args.task.now c.args.walk.now _ _ _ (moved_of c.moving-answered.result) _ c.moving-answered.ensures.did (rw c.homes-homes.ensures at c.walk_after.ensures) (inl (rw is c.in_err-word.ensures.refused))
 
 pub returns-in-Some : goal.returns-in-Some
 returns-in-Some g c =
-    left_for _ _ _ c.args.task.now c.args.walk _ _ _ (moved_of c.moving-answered.result) _ c.moving-answered.ensures.did (rw (c.walk_after.ensures, c.homes-homes.ensures) at c.walked.ensures.did) (inl (rw c.in-Some.is at c.in_ok-word.ensures.word))
+    left_for _ _ _ c.args.task.now c.args.walk.now _ _ _ (moved_of c.moving-answered.result) _ c.moving-answered.ensures.did (rw c.homes-homes.ensures at c.walk_after.ensures) (inl (rw c.in-Some.is at c.in_ok-word.ensures.word))
 
 pub returns-in-None : goal.returns-in-None
 returns-in-None g c =
     let closed : c.moving-answered.result ≡ Err QueueDoesNotExist = rw c.in-None.is at c.in_ok-word.ensures.closed in
-    left_for _ _ _ c.args.task.now c.args.walk _ _ _ (moved_of c.moving-answered.result) _ c.moving-answered.ensures.did (rw (c.walk_after.ensures, c.homes-homes.ensures) at c.walked.ensures.did) (inr (ap moved_of closed, refl))
+    left_for _ _ _ c.args.task.now c.args.walk.now _ _ _ (moved_of c.moving-answered.result) _ c.moving-answered.ensures.did (rw c.homes-homes.ensures at c.walk_after.ensures) (inr (ap moved_of closed, refl))

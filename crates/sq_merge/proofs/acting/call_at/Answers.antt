@@ -6,4 +6,4 @@ use Rattle.sq_merge.proofs.acting.call_at.Goals as goal
 pub returns : goal.returns
 returns c =
     let at = at_world (CallFits (counts_of c.args.acting.now.world.now) c.args.call.now) c.args.acting.now c.call.new.steps c.call.result c.call.ensures.answered c.call.ensures.leaves_records in
-    record { same_reference = at.0; answered = at.1; leaves_records = at.2 }
+    record { same_reference = at.0; answered = at.2; leaves_records = at.3 }

@@ -1,7 +1,16 @@
-use Rattle.std.proofs.Common.{rules, ◌≡◌, length, Some, Err, inl}
+use Rattle.std.proofs.Common.{rules, ◌≡◌, length, None, Some, Err, inl, inr}
 use Rattle.sq_audit.specs.HomeIds.{home_index}
-use Rattle.sq_merge.proofs.StepLaws.{as_fields, home_there}
+use Rattle.sq_history.specs.Acts.{call_of}
+use Rattle.sq_steps.specs.Journals.{IsHomeRefused}
+use Rattle.sq_merge.proofs.StepLaws.{as_fields, home_there, refused_nowhere}
 use Rattle.sq_merge.proofs.world.World.step.Goals as goal
+
+pub returns-in_default-clause-refusal : goal.returns-in_default-clause-refusal
+returns-in_default-clause-refusal c =
+    let old = as_fields c.self.view_is in
+    let none : home_index old.per_queue (length old.homes) c.in-Home.id ≡ None = search rules in
+    rw (c.in-Home.is, ← c.self.view_is)
+    (inr (refused_nowhere old c.args.step.now.actor c.args.step.now.clock c.in-Home.id c.no_such_home.result (λ h b. IsHomeRefused h b c.args.step.now.clock (call_of c.in-Home.act) c.no_such_home.result) c.self.invariant.kept.numbered c.home_index.ensures.homes none c.no_such_home.ensures))
 
 pub returns-in_err-act-in-Home-clause-refusal : goal.returns-in_err-act-in-Home-clause-refusal
 returns-in_err-act-in-Home-clause-refusal c =

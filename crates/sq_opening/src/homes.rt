@@ -1,0 +1,49 @@
+//! Homes that were never opened, and those that are not there.
+ghost use Rattle.std.specs.Prelude.{◌≡◌, nat_le, if◌then◌else◌};
+ghost use Rattle.sq_base.specs.Stamps.{stamp_end};
+ghost use Rattle.sq_base.specs.declared.refusal.Refusal.TheVariants.{ClockRange, QueueDoesNotExist};
+ghost use Rattle.sq_audit.specs.HomeIds.{home_id};
+ghost use Rattle.sq_opening.specs.Openings.{never_opened};
+
+use sq_base::ids::{HomeId, HomeNo, QueueNo};
+use sq_base::refusal::Refusal;
+use sq_base::stamp::STAMP_END;
+use sq_history::recorded::{Home, Recorded};
+use sq_model::place::{Limits, Site};
+use sq_sample::sampler::HomeCount;
+use sq_shard::shard::Shard;
+use sq_shard::slots::SlotStore;
+use std::alloc::Global;
+
+/// Why a step of a home that is not there is refused, at a clock reading in ms: as ClockRange, and then as QueueDoesNotExist.
+pub fn no_such_home(now: u64) -> Refusal
+    ensures { result ≡ (if nat_le stamp_end now then ClockRange else QueueDoesNotExist) }
+{
+    if now >= STAMP_END {
+        Refusal::ClockRange
+    } else {
+        Refusal::QueueDoesNotExist
+    }
+}
+
+/// The id of the home at an index in the list of all homes.
+pub fn id_at(per_queue: HomeCount, index: u32) -> HomeId
+    ensures { result ≡ home_id per_queue index }
+{
+    let homes = per_queue.get();
+    HomeId {
+        queue: QueueNo::following(index / homes),
+        home: HomeNo::of((index % homes) as u8),
+    }
+}
+
+/// The home at an index; no queue is made for it yet.
+pub fn never_opened(alloc: Global, per_queue: HomeCount, limits: &Limits, index: u32) -> Home
+    ensures { result ≡ never_opened per_queue limits.now index }
+{
+    let site = Site {
+        home: id_at(per_queue, index),
+        limits: *limits,
+    };
+    Recorded::unopened(alloc, Shard::unopened(site, SlotStore::new(alloc)))
+}
