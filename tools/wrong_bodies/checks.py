@@ -4,8 +4,8 @@ import re
 from .functions import UNOFFERED, goals_at
 
 VERDICT = re.compile(r"(?:fn|struct|enum|impl) (\S+): (proved|not proved|no proof|could not tell)\b(.*)")
-# An open goal: where it stands, what is to hold there, and its name.
-GOAL = re.compile(r"note: (?:\./)?(src/\S+: it is not proved that .*?) \(`([^`]+)`\)")
+# An open goal: where it stands, what is to hold there, and its name. Of what the ghost fields of a type keep no words are given.
+GOAL = re.compile(r"note: (?:\./)?(src/\S+: (?:it is not proved that .*?|`search` found no proof)) \(`([^`]+)`\)")
 ERROR = re.compile(r"(?:\./)?((?:src|specs|proofs)/\S+?):(\d+):\d+: error(?:\[.*?\])?: (.*)")
 # What is said of a proof that rests on another one that was refused, and of one that names what an edit took away.
 RESTS = re.compile(r"not admitted|was rejected|depends on")

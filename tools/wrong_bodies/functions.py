@@ -6,7 +6,7 @@ from collections import namedtuple
 # whether it may stand there twice, under two names.
 Function = namedtuple("Function", "path begins opens closes is_copied")
 HEAD = re.compile(r"( *)(?:pub(?:\([\w ]+\))? )?(?:const )?fn (\w+)")
-IMPL = re.compile(r"impl(?:<.*?>)? (?:(\S.*?) for )?(\w+)")
+IMPL = re.compile(r"impl(?:<(.*?)>)? (?:(\S.*?) for )?(\w+)(?:<([^{]*)>)? ?(?:\{|where)")
 TRAIT = re.compile(r"(?:pub )?trait (\w+)")
 # The name of an answer that cannot be read, by which a check is told to print no more than that a function is not proved.
 UNOFFERED = "not_offered"
@@ -14,15 +14,24 @@ UNOFFERED = "not_offered"
 DECLARED = re.compile(r"(?m)^(?:abbrev |abstract )*(?:pub )?(\S+) :(?= |$)( goal\.)?")
 
 
+def owner_of(impl):
+    """How a check names an impl: by its type, with the arguments where they are not its own parameters, and by the trait and its arguments."""
+    own, trait, owner, arguments = impl.groups()
+    parameters = re.findall(r"(?:^|, )(?:const )?('?\w+)", own or "")
+    given = [it for it in (arguments or "").split(", ") if it and not it.startswith("'")]
+    if not trait and any(it not in parameters for it in given):
+        owner = "+".join([owner, *given])
+    return owner + "".join(re.findall(r"[A-Z]\w+", trait or "")), bool(trait)
+
+
 def functions_of(path, text):
     """The functions of a file that `rt fmt` laid out: a body ends at a brace right below its `fn`."""
     module = [it for it in path[len("src/") : -len(".rt")].split("/") if it not in ("lib", "main", "mod")]
     found, owner, of_trait, head, begins, opens, at = [], "", False, None, None, None, 0
     for line in text.splitlines(True):
-        if not head and IMPL.match(line):
-            trait, owner = IMPL.match(line).groups()
-            # A check names an impl by its type, and by the trait and its arguments.
-            owner, of_trait = owner + "".join(re.findall(r"[A-Z]\w+", trait or "")), bool(trait)
+        if not head and line.startswith("impl"):
+            # Its head may go on over some lines.
+            owner, of_trait = owner_of(IMPL.match(" ".join(text[at : text.index("{", at) + 1].split())))
         elif not head and TRAIT.match(line):
             owner, of_trait = TRAIT.match(line)[1], True
         elif not head and HEAD.match(line):

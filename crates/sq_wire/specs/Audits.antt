@@ -1,5 +1,5 @@
 -- The text of an audit: all that was done in the order of the one run, each event by its stamp, and where each message is.
-use Rattle.std.specs.Prelude.{◌≡◌, ℕ, List, [], ◌++◌, map, codes, decimal}
+use Rattle.std.specs.Prelude.{◌≡◌, ℕ, List, ◌++◌, map, codes, decimal}
 use Rattle.serde_json.specs.Data.{Data, object, array, string, item, no_items, member, no_members}
 use Rattle.serde_json.specs.View.{items_of}
 use Rattle.serde_json.specs.Written.{compact_text}

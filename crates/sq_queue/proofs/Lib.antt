@@ -1,0 +1,2 @@
+pub mod LockLaws
+pub mod FinishLaws

@@ -1,0 +1,9 @@
+use Rattle.sq_client.specs.Calls.{home_numbered}
+use Rattle.sq_queue.proofs.LockLaws.{answered_home, refused_home}
+use Rattle.sq_queue.proofs.locked.LockedLockSteps.at_home.Goals as goal
+
+pub returns-clause-reply : goal.returns-clause-reply
+returns-clause-reply g c = answered_home _ _ _ _ _ _ c.args.act c.step.result c.step.ensures.step
+
+pub returns-clause-refusal : goal.returns-clause-refusal
+returns-clause-refusal g c = refused_home c.deref_mut.result.now.id c.deref_mut.result.now.home c.args.self.now.session.now.journal c.now-now.result c.args.of.now.name (home_numbered c.args.of.now.number c.args.home) c.args.act c.step.result c.step.ensures.refusal

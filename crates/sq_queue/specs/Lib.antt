@@ -1,0 +1,3 @@
+pub mod SessionValue
+pub mod Tallies
+pub mod Services

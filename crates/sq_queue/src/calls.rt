@@ -1,0 +1,59 @@
+//! The calls of a session.
+ghost use Rattle.std.specs.Prelude.{◌≡◌};
+ghost use Rattle.sq_client.specs.Fits.{CallFits};
+ghost use Rattle.sq_client.specs.Turns.{TurnFits};
+ghost use Rattle.sq_client.specs.Performs.{LeavesRecords};
+ghost use Rattle.sq_queue.specs.Services.{counts_of};
+
+use crate::locked::{Locked, call_in, turn_in};
+use crate::service::{Clock, Gate, Serving};
+use crate::session::Session;
+use sq_base::refusal::Refusal;
+use sq_calls::calls::{Answer, Call};
+use sq_calls::turns::{Turn, Turned};
+use sq_client::progress::Progress;
+use sq_shard::slots::SlotStore;
+use std::sync::Wait;
+use std::sync::ledger::Ledger;
+
+impl<C: Clock + Drop, G: Gate + Drop, D: Ledger, T: Ledger> Serving<C, G, D, T, SlotStore> {
+    /// What a client asks, step by step, each under the lock of its part. The steps, the answer and each refusal are as those
+    /// of `World::call` in `sq_merge`; other sessions may step between any two of them. What it leaves with the session are just
+    /// the records of its steps, numbered on, at rising stamps above all that the session had seen.
+    pub fn call<R: Wait>(
+        &self,
+        rt: &R,
+        session: &mut Session<D, T>,
+        call: &Call,
+    ) -> Result<Answer, Refusal>
+        ensures leaves_records { LeavesRecords (CallFits (counts_of self.now.per_queue self.now.sample) call.now) session.old.journal result session.new.journal }
+    {
+        let mut locked = Locked {
+            rt,
+            service: self,
+            session,
+            left: None,
+        };
+        call_in(&mut locked, call)
+    }
+
+    /// A turn of a mover that is so far: one step of moving messages, beside reads, as `World::turn` in `sq_merge`. How far it is
+    /// after it stands in `progress`. Where an item left, the gate is told of it with no lock held.
+    pub fn turn<R: Wait>(
+        &self,
+        rt: &R,
+        session: &mut Session<D, T>,
+        progress: &mut Progress,
+        turn: &Turn,
+    ) -> Result<Turned, Refusal>
+        ensures leaves_records { LeavesRecords (TurnFits self.now.per_queue turn.now progress.old progress.new) session.old.journal result session.new.journal }
+    {
+        let mut locked = Locked {
+            rt,
+            service: self,
+            session,
+            left: None,
+        };
+        turn_in(&mut locked, progress, turn)
+    }
+}

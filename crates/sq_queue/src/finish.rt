@@ -1,0 +1,246 @@
+//! The end of a service: its parts are taken out of their locks, and its sessions apart.
+ghost use Rattle.std.specs.Prelude.{◌≡◌, ◌↔◌, ◌⊎◌, ◌+◌, ◌≤◌, ◌<◌, ◌++◌, [], List, true, IfOk, IfErr, if◌then◌else◌, length, map, sum_by, take, vec_len, vec_capacity};
+ghost use Rattle.sq_model.specs.RecordValues.{Journal as JournalValue};
+ghost use Rattle.sq_steps.specs.Journals.{AreDistinct};
+ghost use Rattle.sq_audit.specs.HomeIds.{home_id, IsNumbered};
+ghost use Rattle.sq_queue.specs.Tallies.{directory_records, ledger_records};
+
+use crate::actors::Actors;
+use crate::parts::{CountedDirectory, CountedLedger, PlacedHome};
+use crate::service::{Service, Serving, placed};
+use crate::session::Session;
+use sq_audit::homes::Homes;
+use sq_audit::parts::Parts;
+use sq_base::refusal::Refusal;
+use sq_history::recorded::Home;
+use sq_model::place::Limits;
+use sq_sample::sampler::HomeCount;
+use sq_shard::slots::SlotStore;
+use sq_steps::journal::Journal;
+use sq_steps::journals::{Journals, are_distinct};
+use std::alloc::{AllocError, Global};
+use std::sync::Mutex;
+use std::sync::ledger::{Ledger, Share};
+
+/// What is handed back where there is no memory.
+#[derive(Drop)]
+pub struct Unfinished<C, G, D: Ledger, T: Ledger> {
+    pub refusal: Refusal,
+    pub service: Service<C, G, D, T>,
+    pub sessions: Vec<Session<D, T>>,
+}
+
+// What sessions leave together: how many were made, their journals, and their parts of both counts with those that are left.
+#[derive(Drop)]
+struct Gathered<D: Ledger, T: Ledger> {
+    made: u32,
+    journals: Vec<Journal>,
+    of_directory: Share<D>,
+    of_ledger: Share<T>,
+}
+
+// Takes these sessions in.
+fn gather<D: Ledger, T: Ledger>(all: &mut Gathered<D, T>, sessions: Vec<Session<D, T>>)
+    requires room { vec_len all.old.journals + vec_len sessions ≤ vec_capacity all.old.journals }
+    requires directory_few { all.old.of_directory.parts ≤ D.parts }
+    requires ledger_few { all.old.of_ledger.parts ≤ T.parts }
+    ensures journals { all.new.journals.items ≡ all.old.journals.items ++ map (λ s. s.journal) sessions.items }
+    ensures directory_parts { all.new.of_directory.parts ≡ all.old.of_directory.parts + length sessions.items }
+    ensures ledger_parts { all.new.of_ledger.parts ≡ all.old.of_ledger.parts + length sessions.items }
+    ensures directory { all.new.of_directory.amount ≡ all.old.of_directory.amount + sum_by (λ s. directory_records s.journal.records) sessions.items }
+    ensures ledger { all.new.of_ledger.amount ≡ all.old.of_ledger.amount + sum_by (λ s. ledger_records s.journal.records) sessions.items }
+    ensures directory_few { all.new.of_directory.parts ≤ D.parts }
+    ensures ledger_few { all.new.of_ledger.parts ≤ T.parts }
+    ensures capacity { vec_capacity all.new.journals ≡ vec_capacity all.old.journals }
+    ensures made { all.new.made ≡ all.old.made }
+{
+    for session in sessions {
+        let Session {
+            journal,
+            of_directory,
+            of_ledger,
+            ..
+        } = session;
+        all.of_directory.merge(of_directory);
+        all.of_ledger.merge(of_ledger);
+        all.journals.push_reserved(journal);
+    }
+}
+
+// What the sessions leave that were given back, and these.
+fn all_of<D: Ledger, T: Ledger>(
+    actors: Actors<D, T>,
+    sessions: Vec<Session<D, T>>,
+    journals: Vec<Journal>,
+) -> Gathered<D, T>
+    requires room { vec_len actors.retired + vec_len sessions ≤ vec_capacity journals }
+    requires none { journals.items ≡ [] }
+    requires of_directory { D.parts ≡ 4294967296 }
+    requires of_ledger { T.parts ≡ 4294967296 }
+    ensures made { result.made ≡ actors.made }
+    ensures journals { result.journals.items ≡ map (λ s. s.journal) actors.retired.items ++ map (λ s. s.journal) sessions.items }
+    ensures directory_parts { result.of_directory.parts ≡ actors.of_directory.parts + length actors.retired.items + length sessions.items }
+    ensures ledger_parts { result.of_ledger.parts ≡ actors.of_ledger.parts + length actors.retired.items + length sessions.items }
+    ensures directory { result.of_directory.amount ≡ sum_by (λ s. directory_records s.journal.records) actors.retired.items + sum_by (λ s. directory_records s.journal.records) sessions.items }
+    ensures ledger { result.of_ledger.amount ≡ sum_by (λ s. ledger_records s.journal.records) actors.retired.items + sum_by (λ s. ledger_records s.journal.records) sessions.items }
+    ensures directory_few { result.of_directory.parts ≤ 4294967296 }
+    ensures ledger_few { result.of_ledger.parts ≤ 4294967296 }
+{
+    let Actors {
+        made,
+        of_directory,
+        of_ledger,
+        retired,
+        ..
+    } = actors;
+    let mut all = Gathered {
+        made,
+        journals,
+        of_directory,
+        of_ledger,
+    };
+    gather(&mut all, retired);
+    gather(&mut all, sessions);
+    all
+}
+
+// The journals, each of an actor of its own; two of one actor, which never are, leave no evidence at all, and `merge` says so.
+fn evidence(alloc: Global, journals: Vec<Journal>) -> Journals
+    ensures all { AreDistinct journals.items → result ≡ journals.items }
+    ensures none { (result ≡ journals.items) ⊎ (result ≡ []) }
+{
+    if are_distinct(&journals) {
+        Journals::of(journals)
+    } else {
+        Journals::of(Vec::new(alloc))
+    }
+}
+
+// The homes out of their locks, each at its place. One at another's place, which never is, leaves none of its history.
+fn unlocked(
+    alloc: Global,
+    per_queue: HomeCount,
+    out: Vec<Home>,
+    locks: Vec<Mutex<PlacedHome>>,
+) -> Vec<Home>
+    requires room { vec_len locks ≤ vec_capacity out }
+    requires none { out.items ≡ [] }
+    requires few { vec_len locks ≤ 16384 }
+    ensures many { length result.items ≡ vec_len locks }
+    ensures numbered { IsNumbered per_queue result.items }
+{
+    let mut out = out;
+    let mut index = 0u32;
+    for lock in locks {
+        out.push_reserved(at_place(alloc, per_queue, index, lock.into_inner()));
+        index += 1;
+    }
+    out
+}
+
+// The home, where its place is this one; else one that was never opened.
+fn at_place(alloc: Global, per_queue: HomeCount, index: u32, found: PlacedHome) -> Home
+    requires few { index < 16384 }
+    ensures at { result.site.home ≡ home_id per_queue index }
+    ensures same { found.id ≡ home_id per_queue index → result ≡ found.home }
+{
+    let limits = Limits {
+        rows: 1,
+        flights: 1,
+    };
+    let none = placed(alloc, per_queue, &limits, index);
+    if found.id == none.id {
+        found.home
+    } else {
+        none.home
+    }
+}
+
+// Room for what is to be gathered.
+fn room_for<D: Ledger, T: Ledger>(
+    alloc: Global,
+    actors: &Actors<D, T>,
+    sessions: &Vec<Session<D, T>>,
+    homes: &Vec<Mutex<PlacedHome>>,
+) -> Result<(Vec<Journal>, Vec<Home>), AllocError>
+    ensures journals { IfOk result (λ r. (r.0.items ≡ []) × (vec_len actors.now.retired + vec_len sessions.now ≤ vec_capacity r.0)) }
+    ensures homes { IfOk result (λ r. (r.1.items ≡ []) × (vec_len homes.now ≤ vec_capacity r.1)) }
+{
+    let many = actors
+        .retired
+        .len()
+        .checked_add(sessions.len())
+        .ok_or(AllocError)?;
+    let journals = Vec::with_capacity(alloc, many)?;
+    let homes = Vec::with_capacity(alloc, homes.len())?;
+    Ok((journals, homes))
+}
+
+impl<C: Drop, G: Drop, D: Ledger, T: Ledger> Serving<C, G, D, T, SlotStore> {
+    /// Ends the service. Where all sessions that were made are among the retired ones and these, each history has as
+    /// many events as the tallies say. Refused for memory alone, and everything is handed back then.
+    pub fn finish(self, sessions: Vec<Session<D, T>>) -> Result<Parts, Unfinished<C, G, D, T>>
+        requires of_directory { D.parts ≡ 4294967296 }
+        requires of_ledger { T.parts ≡ 4294967296 }
+        ensures records { IfOk result (λ p. (retired : List JournalValue) × (AreDistinct (retired ++ map (λ s. s.journal) sessions.items) → p.records ≡ retired ++ map (λ s. s.journal) sessions.items)) }
+        ensures directory { IfOk result (λ p. length p.records ≡ p.made → length p.directory.events ≡ sum_by (λ a. directory_records a.records) p.records) }
+        ensures ledger { IfOk result (λ p. length p.records ≡ p.made → length p.ledger.history.events ≡ sum_by (λ a. ledger_records a.records) p.records) }
+        ensures homes { IfOk result (λ p. (p.homes.per_queue ≡ self.per_queue) × (length p.homes.homes ≡ vec_len self.homes)) }
+        ensures refused { IfErr result (λ u. (u.refusal ≡ Refusal.NoMemory) × (u.sessions ≡ sessions) × (vec_len u.service.homes ≡ vec_len self.homes)) }
+    {
+        let Serving {
+            alloc,
+            clock,
+            gate,
+            per_queue,
+            sample,
+            homes,
+            directory,
+            ledger,
+            actors,
+        } = self;
+        let actors = actors.into_inner();
+        let Ok((journals, out)) = room_for(alloc, &actors, &sessions, &homes) else {
+            let service = Serving {
+                alloc,
+                clock,
+                gate,
+                per_queue,
+                sample,
+                homes,
+                directory,
+                ledger,
+                actors: Mutex::new(actors),
+            };
+            return Err(Unfinished {
+                refusal: Refusal::NoMemory,
+                service,
+                sessions,
+            });
+        };
+        let Gathered {
+            made,
+            journals,
+            mut of_directory,
+            mut of_ledger,
+        } = all_of(actors, sessions, journals);
+        let CountedDirectory {
+            directory,
+            mut tallies,
+        } = directory.into_inner();
+        tallies.audit(&mut of_directory);
+        let CountedLedger {
+            ledger,
+            tallies: mut shared,
+        } = ledger.into_inner();
+        shared.audit(&mut of_ledger);
+        let homes = unlocked(alloc, per_queue, out, homes);
+        Ok(Parts {
+            directory,
+            ledger,
+            homes: Homes::of(per_queue, homes),
+            records: evidence(alloc, journals),
+            made: made as u64,
+        })
+    }
+}

@@ -1,0 +1,12 @@
+//! The service that many threads share: its parts under locks of their own, and the sessions of its clients.
+#![tactic(auto)]
+
+pub mod actors;
+pub mod calls;
+pub mod finish;
+mod locked;
+pub mod named;
+pub mod parts;
+pub mod service;
+pub mod session;
+pub mod threads;

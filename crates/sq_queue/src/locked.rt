@@ -1,0 +1,211 @@
+//! The steps of a session's calls, each under the lock of its part.
+ghost use Rattle.std.specs.Prelude.{◌≡◌};
+ghost use Rattle.sq_client.specs.Asks.{LeavesOf};
+ghost use Rattle.sq_client.specs.Fits.{CallFits};
+ghost use Rattle.sq_client.specs.Turns.{TurnFits};
+ghost use Rattle.sq_client.specs.Performs.{LeavesRecords};
+ghost use Rattle.sq_queue.specs.Services.{counts_of};
+
+use crate::service::{Clock, Gate, Service};
+use crate::session::Session;
+use sq_audit::homes::home_index;
+use sq_base::ids::{HomeId, HomeNo};
+use sq_base::name::QueueName;
+use sq_base::refusal::Refusal;
+use sq_calls::calls::{Answer, Call};
+use sq_calls::turns::{Turn, Turned};
+use sq_client::lock_steps::LockSteps;
+use sq_client::progress::Progress;
+use sq_client::{client, turns};
+use sq_history::act::HomeAct;
+use sq_model::directory::{DirectoryCall, DirectoryReply};
+use sq_model::item::TaskNo;
+use sq_model::ledger::LedgerReply;
+use sq_model::replies::HomeReply;
+use sq_model::task::{NamedQueue, Task};
+use sq_opening::homes::no_such_home;
+use sq_sample::sampler::HomeCount;
+use sq_steps::act::{NextItem, SharedAct, TaskAct};
+use std::alloc::Global;
+use std::sync::Wait;
+use std::sync::ledger::Ledger;
+
+/// A session at the service that made it, in one call.
+#[derive(Drop)]
+pub(crate) struct Locked<'a, C, G, D: Ledger, T: Ledger, R> {
+    pub(crate) rt: &'a R,
+    pub(crate) service: &'a Service<C, G, D, T>,
+    pub(crate) session: &'a mut Session<D, T>,
+    /// The number of the item that left, if one did.
+    pub(crate) left: Option<u64>,
+}
+
+// The clock is read before a lock is taken, and the lock is let go when its section ends: no reply is made while it is held.
+impl<'a, C: Clock + Drop, G: Gate + Drop, D: Ledger, T: Ledger, R: Wait> LockSteps
+    for Locked<'a, C, G, D, T, R> {
+    ghost stepped = { λ s ask answered t.
+        LeavesOf ask answered s.session.now.journal t.session.now.journal × (t.session.ghost_name ≡ s.session.ghost_name) };
+
+    ghost knows = { λ s name queue. Unit {0} };
+
+    ghost counts = { λ s. counts_of s.service.now.per_queue s.service.now.sample };
+
+    ghost journal = { λ s. s.session.now.journal };
+
+    fn alloc(&self) -> Global {
+        self.service.alloc
+    }
+
+    fn homes(&self) -> HomeCount {
+        self.service.per_queue
+    }
+
+    fn resolve(&mut self, name: &QueueName) -> Result<NamedQueue, Refusal> {
+        let held = self.service.directory.lock(self.rt);
+        let session = &mut *self.session;
+        let number = held.resolve(session, name)?;
+        Ok(NamedQueue {
+            number,
+            name: *name,
+        })
+    }
+
+    fn directed(&mut self, call: &DirectoryCall) -> Result<DirectoryReply, Refusal> {
+        let now = self.service.clock.now();
+        let mut held = self.service.directory.lock(self.rt);
+        let session = &mut *self.session;
+        held.step(self.service.alloc, session, now, call)
+    }
+
+    fn at_home(
+        &mut self,
+        of: &NamedQueue,
+        home: HomeNo,
+        act: HomeAct,
+    ) -> Result<HomeReply, Refusal> {
+        let id = HomeId {
+            queue: of.number,
+            home,
+        };
+        let now = self.service.clock.now();
+        let count = self.service.homes.len();
+        let Some(index) = home_index(self.service.per_queue, count, &id) else {
+            return Err(no_such_home(now));
+        };
+        let mut held = self.service.homes[index].lock(self.rt);
+        self.service.gate.inside(&id);
+        let session = &mut *self.session;
+        held.step(self.service.alloc, session, now, Some(of.name), &id, act)
+    }
+
+    fn moving(
+        &mut self,
+        name: Option<QueueName>,
+        home: &HomeId,
+        what: SharedAct,
+    ) -> Result<Option<HomeReply>, Refusal> {
+        let now = self.service.clock.now();
+        let count = self.service.homes.len();
+        let Some(index) = home_index(self.service.per_queue, count, home) else {
+            return Err(no_such_home(now));
+        };
+        let mut held = self.service.homes[index].lock(self.rt);
+        self.service.gate.inside(home);
+        let session = &mut *self.session;
+        let mut ledger = self.service.ledger.lock(self.rt);
+        let told = ledger.share(
+            self.service.alloc,
+            &mut held,
+            session,
+            now,
+            name,
+            home,
+            what,
+        );
+        self.left = left_of(&told);
+        told
+    }
+
+    fn peek(&mut self, after: u64) -> Result<Option<NextItem>, Refusal> {
+        let held = self.service.ledger.lock(self.rt);
+        let session = &mut *self.session;
+        Ok(held.peek(session, after))
+    }
+
+    fn can_redrive(
+        &mut self,
+        source: &QueueName,
+        destination: &Option<QueueName>,
+    ) -> Result<(NamedQueue, Option<NamedQueue>), Refusal> {
+        let held = self.service.directory.lock(self.rt);
+        let session = &mut *self.session;
+        held.can_redrive(session, source, destination)
+    }
+
+    fn ledgered(&mut self, act: &TaskAct) -> Result<LedgerReply, Refusal> {
+        let now = self.service.clock.now();
+        let mut held = self.service.ledger.lock(self.rt);
+        let session = &mut *self.session;
+        held.step(self.service.alloc, session, now, act)
+    }
+
+    fn read_task(&mut self, number: TaskNo) -> Result<Task, Refusal> {
+        let held = self.service.ledger.lock(self.rt);
+        let session = &mut *self.session;
+        held.read_task(session, number)
+    }
+
+    fn pick(&mut self) -> HomeNo {
+        self.session.pick(self.service.per_queue)
+    }
+
+    fn draw(&mut self) -> Result<Vec<HomeNo>, Refusal> {
+        self.session.draw(
+            self.service.alloc,
+            self.service.per_queue,
+            self.service.sample,
+        )
+    }
+
+    ghost leaves = { λ s t ask answered h. h.0 };
+}
+
+// The number of the item that left, if one did.
+fn left_of(told: &Result<Option<HomeReply>, Refusal>) -> Option<u64> {
+    match told {
+        Ok(Some(HomeReply::Left(item))) => Some(item.get().number.get()),
+        _ => None,
+    }
+}
+
+// Does a client's call with the session that is borrowed.
+pub(crate) fn call_in<C: Clock + Drop, G: Gate + Drop, D: Ledger, T: Ledger, R: Wait>(
+    locked: &mut Locked<'_, C, G, D, T, R>,
+    call: &Call,
+) -> Result<Answer, Refusal>
+    ensures same_reference { locked.new.session.ghost_name ≡ locked.old.session.ghost_name }
+    ensures leaves_records { LeavesRecords (CallFits (counts_of locked.old.service.now.per_queue locked.old.service.now.sample) call.now) locked.old.session.now.journal result locked.new.session.now.journal }
+{
+    client::call(locked, call)
+}
+
+// Does a turn with the session that is borrowed; the gate is told of an item that left, with no lock held.
+pub(crate) fn turn_in<C: Clock + Drop, G: Gate + Drop, D: Ledger, T: Ledger, R: Wait>(
+    locked: &mut Locked<'_, C, G, D, T, R>,
+    progress: &mut Progress,
+    turn: &Turn,
+) -> Result<Turned, Refusal>
+    ensures same_reference { locked.new.session.ghost_name ≡ locked.old.session.ghost_name }
+    ensures leaves_records { LeavesRecords (TurnFits locked.old.service.now.per_queue turn.now progress.old progress.new) locked.old.session.now.journal result locked.new.session.now.journal }
+{
+    let told = turns::turn(locked, progress, turn);
+    tell_gate(&locked.service.gate, &locked.left);
+    told
+}
+
+// Tells the gate of an item that left, if one did.
+fn tell_gate<G: Gate>(gate: &G, left: &Option<u64>) {
+    if let Some(item) = left {
+        gate.between(*item);
+    }
+}

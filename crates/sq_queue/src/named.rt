@@ -1,0 +1,238 @@
+//! Each call of a session by its name, as `call` does it.
+ghost use Rattle.sq_calls.specs.declared.calls.Call.TheVariants as asks;
+ghost use Rattle.sq_client.specs.Fits.{CallFits};
+ghost use Rattle.sq_client.specs.Performs.{LeavesRecords};
+ghost use Rattle.sq_queue.specs.Services.{counts_of};
+
+use crate::service::{Clock, Gate, Serving};
+use crate::session::Session;
+use sq_base::name::QueueName;
+use sq_base::refusal::Refusal;
+use sq_calls::batches::Batch;
+use sq_calls::calls::{
+    Answer, Call, ChangeMessageVisibility, CreateQueue, DeleteMessage, GetQueueAttributes,
+    ListMessageMoveTasks, ReceiveMessage, SendMessage, SetQueueAttributes, StartMessageMoveTask,
+};
+use sq_model::directory::NamePrefix;
+use sq_model::item::TaskNo;
+use sq_shard::slots::SlotStore;
+use std::sync::Wait;
+use std::sync::ledger::Ledger;
+
+impl<C: Clock + Drop, G: Gate + Drop, D: Ledger, T: Ledger> Serving<C, G, D, T, SlotStore> {
+    /// SendMessage: puts a message into a queue.
+    pub fn send<R: Wait>(
+        &self,
+        rt: &R,
+        session: &mut Session<D, T>,
+        request: SendMessage,
+    ) -> Result<Answer, Refusal>
+        ensures { LeavesRecords (CallFits (counts_of self.now.per_queue self.now.sample) (asks.SendMessage request)) session.old.journal result session.new.journal }
+    {
+        self.call(rt, session, &Call::SendMessage(request))
+    }
+
+    /// ReceiveMessage: gives up to ten messages of a queue, which are in flight then.
+    pub fn receive<R: Wait>(
+        &self,
+        rt: &R,
+        session: &mut Session<D, T>,
+        request: ReceiveMessage,
+    ) -> Result<Answer, Refusal>
+        ensures { LeavesRecords (CallFits (counts_of self.now.per_queue self.now.sample) (asks.ReceiveMessage request)) session.old.journal result session.new.journal }
+    {
+        self.call(rt, session, &Call::ReceiveMessage(request))
+    }
+
+    /// DeleteMessage: deletes the message that a receive gave by this handle.
+    pub fn delete<R: Wait>(
+        &self,
+        rt: &R,
+        session: &mut Session<D, T>,
+        request: DeleteMessage,
+    ) -> Result<Answer, Refusal>
+        ensures { LeavesRecords (CallFits (counts_of self.now.per_queue self.now.sample) (asks.DeleteMessage request)) session.old.journal result session.new.journal }
+    {
+        self.call(rt, session, &Call::DeleteMessage(request))
+    }
+
+    /// ChangeMessageVisibility: changes how long a message that is in flight stays so.
+    pub fn change<R: Wait>(
+        &self,
+        rt: &R,
+        session: &mut Session<D, T>,
+        request: ChangeMessageVisibility,
+    ) -> Result<Answer, Refusal>
+        ensures { LeavesRecords (CallFits (counts_of self.now.per_queue self.now.sample) (asks.ChangeMessageVisibility request)) session.old.journal result session.new.journal }
+    {
+        self.call(rt, session, &Call::ChangeMessageVisibility(request))
+    }
+
+    /// CreateQueue: makes a queue, or finds the one that is as is asked.
+    pub fn create<R: Wait>(
+        &self,
+        rt: &R,
+        session: &mut Session<D, T>,
+        request: CreateQueue,
+    ) -> Result<Answer, Refusal>
+        ensures { LeavesRecords (CallFits (counts_of self.now.per_queue self.now.sample) (asks.CreateQueue request)) session.old.journal result session.new.journal }
+    {
+        self.call(rt, session, &Call::CreateQueue(request))
+    }
+
+    /// SetQueueAttributes: changes what a queue is like.
+    pub fn set<R: Wait>(
+        &self,
+        rt: &R,
+        session: &mut Session<D, T>,
+        request: SetQueueAttributes,
+    ) -> Result<Answer, Refusal>
+        ensures { LeavesRecords (CallFits (counts_of self.now.per_queue self.now.sample) (asks.SetQueueAttributes request)) session.old.journal result session.new.journal }
+    {
+        self.call(rt, session, &Call::SetQueueAttributes(request))
+    }
+
+    /// GetQueueAttributes: tells what a queue is like, and about how many messages it has.
+    pub fn get<R: Wait>(
+        &self,
+        rt: &R,
+        session: &mut Session<D, T>,
+        request: GetQueueAttributes,
+    ) -> Result<Answer, Refusal>
+        ensures { LeavesRecords (CallFits (counts_of self.now.per_queue self.now.sample) (asks.GetQueueAttributes request)) session.old.journal result session.new.journal }
+    {
+        self.call(rt, session, &Call::GetQueueAttributes(request))
+    }
+
+    /// GetQueueUrl: tells that a queue is there.
+    pub fn url<R: Wait>(
+        &self,
+        rt: &R,
+        session: &mut Session<D, T>,
+        name: QueueName,
+    ) -> Result<Answer, Refusal>
+        ensures { LeavesRecords (CallFits (counts_of self.now.per_queue self.now.sample) (asks.GetQueueUrl name)) session.old.journal result session.new.journal }
+    {
+        self.call(rt, session, &Call::GetQueueUrl(name))
+    }
+
+    /// ListQueues: names the queues whose names begin so, in order of creation.
+    pub fn list<R: Wait>(
+        &self,
+        rt: &R,
+        session: &mut Session<D, T>,
+        prefix: NamePrefix,
+    ) -> Result<Answer, Refusal>
+        ensures { LeavesRecords (CallFits (counts_of self.now.per_queue self.now.sample) (asks.ListQueues prefix)) session.old.journal result session.new.journal }
+    {
+        self.call(rt, session, &Call::ListQueues(prefix))
+    }
+
+    /// PurgeQueue: deletes all messages of a queue.
+    pub fn purge<R: Wait>(
+        &self,
+        rt: &R,
+        session: &mut Session<D, T>,
+        name: QueueName,
+    ) -> Result<Answer, Refusal>
+        ensures { LeavesRecords (CallFits (counts_of self.now.per_queue self.now.sample) (asks.PurgeQueue name)) session.old.journal result session.new.journal }
+    {
+        self.call(rt, session, &Call::PurgeQueue(name))
+    }
+
+    /// DeleteQueue: deletes a queue with its messages.
+    pub fn delete_queue<R: Wait>(
+        &self,
+        rt: &R,
+        session: &mut Session<D, T>,
+        name: QueueName,
+    ) -> Result<Answer, Refusal>
+        ensures { LeavesRecords (CallFits (counts_of self.now.per_queue self.now.sample) (asks.DeleteQueue name)) session.old.journal result session.new.journal }
+    {
+        self.call(rt, session, &Call::DeleteQueue(name))
+    }
+
+    /// ListDeadLetterSourceQueues: names the queues whose dead letters go to a queue.
+    pub fn sources<R: Wait>(
+        &self,
+        rt: &R,
+        session: &mut Session<D, T>,
+        name: QueueName,
+    ) -> Result<Answer, Refusal>
+        ensures { LeavesRecords (CallFits (counts_of self.now.per_queue self.now.sample) (asks.ListDeadLetterSourceQueues name)) session.old.journal result session.new.journal }
+    {
+        self.call(rt, session, &Call::ListDeadLetterSourceQueues(name))
+    }
+
+    /// StartMessageMoveTask: messages of a dead-letter queue are to move.
+    pub fn start_move<R: Wait>(
+        &self,
+        rt: &R,
+        session: &mut Session<D, T>,
+        request: StartMessageMoveTask,
+    ) -> Result<Answer, Refusal>
+        ensures { LeavesRecords (CallFits (counts_of self.now.per_queue self.now.sample) (asks.StartMessageMoveTask request)) session.old.journal result session.new.journal }
+    {
+        self.call(rt, session, &Call::StartMessageMoveTask(request))
+    }
+
+    /// CancelMessageMoveTask: no more messages leave for a task; None where the text named none.
+    pub fn cancel_move<R: Wait>(
+        &self,
+        rt: &R,
+        session: &mut Session<D, T>,
+        task: Option<TaskNo>,
+    ) -> Result<Answer, Refusal>
+        ensures { LeavesRecords (CallFits (counts_of self.now.per_queue self.now.sample) (asks.CancelMessageMoveTask task)) session.old.journal result session.new.journal }
+    {
+        self.call(rt, session, &Call::CancelMessageMoveTask(task))
+    }
+
+    /// ListMessageMoveTasks: the tasks of a source, the most recent first.
+    pub fn list_moves<R: Wait>(
+        &self,
+        rt: &R,
+        session: &mut Session<D, T>,
+        request: ListMessageMoveTasks,
+    ) -> Result<Answer, Refusal>
+        ensures { LeavesRecords (CallFits (counts_of self.now.per_queue self.now.sample) (asks.ListMessageMoveTasks request)) session.old.journal result session.new.journal }
+    {
+        self.call(rt, session, &Call::ListMessageMoveTasks(request))
+    }
+
+    /// SendMessageBatch: up to ten sends, each answered by itself.
+    pub fn send_batch<R: Wait>(
+        &self,
+        rt: &R,
+        session: &mut Session<D, T>,
+        batch: Batch,
+    ) -> Result<Answer, Refusal>
+        ensures { LeavesRecords (CallFits (counts_of self.now.per_queue self.now.sample) (asks.Batch batch)) session.old.journal result session.new.journal }
+    {
+        self.call(rt, session, &Call::Batch(batch))
+    }
+
+    /// DeleteMessageBatch: up to ten deletes, each answered by itself.
+    pub fn delete_batch<R: Wait>(
+        &self,
+        rt: &R,
+        session: &mut Session<D, T>,
+        batch: Batch,
+    ) -> Result<Answer, Refusal>
+        ensures { LeavesRecords (CallFits (counts_of self.now.per_queue self.now.sample) (asks.Batch batch)) session.old.journal result session.new.journal }
+    {
+        self.call(rt, session, &Call::Batch(batch))
+    }
+
+    /// ChangeMessageVisibilityBatch: up to ten changes, each answered by itself.
+    pub fn change_batch<R: Wait>(
+        &self,
+        rt: &R,
+        session: &mut Session<D, T>,
+        batch: Batch,
+    ) -> Result<Answer, Refusal>
+        ensures { LeavesRecords (CallFits (counts_of self.now.per_queue self.now.sample) (asks.Batch batch)) session.old.journal result session.new.journal }
+    {
+        self.call(rt, session, &Call::Batch(batch))
+    }
+}

@@ -1,0 +1,241 @@
+//! What lies under the locks of a service, and what is done there: each time the step of a world, on what is lent.
+ghost use Rattle.std.specs.Prelude.{◌≡◌, ◌≢◌, ◌⊎◌, ◌+◌, Ok, Err, None, Some, option_map, IfOk, IfErr, IfSome, IfNone, OnErr, OnOk, length};
+ghost use Rattle.sq_model.specs.Directories.{can_redrive, number_named};
+ghost use Rattle.sq_model.specs.Ledgers.{peek, task_of};
+ghost use Rattle.sq_directory.specs.Makers.{IsAnsweredByName};
+ghost use Rattle.sq_directory.specs.MoveQueues.{as_ends};
+ghost use Rattle.sq_history.specs.Acts.{call_of};
+ghost use Rattle.sq_steps.specs.Journals.{HomeMoves, DirectoryMoves, LedgerMoves, IsHomeRefused, IsDirectoryStepRefused, IsLedgerStepRefused};
+ghost use Rattle.sq_steps.specs.Reads.{next_of};
+ghost use Rattle.sq_steps.specs.SharedSteps.{SharedMoves, IsUnmoved, IsSharedRefused};
+ghost use Rattle.sq_steps.specs.TaskActs.{task_call};
+ghost use Rattle.sq_queue.specs.SessionValue.{having_read};
+
+use crate::session::Session;
+use sq_base::ids::{HomeId, QueueNo};
+use sq_base::name::QueueName;
+use sq_base::refusal::Refusal;
+use sq_directory::directory::Directory;
+use sq_history::act::HomeAct;
+use sq_history::recorded::Recorded;
+use sq_ledger::ledger::TransitLedger;
+use sq_model::directory::{DirectoryCall, DirectoryReply};
+use sq_model::item::TaskNo;
+use sq_model::ledger::LedgerReply;
+use sq_model::replies::HomeReply;
+use sq_model::task::{NamedQueue, Task};
+use sq_shard::slots::SlotStore;
+use sq_shard::store::Store;
+use sq_steps::act::{NextItem, SharedAct, TaskAct};
+use sq_steps::journal::{directory_step, home_step, ledger_step};
+use sq_steps::reads;
+use sq_steps::shared::shared_step;
+use std::alloc::Global;
+use std::sync::ledger::{Book, Ledger};
+
+/// A home with its id. It is generic over its store: so the prover finds that a service may be shared by threads.
+#[derive(Drop)]
+pub struct Placed<S: Store> {
+    pub(crate) id: HomeId,
+    pub(crate) home: Recorded<S>,
+    ghost own: { home.site.home ≡ id },
+}
+
+/// The home that lies under a lock.
+pub type PlacedHome = Placed<SlotStore>;
+
+impl Placed<SlotStore> {
+    /// A step of the home, where it is the one that is meant; where it is not, which never is, QueueDoesNotExist.
+    pub(crate) fn step<D: Ledger, T: Ledger>(
+        &mut self,
+        alloc: Global,
+        session: &mut Session<D, T>,
+        now: u64,
+        name: Option<QueueName>,
+        id: &HomeId,
+        act: HomeAct,
+    ) -> Result<HomeReply, Refusal>
+        ensures step { IfOk result (λ reply. HomeMoves self.old.home self.new.home session.old.journal session.new.journal now name (call_of act) reply) }
+        ensures at { OnOk result (self.old.id ≡ id.now) }
+        ensures refusal { IfErr result (λ e. IsHomeRefused self.old.home session.old.journal now (call_of act) e ⊎ ((self.old.id ≢ id.now) × (e ≡ Refusal.QueueDoesNotExist))) }
+        ensures id { self.new.id ≡ self.old.id }
+        ensures err { OnErr result (self.new.home ≡ self.old.home) }
+        ensures session_err { OnErr result (session.new ≡ session.old) }
+    {
+        if self.id != *id {
+            return Err(Refusal::QueueDoesNotExist);
+        }
+        let Placed { home, .. } = self;
+        home_step(alloc, home, &mut session.journal, now, name, act)
+    }
+}
+
+/// The directory, and how many events it has, which is the sum of the tallies of all sessions.
+#[derive(Drop)]
+pub struct CountedDirectory<D: Ledger> {
+    pub(crate) directory: Directory,
+    pub(crate) tallies: Book<D>,
+    ghost counted: { tallies.total ≡ length directory.events },
+}
+
+impl<D: Ledger> CountedDirectory<D> {
+    /// A step of the directory.
+    pub(crate) fn step<T: Ledger>(
+        &mut self,
+        alloc: Global,
+        session: &mut Session<D, T>,
+        now: u64,
+        call: &DirectoryCall,
+    ) -> Result<DirectoryReply, Refusal>
+        ensures step { IfOk result (DirectoryMoves self.old.directory self.new.directory session.old.journal session.new.journal now call.now) }
+        ensures made { IfOk result (IsAnsweredByName self.new.directory.events self.new.directory.last call.now) }
+        ensures tally { OnOk result (session.new.directory_tally ≡ session.old.directory_tally + 1) }
+        ensures refusal { IfErr result (IsDirectoryStepRefused self.old.directory session.old.journal now call.now) }
+        ensures err { OnErr result (self.new.directory ≡ self.old.directory) }
+        ensures session_err { OnErr result (session.new ≡ session.old) }
+    {
+        let CountedDirectory { directory, tallies } = self;
+        let Session {
+            journal,
+            of_directory,
+            ..
+        } = session;
+        let reply = directory_step(alloc, directory, journal, now, call)?;
+        tallies.add(of_directory, 1);
+        Ok(reply)
+    }
+
+    /// Reads the number of the queue of this name.
+    pub(crate) fn resolve<T: Ledger>(
+        &self,
+        session: &mut Session<D, T>,
+        name: &QueueName,
+    ) -> Result<QueueNo, Refusal>
+        ensures found { IfOk result (λ queue. number_named name.now self.now.directory.directory.queues ≡ Some queue) }
+        ensures seen { OnOk result (session.new ≡ having_read session.old self.now.directory.last) }
+        ensures refused { IfErr result (λ e. (e ≡ Refusal.QueueDoesNotExist) × (number_named name.now self.now.directory.directory.queues ≡ None)) }
+        ensures err { OnErr result (session.new ≡ session.old) }
+    {
+        reads::resolve(&self.directory, &mut session.journal, name)
+    }
+
+    /// Reads between which queues messages may be moved.
+    pub(crate) fn can_redrive<T: Ledger>(
+        &self,
+        session: &mut Session<D, T>,
+        source: &QueueName,
+        destination: &Option<QueueName>,
+    ) -> Result<(NamedQueue, Option<NamedQueue>), Refusal>
+        ensures ends { IfOk result (λ ends. can_redrive source.now destination.now self.now.directory.directory ≡ Ok (as_ends ends)) }
+        ensures seen { OnOk result (session.new ≡ having_read session.old self.now.directory.last) }
+        ensures refused { IfErr result (λ e. can_redrive source.now destination.now self.now.directory.directory ≡ Err e) }
+        ensures err { OnErr result (session.new ≡ session.old) }
+    {
+        reads::can_redrive(&self.directory, &mut session.journal, source, destination)
+    }
+}
+
+/// The ledger of what is in transit, and how many events it has, which is the sum of the tallies of all sessions.
+#[derive(Drop)]
+pub struct CountedLedger<T: Ledger> {
+    pub(crate) ledger: TransitLedger,
+    pub(crate) tallies: Book<T>,
+    ghost counted: { tallies.total ≡ length ledger.history.events },
+}
+
+impl<T: Ledger> CountedLedger<T> {
+    /// A step of the ledger alone.
+    pub(crate) fn step<D: Ledger>(
+        &mut self,
+        alloc: Global,
+        session: &mut Session<D, T>,
+        now: u64,
+        act: &TaskAct,
+    ) -> Result<LedgerReply, Refusal>
+        ensures step { IfOk result (LedgerMoves self.old.ledger.history self.new.ledger.history session.old.journal session.new.journal now (task_call act.now)) }
+        ensures tally { OnOk result (session.new.ledger_tally ≡ session.old.ledger_tally + 1) }
+        ensures refusal { IfErr result (IsLedgerStepRefused self.old.ledger.history session.old.journal now (task_call act.now)) }
+        ensures err { OnErr result (self.new.ledger.history ≡ self.old.ledger.history) }
+        ensures session_err { OnErr result (session.new ≡ session.old) }
+    {
+        let CountedLedger { ledger, tallies } = self;
+        let Session {
+            journal,
+            of_ledger,
+            ..
+        } = session;
+        let reply = ledger_step(alloc, ledger, journal, now, act)?;
+        tallies.add(of_ledger, 1);
+        Ok(reply)
+    }
+
+    /// A step that the ledger shares with a home, where it is the one that is meant; none where nothing is there to leave. Where
+    /// the home is not the one that is meant, which never is, QueueDoesNotExist.
+    pub(crate) fn share<D: Ledger>(
+        &mut self,
+        alloc: Global,
+        placed: &mut PlacedHome,
+        session: &mut Session<D, T>,
+        now: u64,
+        name: Option<QueueName>,
+        id: &HomeId,
+        act: SharedAct,
+    ) -> Result<Option<HomeReply>, Refusal>
+        ensures step { IfOk result (λ told. IfSome told (SharedMoves placed.old.home placed.new.home self.old.ledger.history self.new.ledger.history session.old.journal session.new.journal now name act)) }
+        ensures at { OnOk result (placed.old.id ≡ id.now) }
+        ensures tally { IfOk result (λ told. IfSome told (λ _. session.new.ledger_tally ≡ session.old.ledger_tally + 1)) }
+        ensures none { IfOk result (λ told. IfNone told (IsUnmoved placed.old.home self.old.ledger.history session.old.journal now act)) }
+        ensures none_home { IfOk result (λ told. IfNone told (placed.new.home ≡ placed.old.home)) }
+        ensures none_ledger { IfOk result (λ told. IfNone told (self.new.ledger.history ≡ self.old.ledger.history)) }
+        ensures none_session { IfOk result (λ told. IfNone told (session.new ≡ session.old)) }
+        ensures refusal { IfErr result (λ e. IsSharedRefused placed.old.home self.old.ledger.history session.old.journal now act e ⊎ ((placed.old.id ≢ id.now) × (e ≡ Refusal.QueueDoesNotExist))) }
+        ensures id { placed.new.id ≡ placed.old.id }
+        ensures home_err { OnErr result (placed.new.home ≡ placed.old.home) }
+        ensures ledger_err { OnErr result (self.new.ledger.history ≡ self.old.ledger.history) }
+        ensures session_err { OnErr result (session.new ≡ session.old) }
+    {
+        if placed.id != *id {
+            return Err(Refusal::QueueDoesNotExist);
+        }
+        let CountedLedger { ledger, tallies } = self;
+        let Placed { home, .. } = placed;
+        let Session {
+            journal,
+            of_ledger,
+            ..
+        } = session;
+        match shared_step(alloc, home, ledger, journal, now, name, act)? {
+            Some(reply) => {
+                tallies.add(of_ledger, 1);
+                Ok(Some(reply))
+            }
+            None => Ok(None),
+        }
+    }
+
+    /// Reads where the item in transit goes that comes after a number.
+    pub(crate) fn peek<D: Ledger>(
+        &self,
+        session: &mut Session<D, T>,
+        after: u64,
+    ) -> Option<NextItem>
+        ensures next { result ≡ option_map next_of (peek after self.now.ledger.history.ledger) }
+        ensures seen { session.new ≡ having_read session.old self.now.ledger.history.last }
+    {
+        reads::peek(&self.ledger, &mut session.journal, after)
+    }
+
+    /// Reads the task of a number.
+    pub(crate) fn read_task<D: Ledger>(
+        &self,
+        session: &mut Session<D, T>,
+        number: TaskNo,
+    ) -> Result<Task, Refusal>
+        ensures found { IfOk result (λ task. task_of number self.now.ledger.history.ledger ≡ Some task) }
+        ensures seen { OnOk result (session.new ≡ having_read session.old self.now.ledger.history.last) }
+        ensures refused { IfErr result (λ e. (e ≡ Refusal.ResourceNotFoundException) × (task_of number self.now.ledger.history.ledger ≡ None)) }
+        ensures err { OnErr result (session.new ≡ session.old) }
+    {
+        reads::read_task(&self.ledger, &mut session.journal, number)
+    }
+}

@@ -1,0 +1,90 @@
+//! A client of a service: an actor, with the records of its steps.
+ghost use Rattle.std.specs.Prelude.{◌≡◌, ◌≤◌, ◌<◌, IfOk, IfErr, length};
+ghost use Rattle.rand.specs.Sample.{IsSampleOf};
+ghost use Rattle.sq_queue.specs.Tallies.{directory_records, ledger_records};
+
+use sq_base::ids::HomeNo;
+use sq_base::refusal::Refusal;
+use sq_sample::sampler::{HomeCount, Sampler};
+use sq_steps::journal::Journal;
+use std::alloc::Global;
+use std::marker::Model;
+use std::sync::ledger::{Ledger, Share};
+
+/// A session of a service. It is of one thread at a time, and makes its calls one after another. One that is given back
+/// neither by `retire` nor by `finish` is missing from the parts that the service leaves.
+///
+/// Its tallies are how many of its records are of the directory, and how many of the ledger. They are no bytes: each is a share
+/// in a count that stands under the lock of the directory, or of the ledger.
+#[derive(Drop)]
+pub struct Session<D: Ledger, T: Ledger> {
+    pub(crate) journal: Journal,
+    pub(crate) of_directory: Share<D>,
+    pub(crate) of_ledger: Share<T>,
+    pub(crate) sampler: Sampler,
+}
+
+impl<D: Ledger, T: Ledger> Model for Session<D, T> {
+    ghost use Rattle.std.specs.Prelude.{◌≡◌};
+    ghost use Rattle.sq_queue.specs.SessionValue.{SessionValue};
+    ghost use Rattle.sq_queue.specs.Tallies.{directory_records, ledger_records};
+
+    ghost Value = { SessionValue };
+
+    ghost view = { λ s. record { journal = s.journal; directory_tally = s.of_directory.amount; ledger_tally = s.of_ledger.amount } };
+
+    ghost invariant = { λ s. record {
+      one_of_directory : s.of_directory.parts ≡ 1;
+      one_of_ledger : s.of_ledger.parts ≡ 1;
+      directory_counted : s.of_directory.amount ≡ directory_records s.journal.records;
+      ledger_counted : s.of_ledger.amount ≡ ledger_records s.journal.records;
+    } };
+}
+
+impl<D: Ledger, T: Ledger> Session<D, T> {
+    /// The number of its actor; no two sessions of a service have the same.
+    pub fn actor(&self) -> u32
+        ensures { result ≡ self.now.journal.actor }
+    {
+        self.journal.actor()
+    }
+
+    /// How many records of its steps there are.
+    pub fn len(&self) -> usize
+        ensures { result ≡ length self.now.journal.records }
+    {
+        self.journal.len()
+    }
+
+    /// Its tallies are how many of its records are of the directory, and of the ledger. It does nothing: its contract is the law.
+    pub fn tallies_are_counts(&self)
+        ensures directory { self.now.directory_tally ≡ directory_records self.now.journal.records }
+        ensures ledger { self.now.ledger_tally ≡ ledger_records self.now.journal.records }
+    {
+        let _ = &self.journal;
+    }
+
+    // One home of a queue.
+    pub(crate) fn pick(&mut self, homes: HomeCount) -> HomeNo
+        ensures below { result < homes }
+        ensures unchanged { self.new ≡ self.old }
+    {
+        self.sampler.pick(homes)
+    }
+
+    // Distinct homes of a queue. Refused only where memory is out.
+    pub(crate) fn draw(
+        &mut self,
+        alloc: Global,
+        homes: HomeCount,
+        count: HomeCount,
+    ) -> Result<Vec<HomeNo>, Refusal>
+        requires { count ≤ homes }
+        ensures some { 1 ≤ count }
+        ensures sample { IfOk result (λ drawn. IsSampleOf homes count drawn.items) }
+        ensures refused { IfErr result (λ e. e ≡ Refusal.NoMemory) }
+        ensures unchanged { self.new ≡ self.old }
+    {
+        self.sampler.draw(alloc, homes, count)
+    }
+}

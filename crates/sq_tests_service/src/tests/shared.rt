@@ -1,0 +1,265 @@
+//! A service under test, its sessions and the evidence that they leave, each in a box: a function that has one on its own stack is
+//! proved with all that it is made of, which takes up to ten times as long.
+ghost use Rattle.std.specs.Prelude.{◌≡◌};
+
+use sq_audit::merge::merge;
+use sq_audit::parts::Parts;
+use sq_base::ids::HomeId;
+use sq_base::refusal::Refusal;
+use sq_calls::calls::{Answer, Call};
+use sq_calls::turns::{Turn, Turned};
+use sq_client::progress::Progress;
+use sq_opening::options::Options;
+use sq_places::places::places_of;
+use sq_queue::service::{Clock, Gate, Service, Serving};
+use sq_queue::session::Session;
+use sq_shard::slots::SlotStore;
+use sq_shard::store::Store;
+use std::alloc::Global;
+use std::marker::Model;
+use std::process::Abort;
+use std::sync::Wait;
+use std::sync::atomic::{AtomicU64, Ordering};
+use std::sync::ledger::{Blank, Ledger};
+
+/// A clock that a test sets.
+#[derive(Drop)]
+pub struct Hand<'a>(pub &'a AtomicU64);
+
+impl<'a> Clock for Hand<'a> {
+    fn now(&self) -> u64 {
+        self.0.load(Ordering::SeqCst)
+    }
+}
+
+/// How often a gate looks whether it may let a thread go on.
+const LOOKS: u32 = 100_000_000;
+
+/// A gate that holds who is inside a home of one queue until a sign is given.
+#[derive(Drop)]
+pub struct Door<'a> {
+    /// The number of the queue; 0 where it holds nobody.
+    pub queue: u64,
+    /// Is 1 once somebody is held.
+    pub held: &'a AtomicU64,
+    /// The sign: not 0.
+    pub sign: &'a AtomicU64,
+    /// Is 1 once somebody who was held saw the sign.
+    pub met: &'a AtomicU64,
+}
+
+/// Waits until a number is not 0, and tells whether it was before it had looked so often.
+pub fn is_set(number: &AtomicU64) -> bool {
+    for _ in 0..LOOKS {
+        if number.load(Ordering::SeqCst) != 0 {
+            return true;
+        }
+    }
+    false
+}
+
+impl<'a> Gate for Door<'a> {
+    fn inside(&self, home: &HomeId) {
+        if home.queue.get() != self.queue {
+            return;
+        }
+        self.held.store(1, Ordering::SeqCst);
+        if is_set(self.sign) {
+            self.met.store(1, Ordering::SeqCst);
+        }
+    }
+
+    fn between(&self, _item: u64) {}
+}
+
+/// Queues of so many homes, all of which are asked.
+pub fn options(homes: u32) -> Options {
+    Options {
+        homes,
+        sample: homes,
+        queues: 64,
+        rows: 100_000,
+        flights: 100_000,
+        transit: 1000,
+        seed: 7,
+    }
+}
+
+/// A gate that holds nobody; the number is never looked at.
+pub fn open(none: &AtomicU64) -> Door<'_> {
+    Door {
+        queue: 0,
+        held: none,
+        sign: none,
+        met: none,
+    }
+}
+
+/// A service that threads share.
+#[derive(Drop)]
+pub struct Shared<'a, D: Ledger, T: Ledger, S: Store> {
+    service: Box<Serving<Hand<'a>, Door<'a>, D, T, S>>,
+}
+
+/// A session of it.
+#[derive(Drop)]
+pub struct Client<D: Ledger, T: Ledger> {
+    session: Box<Session<D, T>>,
+}
+
+impl<D: Ledger, T: Ledger> Model for Client<D, T> {
+    ghost use Rattle.std.specs.Prelude.{⊤};
+
+    ghost Value = { ⊤ };
+
+    ghost view = { λ c. tt };
+}
+
+impl<'a, D: Ledger, T: Ledger> Shared<'a, D, T, SlotStore> {
+    pub fn new(
+        rt: &impl Abort,
+        alloc: Global,
+        options: Options,
+        time: &'a AtomicU64,
+        door: Door<'a>,
+        of_directory: Blank,
+        of_ledger: Blank,
+    ) -> Shared<'a, D, T, SlotStore>
+        requires of_directory { (of_directory.name ≡ D.name) × (of_directory.parts ≡ D.parts) × (D.parts ≡ 4294967296) }
+        requires of_ledger { (of_ledger.name ≡ T.name) × (of_ledger.parts ≡ T.parts) × (T.parts ≡ 4294967296) }
+    {
+        let service: Service<Hand<'a>, Door<'a>, D, T> = Service::new(
+            alloc,
+            options,
+            Hand(time),
+            door,
+            of_directory,
+            of_ledger,
+        ).expect(rt, "a service");
+        Shared {
+            service: Box::new(alloc, service).expect(rt, "memory"),
+        }
+    }
+
+    /// A new client.
+    pub fn client<R: Wait + Abort>(&self, rt: &R, alloc: Global) -> Client<D, T> {
+        let session = self.service.session(rt).expect(rt, "a number");
+        Client {
+            session: Box::new(alloc, session).expect(rt, "memory"),
+        }
+    }
+
+    /// Does what a client asks.
+    pub fn call<R: Wait>(
+        &self,
+        rt: &R,
+        client: &mut Client<D, T>,
+        call: &Call,
+    ) -> Result<Answer, Refusal> {
+        self.service.call(rt, &mut client.session, call)
+    }
+
+    /// Does a turn of a mover that is so far.
+    pub fn turn<R: Wait>(
+        &self,
+        rt: &R,
+        client: &mut Client<D, T>,
+        progress: &mut Progress,
+        turn: &Turn,
+    ) -> Result<Turned, Refusal> {
+        self.service.turn(rt, &mut client.session, progress, turn)
+    }
+
+    /// Takes a client back.
+    pub fn retire<R: Wait + Abort>(&self, rt: &R, client: Client<D, T>) {
+        match self.service.retire(rt, Box::into_inner(client.session)) {
+            Ok(()) => {}
+            Err(_) => assert!(rt; false, "memory"),
+        }
+    }
+
+    /// Ends it, with these clients.
+    pub fn finish(self, rt: &impl Abort, alloc: Global, clients: Vec<Client<D, T>>) -> Evidence
+        requires of_directory { D.parts ≡ 4294967296 }
+        requires of_ledger { T.parts ≡ 4294967296 }
+    {
+        let sessions = sessions_of(rt, alloc, clients);
+        match Box::into_inner(self.service).finish(sessions) {
+            Ok(parts) => Evidence {
+                parts: Box::new(alloc, parts).expect(rt, "memory"),
+            },
+            Err(_) => panic!(rt; "memory"),
+        }
+    }
+}
+
+// The sessions of these clients.
+fn sessions_of<D: Ledger, T: Ledger>(
+    rt: &impl Abort,
+    alloc: Global,
+    clients: Vec<Client<D, T>>,
+) -> Vec<Session<D, T>> {
+    let mut sessions = Vec::new(alloc);
+    for client in clients {
+        match sessions.push(Box::into_inner(client.session)) {
+            Ok(()) => {}
+            Err(_) => assert!(rt; false, "memory"),
+        }
+    }
+    sessions
+}
+
+/// The parts of a service with their histories, and what each session kept of its steps.
+#[derive(Drop)]
+pub struct Evidence {
+    parts: Box<Parts>,
+}
+
+impl Model for Evidence {
+    ghost use Rattle.std.specs.Prelude.{⊤};
+
+    ghost Value = { ⊤ };
+
+    ghost view = { λ e. tt };
+}
+
+/// What a test looks at of it.
+#[derive(Clone, Copy, PartialEq, Eq, Debug)]
+pub struct Seen {
+    /// How many sessions were made, and how many left their records.
+    pub sessions: [u64; 2],
+    /// How many events the directory, the ledger and the first home have.
+    pub events: [u64; 3],
+    /// How many messages there were; none where the evidence is not of one run.
+    pub messages: Option<u64>,
+}
+
+impl Evidence {
+    pub fn seen(&self, alloc: Global) -> Seen {
+        let parts = &self.parts;
+        Seen {
+            sessions: [parts.made, parts.records.as_slice().len() as u64],
+            events: [
+                parts.directory.events().len() as u64,
+                parts.ledger.events().len() as u64,
+                first_home(parts),
+            ],
+            messages: messages(alloc, parts),
+        }
+    }
+}
+
+// How many events the first home has.
+fn first_home(parts: &Parts) -> u64 {
+    match parts.homes.as_slice().first() {
+        Some(home) => home.events().len() as u64,
+        None => 0,
+    }
+}
+
+// How many messages there were, in one run of all.
+fn messages(alloc: Global, parts: &Parts) -> Option<u64> {
+    let run = merge(alloc, parts).ok()?;
+    let places = places_of(alloc, &run).ok()?;
+    Some(places.len() as u64)
+}
