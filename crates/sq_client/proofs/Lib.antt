@@ -5,3 +5,4 @@ pub mod LeaveLaws
 pub mod ClientLaws
 pub mod EntryLaws
 pub mod TurnLaws
+pub mod TurnRecordLaws

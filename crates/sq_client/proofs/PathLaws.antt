@@ -47,7 +47,7 @@ answered_more stepped F G old mid new answered d h rest fits = record {
 }
 
 -- nothing was changed
-no_gain : (a b : Journal) → b ≡ a → Gains [] a b
+pub no_gain : (a b : Journal) → b ≡ a → Gains [] a b
 no_gain a b same = record {
   added = ap (λ (x : Journal). x.records) same ∙ sym (append-nil a.records);
   follow = tt;
@@ -59,7 +59,7 @@ no_gain a b same = record {
 }
 
 -- a part was read
-read_gain : (a b : Journal) (last : StampValue) → b ≡ having_seen a last → Gains [] a b
+pub read_gain : (a b : Journal) (last : StampValue) → b ≡ having_seen a last → Gains [] a b
 read_gain a b last same = record {
   added = ap (λ (x : Journal). x.records) same ∙ sym (append-nil a.records);
   follow = tt;
@@ -113,7 +113,7 @@ follow_append next next2 seen seen2 (x ∷ xs) ys f within below e g =
     (f.0, f.1, follow_append (next + 1) next2 (stamp_of x) seen2 xs ys f.2 (All-tail (λ n. IsSeen (stamp_of n) seen2) x xs within) (All-head (λ n. IsSeen (stamp_of n) seen2) x xs within) (omega (arith, e)) g)
 
 -- records that are gained one after another
-gains_more : (a b c : Journal) (xs ys : List RecordValue) → Gains xs a b → Gains ys b c → Gains (xs ++ ys) a c
+pub gains_more : (a b c : Journal) (xs ys : List RecordValue) → Gains xs a b → Gains ys b c → Gains (xs ++ ys) a c
 gains_more a b c xs ys h k = record {
   added = k.added ∙ ap (λ (ns : List RecordValue). ns ++ ys) h.added ∙ append_assoc a.records xs ys;
   follow = follow_append a.next b.next a.seen b.seen xs ys h.follow h.within h.saw h.counted k.follow;

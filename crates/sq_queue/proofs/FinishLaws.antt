@@ -1,18 +1,15 @@
 -- What is gathered at the end of a service.
-use Rattle.std.proofs.Common.{◌≡◌, ◌≢◌, ◌⊎◌, ◌+◌, ◌<◌, ◌≤◌, ℕ, List, [], ◌∷◌, ◌++◌, length, map, sum_by, fold, refl, sym, ap, subst, inl, inr, ◌∙◌, length-append, arith, zero, suc, None, Some, slice_get, take, Bool, true, false, ◌&&◌}
-use Rattle.std.specs.Prelude.{position, ◌==◌}
+use Rattle.std.proofs.Common.{◌≡◌, ◌⊎◌, ◌+◌, ◌≤◌, ℕ, List, [], ◌∷◌, ◌++◌, length, map, sum_by, refl, sym, ap, inl, inr, ◌∙◌, length-append, arith, Bool, true, false, ◌&&◌}
+use Rattle.std.specs.Prelude.{◌==◌}
 use Rattle.std.proofs.lemmas.Bool.{eqb-true}
 use Rattle.std.proofs.lemmas.List.{length-map}
 use Rattle.sq_base.specs.declared.ids.HomeId.{HomeId}
 use Rattle.sq_audit.proofs.HomeIdLaws.{same_id}
 use Rattle.std.proofs.lemmas.List.Sums.{sum_by-append}
 use Rattle.std.proofs.lemmas.List.Folds.{fold-map}
-use Rattle.sq_model.specs.RecordValues.{Journal}
 use Rattle.sq_history.specs.HistoryValue.{HistoryValue}
 use Rattle.sq_audit.specs.HomeIds.{home_id, IsNumbered}
 use Rattle.sq_directory.proofs.ElementLaws.{get_cases}
-use Rattle.sq_steps.specs.Journals.{is_of, journal_of, AreDistinct}
-use Rattle.sq_steps.proofs.JournalListLaws.{found_there, journal_own, journal_once, lost_put, put_distinct}
 
 none_of : {A : Type 0} (xs : List A) → length xs ≡ 0 → xs ≡ []
 none_of [] h = refl

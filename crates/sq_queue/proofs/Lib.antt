@@ -1,2 +1,3 @@
 pub mod LockLaws
 pub mod FinishLaws
+pub mod LastTaskLaws

@@ -7,6 +7,7 @@ pub mod finish;
 mod locked;
 pub mod named;
 pub mod parts;
+pub mod reads;
 pub mod service;
 pub mod session;
 pub mod threads;

@@ -1,7 +1,7 @@
 //! What lies under the locks of a service, and what is done there: each time the step of a world, on what is lent.
-ghost use Rattle.std.specs.Prelude.{◌≡◌, ◌≢◌, ◌⊎◌, ◌+◌, Ok, Err, None, Some, option_map, IfOk, IfErr, IfSome, IfNone, OnErr, OnOk, length};
-ghost use Rattle.sq_model.specs.Directories.{can_redrive, number_named};
-ghost use Rattle.sq_model.specs.Ledgers.{peek, task_of};
+ghost use Rattle.std.specs.Prelude.{◌≡◌, ◌≢◌, ◌⊎◌, ◌+◌, ◌<◌, Ok, Err, None, Some, option_map, IfOk, IfErr, IfSome, IfNone, OnErr, OnOk, length};
+ghost use Rattle.sq_model.specs.Directories.{all_named, can_redrive, number_named};
+ghost use Rattle.sq_model.specs.Ledgers.{last_task, peek, task_of};
 ghost use Rattle.sq_directory.specs.Makers.{IsAnsweredByName};
 ghost use Rattle.sq_directory.specs.MoveQueues.{as_ends};
 ghost use Rattle.sq_history.specs.Acts.{call_of};
@@ -22,6 +22,7 @@ use sq_ledger::ledger::TransitLedger;
 use sq_model::directory::{DirectoryCall, DirectoryReply};
 use sq_model::item::TaskNo;
 use sq_model::ledger::LedgerReply;
+use sq_model::listed::Listed;
 use sq_model::replies::HomeReply;
 use sq_model::task::{NamedQueue, Task};
 use sq_shard::slots::SlotStore;
@@ -117,6 +118,20 @@ impl<D: Ledger> CountedDirectory<D> {
         ensures err { OnErr result (session.new ≡ session.old) }
     {
         reads::resolve(&self.directory, &mut session.journal, name)
+    }
+
+    /// Reads the names and numbers of all queues, in order of creation.
+    pub(crate) fn names<T: Ledger>(
+        &self,
+        alloc: Global,
+        session: &mut Session<D, T>,
+    ) -> Result<Listed<NamedQueue>, Refusal>
+        ensures names { IfOk result (λ names. names ≡ all_named self.now.directory.directory) }
+        ensures seen { OnOk result (session.new ≡ having_read session.old self.now.directory.last) }
+        ensures refused { IfErr result (λ e. (e ≡ Refusal.NoMemory) × (0 < length self.now.directory.directory.queues)) }
+        ensures err { OnErr result (session.new ≡ session.old) }
+    {
+        reads::names(alloc, &self.directory, &mut session.journal)
     }
 
     /// Reads between which queues messages may be moved.
@@ -237,5 +252,17 @@ impl<T: Ledger> CountedLedger<T> {
         ensures err { OnErr result (session.new ≡ session.old) }
     {
         reads::read_task(&self.ledger, &mut session.journal, number)
+    }
+
+    /// Reads the most recent task of a source.
+    pub(crate) fn last_task<D: Ledger>(
+        &self,
+        session: &mut Session<D, T>,
+        source: QueueNo,
+    ) -> Option<Task>
+        ensures task { result ≡ last_task source self.now.ledger.history.ledger }
+        ensures seen { session.new ≡ having_read session.old self.now.ledger.history.last }
+    {
+        reads::last_task(&self.ledger, &mut session.journal, source)
     }
 }

@@ -212,7 +212,7 @@ pub fn id_text<'b>(id: &MessageId, buffer: &'b mut [u8; 45]) -> &'b str
 }
 
 /// The handle of a row as its home gave it.
-fn handle_of(home: &HomeId, row: &Row) -> Handle
+pub fn handle_of(home: &HomeId, row: &Row) -> Handle
     requires { 1 ≤ row.now.receives }
     ensures { result ≡ handle_of home.now row.now }
 {

@@ -1,4 +1,4 @@
-use Rattle.std.proofs.Common.{rules, arith, sym, ◌∙◌}
+use Rattle.std.proofs.Common.{rules, sym, ◌∙◌}
 use Rattle.sq_queue.specs.Tallies.{directory_records, ledger_records}
 use Rattle.sq_queue.proofs.FinishLaws.{all_counted}
 use Rattle.sq_queue.proofs.finish.Serving+C+G+D+T+SlotStore.finish.Goals as goal

@@ -1,0 +1,44 @@
+-- Turns one after another, and reads between them.
+use Rattle.std.proofs.Common.{◌≡◌, ℕ, ◌+◌, ◌≤◌, List, [], ◌++◌, length, ap, arith}
+use Rattle.std.proofs.lemmas.List.{length-append}
+use Rattle.sq_model.specs.RecordValues.{RecordValue, Journal}
+use Rattle.sq_calls.specs.declared.turns.Turn.{Turn}
+use Rattle.sq_calls.specs.declared.turns.Turned.{Turned}
+use Rattle.sq_base.specs.declared.refusal.Refusal.{Refusal}
+use Rattle.std.specs.Prelude.{Result, Ok, Err, OnOk, OnErr}
+use Rattle.sq_client.specs.declared.progress.Progress.{Progress}
+use Rattle.sq_client.specs.Performs.{LeavesRecords}
+use Rattle.sq_client.specs.Turns.{TurnFits}
+use Rattle.sq_client.proofs.PathLaws.{no_gain, read_gain, gains_more}
+use Rattle.sq_client.proofs.TurnRecordLaws.{one_record}
+use Rattle.sq_queue.specs.SessionValue.{SessionValue}
+use Rattle.sq_queue.specs.Services.{HasRead}
+use Rattle.sq_mover.specs.Movers.{GainsAtMost}
+
+-- nothing was done
+pub gains_none : (most : ℕ) (s t : SessionValue) → t ≡ s → GainsAtMost most s.journal t.journal
+gains_none most s t same = ([], no_gain s.journal t.journal (ap (λ (x : SessionValue). x.journal) same), omega arith)
+
+-- a part was read
+pub gains_read : (most : ℕ) (s t : SessionValue) → HasRead s t → GainsAtMost most s.journal t.journal
+gains_read most s t read = ([], read_gain s.journal t.journal read.0 (ap (λ (x : SessionValue). x.journal) read.1), omega arith)
+
+-- a part was read, or that was refused
+pub gains_asked : {X E : Type 0} (answered : Result X E) (s t : SessionValue) → OnOk answered (HasRead s t) → OnErr answered (t ≡ s) → GainsAtMost 0 s.journal t.journal
+gains_asked (Ok x) s t read err = gains_read 0 s t read
+gains_asked (Err e) s t read err = gains_none 0 s t err
+
+-- a turn was done
+pub gains_turn : (homes : ℕ) (what : Turn) (before after : Progress) (s t : SessionValue) (answered : Result Turned Refusal) → LeavesRecords (TurnFits homes what before after) s.journal answered t.journal → GainsAtMost 1 s.journal t.journal
+gains_turn homes what before after s t answered left =
+    let few = one_record homes what before after s.journal t.journal answered left in
+    let all = ap (λ (xs : List RecordValue). length xs) left.gains.added in
+    (left.records, left.gains, omega (arith, few, all, length-append s.journal.records left.records))
+
+-- one after another
+pub gains_both : (m n : ℕ) (a b c : Journal) → GainsAtMost m a b → GainsAtMost n b c → GainsAtMost (m + n) a c
+gains_both m n a b c h k = (h.0 ++ k.0, gains_more a b c h.0 k.0 h.1 k.1, let x = h.2 in let y = k.2 in omega (arith, x, y, length-append h.0 k.0))
+
+-- of more it is true too
+pub gains_fewer : (m n : ℕ) (a b : Journal) → m ≤ n → GainsAtMost m a b → GainsAtMost n a b
+gains_fewer m n a b most h = (h.0, h.1, let x = h.2 in omega (arith, x, most))

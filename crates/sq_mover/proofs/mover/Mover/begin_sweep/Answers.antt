@@ -1,0 +1,5 @@
+use Rattle.sq_mover.proofs.MoverLaws.{gains_asked}
+use Rattle.sq_mover.proofs.mover.Mover.begin_sweep.Goals as goal
+
+pub returns-clause-gains : goal.returns-clause-gains
+returns-clause-gains g c = gains_asked c.names.result c.args.session.now c.names.new.session c.names.ensures.read c.names.ensures.err

@@ -1,0 +1,210 @@
+//! A mover, turn after turn, over all queues.
+ghost use Rattle.std.specs.Prelude.{◌≡◌, Err, IfErr, IfOk, OnOk};
+ghost use Rattle.sq_client.specs.Asks.{IsOfAnyStep};
+ghost use Rattle.sq_mover.specs.Movers.{GainsAtMost, active_of};
+
+use crate::turns::{dead_turn, enter_turn, task_turn};
+use crate::walks::Walks;
+use sq_base::ids::QueueNo;
+use sq_base::refusal::Refusal;
+use sq_calls::turns::Turned;
+use sq_model::item::TaskNo;
+use sq_model::listed::Listed;
+use sq_model::task::{NamedQueue, Task, TaskStatus};
+use sq_queue::service::{Clock, Gate, Service};
+use sq_queue::session::Session;
+use std::alloc::Global;
+use std::sync::Wait;
+use std::sync::ledger::Ledger;
+
+/// What a mover does next at the queue that its sweep is at.
+#[derive(Clone, Copy, PartialEq, Eq, Debug)]
+enum Stage {
+    /// A dead letter of it leaves.
+    Leave,
+    /// The task that takes messages from it is served, if there is one.
+    Serve,
+    /// An item in transit comes in where it goes to.
+    Bring,
+}
+
+/// How far a mover is: in its sweep over the queues, in what is in transit, and in the homes of each task's source.
+#[derive(Drop)]
+pub struct Mover {
+    queues: Listed<NamedQueue>,
+    at: usize,
+    stage: Stage,
+    tried: u64,
+    walks: Walks,
+}
+
+impl Mover {
+    /// A mover that has done nothing yet.
+    pub fn new(alloc: Global) -> Mover {
+        Mover {
+            queues: Listed::new(alloc),
+            at: 0,
+            stage: Stage::Leave,
+            tried: 0,
+            walks: Walks::new(alloc),
+        }
+    }
+
+    // A new sweep begins where the last one is over, with the queues that are there now. Refused as NoMemory.
+    fn begin_sweep<C: Clock + Drop, G: Gate + Drop, D: Ledger, T: Ledger, R: Wait>(
+        &mut self,
+        service: &Service<C, G, D, T>,
+        rt: &R,
+        session: &mut Session<D, T>,
+    ) -> Result<(), Refusal>
+        ensures gains { GainsAtMost 0 session.old.journal session.new.journal }
+        ensures refused { IfErr result (λ e. e ≡ Refusal.NoMemory) }
+    {
+        if self.at < self.queues.len() {
+            return Ok(());
+        }
+        self.queues = service.names(rt, session)?;
+        self.walks.next_sweep();
+        self.at = 0;
+        Ok(())
+    }
+
+    // The queue that the sweep is at; none where there is no queue.
+    fn queue(&self) -> Option<NamedQueue> {
+        self.queues.as_slice().get(self.at).copied()
+    }
+
+    // The next turn of the sweep; a sweep that finds no queue is one.
+    fn turn<C: Clock + Drop, G: Gate + Drop, D: Ledger, T: Ledger, R: Wait>(
+        &mut self,
+        service: &Service<C, G, D, T>,
+        rt: &R,
+        session: &mut Session<D, T>,
+    ) -> Result<Turned, Refusal>
+        ensures { GainsAtMost 1 session.old.journal session.new.journal }
+    {
+        self.begin_sweep(service, rt, session)?;
+        match self.queue() {
+            Some(queue) => self.turn_at(service, rt, session, &queue),
+            None => Ok(Turned::Nothing),
+        }
+    }
+
+    // The next turn at a queue.
+    fn turn_at<C: Clock + Drop, G: Gate + Drop, D: Ledger, T: Ledger, R: Wait>(
+        &mut self,
+        service: &Service<C, G, D, T>,
+        rt: &R,
+        session: &mut Session<D, T>,
+        queue: &NamedQueue,
+    ) -> Result<Turned, Refusal>
+        ensures { GainsAtMost 1 session.old.journal session.new.journal }
+    {
+        match self.stage {
+            Stage::Leave => {
+                self.stage = Stage::Serve;
+                dead_turn(service, rt, session, &queue.name)
+            }
+            Stage::Serve => {
+                self.stage = Stage::Bring;
+                self.serve_source(service, rt, session, queue.number)
+            }
+            Stage::Bring => self.bring(service, rt, session),
+        }
+    }
+
+    // The task that takes messages from a queue is served. Without one the next item comes in.
+    fn serve_source<C: Clock + Drop, G: Gate + Drop, D: Ledger, T: Ledger, R: Wait>(
+        &mut self,
+        service: &Service<C, G, D, T>,
+        rt: &R,
+        session: &mut Session<D, T>,
+        source: QueueNo,
+    ) -> Result<Turned, Refusal>
+        ensures { GainsAtMost 1 session.old.journal session.new.journal }
+    {
+        let task = service.last_task(rt, session, source);
+        self.serve(service, rt, session, active(task))
+    }
+
+    // A message leaves for a task, or it is to finish. Without a task the next item comes in.
+    fn serve<C: Clock + Drop, G: Gate + Drop, D: Ledger, T: Ledger, R: Wait>(
+        &mut self,
+        service: &Service<C, G, D, T>,
+        rt: &R,
+        session: &mut Session<D, T>,
+        task: Option<TaskNo>,
+    ) -> Result<Turned, Refusal>
+        ensures { GainsAtMost 1 session.old.journal session.new.journal }
+    {
+        let Some(task) = task else {
+            return self.bring(service, rt, session);
+        };
+        self.walks.reserve()?;
+        let mut walk = self.walks.of(task);
+        let told = task_turn(service, rt, session, &mut walk);
+        self.walks.keep(walk);
+        told
+    }
+
+    // The next item in transit comes in where it goes to, and the sweep goes on to the next queue.
+    fn bring<C: Clock + Drop, G: Gate + Drop, D: Ledger, T: Ledger, R: Wait>(
+        &mut self,
+        service: &Service<C, G, D, T>,
+        rt: &R,
+        session: &mut Session<D, T>,
+    ) -> Result<Turned, Refusal>
+        ensures { GainsAtMost 1 session.old.journal session.new.journal }
+    {
+        self.stage = Stage::Leave;
+        self.at = self.at.saturating_add(1);
+        enter_turn(service, rt, session, &mut self.tried)
+    }
+}
+
+// The number of a task that is not over.
+fn active(task: Option<Task>) -> Option<TaskNo>
+    ensures { result ≡ active_of task }
+{
+    match task {
+        Some(task) => match task.status {
+            TaskStatus::Running | TaskStatus::Cancelling => Some(task.number),
+            TaskStatus::Completed | TaskStatus::Cancelled | TaskStatus::Failed(_) => None,
+        },
+        None => None,
+    }
+}
+
+// Whether a refusal ends a mover's run: memory, the clock, or a count at its end. Others are passed over.
+fn ends(told: &Result<Turned, Refusal>) -> Result<(), Refusal>
+    ensures ends { IfErr result (λ e. IsOfAnyStep e × (told.now ≡ Err e)) }
+    ensures goes_on { OnOk result (IfErr told.now (λ e. ¬ IsOfAnyStep e)) }
+{
+    match told {
+        Err(refusal @ (Refusal::NoMemory | Refusal::ClockRange | Refusal::Worn)) => Err(*refusal),
+        _ => Ok(()),
+    }
+}
+
+/// Makes so many turns of a mover, or fewer, and answers how many it made: fewer only where memory, the clock or a count at
+/// its end refuses one, which ends the run with that refusal. It makes one sweep over all queues after another: at each a dead
+/// letter leaves, the task that takes messages from it is served, and the next item in transit comes in where it goes to. What
+/// is refused otherwise, as at a queue that was deleted meanwhile, is passed over. A sweep that finds no queue is one turn. The
+/// next run goes on where this one ends.
+pub fn run_mover<C: Clock + Drop, G: Gate + Drop, D: Ledger, T: Ledger, R: Wait>(
+    service: &Service<C, G, D, T>,
+    rt: &R,
+    session: &mut Session<D, T>,
+    mover: &mut Mover,
+    turns: u64,
+) -> Result<u64, Refusal>
+    ensures gains { GainsAtMost turns session.old.journal session.new.journal }
+    ensures made { IfOk result (λ n. n ≡ turns) }
+    ensures refused { IfErr result IsOfAnyStep }
+{
+    for _ in 0..turns {
+        let told = mover.turn(service, rt, session);
+        ends(&told)?;
+    }
+    Ok(turns)
+}

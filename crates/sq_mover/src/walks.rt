@@ -1,0 +1,59 @@
+//! The walks of a mover over the homes that tasks take messages from.
+ghost use Rattle.std.specs.Prelude.{◌≡◌, ◌<◌, OnOk, IfErr, vec_capacity, vec_len};
+
+use sq_base::refusal::Refusal;
+use sq_client::walk::Walk;
+use sq_model::item::TaskNo;
+use std::alloc::Global;
+use std::mem;
+
+/// One walk for each task that was served in this sweep over the queues, and in the last one: so a task that is over is
+/// forgotten by itself.
+#[derive(Drop)]
+pub(crate) struct Walks {
+    last: Vec<Walk>,
+    this: Vec<Walk>,
+}
+
+impl Walks {
+    pub(crate) fn new(alloc: Global) -> Walks {
+        Walks {
+            last: Vec::new(alloc),
+            this: Vec::new(alloc),
+        }
+    }
+
+    /// The walk for a task: as the last sweep left it, or a new one.
+    pub(crate) fn of(&self, task: TaskNo) -> Walk
+        ensures { result.task ≡ task }
+    {
+        for walk in &self.last {
+            if walk.task == task {
+                return *walk;
+            }
+        }
+        Walk::new(task)
+    }
+
+    /// Gets memory for one walk more of this sweep.
+    pub(crate) fn reserve(&mut self) -> Result<(), Refusal>
+        ensures room { OnOk result (vec_len self.new.this < vec_capacity self.new.this) }
+        ensures refused { IfErr result (λ e. e ≡ Refusal.NoMemory) }
+    {
+        self.this.try_reserve(1)?;
+        Ok(())
+    }
+
+    /// Keeps a walk of this sweep, for which there is memory.
+    pub(crate) fn keep(&mut self, walk: Walk)
+        requires { vec_len self.old.this < vec_capacity self.old.this }
+    {
+        self.this.push_reserved(walk);
+    }
+
+    /// The next sweep begins.
+    pub(crate) fn next_sweep(&mut self) {
+        mem::swap(&mut self.last, &mut self.this);
+        self.this.clear();
+    }
+}

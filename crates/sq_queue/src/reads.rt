@@ -1,0 +1,42 @@
+//! What a session reads of a service between its calls. It is no event: the session has seen then all that the part has.
+ghost use Rattle.std.specs.Prelude.{◌≡◌, IfErr, IfSome, OnErr, OnOk, true};
+ghost use Rattle.sq_model.specs.Ledgers.{is_of_source};
+ghost use Rattle.sq_queue.specs.Services.{HasRead};
+
+use crate::service::{Clock, Gate, Serving};
+use crate::session::Session;
+use sq_base::ids::QueueNo;
+use sq_base::refusal::Refusal;
+use sq_model::listed::Listed;
+use sq_model::task::{NamedQueue, Task};
+use sq_shard::slots::SlotStore;
+use std::sync::Wait;
+use std::sync::ledger::Ledger;
+
+impl<C: Clock + Drop, G: Gate + Drop, D: Ledger, T: Ledger> Serving<C, G, D, T, SlotStore> {
+    /// The names and numbers of all queues, in order of creation. Refused as NoMemory.
+    pub fn names<R: Wait>(
+        &self,
+        rt: &R,
+        session: &mut Session<D, T>,
+    ) -> Result<Listed<NamedQueue>, Refusal>
+        ensures read { OnOk result (HasRead session.old session.new) }
+        ensures refused { IfErr result (λ e. e ≡ Refusal.NoMemory) }
+        ensures err { OnErr result (session.new ≡ session.old) }
+    {
+        self.directory.lock(rt).names(self.alloc, session)
+    }
+
+    /// The most recent move task of a source; none where it had none.
+    pub fn last_task<R: Wait>(
+        &self,
+        rt: &R,
+        session: &mut Session<D, T>,
+        source: QueueNo,
+    ) -> Option<Task>
+        ensures source { IfSome result (λ task. is_of_source source task ≡ true) }
+        ensures read { HasRead session.old session.new }
+    {
+        self.ledger.lock(rt).last_task(session, source)
+    }
+}
