@@ -1,11 +1,18 @@
 -- The first line of what was read is the first line of all.
 use Rattle.std.proofs.Common.{◌≡◌, ℕ, zero, suc, ◌+◌, ◌<◌, ◌≤◌, Bool, true, false, List, [], ◌∷◌, ◌++◌, length, take, drop, get_or, Option, Some, None, refl, sym, ap, subst, ◌∙◌, append_assoc, arith, add-one}
-use Rattle.std.specs.Prelude.{◌==◌, ◌||◌, if◌then◌else◌, IfSome, MatchOption, option_map}
+use Rattle.std.specs.Prelude.{◌==◌, ◌||◌, if◌then◌else◌, IfSome, MatchOption, option_map, is_some}
 use Rattle.std.specs.Io.KnownBytes.{Consumes, Keeps, IsAtEnd}
 use Rattle.std.proofs.lemmas.Bool.{eqb-true}
 use Rattle.std.proofs.lemmas.List.{append-nil}
 use Rattle.memchr.specs.Find.{Nowhere, Passes, is_byte, IsFirstByte}
 use Rattle.sq_lines.specs.Lines.{longer, lines_of, lines_left, has_feed, FirstIsOver, FirstIsWithin, GoesOn}
+
+or_true : (b : Bool) → (b || true) ≡ true
+or_true true = refl
+or_true false = refl
+
+true_is_not : true ≡ false → ⊥
+true_is_not e = cc
 
 -- one with none before and none in the rest
 no_feed_with : (b : ℕ) (bs : List ℕ) → (b == 10) ≡ false → has_feed bs ≡ false → has_feed (b ∷ bs) ≡ false
@@ -288,3 +295,23 @@ pub goes_on_cut : (ahead left : List ℕ) (at : ℕ) → IsCut ahead at → 0 < 
 goes_on_cut ahead left zero c lt same = absurd (omega arith)
 goes_on_cut [] left (suc at) c lt same = absurd (let e = c.within in omega (arith, e))
 goes_on_cut (b ∷ ahead) left (suc at) c lt same = rw same (goes_on b (take at ahead) c.front)
+
+-- what has a line feed behind a front has one
+feed_behind : (xs ys : List ℕ) → has_feed (xs ++ (10 ∷ ys)) ≡ true
+unfolding has_feed
+feed_behind [] ys = refl
+feed_behind (b ∷ xs) ys = rw (feed_behind xs ys) (or_true (b == 10))
+
+-- whether a line feed was found is whether one is there
+pub feed_tells : (xs : List ℕ) (found : Option ℕ) → IsFirstByte (is_byte 10) xs found → is_some found ≡ has_feed xs
+feed_tells xs None h = sym (no_feed_here xs h)
+feed_tells xs (Some at) h =
+    let c = cut_found xs at h in
+    sym (subst (λ (x : List ℕ). has_feed x ≡ true) (sym c.parts) (feed_behind (take at xs) (drop (at + 1) xs)))
+
+-- where no line feed is ahead now, none was at first, since nothing was read before
+pub free_first : (now first : List ℕ) (R : Type 0) → has_feed now ≡ false → (has_feed first ≡ true → (now ≡ first) × R) → has_feed first ≡ false
+free_first now first R none same = not_passes (has_feed first) (λ is. let e = ap has_feed (same is).0 in absurd (true_is_not (sym is ∙ (sym e ∙ none))))
+
+pub feed_is_not : (xs : List ℕ) → has_feed xs ≡ true → has_feed xs ≡ false → ⊥
+feed_is_not xs is none = true_is_not (sym is ∙ none)

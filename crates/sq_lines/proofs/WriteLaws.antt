@@ -4,6 +4,7 @@ use Rattle.std.specs.Io.KnownBytes.{Appends, Keeps}
 use Rattle.std.proofs.Math.Nat.{suc-add}
 use Rattle.std.proofs.lemmas.List.{append-nil}
 use Rattle.std.proofs.Math.Seq.{take-length}
+use Rattle.sq_lines.specs.Lines.{with_feeds}
 
 pub appends_none : (a : Option (List ℕ)) → Appends a a []
 appends_none None = tt
@@ -31,7 +32,7 @@ appends_on a b c text at n p q = rw take-add (appends_more a b c (take at text) 
 pub rest_whole : (text : List ℕ) (at : ℕ) → take (length text - at) (drop at text) ≡ drop at text
 rest_whole text at = ap (λ (n : ℕ). take n (drop at text)) (sym (length-drop at text)) ∙ take-length (drop at text)
 
-front_of : (text more : List ℕ) (n : ℕ) → n ≤ length text → take n (text ++ more) ≡ take n text
+pub front_of : (text more : List ℕ) (n : ℕ) → n ≤ length text → take n (text ++ more) ≡ take n text
 front_of text more zero le = refl
 front_of [] more (suc n) le = absurd (omega arith)
 front_of (x ∷ text) more (suc n) le = ap (λ (r : List ℕ). x ∷ r) (front_of text more n (omega arith))
@@ -58,3 +59,14 @@ part_of_end old mid new text end n p q = (length text + n, rw front_past (append
 pub part_unflushed : (old mid held new : Option (List ℕ)) (text end : List ℕ) → Appends old mid text → Appends mid held end → Keeps held new → PutsPart old new (text ++ end)
 part_unflushed old mid held new text end p q k =
     (length (text ++ end), appends_whole old new (text ++ end) (appends_keeps old held new (text ++ end) (appends_more old mid held text end p q) k))
+
+-- ---- several texts
+
+pub feeds_append : (xs ys : List (List ℕ)) → with_feeds (xs ++ ys) ≡ with_feeds xs ++ with_feeds ys
+feeds_append [] ys = refl
+feeds_append (text ∷ xs) ys =
+    ap (λ (o : List ℕ). text ++ 10 ∷ o) (feeds_append xs ys) ∙ sym (append_assoc text (10 ∷ with_feeds xs) (with_feeds ys))
+
+-- one text more
+pub feeds_more : (xs : List (List ℕ)) (text : List ℕ) → with_feeds (xs ++ text ∷ []) ≡ with_feeds xs ++ (text ++ 10 ∷ [])
+feeds_more xs text = feeds_append xs (text ∷ [])

@@ -11,6 +11,11 @@ unfoldable pub lines_of : List ℕ → List (List ℕ)
 lines_of [] = []
 lines_of (b ∷ bs) = if b == 10 then [] ∷ lines_of bs else longer b (lines_of bs)
 
+-- these texts, each with a line feed behind it
+abbrev pub with_feeds : List (List ℕ) → List ℕ
+with_feeds [] = []
+with_feeds (text ∷ texts) = text ++ 10 ∷ with_feeds texts
+
 -- the lines of what was read and what is still to come, where that is known
 abbrev pub lines_left : List ℕ → Option (List ℕ) → Option (List (List ℕ))
 lines_left read known = option_map (λ xs. lines_of (read ++ xs)) known

@@ -5,3 +5,4 @@ pub mod buffer;
 pub mod counted;
 pub mod lines;
 pub mod put;
+pub mod replies;

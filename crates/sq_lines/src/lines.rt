@@ -1,5 +1,5 @@
 //! Reading a line.
-ghost use Rattle.std.specs.Prelude.{false, ◌≡◌, ◌≢◌, ◌∷◌, ◌++◌, [], IfOk, IfErr, IfSome, MatchOption, option_map, Some, OnOk, OnErr, ◌<◌, ◌≤◌, ◌+◌, take, drop, length, vec_len, vec_capacity};
+ghost use Rattle.std.specs.Prelude.{true, false, IfNone, ◌≡◌, ◌≢◌, ◌∷◌, ◌++◌, [], IfOk, IfErr, IfSome, MatchOption, option_map, Some, OnOk, OnErr, ◌<◌, ◌≤◌, ◌+◌, take, drop, length, vec_len, vec_capacity};
 ghost use Rattle.sq_lines.specs.Lines.{lines_left, lines_of, read_of, none_read, has_feed, FirstIsOver, FirstIsWithin, GoesOn, OneMore};
 ghost use Rattle.sq_lines.specs.declared.lines.LineFault.TheVariants.{TooLong, Read, NoMemory};
 
@@ -117,6 +117,13 @@ fn last_line(alloc: Global, begun: &mut Vec<u8>) -> Option<Vec<u8>>
 }
 
 impl Lines {
+    /// Whether a whole line was read already, so that `next_line` does not read.
+    pub fn holds_line(&self) -> bool
+        ensures { result ≡ has_feed self.now.ahead }
+    {
+        memchr(b'\n', self.ahead.bytes()).is_some()
+    }
+
     pub fn new(alloc: Global) -> Result<Lines, AllocError>
         ensures { IfOk result (λ l. l ≡ none_read) }
     {
@@ -144,6 +151,10 @@ impl Lines {
         ensures wanted { IfErr result (λ e. e ≡ NoMemory → GoesOn self.new.ahead) }
         ensures memory { IfErr result (λ e. e ≡ NoMemory → FirstIsWithin LIMIT (lines_of (read_of self.new))) }
         ensures memory_line { IfErr result (λ e. e ≡ NoMemory → IfSome (lines_left (read_of self.old) (R.remaining reader.old.inner)) (λ lines. 0 < length lines)) }
+        // It does not read where it holds a whole line.
+        ensures held { has_feed self.old.ahead ≡ true → reader.new ≡ reader.old }
+        ensures ended { IfOk result (λ next. IfNone next (has_feed self.old.ahead ≡ false)) }
+        ensures failed { IfErr result (λ e. e ≡ Read → has_feed self.old.ahead ≡ false) }
         ensures no_failure { OnOk result (reader.new.failed ≡ reader.old.failed) }
         ensures count { IfErr result (λ e. e ≡ Read → OneMore reader.old.failed reader.new.failed) }
         ensures else_no_failure { IfErr result (λ e. e ≢ Read → reader.new.failed ≡ reader.old.failed) }

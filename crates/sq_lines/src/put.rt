@@ -11,7 +11,7 @@ use std::io::Write;
 pub struct Unwritten;
 
 // Writes all of a text, or answers how many of its bytes were written.
-fn put<W: Write>(writer: &mut Counted<W>, text: &[u8]) -> Result<(), usize>
+pub(crate) fn put<W: Write>(writer: &mut Counted<W>, text: &[u8]) -> Result<(), usize>
     ensures ok { OnOk result (Appends (W.contents writer.old.inner) (W.contents writer.new.inner) text.now) }
     ensures err { IfErr result (λ n. Appends (W.contents writer.old.inner) (W.contents writer.new.inner) (take n text.now)) }
     ensures within { IfErr result (λ n. n < length text.now) }

@@ -1,3 +1,5 @@
 pub mod Audits
-pub mod Scripts
+pub mod Owed
 pub mod Runs
+pub mod Scripts
+pub mod Serves

@@ -1,14 +1,16 @@
 //! A reply for each line.
 ghost use Rattle.std.specs.Prelude.{◌≡◌, ◌⊎◌, ℕ, [], OnOk, IfOk, IfErr, IfSome, length};
 ghost use Rattle.sq_lines.specs.Lines.{lines_left};
-ghost use Rattle.sq_wire.specs.Scripts.{script_at};
+ghost use Rattle.sq_wire.specs.Scripts.{script_at, LineReplies, LineUnanswered};
 ghost use Rattle.sq_wire.specs.Runs.{Writes, StopsAt, IsOfCall};
 
-use crate::script::answer;
+use crate::answering::Answering;
+use crate::owed::{ended, owe, put_owed};
+use crate::script::Scripted;
 use sq_json::Scratch;
 use sq_lines::counted::Counted;
 use sq_lines::lines::{LineFault, Lines};
-use sq_lines::put::put_line;
+use sq_lines::replies::Replies;
 use sq_merge::world::World;
 use std::alloc::Global;
 use std::io::{Read, Write};
@@ -21,29 +23,30 @@ const TURNS: u64 = 1_099_511_627_776;
 pub enum ServeFault {
     /// A read failed, or 2^40 lines are answered.
     Read(u64),
-    /// A write failed. What went out of that reply is a front of it, and its request has been
-    /// carried out.
+    /// A write failed. So many replies went out whole, and of the next one a front. What its line asks is done, and what those
+    /// after it ask that were read before the write.
     Write(u64),
     NoMemory(u64),
     /// The next line is longer than `LIMIT` of `lines`.
     TooLong(u64),
 }
 
-/// Answers each line with a line, until the end or a fault. It reads no further before a line is
-/// answered and its answer is flushed.
-pub fn run_script<R: Read, W: Write>(
+/// Answers each line with a line, until the end or a fault. Replies gather, and go out together: before more is read, where no
+/// whole line is held; where there is no more room for them; and at the end.
+pub fn answer_lines<R: Read, W: Write, A: Answering>(
     alloc: Global,
     reader: &mut Counted<R>,
     writer: &mut Counted<W>,
-    world: &mut World,
+    answering: &mut A,
 ) -> Result<u64, ServeFault>
-    // For each line in order the text of a call on it, and nothing else.
+    ensures kept { A.keeps answering.old answering.new }
+    // For each line in order a text that it may have for its reply, and nothing else.
     ensures ok { IfOk result (λ n. IfSome (lines_left [] (R.remaining reader.old.inner)) (λ lines.
-        (clock : ℕ) × (n ≡ length lines) × Writes (W.contents writer.old.inner) (W.contents writer.new.inner) (script_at world.old 0) lines (script_at world.new clock))) }
+        (n ≡ length lines) × Writes A.replies (W.contents writer.old.inner) (W.contents writer.new.inner) answering.old lines answering.new)) }
     // Up to a fault; or there was no memory to begin, and nothing was touched.
-    ensures err { IfErr result (λ f. ((f ≡ ServeFault.NoMemory 0) × (reader.new ≡ reader.old) × (writer.new ≡ writer.old) × (world.new ≡ world.old))
+    ensures err { IfErr result (λ f. ((f ≡ ServeFault.NoMemory 0) × (reader.new ≡ reader.old) × (writer.new ≡ writer.old) × (answering.new ≡ answering.old))
         ⊎ IfSome (lines_left [] (R.remaining reader.old.inner)) (λ lines.
-        (clock : ℕ) × StopsAt f lines (R.remaining reader.new.inner) (W.contents writer.old.inner) (W.contents writer.new.inner) (script_at world.old 0) (script_at world.new clock))) }
+        StopsAt A.replies A.unanswered f lines (R.remaining reader.new.inner) (W.contents writer.old.inner) (W.contents writer.new.inner) answering.old answering.new)) }
     // No failed call goes unnoticed.
     ensures no_failure { OnOk result ((reader.new.failed ≡ reader.old.failed) × (writer.new.failed ≡ writer.old.failed)) }
     // A fault of reading or writing is one failed call.
@@ -52,24 +55,80 @@ pub fn run_script<R: Read, W: Write>(
     let Ok(mut lines) = Lines::new(alloc) else {
         return Err(ServeFault::NoMemory(0));
     };
-    let Ok(mut scratch) = Box::new(alloc, Scratch::new(alloc)) else {
-        return Err(ServeFault::NoMemory(0));
-    };
-    let mut clock = 0;
+    let mut replies = Replies::new(alloc);
     for answered in 0..TURNS {
+        if let Err(cut) = put_owed(&lines, &mut replies, writer, answered) {
+            return Err(cut);
+        }
         let line = match lines.next_line(alloc, reader) {
             Ok(Some(line)) => line,
             Ok(None) => return Ok(answered),
             Err(LineFault::Read) => return Err(ServeFault::Read(answered)),
-            Err(LineFault::NoMemory) => return Err(ServeFault::NoMemory(answered)),
-            Err(LineFault::TooLong) => return Err(ServeFault::TooLong(answered)),
+            Err(LineFault::NoMemory) => {
+                let fault = ServeFault::NoMemory(answered);
+                return Err(ended(&mut replies, writer, answered, fault));
+            }
+            Err(LineFault::TooLong) => {
+                let fault = ServeFault::TooLong(answered);
+                return Err(ended(&mut replies, writer, answered, fault));
+            }
         };
-        let Ok(text) = answer(alloc, &mut scratch, world, &mut clock, &line) else {
-            return Err(ServeFault::NoMemory(answered));
+        let Ok(text) = answering.answer(alloc, &line) else {
+            let fault = ServeFault::NoMemory(answered);
+            return Err(ended(&mut replies, writer, answered, fault));
         };
-        let Ok(()) = put_line(writer, text.as_bytes()) else {
-            return Err(ServeFault::Write(answered));
-        };
+        if let Err(cut) = owe(&mut replies, writer, answered, text.as_bytes()) {
+            return Err(cut);
+        }
     }
-    Err(ServeFault::Read(TURNS))
+    Err(ended(&mut replies, writer, TURNS, ServeFault::Read(TURNS)))
+}
+
+// Answers each line over the world that is borrowed.
+fn run_at<R: Read, W: Write>(
+    alloc: Global,
+    reader: &mut Counted<R>,
+    writer: &mut Counted<W>,
+    scripted: &mut Scripted<'_>,
+) -> Result<u64, ServeFault>
+    ensures same_reference { scripted.new.world.ghost_name ≡ scripted.old.world.ghost_name }
+    ensures ok { IfOk result (λ n. IfSome (lines_left [] (R.remaining reader.old.inner)) (λ lines.
+        (clock : ℕ) × (n ≡ length lines) × Writes LineReplies (W.contents writer.old.inner) (W.contents writer.new.inner) (script_at scripted.old.world.now scripted.old.clock) lines (script_at scripted.new.world.now clock))) }
+    ensures err { IfErr result (λ f. ((f ≡ ServeFault.NoMemory 0) × (reader.new ≡ reader.old) × (writer.new ≡ writer.old) × (scripted.new.world.now ≡ scripted.old.world.now))
+        ⊎ IfSome (lines_left [] (R.remaining reader.old.inner)) (λ lines.
+        (clock : ℕ) × StopsAt LineReplies LineUnanswered f lines (R.remaining reader.new.inner) (W.contents writer.old.inner) (W.contents writer.new.inner) (script_at scripted.old.world.now scripted.old.clock) (script_at scripted.new.world.now clock))) }
+    ensures no_failure { OnOk result ((reader.new.failed ≡ reader.old.failed) × (writer.new.failed ≡ writer.old.failed)) }
+    ensures count { IfErr result (λ f. IsOfCall f reader.old.failed reader.new.failed writer.old.failed writer.new.failed) }
+{
+    answer_lines(alloc, reader, writer, scripted)
+}
+
+/// Answers each line of a script over a world.
+pub fn run_script<R: Read, W: Write>(
+    alloc: Global,
+    reader: &mut Counted<R>,
+    writer: &mut Counted<W>,
+    world: &mut World,
+) -> Result<u64, ServeFault>
+    // For each line in order the text of a call on it, and nothing else.
+    ensures ok { IfOk result (λ n. IfSome (lines_left [] (R.remaining reader.old.inner)) (λ lines.
+        (clock : ℕ) × (n ≡ length lines) × Writes LineReplies (W.contents writer.old.inner) (W.contents writer.new.inner) (script_at world.old 0) lines (script_at world.new clock))) }
+    // Up to a fault; or there was no memory to begin, and nothing was touched.
+    ensures err { IfErr result (λ f. ((f ≡ ServeFault.NoMemory 0) × (reader.new ≡ reader.old) × (writer.new ≡ writer.old) × (world.new ≡ world.old))
+        ⊎ IfSome (lines_left [] (R.remaining reader.old.inner)) (λ lines.
+        (clock : ℕ) × StopsAt LineReplies LineUnanswered f lines (R.remaining reader.new.inner) (W.contents writer.old.inner) (W.contents writer.new.inner) (script_at world.old 0) (script_at world.new clock))) }
+    // No failed call goes unnoticed.
+    ensures no_failure { OnOk result ((reader.new.failed ≡ reader.old.failed) × (writer.new.failed ≡ writer.old.failed)) }
+    // A fault of reading or writing is one failed call.
+    ensures count { IfErr result (λ f. IsOfCall f reader.old.failed reader.new.failed writer.old.failed writer.new.failed) }
+{
+    let Ok(mut scratch) = Box::new(alloc, Scratch::new(alloc)) else {
+        return Err(ServeFault::NoMemory(0));
+    };
+    let mut scripted = Scripted {
+        scratch: &mut scratch,
+        world,
+        clock: 0,
+    };
+    run_at(alloc, reader, writer, &mut scripted)
 }

@@ -1,7 +1,9 @@
 //! A line of a script and its reply.
-ghost use Rattle.std.specs.Prelude.{IfOk, OnErr};
+ghost use Rattle.std.proofs.Common.{◌∙◌};
+ghost use Rattle.std.specs.Prelude.{◌≡◌, refl, IfOk, OnErr};
 ghost use Rattle.sq_wire.specs.Scripts.{script_at, IsDoneAt, LineAnswered, LineReplies, LineUnanswered};
 
+use crate::answering::Answering;
 use sq_base::refusal::Refusal;
 use sq_calls::calls::{Answered, Asked};
 use sq_json::Scratch;
@@ -65,4 +67,34 @@ pub fn answer(
 {
     let answered = tell(alloc, scratch, world, clock, line);
     reply_text(alloc, &answered)
+}
+
+/// A world that is asked by the lines of a script, with the clock reading of the last of them.
+#[derive(Drop)]
+pub(crate) struct Scripted<'a> {
+    pub(crate) scratch: &'a mut Scratch,
+    pub(crate) world: &'a mut World,
+    pub(crate) clock: u64,
+}
+
+impl<'a> Answering for Scripted<'a> {
+    ghost replies = { λ s line text t. LineReplies (script_at s.world.now s.clock) line text (script_at t.world.now t.clock) };
+
+    ghost unanswered = { λ s line t. LineUnanswered (script_at s.world.now s.clock) line (script_at t.world.now t.clock) };
+
+    ghost keeps = { λ s t. t.world.ghost_name ≡ s.world.ghost_name };
+
+    fn answer(&mut self, alloc: Global, line: &[u8]) -> Result<Text, AllocError> {
+        answer(
+            alloc,
+            &mut *self.scratch,
+            &mut *self.world,
+            &mut self.clock,
+            line,
+        )
+    }
+
+    ghost keeps_none = { λ s. refl };
+
+    ghost keeps_more = { λ a b c first then. then ∙ first };
 }

@@ -4,10 +4,11 @@ use super::setup::options;
 use sq_base::refusal::Refusal;
 use sq_lines::counted::Counted;
 use sq_replies::reply::reply_text;
-use sq_tests_values::streams::{Bytewise, Piecewise};
+use sq_tests_values::streams::{Answered, Asking, Batches, Bytewise, Piecewise, Whole};
 use sq_wire::run::ServeFault;
 use std::alloc::Global;
 use std::process::Abort;
+use std::sync::atomic::AtomicU64;
 
 /// What two lines that are no requests are answered with.
 const REFUSED: &[u8] =
@@ -67,6 +68,127 @@ fn a_run_flushes_each_line_and_stops_where_a_call_fails(rt: HostRuntime) {
         let found = run_of(&rt, rt.alloc(), *reads, *writes);
         assert!(rt; found == *want, "{reads} {writes}: {found:?}");
     }
+}
+
+// What becomes of lines that come in these batches: how it ends, how many lines were answered, reads, writes and flushes.
+fn calls_of(rt: &impl Abort, alloc: Global, batches: &[&[u8]]) -> [u64; 5] {
+    let mut reader = Counted::new(Batches::new(batches));
+    let mut writer = Counted::new(Whole::new(alloc));
+    let mut service = Service::new(rt, alloc, options(1, 10, 10));
+    let [end, lines] = end_of(service.answer(alloc, &mut reader, &mut writer));
+    let stream = writer.inner();
+    [
+        end,
+        lines,
+        reader.inner().reads,
+        stream.writes,
+        stream.flushes,
+    ]
+}
+
+#[test]
+fn lines_that_were_read_together_are_answered_by_one_write(rt: HostRuntime) {
+    let mut sixteen = Vec::new(rt.alloc());
+    for _ in 0..16 {
+        sixteen.extend_from_slice(b"line\n").expect(&rt, "memory");
+    }
+    let together = calls_of(&rt, rt.alloc(), &[sixteen.as_slice()]);
+    assert!(rt; together == [0, 16, 2, 1, 1], "{together:?}");
+    // The end is read twice, since a line stands before it that has no line feed.
+    let apart = calls_of(&rt, rt.alloc(), &[b"one\ntwo\nthr", b"ee\n", b"four"]);
+    assert!(rt; apart == [0, 4, 5, 3, 3], "{apart:?}");
+}
+
+#[test]
+fn no_reply_waits_while_more_is_read(rt: HostRuntime) {
+    let out = AtomicU64::new(0);
+    let batches: [&[u8]; 3] = [b"one\ntwo\nthr", b"ee\n", b"four\nfive\nsix\n"];
+    let mut reader = Counted::new(Asking::new(&batches, &out));
+    let mut writer = Counted::new(Answered::new(&out));
+    let mut service = Service::new(&rt, rt.alloc(), options(1, 10, 10));
+    let found = end_of(service.answer(rt.alloc(), &mut reader, &mut writer));
+    assert!(rt; found == [0, 6], "{found:?}");
+    assert!(rt; !reader.inner().was_kept_waiting);
+}
+
+// A call of the writer fails, counted from 1, where two lines come together: how it ends, how many replies went out whole,
+// bytes of `REFUSED` written, and flushes.
+fn cut_of(rt: &impl Abort, alloc: Global, writes: u32) -> [u64; 4] {
+    let mut reader = Counted::new(Batches::new(&[b"one\ntwo\n"]));
+    let mut writer = Counted::new(Bytewise::new(alloc, writes));
+    let mut service = Service::new(rt, alloc, options(1, 10, 10));
+    let [end, lines] = end_of(service.answer(alloc, &mut reader, &mut writer));
+    let stream = writer.inner();
+    [
+        end,
+        lines,
+        written(stream.written.as_slice()),
+        stream.flushes as u64,
+    ]
+}
+
+#[test]
+fn replies_that_went_out_whole_are_counted(rt: HostRuntime) {
+    let runs = [
+        (0, [0, 2, 94, 1]),
+        (1, [2, 0, 0, 0]),
+        (47, [2, 0, 46, 0]),
+        (48, [2, 1, 47, 0]),
+        (94, [2, 1, 93, 0]),
+    ];
+    for (writes, want) in runs.iter() {
+        let found = cut_of(&rt, rt.alloc(), *writes);
+        assert!(rt; found == *want, "{writes}: {found:?}");
+    }
+}
+
+// A line that makes a queue.
+const MAKE_A: &[u8] = b"{\"Action\":\"CreateQueue\",\"QueueName\":\"a\"}\n";
+
+#[test]
+fn what_was_read_is_done_though_no_reply_went_out(rt: HostRuntime) {
+    let mut service = Service::new(&rt, rt.alloc(), options(1, 10, 10));
+    let made = [MAKE_A];
+    let mut reader = Counted::new(Batches::new(&made));
+    let mut failing = Counted::new(Bytewise::new(rt.alloc(), 1));
+    let cut = end_of(service.answer(rt.alloc(), &mut reader, &mut failing));
+    assert!(rt; cut == [2, 0], "{cut:?}");
+    let asked: [&[u8]; 1] = [b"{\"Action\":\"ListQueues\"}\n"];
+    let mut reader = Counted::new(Batches::new(&asked));
+    let mut writer = Counted::new(Whole::new(rt.alloc()));
+    let listed = end_of(service.answer(rt.alloc(), &mut reader, &mut writer));
+    assert!(rt; listed == [0, 1], "{listed:?}");
+    let want = b"{\"QueueUrls\":[\"http://localhost/000000000000/a\"]}\n";
+    assert!(rt; writer.inner().written.as_slice() == want.as_slice());
+}
+
+// A line that sends so many letters to the queue.
+fn send_line(rt: &impl Abort, alloc: Global, count: u32) -> Vec<u8> {
+    let mut line = Vec::new(alloc);
+    let front =
+        b"{\"Action\":\"SendMessage\",\"QueueUrl\":\"http://localhost/000000000000/a\",\"MessageBody\":\"";
+    line.extend_from_slice(front).expect(rt, "memory");
+    for _ in 0..count {
+        line.push(b'a').expect(rt, "memory");
+    }
+    line.extend_from_slice(b"\"}\n").expect(rt, "memory");
+    line
+}
+
+// The second batch is a send, whose reply waits, and a receive, whose reply has no room: three writes.
+#[test]
+fn a_long_reply_goes_out_after_those_that_wait(rt: HostRuntime) {
+    let long = send_line(&rt, rt.alloc(), 40_000);
+    let mut asked = send_line(&rt, rt.alloc(), 40_000);
+    let receive =
+        b"{\"Action\":\"ReceiveMessage\",\"QueueUrl\":\"http://localhost/000000000000/a\",\"MaxNumberOfMessages\":2}\n";
+    asked.extend_from_slice(receive).expect(&rt, "memory");
+    let found = calls_of(
+        &rt,
+        rt.alloc(),
+        &[MAKE_A, long.as_slice(), asked.as_slice()],
+    );
+    assert!(rt; found == [0, 4, 4, 5, 4], "{found:?}");
 }
 
 // Whether a refusal is written so.

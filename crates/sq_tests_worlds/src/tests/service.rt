@@ -8,9 +8,9 @@ use sq_lines::counted::Counted;
 use sq_merge::world::World;
 use sq_opening::options::Options;
 use sq_steps::act::{Outcome, Step};
-use sq_tests_values::streams::{Bytewise, Piecewise};
 use sq_wire::run::{ServeFault, run_script};
 use std::alloc::Global;
+use std::io::{Read, Write};
 use std::marker::Model;
 use std::process::Abort;
 
@@ -68,11 +68,11 @@ impl Service {
     }
 
     /// Answers the lines of a reader.
-    pub fn answer(
+    pub fn answer<R: Read, W: Write>(
         &mut self,
         alloc: Global,
-        reader: &mut Counted<Piecewise<'_>>,
-        writer: &mut Counted<Bytewise>,
+        reader: &mut Counted<R>,
+        writer: &mut Counted<W>,
     ) -> Result<u64, ServeFault> {
         run_script(alloc, reader, writer, &mut self.world)
     }

@@ -1,7 +1,7 @@
 use Rattle.std.proofs.Common.{◌≡◌, ◌++◌, rules, arith, refl, sym, subst, [], List, ℕ, false}
 use Rattle.sq_lines.specs.Lines.{has_feed}
 use Rattle.std.proofs.lemmas.List.{nil_from_length}
-use Rattle.sq_lines.proofs.LineLaws.{IsDone, no_feed_none, no_feed_found, no_feed_all, cut_found, line_cut, line_end, lines_kept, lines_on, lines_left_some, over_cut, over_all, over_here, over_left, over_same, goes_on_all, goes_on_cut, within_cut, within_all, within_same}
+use Rattle.sq_lines.proofs.LineLaws.{IsDone, no_feed_none, no_feed_found, no_feed_all, cut_found, line_cut, line_end, lines_kept, lines_on, lines_left_some, over_cut, over_all, over_here, over_left, over_same, feed_is_not, free_first, goes_on_all, goes_on_cut, within_cut, within_all, within_same}
 use Rattle.sq_lines.proofs.lines.Lines.next_line.Goals as goal
 
 pub invariant_of-self : goal.invariant_of-self
@@ -55,6 +55,7 @@ loop-at-preserved g c =
       plain = no_feed_all _ _ _ c.loop-at.invariant.plain (no_feed_found _ _ _ c.memchr.ensures (search rules) c.bytes.ensures) all;
       within = search rules;
       failed = search rules;
+      unread = λ is. absurd (feed_is_not _ is (free_first _ _ _ (no_feed_found _ _ _ c.memchr.ensures (search rules) c.bytes.ensures) c.loop-at.invariant.unread));
     }
 
 pub returns-in-Err-clause-memory_line : goal.returns-in-Err-clause-memory_line
@@ -92,3 +93,14 @@ returns-in_default-fill-clause-unbroken g c =
 
 pub returns-then-count-eq0-clause-unbroken : goal.returns-then-count-eq0-clause-unbroken
 returns-then-count-eq0-clause-unbroken g c = subst (λ (x : List ℕ). has_feed x ≡ false) (sym c.last_line.ensures.none) no_feed_none
+
+pub returns-in_default-fill-clause-held : goal.returns-in_default-fill-clause-held
+returns-in_default-fill-clause-held g c is =
+    absurd (feed_is_not _ is (free_first _ _ _ (no_feed_found _ _ _ c.memchr.ensures (search rules) c.bytes.ensures) c.loop-at.invariant.unread))
+
+pub returns-in_default-fill-clause-failed : goal.returns-in_default-fill-clause-failed
+returns-in_default-fill-clause-failed g c is = free_first _ _ _ (no_feed_found _ _ _ c.memchr.ensures (search rules) c.bytes.ensures) c.loop-at.invariant.unread
+
+pub returns-then-count-eq0-clause-held : goal.returns-then-count-eq0-clause-held
+returns-then-count-eq0-clause-held g c is =
+    absurd (feed_is_not _ is (free_first _ _ _ (no_feed_found _ _ _ c.memchr.ensures (search rules) c.bytes.ensures) c.loop-at.invariant.unread))

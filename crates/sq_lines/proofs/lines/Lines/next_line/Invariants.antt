@@ -1,4 +1,4 @@
-use Rattle.std.proofs.Common.{◌≡◌, ◌++◌, ◌+◌, ◌-◌, ◌≤◌, IfSome, Some, length, false}
+use Rattle.std.proofs.Common.{◌≡◌, ◌++◌, ◌+◌, ◌-◌, ◌≤◌, IfSome, Some, length, true, false}
 use Rattle.sq_lines.specs.Lines.{lines_left, has_feed, read_of}
 use Rattle.sq_lines.specs.declared.buffer.TheConstants.{CHUNK}
 use Rattle.sq_lines.specs.declared.lines.TheConstants.{LIMIT}
@@ -10,6 +10,7 @@ invariant-loop-at g l = record {
   plain : has_feed l.self-inside.begun.items ≡ false;
   within : length l.self-inside.begun.items ≤ LIMIT;
   failed : l.reader.failed ≡ l.fn.reader.failed;
+  unread : has_feed l.fn.self.ahead ≡ true → (l.self-inside.ahead ≡ l.fn.self.ahead) × (l.reader ≡ l.fn.reader);
 }
 
 -- what is begun and what is ahead grow with each turn, to at most the limit and a chunk
