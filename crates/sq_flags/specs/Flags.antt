@@ -1,57 +1,54 @@
--- The numbers of flags, their bounds and their defaults, and the flag without a value.
-use Rattle.std.specs.Prelude.{ℕ, Bool, IsTrue, ◌≡◌, ◌≢◌, ◌≤◌, ◌⊎◌, ◌↔◌, ⊤, List, [], ◌∷◌, Option, Some, None, Result, Ok, Err, min, codes}
-use Rattle.std.specs.Str.Parse.{IsNumeral, digits_value, without_leading_plus}
+-- What the words ask for, by the subcommand that they name and its flags.
+use Rattle.std.specs.Prelude.{◌≡◌, ◌≢◌, ◌⊎◌, ⊤, List, [], ◌∷◌, Option, Some, Result, Ok, Err, codes}
 use Rattle.clap.specs.Words.{IsAmong, Kinds, Row, Text, fault_of, first_of, kind_of, subcommand_of}
 use Rattle.clap.specs.declared.error.kind.ErrorKind.{ErrorKind}
 use Rattle.clap.specs.declared.error.kind.ErrorKind.TheVariants.{DisplayHelp, DisplayVersion, OutOfMemory}
 use Rattle.clap.specs.declared.error.Error.{Error}
-use Rattle.sq_opening.specs.declared.options.Options.{Options}
-use Rattle.sq_opening.specs.declared.options.TheConstants.{MOST_HOMES, MOST_QUEUES, MOST_ROWS, MOST_FLIGHTS, MOST_TRANSIT}
 use Rattle.sq_flags.specs.CommandLine.{program_app}
+use Rattle.sq_flags.specs.Values.{AreOptionsOf, IsAddressOf, IsFlagOf, IsGivenNumber, IsNumberOf}
 use Rattle.sq_flags.specs.declared.flags.ScriptMode.{ScriptMode}
+use Rattle.sq_flags.specs.declared.flags.ServeMode.{ServeMode}
+use Rattle.sq_flags.specs.declared.flags.RaceMode.{RaceMode}
 use Rattle.sq_flags.specs.declared.flags.Mode.{Mode}
-use Rattle.sq_flags.specs.declared.flags.Mode.TheVariants.{Script}
+use Rattle.sq_flags.specs.declared.flags.Mode.TheVariants.{Script, Serve, Race}
 use Rattle.sq_flags.specs.declared.flags.Refused.{Refused}
 use Rattle.sq_flags.specs.declared.flags.Refused.TheVariants as refused
 
--- a text is decimal digits, perhaps behind a plus, and n is their value
-pub record IsWhole (text : List ℕ) (n : ℕ) : Type 0 where
-  pub digits : IsNumeral 10 (without_leading_plus text)
-  pub value : n ≡ digits_value 10 (without_leading_plus text)
+-- the flags of `script`, where `text_of` gives each one's text by its name
+pub record IsScriptOf (text_of : Text → Option Text) (mode : ScriptMode) : Type 0 where
+  pub options : AreOptionsOf text_of mode.options
+  pub audit : IsFlagOf (text_of (codes "audit")) mode.audit
 
--- n is the number of a flag with this text, or the default of one with none, and within bounds
-pub record IsNumberOf (of_flag : Option Text) (least greatest default n : ℕ) : Type 0 where
-  pub when_set : (text : Text) → of_flag ≡ Some text → IsWhole text n
-  pub when_unset : of_flag ≡ None → n ≡ default
-  pub from : least ≤ n
-  pub up_to : n ≤ greatest
+-- those of `serve`: where and how many connections must be given
+pub record IsServeOf (text_of : Text → Option Text) (mode : ServeMode) : Type 0 where
+  pub options : AreOptionsOf text_of mode.options
+  pub address : IsAddressOf (text_of (codes "listen")) mode.address
+  pub connections : IsGivenNumber (text_of (codes "connections")) 1 1024 mode.connections
+  pub movers : IsNumberOf (text_of (codes "movers")) 0 8 1 mode.movers
 
--- the options are those of the flags, where `text_of` gives each one's text by its name
-pub record AreOptionsOf (text_of : Text → Option Text) (o : Options) : Type 0 where
-  pub homes : IsNumberOf (text_of (codes "homes")) 1 MOST_HOMES 4 o.homes
-  pub sample : IsNumberOf (text_of (codes "sample")) 1 MOST_HOMES (min o.homes 2) o.sample
-  pub queues : IsNumberOf (text_of (codes "queues")) 1 MOST_QUEUES 64 o.queues
-  pub rows : IsNumberOf (text_of (codes "rows")) 1 MOST_ROWS MOST_ROWS o.rows
-  pub flights : IsNumberOf (text_of (codes "flights")) 1 MOST_FLIGHTS MOST_FLIGHTS o.flights
-  pub transit : IsNumberOf (text_of (codes "transit")) 1 MOST_TRANSIT 10000 o.transit
-  pub seed : IsNumberOf (text_of (codes "seed")) 0 18446744073709551615 0 o.seed
+-- those of `race`: how many clients and calls must be given
+pub record IsRaceOf (text_of : Text → Option Text) (mode : RaceMode) : Type 0 where
+  pub options : AreOptionsOf text_of mode.options
+  pub clients : IsGivenNumber (text_of (codes "clients")) 1 64 mode.clients
+  pub calls : IsGivenNumber (text_of (codes "calls")) 0 1000000 mode.calls
+  pub movers : IsNumberOf (text_of (codes "movers")) 0 8 1 mode.movers
 
--- a flag without a value stands among the words: clap gives it this text
-abbrev pub IsFlagOf : Option Text → Bool → Type 0
-IsFlagOf text is_set = IsTrue is_set ↔ (text ≡ Some (codes "true"))
-
--- the words ask for a run in this mode: clap has no fault in them, they name the subcommand, its flags give the options,
--- and an audit is asked for where its flag is there
-pub record AsksForScript (words : List Text) (mode : ScriptMode) : Type 0 where
+-- the subcommand that was met has this name, and its flags give what is asked for
+pub record IsMet (met : Option (Text × List Row)) (name : Text) (Gives : (Text → Option Text) → Type 0) : Type 0 where
   pub rows : List Row
-  pub taken : fault_of program_app words ≡ []
-  pub named : subcommand_of program_app words ≡ Some (codes "script", rows)
-  pub options : AreOptionsOf (λ name. first_of name rows) mode.options
-  pub audit : IsFlagOf (first_of (codes "audit") rows) mode.audit
+  pub named : met ≡ Some (name, rows)
+  pub gives : Gives (λ id. first_of id rows)
 
--- what the words ask for
-abbrev pub IsModeOf : List Text → Mode → Type 0
-IsModeOf words (Script mode) = AsksForScript words mode
+-- what the subcommand that was met asks for
+abbrev pub IsModeAt : Option (Text × List Row) → Mode → Type 0
+IsModeAt met (Script mode) = IsMet met (codes "script") (λ text_of. IsScriptOf text_of mode)
+IsModeAt met (Serve mode) = IsMet met (codes "serve") (λ text_of. IsServeOf text_of mode)
+IsModeAt met (Race mode) = IsMet met (codes "race") (λ text_of. IsRaceOf text_of mode)
+
+-- what the words ask for: clap has no fault in them, and they name a subcommand whose flags give it
+pub record IsModeOf (words : List Text) (mode : Mode) : Type 0 where
+  pub taken : fault_of program_app words ≡ []
+  pub met : IsModeAt (subcommand_of program_app words) mode
 
 -- help or the version
 abbrev pub IsTextKind : ErrorKind → Type 0
@@ -70,9 +67,9 @@ abbrev pub IsKindFor : Kinds → ErrorKind → Type 0
 IsKindFor [] kind = ⊤
 IsKindFor (k ∷ ks) kind = IsAmong kind (k ∷ ks)
 
--- the words ask for no run, and the error tells a mistake of theirs
+-- the words ask for nothing to be done, and the error tells a mistake of theirs
 abbrev pub AreMistaken : List Text → Error → Type 0
-AreMistaken words error = ((mode : ScriptMode) → ¬ AsksForScript words mode) × IsMistake (kind_of error) × IsKindFor (fault_of program_app words) (kind_of error)
+AreMistaken words error = ((mode : Mode) → ¬ IsModeOf words mode) × IsMistake (kind_of error) × IsKindFor (fault_of program_app words) (kind_of error)
 
 -- what the words ask for, or that there was no memory to tell
 abbrev pub ParsesTo : List Text → Result Mode Refused → Type 0

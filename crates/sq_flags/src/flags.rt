@@ -1,20 +1,25 @@
-//! The words of a command line.
-ghost use Rattle.std.specs.Prelude.{◌≡◌, ◌≤◌, IfOk, IfErr, IfSome, IfNone, None, Ok, ℕ, codes, map, false};
-ghost use Rattle.clap.specs.Words.{app_of, first_value, found_of, rule_of, kind_of};
+//! What the words of a command line ask for.
+ghost use Rattle.std.specs.Prelude.{◌≡◌, IfOk, IfErr, map};
+ghost use Rattle.clap.specs.Words.{first_value, found_of, kind_of, subcommand_rows_of};
 ghost use Rattle.clap.specs.declared.error.kind.ErrorKind.TheVariants.{ValueValidation};
-ghost use Rattle.clap.specs.declared.Command.TheViews.{out-Command as fields_of};
-ghost use Rattle.sq_flags.specs.CommandLine.{audit_rule, number_rule, numbers_app, program_app, script_app, with_audit, with_number};
-ghost use Rattle.sq_opening.specs.declared.options.Options.{Options as OptionsValue};
+ghost use Rattle.sq_flags.specs.declared.flags.ScriptMode.{ScriptMode as ScriptValue};
+ghost use Rattle.sq_flags.specs.declared.flags.ServeMode.{ServeMode as ServeValue};
+ghost use Rattle.sq_flags.specs.declared.flags.RaceMode.{RaceMode as RaceValue};
+ghost use Rattle.sq_flags.specs.declared.flags.Mode.{Mode as ModeValue};
 ghost use Rattle.sq_flags.specs.declared.flags.Refused.TheVariants.{NoMemory as RefusedNoMemory};
-ghost use Rattle.sq_flags.specs.Flags.{IsWhole, IsNumberOf, IsFlagOf, AreOptionsOf, IsRefusalOf, ParsesTo};
+ghost use Rattle.sq_flags.specs.Flags.{IsScriptOf, IsServeOf, IsRaceOf, IsModeAt, IsRefusalOf, ParsesTo};
 
-use clap::builder::ValueParser;
-use clap::error::ErrorKind;
-use clap::{Arg, ArgAction, ArgMatches, Command, Error};
-use sq_opening::options::{
-    MOST_FLIGHTS, MOST_HOMES, MOST_QUEUES, MOST_ROWS, MOST_TRANSIT, Options,
+use crate::command::program_command;
+use crate::texts::Texts;
+use crate::values::{
+    MOST_CALLS, MOST_CLIENTS, MOST_CONNECTIONS, address_of, asks_for_audit, given_number,
+    movers_of, options_of,
 };
+use clap::error::ErrorKind;
+use clap::{ArgMatches, Command, Error};
+use sq_opening::options::Options;
 use std::alloc::{AllocError, Global};
+use std::net::SocketAddr;
 
 /// How the lines of the standard input are answered.
 #[derive(Clone, Copy, PartialEq, Eq, Debug)]
@@ -24,11 +29,39 @@ pub struct ScriptMode {
     pub audit: bool,
 }
 
+/// How the lines of connections are answered.
+#[derive(Clone, Copy, PartialEq, Eq, Debug)]
+pub struct ServeMode {
+    pub options: Options,
+    /// Where connections are taken; None where the text that was given is no IP address and port.
+    pub address: Option<SocketAddr>,
+    /// Connections that are served: 1 to `MOST_CONNECTIONS`.
+    pub connections: u32,
+    /// Threads that move messages meanwhile: 0 to `MOST_MOVERS`.
+    pub movers: u32,
+}
+
+/// How clients call at once.
+#[derive(Clone, Copy, PartialEq, Eq, Debug)]
+pub struct RaceMode {
+    pub options: Options,
+    /// Clients, each a thread: 1 to `MOST_CLIENTS`.
+    pub clients: u32,
+    /// Calls of each client: 0 to `MOST_CALLS`.
+    pub calls: u64,
+    /// Threads that move messages meanwhile: 0 to `MOST_MOVERS`.
+    pub movers: u32,
+}
+
 /// What a command line asks for.
 #[derive(Clone, Copy, PartialEq, Eq, Debug)]
 pub enum Mode {
     /// Answer the lines of the standard input.
     Script(ScriptMode),
+    /// Answer the lines of connections.
+    Serve(ServeMode),
+    /// Have clients call at once.
+    Race(RaceMode),
 }
 
 /// Why a command line asks for nothing.
@@ -63,255 +96,73 @@ impl From<Error> for Refused {
     }
 }
 
-// A flag that takes a whole number within bounds.
-fn number_flag<'a>(
-    alloc: Global,
-    name: &'a str,
-    least: u64,
-    greatest: u64,
-    help: &'a str,
-) -> Arg<'a>
-    ensures rule { rule_of result ≡ number_rule name.entry.now least greatest }
-    ensures local { result.global ≡ false }
+// What the flags of `script` ask for, or the name of one that cannot be read.
+fn script_of(found: &ArgMatches<'_>) -> Result<ScriptMode, &'static str>
+    ensures ok { IfOk result (λ mode. IsScriptOf (first_value (found_of found.now)) mode) }
+    ensures err { IfErr result (λ _. (mode : ScriptValue) → ¬ IsScriptOf (first_value (found_of found.now)) mode) }
 {
-    Arg::new(alloc, name)
-        .long(name)
-        .value_name("N")
-        .value_parser(ValueParser::Unsigned(least, greatest))
-        .help(help)
-}
-
-// The flag that asks for an audit.
-fn audit_flag<'a>(alloc: Global) -> Arg<'a>
-    ensures rule { rule_of result ≡ audit_rule }
-    ensures local { result.global ≡ false }
-{
-    Arg::new(alloc, "audit")
-        .long("audit")
-        .action(ArgAction::SetTrue)
-        .help(AUDIT)
-}
-
-// Adds a flag that takes a number to a command.
-fn with_number<'a>(
-    alloc: Global,
-    command: Command<'a>,
-    name: &'a str,
-    least: u64,
-    greatest: u64,
-    help: &'a str,
-) -> Result<Command<'a>, AllocError>
-    requires { (fields_of command).has_globals ≡ false }
-    ensures app { IfOk result (λ c. app_of c ≡ with_number name.entry.now least greatest (app_of command.entry)) }
-    ensures local { IfOk result (λ c. (fields_of c).has_globals ≡ false) }
-{
-    command.arg(number_flag(alloc, name, least, greatest, help))
-}
-
-// Adds the flag that asks for an audit to a command.
-fn with_audit<'a>(alloc: Global, command: Command<'a>) -> Result<Command<'a>, AllocError>
-    requires { (fields_of command).has_globals ≡ false }
-    ensures app { IfOk result (λ c. app_of c ≡ with_audit (app_of command.entry)) }
-    ensures local { IfOk result (λ c. (fields_of c).has_globals ≡ false) }
-{
-    command.arg(audit_flag(alloc))
-}
-
-// The defaults of flags: that of a flag without one here is its greatest number.
-const HOMES: u32 = 4;
-
-const SAMPLE: u32 = 2;
-
-const QUEUES: u32 = 64;
-
-const TRANSIT: u32 = 10_000;
-
-// What help says of the flags whose bounds are options' bounds.
-#[derive(Drop)]
-struct Texts {
-    homes: String,
-    sample: String,
-    queues: String,
-    rows: String,
-    flights: String,
-    transit: String,
-}
-
-impl Texts {
-    fn new(alloc: Global) -> Result<Texts, AllocError> {
-        Ok(Texts {
-            homes: bounded(alloc, "Homes of a queue", "1", MOST_HOMES, HOMES)?,
-            sample: sample_text(alloc, SAMPLE)?,
-            queues: bounded(alloc, "Queues that are ever made", "1", MOST_QUEUES, QUEUES)?,
-            rows: bounded(alloc, "Messages of a home", "1", MOST_ROWS, MOST_ROWS)?,
-            flights: bounded(
-                alloc,
-                "Messages of a queue in flight",
-                "N of --homes",
-                MOST_FLIGHTS,
-                MOST_FLIGHTS,
-            )?,
-            transit: bounded(alloc, "Messages between queues", "1", MOST_TRANSIT, TRANSIT)?,
-        })
-    }
-}
-
-fn bounded(
-    alloc: Global,
-    what: &str,
-    least: &str,
-    greatest: u32,
-    default: u32,
-) -> Result<String, AllocError> {
-    format!(in alloc; "{what}: {least} to {greatest} [default: {default}]")
-}
-
-fn sample_text(alloc: Global, default: u32) -> Result<String, AllocError> {
-    format!(in alloc;
-        "Homes that a receive looks at: 1 to N of --homes [default: {default}, or 1 of 1]"
-    )
-}
-
-const SEED: &str = "What the choices of homes begin from: any u64 [default: 0]";
-
-const AUDIT: &str =
-    "After the last reply, write the run of all that was done and where each message is";
-
-const SCRIPT_FLAGS: &str =
-    "Flags of script: --homes N, --sample N, --queues N, --rows N, --flights N, --transit N, --seed N,
---audit. 'sqd script --help' says of each what it is, its bounds and its default.";
-
-// Adds a flag that takes a whole number from 1 to a bound of the options.
-fn with_bounded<'a>(
-    alloc: Global,
-    command: Command<'a>,
-    name: &'a str,
-    greatest: u32,
-    help: &'a String,
-) -> Result<Command<'a>, AllocError>
-    requires { (fields_of command).has_globals ≡ false }
-    ensures app { IfOk result (λ c. app_of c ≡ with_number name.entry.now 1 greatest (app_of command.entry)) }
-    ensures local { IfOk result (λ c. (fields_of c).has_globals ≡ false) }
-{
-    with_number(alloc, command, name, 1, greatest as u64, help.as_str())
-}
-
-// The subcommand and its flags that take numbers.
-fn numbers_command<'a>(alloc: Global, texts: &'a Texts) -> Result<Command<'a>, AllocError>
-    ensures app { IfOk result (λ c. app_of c ≡ numbers_app) }
-    ensures local { IfOk result (λ c. (fields_of c).has_globals ≡ false) }
-{
-    let command = Command::new(alloc, "script");
-    let command = with_bounded(alloc, command, "homes", MOST_HOMES, &texts.homes)?;
-    let command = with_bounded(alloc, command, "sample", MOST_HOMES, &texts.sample)?;
-    let command = with_bounded(alloc, command, "queues", MOST_QUEUES, &texts.queues)?;
-    let command = with_bounded(alloc, command, "rows", MOST_ROWS, &texts.rows)?;
-    let command = with_bounded(alloc, command, "flights", MOST_FLIGHTS, &texts.flights)?;
-    let command = with_bounded(alloc, command, "transit", MOST_TRANSIT, &texts.transit)?;
-    with_number(alloc, command, "seed", 0, u64::MAX, SEED)
-}
-
-fn script_command<'a>(alloc: Global, texts: &'a Texts) -> Result<Command<'a>, AllocError>
-    ensures app { IfOk result (λ c. app_of c ≡ script_app) }
-    ensures local { IfOk result (λ c. (fields_of c).has_globals ≡ false) }
-{
-    let command = numbers_command(alloc, texts)?;
-    with_audit(alloc, command)
-}
-
-fn program_command<'a>(alloc: Global, texts: &'a Texts) -> Result<Command<'a>, AllocError>
-    ensures app { IfOk result (λ c. app_of c ≡ program_app) }
-{
-    let script = script_command(alloc, texts)?;
-    let script = script.about(
-        "Answers each line of the standard input, a request in JSON, with a line",
-    );
-    let program = Command::new(alloc, "sqd").subcommand_required(true);
-    let program = program.after_help(SCRIPT_FLAGS);
-    program.subcommand(script)
-}
-
-// A whole number within bounds.
-fn whole(text: &str, least: u64, greatest: u64) -> Option<u64>
-    ensures range { IfSome result (λ n. (least ≤ n) × (n ≤ greatest)) }
-    ensures value { IfSome result (λ n. IsWhole text.now n) }
-    ensures none { IfNone result ((n : ℕ) → IsWhole text.now n → least ≤ n → n ≤ greatest → ⊥) }
-{
-    let number = text.parse::<u64>().ok()?;
-    if least <= number && number <= greatest {
-        Some(number)
-    } else {
-        None
-    }
-}
-
-// The number of a flag, or its default, or the flag's name where its text is no number in bounds.
-fn number<'a>(
-    matches: &ArgMatches<'_>,
-    name: &'a str,
-    least: u64,
-    greatest: u64,
-    default: u64,
-) -> Result<u64, &'a str>
-    requires { (least ≤ default) × (default ≤ greatest) }
-    ensures when_found { IfOk result (λ n. IsNumberOf (first_value (found_of matches.now) name.entry.now) least greatest default n) }
-    ensures when_unset { first_value (found_of matches.now) name.entry.now ≡ None → result ≡ Ok default }
-    ensures refused { IfErr result (λ e. (e ≡ name.entry) × ((n : ℕ) → ¬ IsNumberOf (first_value (found_of matches.now) name.entry.now) least greatest default n)) }
-{
-    match matches.get_str(name) {
-        None => Ok(default),
-        Some(text) => match whole(text, least, greatest) {
-            Some(number) => Ok(number),
-            None => Err(name),
-        },
-    }
-}
-
-/// The options of matched flags, or the name of one whose text is no number in its bounds.
-pub fn options_of(matches: &ArgMatches<'_>) -> Result<Options, &'static str>
-    ensures ok { IfOk result (λ o. AreOptionsOf (first_value (found_of matches.now)) o) }
-    ensures err { IfErr result (λ _. (o : OptionsValue) → ¬ AreOptionsOf (first_value (found_of matches.now)) o) }
-{
-    let homes = number(matches, "homes", 1, MOST_HOMES as u64, HOMES as u64)? as u32;
-    let sample = number(
-        matches,
-        "sample",
-        1,
-        MOST_HOMES as u64,
-        homes.min(SAMPLE) as u64,
-    )? as u32;
-    Ok(Options {
-        homes,
-        sample,
-        queues: number(matches, "queues", 1, MOST_QUEUES as u64, QUEUES as u64)? as u32,
-        rows: number(matches, "rows", 1, MOST_ROWS as u64, MOST_ROWS as u64)? as u32,
-        flights: number(
-            matches,
-            "flights",
-            1,
-            MOST_FLIGHTS as u64,
-            MOST_FLIGHTS as u64,
-        )? as u32,
-        transit: number(matches, "transit", 1, MOST_TRANSIT as u64, TRANSIT as u64)? as u32,
-        seed: number(matches, "seed", 0, u64::MAX, 0)?,
+    Ok(ScriptMode {
+        options: options_of(found)?,
+        audit: asks_for_audit(found),
     })
 }
 
-// Whether the flag that asks for an audit is there.
-fn asks_for_audit(matches: &ArgMatches<'_>) -> bool
-    ensures { IsFlagOf (first_value (found_of matches.now) (codes "audit")) result }
+// What the flags of `serve` ask for, or the name of one that cannot be read.
+fn serve_of(found: &ArgMatches<'_>) -> Result<ServeMode, &'static str>
+    ensures ok { IfOk result (λ mode. IsServeOf (first_value (found_of found.now)) mode) }
+    ensures err { IfErr result (λ _. (mode : ServeValue) → ¬ IsServeOf (first_value (found_of found.now)) mode) }
 {
-    match matches.get_str("audit") {
-        Some(text) => text == "true",
-        None => false,
+    let address = address_of(found)?;
+    let connections = given_number(found, "connections", 1, MOST_CONNECTIONS as u64)? as u32;
+    let movers = movers_of(found)?;
+    let options = options_of(found)?;
+    Ok(ServeMode {
+        options,
+        address,
+        connections,
+        movers,
+    })
+}
+
+// What the flags of `race` ask for, or the name of one that cannot be read.
+fn race_of(found: &ArgMatches<'_>) -> Result<RaceMode, &'static str>
+    ensures ok { IfOk result (λ mode. IsRaceOf (first_value (found_of found.now)) mode) }
+    ensures err { IfErr result (λ _. (mode : RaceValue) → ¬ IsRaceOf (first_value (found_of found.now)) mode) }
+{
+    let clients = given_number(found, "clients", 1, MOST_CLIENTS as u64)? as u32;
+    let calls = given_number(found, "calls", 0, MOST_CALLS as u64)?;
+    let movers = movers_of(found)?;
+    let options = options_of(found)?;
+    Ok(RaceMode {
+        options,
+        clients,
+        calls,
+        movers,
+    })
+}
+
+// What the subcommand and its flags ask for, or the name of a flag that cannot be read.
+fn mode_of(matches: &ArgMatches<'_>) -> Result<Mode, &'static str>
+    ensures ok { IfOk result (λ mode. IsModeAt (subcommand_rows_of matches.now) mode) }
+    ensures err { IfErr result (λ _. (mode : ModeValue) → ¬ IsModeAt (subcommand_rows_of matches.now) mode) }
+{
+    if let Some(found) = matches.subcommand_matches("script") {
+        return Ok(Mode::Script(script_of(found)?));
     }
+    if let Some(found) = matches.subcommand_matches("serve") {
+        return Ok(Mode::Serve(serve_of(found)?));
+    }
+    if let Some(found) = matches.subcommand_matches("race") {
+        return Ok(Mode::Race(race_of(found)?));
+    }
+    Err("subcommand")
 }
 
 // An error of the form that clap gives its own.
 fn usage(alloc: Global, command: &mut Command<'_>, name: &str) -> Result<Error, AllocError>
     ensures kind { IfOk result (λ e. kind_of e ≡ ValueValidation) }
 {
-    let message = format!(in alloc; "invalid value for '--{name} <N>'")?;
+    let message = format!(in alloc; "invalid value for '{name}'")?;
     command.error(ErrorKind::ValueValidation, message.as_str())
 }
 
@@ -322,15 +173,8 @@ pub fn flags<'a>(alloc: Global, words: &'a [&'a str]) -> Result<Mode, Refused>
     let texts = Texts::new(alloc)?;
     let mut command = program_command(alloc, &texts)?;
     let matches = command.try_get_matches_from_mut(words)?;
-    let Some(found) = matches.subcommand_matches("script") else {
-        let error = command.error(ErrorKind::MissingSubcommand, "a subcommand is required")?;
-        return Err(Refused::from(error));
-    };
-    match options_of(found) {
-        Ok(options) => Ok(Mode::Script(ScriptMode {
-            options,
-            audit: asks_for_audit(found),
-        })),
+    match mode_of(&matches) {
+        Ok(mode) => Ok(mode),
         Err(name) => Err(Refused::from(usage(alloc, &mut command, name)?)),
     }
 }

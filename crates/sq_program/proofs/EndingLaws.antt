@@ -1,5 +1,5 @@
 -- How a run ends, from how its parts did.
-use Rattle.std.proofs.Common.{◌≡◌, ◌⊎◌, ◌≤◌, ℕ, zero, suc, true, false, Some, None, List, length, Option, IfSome, Ok, Err, refl, inl, inr, arith}
+use Rattle.std.proofs.Common.{◌≡◌, ◌≢◌, ◌⊎◌, ◌≤◌, ℕ, zero, suc, true, false, Some, None, List, length, Option, IfSome, Ok, Err, refl, inl, inr, arith}
 use Rattle.clap.specs.Words.{Text}
 use Rattle.clap.specs.declared.error.Error.{Error}
 use Rattle.sq_lines.specs.declared.counted.Counted.{Counted}
@@ -10,11 +10,14 @@ use Rattle.sq_opening.specs.declared.options.Options.{Options}
 use Rattle.sq_wire.specs.Runs.{Writes, StopsAt, IsOfCall}
 use Rattle.sq_wire.specs.declared.run.ServeFault.{ServeFault}
 use Rattle.sq_wire.specs.declared.run.ServeFault.TheVariants.{NoMemory}
-use Rattle.sq_wire.specs.Scripts.{ScriptValue, script_at}
-use Rattle.sq_program.specs.Endings.{Stream, stream, Ends, EndsFor, EndsWritten, HasNoFault, HasReplies, IsAuditLine, IsHelp, IsUntouched, lines_in}
-use Rattle.sq_flags.specs.declared.flags.Mode.TheVariants.{Script}
+use Rattle.sq_wire.specs.Scripts.{ScriptValue, script_at, LineReplies, LineUnanswered}
+use Rattle.sq_program.specs.Streams.{Stream, stream, EndsWritten, HasNoFault, IsUntouched}
+use Rattle.sq_program.specs.Endings.{Ends, EndsFor, EndsRacing, EndsServing, HasReplies, IsAuditLine, IsHelp, MayRace, MayServe, lines_in}
+use Rattle.sq_flags.specs.declared.flags.Mode.TheVariants.{Script, Serve, Race}
 use Rattle.sq_flags.specs.declared.flags.Refused.TheVariants as refused
 use Rattle.sq_flags.specs.declared.flags.ScriptMode.{ScriptMode}
+use Rattle.sq_flags.specs.declared.flags.ServeMode.{ServeMode}
+use Rattle.sq_flags.specs.declared.flags.RaceMode.{RaceMode}
 
 -- what the words ask for was shown
 pub ends_written : {R W : Type 0} (error : Error) (input : Stream R) (output : Stream W) (status : ℕ) → IsUntouched input → EndsWritten IsHelp output status → Ends (Err (refused.Text error)) input output status
@@ -37,19 +40,19 @@ ends_audited mode input output world mid (suc (suc n)) parsed served r w replies
 
 -- the replies to all lines, where their number is answered too
 pub replies_to_all : (options : Options) (all : Option (List (List ℕ))) (n : ℕ) (old new : Option (List ℕ)) (world : WorldValue)
-    → IfSome all (λ lines. (clock : ℕ) × (n ≡ length lines) × Writes old new (script_at (new_world options) 0) lines (script_at world clock)) → HasReplies options all old new world
+    → IfSome all (λ lines. (clock : ℕ) × (n ≡ length lines) × Writes LineReplies old new (script_at (new_world options) 0) lines (script_at world clock)) → HasReplies options all old new world
 replies_to_all options None n old new world h = tt
 replies_to_all options (Some lines) n old new world h = (h.0, h.2)
 
 -- a fault stopped the lines
 stopped : (all : Option (List (List ℕ))) (fault : ServeFault) (coming old new : Option (List ℕ)) (begin : ScriptValue) (world : WorldValue)
-    → IfSome all (λ lines. (clock : ℕ) × StopsAt fault lines coming old new begin (script_at world clock)) → IfSome all (λ lines. (after : ScriptValue) × StopsAt fault lines coming old new begin after)
+    → IfSome all (λ lines. (clock : ℕ) × StopsAt LineReplies LineUnanswered fault lines coming old new begin (script_at world clock)) → IfSome all (λ lines. (after : ScriptValue) × StopsAt LineReplies LineUnanswered fault lines coming old new begin after)
 stopped None fault coming old new begin world h = tt
 stopped (Some lines) fault coming old new begin world h = (script_at world h.0, h.1)
 
 pub ends_stopped : {R W : Type 0} (mode : ScriptMode) (input : Stream R) (output : Stream W) (fault : ServeFault) (world : WorldValue) (Other : Type 0) → IsServed mode.options
     → ((fault ≡ NoMemory 0) × (input.after ≡ input.before) × (output.after ≡ output.before) × Other)
-    ⊎ IfSome (lines_in input) (λ lines. (clock : ℕ) × StopsAt fault lines (input.bytes input.after.inner) (output.bytes output.before.inner) (output.bytes output.after.inner) (script_at (new_world mode.options) 0) (script_at world clock))
+    ⊎ IfSome (lines_in input) (λ lines. (clock : ℕ) × StopsAt LineReplies LineUnanswered fault lines (input.bytes input.after.inner) (output.bytes output.before.inner) (output.bytes output.after.inner) (script_at (new_world mode.options) 0) (script_at world clock))
     → IsOfCall fault input.before.failed input.after.failed output.before.failed output.after.failed → Ends (Ok (Script mode)) input output 1
 ends_stopped mode input output fault world Other served err count = (
   served,
@@ -59,9 +62,40 @@ ends_stopped mode input output fault world Other served err count = (
   ],
 )
 
--- the status is one of three
-pub status_within : {R W : Type 0} (words : List Text) (input : Stream R) (output : Stream W) (status : ℕ) → EndsFor words input output status → status ≤ 2
+-- connections were served, or clients raced, and nothing was read
+pub ends_serving : {R W : Type 0} (mode : ServeMode) (input : Stream R) (output : Stream W) (status : ℕ) → IsUntouched input → EndsServing mode output status → Ends (Ok (Serve mode)) input output status
+ends_serving mode input output zero same h = (same, h)
+ends_serving mode input output (suc zero) same h = (same, h)
+ends_serving mode input output (suc (suc zero)) same h = (same, h)
+ends_serving mode input output (suc (suc (suc zero))) same h = (same, h)
+ends_serving mode input output (suc (suc (suc (suc n)))) same h = absurd h
+
+pub ends_racing : {R W : Type 0} (mode : RaceMode) (input : Stream R) (output : Stream W) (status : ℕ) → IsUntouched input → EndsRacing mode output status → Ends (Ok (Race mode)) input output status
+ends_racing mode input output zero same h = (same, h)
+ends_racing mode input output (suc zero) same h = (same, h)
+ends_racing mode input output (suc (suc zero)) same h = (same, h)
+ends_racing mode input output (suc (suc (suc zero))) same h = (same, h)
+ends_racing mode input output (suc (suc (suc (suc n)))) same h = absurd h
+
+-- where it may be, it ends with a status that is not 2
+pub serves : {W : Type 0} (mode : ServeMode) (output : Stream W) (status : ℕ) → MayServe mode → (mode.address ≡ None → ⊥) → status ≤ 3 → status ≢ 2 → EndsServing mode output status
+serves mode output zero may there within other = may
+serves mode output (suc zero) may there within other = (may.0, λ none. absurd (there none))
+serves mode output (suc (suc zero)) may there within other = absurd (other refl)
+serves mode output (suc (suc (suc zero))) may there within other = may
+serves mode output (suc (suc (suc (suc n)))) may there within other = absurd (omega arith)
+
+pub races : {W : Type 0} (mode : RaceMode) (output : Stream W) (status : ℕ) → MayRace mode → status ≤ 3 → status ≢ 2 → EndsRacing mode output status
+races mode output zero may within other = may
+races mode output (suc zero) may within other = may
+races mode output (suc (suc zero)) may within other = absurd (other refl)
+races mode output (suc (suc (suc zero))) may within other = may
+races mode output (suc (suc (suc (suc n)))) may within other = absurd (omega arith)
+
+-- the status is one of four
+pub status_within : {R W : Type 0} (words : List Text) (input : Stream R) (output : Stream W) (status : ℕ) → EndsFor words input output status → status ≤ 3
 status_within words input output zero h = omega arith
 status_within words input output (suc zero) h = omega arith
 status_within words input output (suc (suc zero)) h = omega arith
-status_within words input output (suc (suc (suc n))) h = absurd h.ends
+status_within words input output (suc (suc (suc zero))) h = omega arith
+status_within words input output (suc (suc (suc (suc n)))) h = absurd h.ends

@@ -1,8 +1,7 @@
 -- How the program ends, by its exit status, over what its words ask for and what becomes of its input and its output.
-use Rattle.std.specs.Prelude.{ℕ, zero, suc, Bool, true, false, List, [], ◌∷◌, ◌++◌, ◌≡◌, ◌⊎◌, take, Option, IfSome, Result, Ok, Err}
-use Rattle.std.specs.Io.KnownBytes.{Appends}
+use Rattle.std.specs.Prelude.{ℕ, zero, suc, Bool, true, false, List, [], ◌∷◌, ◌++◌, ◌≡◌, ◌≤◌, ◌⊎◌, Option, None, IfSome, IsSome, Result, Ok, Err}
 use Rattle.clap.specs.Words.{Text}
-use Rattle.sq_lines.specs.Lines.{lines_left, OneMore}
+use Rattle.sq_lines.specs.Lines.{lines_left}
 use Rattle.sq_lines.specs.declared.counted.Counted.{Counted}
 use Rattle.sq_merge.specs.Openings.{new_world}
 use Rattle.sq_opening.specs.Openings.{IsServed}
@@ -10,58 +9,21 @@ use Rattle.sq_merge.specs.WorldValue.{WorldValue}
 use Rattle.sq_opening.specs.declared.options.Options.{Options}
 use Rattle.sq_wire.specs.Audits.{IsAudit}
 use Rattle.sq_wire.specs.Runs.{Writes, StopsAt, IsOfCall}
-use Rattle.sq_wire.specs.Scripts.{ScriptValue, script_at}
+use Rattle.sq_wire.specs.Scripts.{ScriptValue, script_at, LineReplies, LineUnanswered}
 use Rattle.sq_wire.specs.declared.run.ServeFault.{ServeFault}
 use Rattle.sq_flags.specs.Flags.{ParsesTo}
 use Rattle.sq_flags.specs.declared.flags.Mode.{Mode}
-use Rattle.sq_flags.specs.declared.flags.Mode.TheVariants.{Script}
+use Rattle.sq_flags.specs.declared.flags.Mode.TheVariants.{Script, Serve, Race}
+use Rattle.sq_flags.specs.declared.flags.ServeMode.{ServeMode}
+use Rattle.sq_flags.specs.declared.flags.RaceMode.{RaceMode}
 use Rattle.sq_flags.specs.declared.flags.Refused.{Refused}
 use Rattle.sq_flags.specs.declared.flags.Refused.TheVariants as refused
+use Rattle.sq_program.specs.Streams.{Stream, stream, IsUntouched, HasNoFault, WrittenWhole, WrittenInPart}
 use Rattle.sq_program.specs.declared.program.TheConstants.{TITLE}
-
--- A stream before and after: what tells its bytes, those to come of an input and those that went out of an output, and its
--- value at both moments, which counts its failed calls.
-pub record Stream (T : Type 0) : Type 0 where
-  pub bytes : T → Option (List ℕ)
-  pub before : Counted T
-  pub after : Counted T
-
-abbrev pub stream : {T : Type 0} → (T → Option (List ℕ)) → Counted T → Counted T → Stream T
-stream bytes before after = record { bytes = bytes; before = before; after = after }
-
--- it is as it was
-abbrev pub IsUntouched : {T : Type 0} → Stream T → Type 0
-IsUntouched s = s.after ≡ s.before
-
--- none of its calls failed
-abbrev pub HasNoFault : {T : Type 0} → Stream T → Type 0
-HasNoFault s = s.after.failed ≡ s.before.failed
-
--- one of its calls failed
-abbrev pub HasOneFault : {T : Type 0} → Stream T → Type 0
-HasOneFault s = OneMore s.before.failed s.after.failed
-
--- these bytes went out, and no others
-abbrev pub PutsOut : {W : Type 0} → Stream W → List ℕ → Type 0
-PutsOut output text = Appends (output.bytes output.before.inner) (output.bytes output.after.inner) text
 
 -- the lines of an input, where they are known
 abbrev pub lines_in : {R : Type 0} → Stream R → Option (List (List ℕ))
 lines_in input = lines_left [] (input.bytes input.before.inner)
-
--- a text of this kind went out
-abbrev pub WrittenWhole : {W : Type 0} → (List ℕ → Type 0) → Stream W → Type 0
-WrittenWhole IsText output = HasNoFault output × ((text : List ℕ) × IsText text × PutsOut output text)
-
--- there was no memory for such a text and nothing went out, or a call failed and a front of it did
-abbrev pub WrittenInPart : {W : Type 0} → (List ℕ → Type 0) → Stream W → Type 0
-WrittenInPart IsText output = IsUntouched output ⊎ (HasOneFault output × ((text : List ℕ) × (part : ℕ) × IsText text × PutsOut output (take part text)))
-
--- by the status, such a text was shown
-abbrev pub EndsWritten : {W : Type 0} → (List ℕ → Type 0) → Stream W → ℕ → Type 0
-EndsWritten IsText output zero = WrittenWhole IsText output
-EndsWritten IsText output (suc zero) = WrittenInPart IsText output
-EndsWritten IsText output (suc (suc n)) = ⊥
 
 -- the program's title, and what else clap tells
 abbrev pub IsHelp : List ℕ → Type 0
@@ -83,7 +45,7 @@ AuditCut false world output = ⊥
 
 -- each line, where they are known, has its reply, in order, of a world that began without queues and is this one now
 abbrev pub HasReplies : Options → Option (List (List ℕ)) → Option (List ℕ) → Option (List ℕ) → WorldValue → Type 0
-HasReplies options all old new world = IfSome all (λ lines. (clock : ℕ) × Writes old new (script_at (new_world options) 0) lines (script_at world clock))
+HasReplies options all old new world = IfSome all (λ lines. (clock : ℕ) × Writes LineReplies old new (script_at (new_world options) 0) lines (script_at world clock))
 
 -- all lines have their replies, and no call failed up to there; then the output went on so
 abbrev pub AnswersAll : {R W : Type 0} → Options → Stream R → Stream W → (WorldValue → Stream W → Type 0) → Type 0
@@ -92,16 +54,43 @@ AnswersAll {R} {W} options input output GoesOn =
     × HasReplies options (lines_in input) (output.bytes output.before.inner) (output.bytes mid.inner) world
     × GoesOn world (stream output.bytes mid output.after)
 
--- the lines before a fault have their replies, and the fault is of a call that failed, or of none
+-- the lines before a fault have their replies, and the fault is of a call that failed, or of none; where a write failed, more lines may have been read, and what they ask is done
 abbrev pub StopsEarly : {R W : Type 0} → Options → Stream R → Stream W → Type 0
 StopsEarly options input output =
     (fault : ServeFault) × IsOfCall fault input.before.failed input.after.failed output.before.failed output.after.failed × IfSome (lines_in input) (λ lines. (after : ScriptValue)
-    × StopsAt fault lines (input.bytes input.after.inner) (output.bytes output.before.inner) (output.bytes output.after.inner) (script_at (new_world options) 0) after)
+    × StopsAt LineReplies LineUnanswered fault lines (input.bytes input.after.inner) (output.bytes output.before.inner) (output.bytes output.after.inner) (script_at (new_world options) 0) after)
+
+-- connections may be served: the options are served, and there is an address
+abbrev pub MayServe : ServeMode → Type 0
+MayServe mode = IsServed mode.options × IsSome mode.address
+
+-- a race may be run: the options are served, and it has its two queues
+abbrev pub MayRace : RaceMode → Type 0
+MayRace mode = IsServed mode.options × (2 ≤ mode.options.queues)
+
+-- By the status, how serving ends: done, a fault, refused for its options, or with a fault of the audit. Where there is no
+-- address nothing went out.
+abbrev pub EndsServing : {W : Type 0} → ServeMode → Stream W → ℕ → Type 0
+EndsServing mode output zero = MayServe mode
+EndsServing mode output (suc zero) = IsServed mode.options × (mode.address ≡ None → IsUntouched output)
+EndsServing mode output (suc (suc zero)) = (¬ IsServed mode.options) × IsUntouched output
+EndsServing mode output (suc (suc (suc zero))) = MayServe mode
+EndsServing mode output (suc (suc (suc (suc n)))) = ⊥
+
+-- the same of a race
+abbrev pub EndsRacing : {W : Type 0} → RaceMode → Stream W → ℕ → Type 0
+EndsRacing mode output zero = MayRace mode
+EndsRacing mode output (suc zero) = MayRace mode
+EndsRacing mode output (suc (suc zero)) = (¬ MayRace mode) × IsUntouched output
+EndsRacing mode output (suc (suc (suc zero))) = MayRace mode
+EndsRacing mode output (suc (suc (suc (suc n)))) = ⊥
 
 -- Status 0: what was asked for is done. A script has served options, a reply to each line, and its audit where one was asked
 -- for; a text was shown whole, and nothing was read.
 abbrev pub EndsWell : {R W : Type 0} → Result Mode Refused → Stream R → Stream W → Type 0
 EndsWell (Ok (Script mode)) input output = IsServed mode.options × AnswersAll mode.options input output (AuditWritten mode.audit)
+EndsWell (Ok (Serve mode)) input output = IsUntouched input × EndsServing mode output 0
+EndsWell (Ok (Race mode)) input output = IsUntouched input × EndsRacing mode output 0
 EndsWell (Err (refused.Text error)) input output = IsUntouched input × WrittenWhole IsHelp output
 EndsWell (Err (refused.Mistake error)) input output = ⊥
 EndsWell (Err refused.NoMemory) input output = ⊥
@@ -111,6 +100,8 @@ EndsWell (Err refused.NoMemory) input output = ⊥
 abbrev pub EndsByFault : {R W : Type 0} → Result Mode Refused → Stream R → Stream W → Type 0
 EndsByFault (Ok (Script mode)) input output =
     IsServed mode.options × ((IsUntouched input × IsUntouched output) ⊎ (StopsEarly mode.options input output ⊎ AnswersAll mode.options input output (AuditCut mode.audit)))
+EndsByFault (Ok (Serve mode)) input output = IsUntouched input × EndsServing mode output 1
+EndsByFault (Ok (Race mode)) input output = IsUntouched input × EndsRacing mode output 1
 EndsByFault (Err (refused.Text error)) input output = IsUntouched input × WrittenInPart IsHelp output
 EndsByFault (Err (refused.Mistake error)) input output = ⊥
 EndsByFault (Err refused.NoMemory) input output = IsUntouched input × IsUntouched output
@@ -118,16 +109,26 @@ EndsByFault (Err refused.NoMemory) input output = IsUntouched input × IsUntouch
 -- Status 2: what was asked for cannot be done, since the options are not served or the words are mistaken; nothing was touched.
 abbrev pub EndsRefused : {R W : Type 0} → Result Mode Refused → Stream R → Stream W → Type 0
 EndsRefused (Ok (Script mode)) input output = (¬ IsServed mode.options) × IsUntouched input × IsUntouched output
+EndsRefused (Ok (Serve mode)) input output = IsUntouched input × EndsServing mode output 2
+EndsRefused (Ok (Race mode)) input output = IsUntouched input × EndsRacing mode output 2
 EndsRefused (Err (refused.Text error)) input output = ⊥
 EndsRefused (Err (refused.Mistake error)) input output = IsUntouched input × IsUntouched output
 EndsRefused (Err refused.NoMemory) input output = ⊥
+
+-- Status 3: an audit of what threads did found a fault. A script never ends so.
+abbrev pub EndsAccused : {R W : Type 0} → Result Mode Refused → Stream R → Stream W → Type 0
+EndsAccused (Ok (Script mode)) input output = ⊥
+EndsAccused (Ok (Serve mode)) input output = IsUntouched input × EndsServing mode output 3
+EndsAccused (Ok (Race mode)) input output = IsUntouched input × EndsRacing mode output 3
+EndsAccused (Err refused) input output = ⊥
 
 -- no other status is there
 abbrev pub Ends : {R W : Type 0} → Result Mode Refused → Stream R → Stream W → ℕ → Type 0
 Ends parsed input output zero = EndsWell parsed input output
 Ends parsed input output (suc zero) = EndsByFault parsed input output
 Ends parsed input output (suc (suc zero)) = EndsRefused parsed input output
-Ends parsed input output (suc (suc (suc n))) = ⊥
+Ends parsed input output (suc (suc (suc zero))) = EndsAccused parsed input output
+Ends parsed input output (suc (suc (suc (suc n)))) = ⊥
 
 -- the words ask for something, and the program ends as is right for it
 pub record EndsFor {R W : Type 0} (words : List Text) (input : Stream R) (output : Stream W) (status : ℕ) : Type 0 where

@@ -1,2 +1,4 @@
 pub mod Endings
 pub mod Faults
+pub mod Results
+pub mod Streams

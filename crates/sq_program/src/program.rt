@@ -1,16 +1,17 @@
 //! The program as a function of its words, its input and its outputs.
-ghost use Rattle.std.specs.Prelude.{◌≡◌, ◌≢◌, ◌⊎◌, ℕ, map, codes, length, ◌<◌, IfOk, IfErr};
-ghost use Rattle.sq_base.specs.StampValue.{StampValue};
+ghost use Rattle.std.specs.Prelude.{◌≡◌, ◌⊎◌, map, length, ◌<◌, IfOk, IfErr};
 ghost use Rattle.sq_merge.specs.Openings.{new_world};
 ghost use Rattle.sq_opening.specs.Openings.{IsServed};
 ghost use Rattle.sq_wire.specs.Audits.{IsAudit};
-ghost use Rattle.sq_program.specs.Endings.{stream, EndsFor, Ends, EndsWritten, IsHelp, IsAuditLine};
-ghost use Rattle.sq_program.specs.Faults.{fault_name, fault_count};
+ghost use Rattle.sq_program.specs.Streams.{stream, EndsWritten};
+ghost use Rattle.sq_program.specs.Endings.{EndsFor, Ends, EndsServing, EndsRacing, IsHelp, IsAuditLine};
 ghost use Rattle.sq_flags.specs.declared.flags.Mode.TheVariants.{Script as ByScript};
 
+use crate::reports::{Failure, explain, fail, no_memory, report, report_audit};
+use crate::server::Server;
 use clap::Error;
 use sq_base::refusal::Refusal;
-use sq_flags::flags::{Mode, Refused, ScriptMode, flags};
+use sq_flags::flags::{Mode, RaceMode, Refused, ScriptMode, ServeMode, flags};
 use sq_lines::counted::Counted;
 use sq_lines::put::{Unwritten, put_line, put_out};
 use sq_merge::AuditFault;
@@ -25,60 +26,13 @@ use std::io::{Read, Write};
 /// What the text of help begins with.
 pub const TITLE: &str = "A queue service in the manner of Amazon SQS standard queues\n\n";
 
+/// Queues that a race needs: its own, and its dead-letter queue.
+pub const RACE_QUEUES: u32 = 2;
+
 // It does nothing: its contract is the law that help is never empty.
 fn title_is_there()
     ensures { 0 < length TITLE.now }
 {}
-
-// What standard error calls a fault.
-fn name_of(fault: ServeFault) -> &'static str
-    ensures { result.now ≡ fault_name fault }
-{
-    match fault {
-        ServeFault::Read(_) => "read failed",
-        ServeFault::Write(_) => "write failed",
-        ServeFault::NoMemory(_) => "no memory",
-        ServeFault::TooLong(_) => "line too long",
-    }
-}
-
-// How many lines were answered before a fault.
-fn count_of(fault: ServeFault) -> u64
-    ensures { result ≡ fault_count fault }
-{
-    match fault {
-        ServeFault::Read(count)
-        | ServeFault::Write(count)
-        | ServeFault::NoMemory(count)
-        | ServeFault::TooLong(count) => count,
-    }
-}
-
-// Reports why a run ended early. Nobody can be told that this failed.
-fn report<E: Write>(errors: &mut E, fault: ServeFault) -> u8
-    ensures { result ≡ 1 }
-{
-    let (name, count) = (name_of(fault), count_of(fault));
-    let _ = writeln!(errors, "sqd: {name} after {count} requests");
-    let _ = errors.flush();
-    1
-}
-
-/// Reports that there was no memory before the first request.
-pub fn no_memory<E: Write>(errors: &mut E) -> u8
-    ensures { result ≡ 1 }
-{
-    report(errors, ServeFault::NoMemory(0))
-}
-
-/// Reports that the words are no text.
-pub fn no_text<E: Write>(errors: &mut E) -> u8
-    ensures { result ≡ 2 }
-{
-    let _ = errors.write_all(b"error: invalid UTF-8 was detected in one or more arguments\n");
-    let _ = errors.flush();
-    2
-}
 
 // Shows a text that was asked for.
 fn show<W: Write, E: Write>(
@@ -95,49 +49,6 @@ fn show<W: Write, E: Write>(
     match put_out(output, TITLE.as_bytes(), text.as_bytes()) {
         Ok(()) => 0,
         Err(Unwritten) => report(errors, ServeFault::Write(0)),
-    }
-}
-
-// Reports a mistake in the words.
-fn explain<E: Write>(error: &Error, errors: &mut E) -> u8
-    ensures { result ≡ 2 }
-{
-    let _ = write!(errors, "{error}");
-    let _ = errors.flush();
-    2
-}
-
-// What standard error calls a fault of an audit.
-fn audit_fault_name(fault: AuditFault) -> &'static str
-    ensures memory { fault ≡ AuditFault.NoMemory → result.now ≡ codes "no memory in audit" }
-    ensures missing { (actor index : ℕ) → fault ≡ AuditFault.RecordMissing actor index → result.now ≡ codes "audit: RecordMissing" }
-    ensures twice { (actor index : ℕ) → fault ≡ AuditFault.RecordTwice actor index → result.now ≡ codes "audit: RecordTwice" }
-    ensures leave { (stamp : StampValue) → fault ≡ AuditFault.LeaveUnmatched stamp → result.now ≡ codes "audit: LeaveUnmatched" }
-    ensures enter { (stamp : StampValue) → fault ≡ AuditFault.EnterUnmatched stamp → result.now ≡ codes "audit: EnterUnmatched" }
-{
-    match fault {
-        AuditFault::NoMemory => "no memory in audit",
-        AuditFault::RecordMissing(_, _) => "audit: RecordMissing",
-        AuditFault::RecordTwice(_, _) => "audit: RecordTwice",
-        AuditFault::LeaveUnmatched(_) => "audit: LeaveUnmatched",
-        AuditFault::EnterUnmatched(_) => "audit: EnterUnmatched",
-    }
-}
-
-// Reports why there is no audit.
-fn report_audit<E: Write>(errors: &mut E, fault: AuditFault) -> u8
-    ensures memory { fault ≡ AuditFault.NoMemory → result ≡ 1 }
-    ensures wrong { fault ≢ AuditFault.NoMemory → result ≡ 3 }
-{
-    let name = audit_fault_name(fault);
-    let _ = writeln!(errors, "sqd: {name}");
-    let _ = errors.flush();
-    match &fault {
-        AuditFault::NoMemory => 1,
-        AuditFault::RecordMissing(_, _)
-        | AuditFault::RecordTwice(_, _)
-        | AuditFault::LeaveUnmatched(_)
-        | AuditFault::EnterUnmatched(_) => 3,
     }
 }
 
@@ -191,11 +102,7 @@ fn script<R: Read, W: Write, E: Write>(
 {
     let mut world = match opened(alloc, mode.options) {
         Ok(world) => world,
-        Err(Refusal::InvalidParameterValue) => {
-            let _ = errors.write_all(b"sqd: bad options\n");
-            let _ = errors.flush();
-            return 2;
-        }
+        Err(Refusal::InvalidParameterValue) => return fail(errors, Failure::BadOptions),
         Err(_) => return no_memory(errors),
     };
     match run_script(alloc, input, output, &mut world) {
@@ -205,10 +112,46 @@ fn script<R: Read, W: Write, E: Write>(
     }
 }
 
+// Serves connections, where the options are served and the address is one.
+fn serve<S: Server, W: Write, E: Write>(
+    alloc: Global,
+    server: &mut S,
+    mode: ServeMode,
+    output: &mut Counted<W>,
+    errors: &mut E,
+) -> u8
+    ensures { EndsServing mode (stream W.contents output.old output.new) result }
+{
+    if !mode.options.are_served() {
+        return fail(errors, Failure::BadOptions);
+    }
+    let Some(address) = mode.address else {
+        return fail(errors, Failure::CannotListen);
+    };
+    server.serve(alloc, address, mode, output, errors)
+}
+
+// Has clients race, where the options are served and there may be two queues.
+fn race<S: Server, W: Write, E: Write>(
+    alloc: Global,
+    server: &mut S,
+    mode: RaceMode,
+    output: &mut Counted<W>,
+    errors: &mut E,
+) -> u8
+    ensures { EndsRacing mode (stream W.contents output.old output.new) result }
+{
+    if !mode.options.are_served() || mode.options.queues < RACE_QUEUES {
+        return fail(errors, Failure::BadOptions);
+    }
+    server.race(alloc, mode, output, errors)
+}
+
 // Does what was asked for.
-fn carry_out<R: Read, W: Write, E: Write>(
+fn carry_out<S: Server, R: Read, W: Write, E: Write>(
     alloc: Global,
     parsed: Result<Mode, Refused>,
+    server: &mut S,
     input: &mut Counted<R>,
     output: &mut Counted<W>,
     errors: &mut E,
@@ -217,17 +160,20 @@ fn carry_out<R: Read, W: Write, E: Write>(
 {
     match parsed {
         Ok(Mode::Script(mode)) => script(alloc, mode, input, output, errors),
+        Ok(Mode::Serve(mode)) => serve(alloc, server, mode, output, errors),
+        Ok(Mode::Race(mode)) => race(alloc, server, mode, output, errors),
         Err(Refused::Text(error)) => show(alloc, &error, output, errors),
         Err(Refused::Mistake(error)) => explain(&error, errors),
         Err(Refused::NoMemory) => no_memory(errors),
     }
 }
 
-/// The whole program, over the words of its command line. Its status is 0 where what they ask for is done, 1 for a
-/// fault, and 2 for bad words or options.
-pub fn run<R: Read, W: Write, E: Write>(
+/// The whole program, over the words of its command line and what it does with threads and sockets. Its status is 0 where
+/// what they ask for is done, 1 for a fault, 2 for bad words or options, and 3 where an audit found a fault.
+pub fn run<S: Server, R: Read, W: Write, E: Write>(
     alloc: Global,
     words: &[&str],
+    server: &mut S,
     input: &mut Counted<R>,
     output: &mut Counted<W>,
     errors: &mut E,
@@ -235,5 +181,5 @@ pub fn run<R: Read, W: Write, E: Write>(
     ensures { EndsFor (map (λ word. word.now) words.now) (stream R.remaining input.old input.new) (stream W.contents output.old output.new) result }
 {
     let parsed = flags(alloc, words);
-    carry_out(alloc, parsed, input, output, errors)
+    carry_out(alloc, parsed, server, input, output, errors)
 }

@@ -1,5 +1,5 @@
 use Rattle.std.proofs.Common.{refl}
-use Rattle.sq_program.specs.Endings.{stream}
+use Rattle.sq_program.specs.Streams.{stream}
 use Rattle.sq_program.proofs.EndingLaws.{ends_written}
 use Rattle.sq_program.proofs.program.carry_out.Goals as goal
 

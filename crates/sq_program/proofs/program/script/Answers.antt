@@ -1,6 +1,6 @@
 use Rattle.std.proofs.Common.{◌≡◌, rules, true, false}
 use Rattle.sq_merge.specs.Openings.{new_world}
-use Rattle.sq_program.specs.Endings.{stream}
+use Rattle.sq_program.specs.Streams.{stream}
 use Rattle.sq_program.proofs.EndingLaws.{ends_answered, ends_audited, ends_stopped, replies_to_all}
 use Rattle.sq_program.proofs.program.script.Goals as goal
 

@@ -1,7 +1,7 @@
 use Rattle.std.proofs.Common.{rules}
 use Rattle.clap.specs.Words.{first_value, found_of}
 use Rattle.sq_flags.proofs.FlagLaws.{no_options, no_sample}
-use Rattle.sq_flags.proofs.flags.options_of.Goals as goal
+use Rattle.sq_flags.proofs.values.options_of.Goals as goal
 
 pub returns-in_err-homes-clause-err : goal.returns-in_err-homes-clause-err
 returns-in_err-homes-clause-err c = no_options (first_value (found_of c.args.matches.now)) (λ o h. c.in_err-homes.ensures.refused.1 o.homes h.homes) _

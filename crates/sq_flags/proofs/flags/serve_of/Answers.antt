@@ -1,0 +1,10 @@
+use Rattle.clap.specs.Words.{first_value, found_of}
+use Rattle.sq_flags.specs.Flags.{IsServeOf}
+use Rattle.sq_flags.proofs.FlagLaws.{nothing}
+use Rattle.sq_flags.proofs.flags.serve_of.Goals as goal
+
+pub returns-in_err-connections-clause-err : goal.returns-in_err-connections-clause-err
+returns-in_err-connections-clause-err c = nothing (IsServeOf (first_value (found_of c.args.found.now))) (λ mode h. c.in_err-connections.ensures.err.1 mode.connections h.connections) _
+
+pub returns-in_err-movers-clause-err : goal.returns-in_err-movers-clause-err
+returns-in_err-movers-clause-err c = nothing (IsServeOf (first_value (found_of c.args.found.now))) (λ mode h. c.in_err-movers.ensures.err mode.movers h.movers) _
