@@ -1,21 +1,27 @@
-//! A queue service over standard input and output.
+//! A queue service, over standard input and output or over sockets.
 #![tactic(auto)]
 
 ghost use Rattle.std.specs.Prelude.{◌≤◌, IfOk};
 ghost use Rattle.std.specs.Process.{exit_status};
 
 use sq_lines::counted::Counted;
-use sq_program::program::{no_memory, no_text, run};
+use sq_program::program::run;
+use sq_program::reports::{no_memory, no_text};
+use sq_server::host::{Noted, do_noted};
 use std::env;
-use std::io::{self, BufWriter, ErrorKind};
+use std::io::{self, ErrorKind};
+use std::net::{Net, TcpListener, TcpStream};
 use std::process::ExitCode;
+use std::sync::Wait;
+use std::thread::Threads;
+use std::time::Clock;
 
-/// How many bytes of replies are kept until a flush.
-const KEPT: usize = 65_536;
-
-// Runs over the words and the streams of the process.
-fn run_process(rt: &HostRuntime) -> io::Result<u8>
-    ensures { IfOk result (λ status. status ≤ 2) }
+// Runs over the words and the streams of the process, and then does what needs threads and sockets.
+fn run_process<R: Net<Listener = TcpListener, Stream = TcpStream> + Threads + Wait + Clock + Sync>(
+    rt: &HostRuntime,
+    threads: &R,
+) -> io::Result<u8>
+    ensures { IfOk result (λ status. status ≤ 3) }
 {
     let alloc = rt.alloc();
     let arguments: Vec<String> = env::args(rt)?.collect(alloc)?;
@@ -24,23 +30,30 @@ fn run_process(rt: &HostRuntime) -> io::Result<u8>
         words.push(argument.as_str())?;
     }
     let mut input = Counted::new(rt.stdin());
-    let mut output = Counted::new(BufWriter::with_capacity(alloc, KEPT, rt.stdout())?);
-    Ok(run(
+    let mut output = Counted::new(rt.stdout());
+    let mut errors = rt.stderr();
+    let mut noted = Noted { wanted: None };
+    let status = run(
         alloc,
         words.as_slice(),
+        &mut noted,
         &mut input,
         &mut output,
-        &mut rt.stderr(),
-    ))
+        &mut errors,
+    );
+    Ok(do_noted(threads, alloc, &noted, status, &mut output, &mut errors))
 }
 
 // Runs, and tells the status of the process.
-fn ending(rt: &HostRuntime) -> io::Result<ExitCode>
-    ensures { IfOk result (λ code. exit_status code ≤ 2) }
+fn ending<R: Net<Listener = TcpListener, Stream = TcpStream> + Threads + Wait + Clock + Sync>(
+    rt: &HostRuntime,
+    threads: &R,
+) -> io::Result<ExitCode>
+    ensures { IfOk result (λ code. exit_status code ≤ 3) }
 {
-    let status = match run_process(rt) {
+    let status = match run_process(rt, threads) {
         Ok(status) => status,
-        // The words or a buffer were too much, before any request.
+        // The words were too much, before any request.
         Err(error) if error.kind() == ErrorKind::OutOfMemory => no_memory(&mut rt.stderr()),
         Err(error) if error.kind() == ErrorKind::InvalidData => no_text(&mut rt.stderr()),
         Err(error) => return Err(error),
@@ -49,5 +62,5 @@ fn ending(rt: &HostRuntime) -> io::Result<ExitCode>
 }
 
 fn main(rt: HostRuntime) -> io::Result<ExitCode> {
-    ending(&rt)
+    ending(&rt, &rt)
 }

@@ -35,11 +35,13 @@ impl<'a> Clock for Hand<'a> {
 /// How often a gate looks whether it may let a thread go on.
 const LOOKS: u32 = 100_000_000;
 
-/// A gate that holds who is inside a home of one queue until a sign is given.
+/// A gate that holds who is inside a home of one queue, or has let one item leave, until a sign is given.
 #[derive(Drop)]
 pub struct Door<'a> {
-    /// The number of the queue; 0 where it holds nobody.
+    /// The number of the queue; 0 where it holds nobody there.
     pub queue: u64,
+    /// The number of the item after whose leave it holds its mover; 0 where it holds none.
+    pub item: u64,
     /// Is 1 once somebody is held.
     pub held: &'a AtomicU64,
     /// The sign: not 0.
@@ -58,18 +60,28 @@ pub fn is_set(number: &AtomicU64) -> bool {
     false
 }
 
-impl<'a> Gate for Door<'a> {
-    fn inside(&self, home: &HomeId) {
-        if home.queue.get() != self.queue {
-            return;
-        }
+impl<'a> Door<'a> {
+    // Waits for the sign.
+    fn hold(&self) {
         self.held.store(1, Ordering::SeqCst);
         if is_set(self.sign) {
             self.met.store(1, Ordering::SeqCst);
         }
     }
+}
 
-    fn between(&self, _item: u64) {}
+impl<'a> Gate for Door<'a> {
+    fn inside(&self, home: &HomeId) {
+        if home.queue.get() == self.queue {
+            self.hold();
+        }
+    }
+
+    fn between(&self, item: u64) {
+        if item == self.item {
+            self.hold();
+        }
+    }
 }
 
 /// Queues of so many homes, all of which are asked.
@@ -89,6 +101,7 @@ pub fn options(homes: u32) -> Options {
 pub fn open(none: &AtomicU64) -> Door<'_> {
     Door {
         queue: 0,
+        item: 0,
         held: none,
         sign: none,
         met: none,
@@ -115,6 +128,13 @@ impl<D: Ledger, T: Ledger> Model for Client<D, T> {
     ghost view = { λ c. tt };
 }
 
+impl<D: Ledger, T: Ledger> Client<D, T> {
+    /// Its session itself.
+    pub fn session(&mut self) -> &mut Session<D, T> {
+        &mut self.session
+    }
+}
+
 impl<'a, D: Ledger, T: Ledger> Shared<'a, D, T, SlotStore> {
     pub fn new(
         rt: &impl Abort,
@@ -139,6 +159,11 @@ impl<'a, D: Ledger, T: Ledger> Shared<'a, D, T, SlotStore> {
         Shared {
             service: Box::new(alloc, service).expect(rt, "memory"),
         }
+    }
+
+    /// The service itself.
+    pub fn service(&self) -> &Serving<Hand<'a>, Door<'a>, D, T, SlotStore> {
+        &self.service
     }
 
     /// A new client.

@@ -109,6 +109,7 @@ fn held_until<D: Ledger + Send + Sync, T: Ledger + Send + Sync, R: Threads + Wai
     let held = AtomicU64::new(0);
     let door = Door {
         queue: 1,
+        item: 0,
         held: &held,
         sign: &sign,
         met: &met,

@@ -1,0 +1,163 @@
+//! The clients of a race, and what they ask.
+use crate::served::{Client, Served};
+use sq_base::handle::Handle;
+use sq_base::name::QueueName;
+use sq_base::ranges::{MaxMessages, MaxReceives, Timeout};
+use sq_base::refusal::Refusal;
+use sq_calls::body_text::BodyText;
+use sq_calls::calls::{
+    Answer, AskedAttributes, Call, CreateQueue, DeleteMessage, ReceiveMessage, SendMessage,
+};
+use sq_model::directory::Attributes;
+use sq_model::policy::RedrivePolicy;
+use sq_replies::reply::handle_of;
+use sq_shard::slots::SlotStore;
+use std::alloc::Global;
+use std::sync::Wait;
+use std::sync::ledger::Ledger;
+use std::time::Clock;
+
+// The queue of a race.
+#[tactic(auto, unfolding(sq_base::specs::Names::is_name_byte))]
+fn race_queue() -> QueueName {
+    match QueueName::new(b"race") {
+        Some(name) => name,
+        None => unreachable!(),
+    }
+}
+
+// The queue of its dead letters.
+#[tactic(auto, unfolding(sq_base::specs::Names::is_name_byte))]
+fn dead_queue() -> QueueName {
+    match QueueName::new(b"race-dlq") {
+        Some(name) => name,
+        None => unreachable!(),
+    }
+}
+
+/// CreateQueue; where dead letters have a target, what was received twice goes there.
+pub fn create(name: QueueName, target: Option<QueueName>) -> Call {
+    let mut attributes = Attributes::none();
+    if let Some(target) = target {
+        attributes.redrive = Some(Some(RedrivePolicy {
+            target,
+            max_receives: MaxReceives::of(2),
+        }));
+    }
+    Call::CreateQueue(CreateQueue { name, attributes })
+}
+
+/// Makes the queue of a race, from which what was received twice goes to another.
+pub(crate) fn make_queues<R: Clock + Wait, D: Ledger, T: Ledger>(
+    rt: &R,
+    service: &Served<'_, R, D, T, SlotStore>,
+    client: &mut Client<D, T>,
+) -> Result<(), Refusal> {
+    service.call(rt, client, &create(dead_queue(), None))?;
+    service.call(rt, client, &create(race_queue(), Some(dead_queue())))?;
+    Ok(())
+}
+
+/// SendMessage of a short body. Refused as NoMemory.
+pub fn send(alloc: Global, queue: QueueName) -> Result<Call, Refusal> {
+    Ok(Call::SendMessage(SendMessage {
+        queue,
+        body: BodyText::new(alloc, "race")?,
+        delay: None,
+    }))
+}
+
+/// ReceiveMessage of one message.
+pub fn receive(queue: QueueName, timeout: Option<Timeout>) -> Call {
+    Call::ReceiveMessage(ReceiveMessage {
+        queue,
+        max: MaxMessages::of(1),
+        timeout,
+        attributes: AskedAttributes {
+            receive_count: false,
+            sent_timestamp: false,
+        },
+    })
+}
+
+/// DeleteMessage.
+pub fn delete(queue: QueueName, handle: Handle) -> Call {
+    Call::DeleteMessage(DeleteMessage {
+        queue,
+        handle: Some(handle),
+    })
+}
+
+/// The handle of the first message that was given, if one was.
+pub fn first_handle(answer: &Answer) -> Option<Handle> {
+    let Answer::Received(received) = answer else {
+        return None;
+    };
+    let row = received.rows().first()?;
+    Some(handle_of(received.home(), row))
+}
+
+// ReceiveMessage of one message of a race, which is visible again at once.
+fn at_once() -> Call {
+    receive(race_queue(), Some(Timeout::of(0)))
+}
+
+// Whether a message was sent. What is refused is passed over.
+fn sends<R: Clock + Wait, D: Ledger, T: Ledger>(
+    rt: &R,
+    alloc: Global,
+    service: &Served<'_, R, D, T, SlotStore>,
+    client: &mut Client<D, T>,
+) -> bool {
+    match send(alloc, race_queue()) {
+        Ok(call) => service.call(rt, client, &call).is_ok(),
+        Err(_) => false,
+    }
+}
+
+// Receives what is visible again at once, and keeps the handle of what was given; where it is refused, the last one stays.
+fn receives<R: Clock + Wait, D: Ledger, T: Ledger>(
+    rt: &R,
+    service: &Served<'_, R, D, T, SlotStore>,
+    client: &mut Client<D, T>,
+    given: &mut Option<Handle>,
+) {
+    if let Ok(answer) = service.call(rt, client, &at_once()) {
+        *given = first_handle(&answer);
+    }
+}
+
+// Deletes what the last receive gave; where it gave nothing, receives again.
+fn deletes<R: Clock + Wait, D: Ledger, T: Ledger>(
+    rt: &R,
+    service: &Served<'_, R, D, T, SlotStore>,
+    client: &mut Client<D, T>,
+    given: &mut Option<Handle>,
+) {
+    match given {
+        Some(handle) => {
+            let _ = service.call(rt, client, &delete(race_queue(), *handle));
+        }
+        None => receives(rt, service, client, given),
+    }
+}
+
+/// Makes so many calls of one client, a send, a receive and a delete by turns; how many sends were answered.
+pub(crate) fn make_calls<R: Clock + Wait, D: Ledger, T: Ledger>(
+    rt: &R,
+    alloc: Global,
+    service: &Served<'_, R, D, T, SlotStore>,
+    client: &mut Client<D, T>,
+    calls: u64,
+) -> u64 {
+    let mut given = None;
+    let mut sent = 0u64;
+    for number in 0..calls {
+        match number % 3 {
+            0 => sent = sent.saturating_add(sends(rt, alloc, service, client) as u64),
+            1 => receives(rt, service, client, &mut given),
+            _ => deletes(rt, service, client, &mut given),
+        }
+    }
+    sent
+}

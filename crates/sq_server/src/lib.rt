@@ -1,0 +1,11 @@
+//! A service that is run by threads: as a server over sockets, and as a race of clients.
+#![tactic(auto)]
+
+pub mod clients;
+pub mod clock;
+pub mod ending;
+pub mod host;
+mod movers;
+pub mod race;
+pub mod serve;
+pub mod served;

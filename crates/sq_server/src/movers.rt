@@ -1,0 +1,45 @@
+//! The movers of a service: round after round, with a rest where nothing is to move.
+use crate::served::{Client, Served};
+use sq_mover::mover::Mover;
+use sq_shard::slots::SlotStore;
+use std::alloc::Global;
+use std::sync::Wait;
+use std::sync::atomic::{AtomicU64, Ordering};
+use std::sync::ledger::Ledger;
+use std::thread;
+use std::time::{Clock, Duration};
+
+/// How many turns a round has.
+const ROUND: u64 = 100;
+
+/// The longest rest after a round that moved nothing, in ms.
+const LONGEST: u64 = 50;
+
+/// Makes rounds of turns until no connection is open. After one that moved nothing it rests, twice as long each time, from
+/// 1 ms up to `LONGEST`.
+pub(crate) fn move_while_open<R: Clock + Wait, D: Ledger, T: Ledger>(
+    rt: &R,
+    alloc: Global,
+    service: &Served<'_, R, D, T, SlotStore>,
+    client: &mut Client<D, T>,
+    open: &AtomicU64,
+) {
+    let mut mover = Mover::new(alloc);
+    let mut rest = 1;
+    for _ in rt.forever() {
+        if open.load(Ordering::SeqCst) == 0 {
+            break;
+        }
+        if service.turns(rt, client, &mut mover, ROUND) {
+            rest = 1;
+        } else {
+            thread::sleep(rt, Duration::from_millis(rest));
+            rest = longer(rest);
+        }
+    }
+}
+
+// The rest after one of so many ms.
+fn longer(rest: u64) -> u64 {
+    rest.saturating_mul(2).min(LONGEST)
+}

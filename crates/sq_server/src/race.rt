@@ -1,0 +1,206 @@
+//! A race of clients and movers at one queue.
+ghost use Rattle.std.specs.Prelude.{◌≡◌, ◌≢◌, ◌≤◌};
+
+use crate::clients::{make_calls, make_queues};
+use crate::ending::end;
+use crate::served::{Client, Served};
+use sq_audit::check::AuditFault;
+use sq_base::refusal::Refusal;
+use sq_flags::flags::RaceMode;
+use sq_lines::counted::Counted;
+use sq_mover::mover::Mover;
+use sq_program::reports::{no_memory, report_audit};
+use sq_program::results::print_race;
+use sq_queue::actors::SEATS;
+use sq_shard::slots::SlotStore;
+use std::alloc::{AllocError, Global};
+use std::io::Write;
+use std::marker::Brand;
+use std::sync::Wait;
+use std::sync::ledger::{Blank, Ledger};
+use std::thread;
+use std::thread::Threads;
+use std::time::Clock;
+
+/// How many turns a mover of a race makes.
+const TURNS: u64 = 1000;
+
+/// A client that makes calls, or a mover, in a thread of its own.
+#[derive(Drop)]
+struct Racer<D: Ledger, T: Ledger> {
+    client: Client<D, T>,
+    moves: bool,
+    sent: u64,
+}
+
+// So many clients, and then so many movers.
+fn racers<R: Clock + Wait, D: Ledger, T: Ledger>(
+    rt: &R,
+    alloc: Global,
+    service: &Served<'_, R, D, T, SlotStore>,
+    mode: &RaceMode,
+) -> Result<Vec<Racer<D, T>>, Refusal> {
+    let all = mode.clients as usize + mode.movers as usize;
+    let mut racers = Vec::with_capacity(alloc, all)?;
+    for number in 0..all {
+        racers.push(Racer {
+            client: service.client(rt, alloc)?,
+            moves: number >= mode.clients as usize,
+            sent: 0,
+        })?;
+    }
+    Ok(racers)
+}
+
+// What one of them does.
+fn run<R: Clock + Wait, D: Ledger, T: Ledger>(
+    rt: &R,
+    alloc: Global,
+    service: &Served<'_, R, D, T, SlotStore>,
+    racer: &mut Racer<D, T>,
+    calls: u64,
+) {
+    if racer.moves {
+        let mut mover = Mover::new(alloc);
+        service.turns(rt, &mut racer.client, &mut mover, TURNS);
+    } else {
+        racer.sent = make_calls(rt, alloc, service, &mut racer.client, calls);
+    }
+}
+
+// All of them at once.
+fn run_all<R: Threads + Wait + Clock + Sync, D: Ledger + Send + Sync, T: Ledger + Send + Sync>(
+    rt: &R,
+    alloc: Global,
+    service: &Served<'_, R, D, T, SlotStore>,
+    racers: &mut Vec<Racer<D, T>>,
+    calls: u64,
+) {
+    let threads = racers.len().max(1);
+    thread::for_each_mut(
+        rt,
+        racers,
+        threads,
+        &|_: usize, racer: &mut Racer<D, T>| run(rt, alloc, service, racer, calls),
+    );
+}
+
+// Their clients with the first, and how many sends of all were answered.
+fn apart<D: Ledger, T: Ledger>(
+    alloc: Global,
+    first: Client<D, T>,
+    racers: Vec<Racer<D, T>>,
+) -> Result<(u64, Vec<Client<D, T>>), AllocError> {
+    let mut clients = Vec::with_capacity(alloc, racers.len())?;
+    let mut sent = 0u64;
+    for racer in racers {
+        sent = sent.saturating_add(racer.sent);
+        clients.push_reserved(racer.client);
+    }
+    clients.push(first)?;
+    Ok((sent, clients))
+}
+
+// The race, before it begins: its service, the client that made the queues, and all others.
+fn ready<R: Clock + Wait, D: Ledger, T: Ledger>(
+    rt: &R,
+    alloc: Global,
+    service: &Served<'_, R, D, T, SlotStore>,
+    mode: &RaceMode,
+) -> Result<(Client<D, T>, Vec<Racer<D, T>>), Refusal> {
+    let mut first = service.client(rt, alloc)?;
+    make_queues(rt, service, &mut first)?;
+    let racers = racers(rt, alloc, service, mode)?;
+    Ok((first, racers))
+}
+
+// The race at a service: how many sends were answered, where what was done is one run.
+fn race_at<R: Threads + Wait + Clock + Sync, D: Ledger + Send + Sync, T: Ledger + Send + Sync>(
+    rt: &R,
+    alloc: Global,
+    service: Served<'_, R, D, T, SlotStore>,
+    first: Client<D, T>,
+    racers: Vec<Racer<D, T>>,
+    calls: u64,
+) -> Result<u64, AuditFault>
+    requires of_directory { D.parts ≡ 4294967296 }
+    requires of_ledger { T.parts ≡ 4294967296 }
+{
+    let mut racers = racers;
+    run_all(rt, alloc, &service, &mut racers, calls);
+    let Ok((sent, clients)) = apart(alloc, first, racers) else {
+        return Err(AuditFault::NoMemory);
+    };
+    end(alloc, service, clients)?;
+    Ok(sent)
+}
+
+// The race at a service of its own, whose counts have names.
+fn race_named<
+    R: Threads + Wait + Clock + Sync,
+    W: Write,
+    E: Write,
+    D: Ledger + Send + Sync,
+    T: Ledger + Send + Sync,
+>(
+    rt: &R,
+    alloc: Global,
+    mode: &RaceMode,
+    output: &mut Counted<W>,
+    errors: &mut E,
+    of_directory: Blank,
+    of_ledger: Blank,
+) -> u8
+    requires of_directory { (of_directory.name ≡ D.name) × (of_directory.parts ≡ D.parts) × (D.parts ≡ 4294967296) }
+    requires of_ledger { (of_ledger.name ≡ T.name) × (of_ledger.parts ≡ T.parts) × (T.parts ≡ 4294967296) }
+    ensures within { result ≤ 3 }
+    ensures not_refused { result ≢ 2 }
+{
+    let made: Result<Served<'_, R, D, T, SlotStore>, Refusal> = Served::new(
+        rt,
+        alloc,
+        mode.options,
+        of_directory,
+        of_ledger,
+    );
+    let Ok(service) = made else {
+        return no_memory(errors);
+    };
+    let Ok((first, racers)) = ready(rt, alloc, &service, mode) else {
+        return no_memory(errors);
+    };
+    match race_at(rt, alloc, service, first, racers, mode.calls) {
+        Ok(sent) => print_race(
+            alloc,
+            mode.calls.saturating_mul(mode.clients as u64),
+            sent,
+            output,
+            errors,
+        ),
+        Err(fault) => report_audit(errors, fault),
+    }
+}
+
+/// Lets clients and movers call at one queue at once, and holds what they did against the histories. Status 0 where what was done is one
+/// run, which is told with how many calls were made and how many sends answered; 1 for want of memory or an output that
+/// cannot be written; 3 where it is no run.
+pub fn race<R: Threads + Wait + Clock + Sync, W: Write, E: Write>(
+    rt: &R,
+    alloc: Global,
+    mode: &RaceMode,
+    output: &mut Counted<W>,
+    errors: &mut E,
+) -> u8
+    ensures within { result ≤ 3 }
+    ensures not_refused { result ≢ 2 }
+{
+    race_named::<R, W, E, Brand, Brand>(
+        rt,
+        alloc,
+        mode,
+        output,
+        errors,
+        Blank::new(SEATS),
+        Blank::new(SEATS),
+    )
+}

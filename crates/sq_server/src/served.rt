@@ -1,0 +1,106 @@
+//! A service in a box, and its sessions: a function that has one on its own stack is proved with all that it is made of.
+ghost use Rattle.std.specs.Prelude.{◌≡◌, ◌⊎◌, IfErr, IfOk};
+
+use crate::clock::SystemClock;
+use sq_base::refusal::Refusal;
+use sq_calls::calls::{Answer, Call};
+use sq_lines::counted::Counted;
+use sq_mover::mover::{Mover, run_mover};
+use sq_opening::options::Options;
+use sq_queue::service::{Open, Service, Serving};
+use sq_queue::session::Session;
+use sq_shard::slots::SlotStore;
+use sq_shard::store::Store;
+use sq_wire::run::ServeFault;
+use sq_wire::serve::serve;
+use std::alloc::Global;
+use std::io::{Read, Write};
+use std::marker::Model;
+use std::sync::Wait;
+use std::sync::ledger::{Blank, Ledger};
+use std::time::Clock;
+
+/// A service by the system's clock, which threads share.
+#[derive(Drop)]
+pub struct Served<'a, R, D: Ledger, T: Ledger, S: Store> {
+    pub(crate) service: Box<Serving<SystemClock<'a, R>, Open, D, T, S>>,
+}
+
+/// A session of it.
+#[derive(Drop)]
+pub struct Client<D: Ledger, T: Ledger> {
+    pub(crate) session: Box<Session<D, T>>,
+}
+
+impl<D: Ledger, T: Ledger> Model for Client<D, T> {
+    ghost use Rattle.std.specs.Prelude.{⊤};
+
+    ghost Value = { ⊤ };
+
+    ghost view = { λ c. tt };
+}
+
+impl<'a, R: Clock + Wait, D: Ledger, T: Ledger> Served<'a, R, D, T, SlotStore> {
+    /// A service without queues. Refused as InvalidParameterValue where an option is out of its range; NoMemory.
+    pub fn new(
+        rt: &'a R,
+        alloc: Global,
+        options: Options,
+        of_directory: Blank,
+        of_ledger: Blank,
+    ) -> Result<Served<'a, R, D, T, SlotStore>, Refusal>
+        requires of_directory { (of_directory.name ≡ D.name) × (of_directory.parts ≡ D.parts) × (D.parts ≡ 4294967296) }
+        requires of_ledger { (of_ledger.name ≡ T.name) × (of_ledger.parts ≡ T.parts) × (T.parts ≡ 4294967296) }
+    {
+        let service: Service<SystemClock<'a, R>, Open, D, T> = Service::new(
+            alloc,
+            options,
+            SystemClock { rt },
+            Open,
+            of_directory,
+            of_ledger,
+        )?;
+        Ok(Served {
+            service: Box::new(alloc, service)?,
+        })
+    }
+
+    /// A new client. Refused as Worn where all numbers of clients are given; NoMemory.
+    pub fn client(&self, rt: &R, alloc: Global) -> Result<Client<D, T>, Refusal> {
+        let session = self.service.session(rt)?;
+        Ok(Client {
+            session: Box::new(alloc, session)?,
+        })
+    }
+
+    /// Does what a client asks.
+    pub fn call(&self, rt: &R, client: &mut Client<D, T>, call: &Call) -> Result<Answer, Refusal> {
+        self.service.call(rt, &mut client.session, call)
+    }
+
+    /// Answers each line of a reader with a line, until its end or a fault.
+    pub fn answer<I: Read, O: Write>(
+        &self,
+        rt: &R,
+        alloc: Global,
+        client: &mut Client<D, T>,
+        reader: &mut Counted<I>,
+        writer: &mut Counted<O>,
+    ) -> Result<u64, ServeFault> {
+        serve(
+            alloc,
+            rt,
+            reader,
+            writer,
+            &*self.service,
+            &mut client.session,
+        )
+    }
+
+    /// Makes so many turns of a mover, and tells whether it was not refused and has a record more.
+    pub fn turns(&self, rt: &R, client: &mut Client<D, T>, mover: &mut Mover, turns: u64) -> bool {
+        let before = client.session.len();
+        let made = run_mover(&*self.service, rt, &mut client.session, mover, turns);
+        made.is_ok() && before < client.session.len()
+    }
+}

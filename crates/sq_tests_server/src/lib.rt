@@ -1,0 +1,5 @@
+//! The tests of the server and of the race.
+#![tactic(auto)]
+
+#[cfg(test)]
+mod tests;

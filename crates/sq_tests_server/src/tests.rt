@@ -1,0 +1,4 @@
+//! A module a subject.
+
+mod loopback;
+mod races;
