@@ -69,35 +69,42 @@ only_read d trace ns none e are = none_is_few ns (read_then d [] trace ns none e
 
 one_of_brings : (next : NextItem) (home : HomeId) (trace : List Done) (answered : Result Turned Refusal) (ns : List RecordValue) → Brings next home trace answered → AreOf trace ns → length ns ≤ 1
 one_of_brings next home trace answered ns h are = elim h [
-    inl came ↦ last_moved None home (comes_in next) came.0 trace ns came.1 are
+  | inl came ↦ last_moved None home (comes_in next) came.0 trace ns came.1 are
   | inr back ↦ (let rest = moving None home (goes_back next) back.0 ∷ [] in
-      last_moved None home (goes_back next) back.0 rest ns refl (read_then (moving None home (comes_in next) (Err QueueDoesNotExist)) rest trace ns (λ front k. k) back.1 are)) ]
+      last_moved None home (goes_back next) back.0 rest ns refl (read_then (moving None home (comes_in next) (Err QueueDoesNotExist)) rest trace ns (λ front k. k) back.1 are))
+]
 
 one_of_leave : (homes : ℕ) (name : List ℕ) (trace : List Done) (answered : Result Turned Refusal) (ns : List RecordValue) → LeaveFits homes name trace answered → AreOf trace ns → length ns ≤ 1
 one_of_leave homes name trace answered ns h are = elim h [
-    inl refused ↦ only_read (named name (Err refused.0)) trace ns (λ front k. k) refused.2 are
+  | inl refused ↦ only_read (named name (Err refused.0)) trace ns (λ front k. k) refused.2 are
   | inr left ↦ (let rest = moving (Some name) (home_numbered left.0 left.1) LeaveDead left.2 ∷ [] in
-      last_moved (Some name) (home_numbered left.0 left.1) LeaveDead left.2 rest ns refl (read_then (named name (Ok (Found left.0))) rest trace ns (λ front k. k) left.4 are)) ]
+      last_moved (Some name) (home_numbered left.0 left.1) LeaveDead left.2 rest ns refl (read_then (named name (Ok (Found left.0))) rest trace ns (λ front k. k) left.4 are))
+]
 
 one_of_bring : (homes : ℕ) (before after : Progress) (trace : List Done) (answered : Result Turned Refusal) (ns : List RecordValue) → BringFits homes before after trace answered → AreOf trace ns → length ns ≤ 1
 one_of_bring homes before after trace answered ns h are = elim h [
-    inl refused ↦ only_read (peeking before.item (Err refused.0)) trace ns (λ front k. k) refused.2 are
+  | inl refused ↦ only_read (peeking before.item (Err refused.0)) trace ns (λ front k. k) refused.2 are
   | inr found ↦ elim found [
-        inl none ↦ only_read (peeking before.item (Ok (Peeked None))) trace ns (λ front k. k) none.0 are
-      | inr some ↦ one_of_brings some.0 (home_ahead some.0 some.1) some.2 answered ns some.5 (read_then (peeking before.item (Ok (Peeked (Some some.0)))) some.2 trace ns (λ front k. k) some.4 are) ] ]
+    | inl none ↦ only_read (peeking before.item (Ok (Peeked None))) trace ns (λ front k. k) none.0 are
+    | inr some ↦ one_of_brings some.0 (home_ahead some.0 some.1) some.2 answered ns some.5 (read_then (peeking before.item (Ok (Peeked (Some some.0)))) some.2 trace ns (λ front k. k) some.4 are)
+  ]
+]
 
 one_of_served : (homes number : ℕ) (task : Task) (before after : Walk) (trace : List Done) (answered : Result Turned Refusal) (ns : List RecordValue) → ServesTask homes number task before after trace answered → AreOf trace ns → length ns ≤ 1
 one_of_served homes number task before after trace answered ns h are = elim h [
-    inl over ↦ none_is_few ns (of_trace trace [] ns over.1 are)
+  | inl over ↦ none_is_few ns (of_trace trace [] ns over.1 are)
   | inr active ↦ elim active [
-        inl goes ↦ last_moved None (home_numbered task.source.number before.home) (LeaveTask number) goes.1.0 trace ns goes.1.1 are
-      | inr ends ↦ last_of (ledgered (Finish number) ends.2.0) ns (λ front k. told_one (Finish number) ends.2.0 front k) (of_trace trace (ledgered (Finish number) ends.2.0 ∷ []) ns ends.2.1 are) ] ]
+    | inl goes ↦ last_moved None (home_numbered task.source.number before.home) (LeaveTask number) goes.1.0 trace ns goes.1.1 are
+    | inr ends ↦ last_of (ledgered (Finish number) ends.2.0) ns (λ front k. told_one (Finish number) ends.2.0 front k) (of_trace trace (ledgered (Finish number) ends.2.0 ∷ []) ns ends.2.1 are)
+  ]
+]
 
 one_of_task : (homes : ℕ) (number : Option ℕ) (before after : Progress) (trace : List Done) (answered : Result Turned Refusal) (ns : List RecordValue) → TaskFits homes number before after trace answered → AreOf trace ns → length ns ≤ 1
 one_of_task homes None before after trace answered ns h are = none_is_few ns (of_trace trace [] ns h.0 are)
 one_of_task homes (Some number) before after trace answered ns h are = elim h [
-    inl refused ↦ only_read (task_read number (Err refused.0)) trace ns (λ front k. k) refused.2 are
-  | inr found ↦ one_of_served homes number found.0 (walk_for number before.walk) found.1 found.2 answered ns found.4 (read_then (task_read number (Ok (TaskFound found.0))) found.2 trace ns (λ front k. k) found.3 are) ]
+  | inl refused ↦ only_read (task_read number (Err refused.0)) trace ns (λ front k. k) refused.2 are
+  | inr found ↦ one_of_served homes number found.0 (walk_for number before.walk) found.1 found.2 answered ns found.4 (read_then (task_read number (Ok (TaskFound found.0))) found.2 trace ns (λ front k. k) found.3 are)
+]
 
 one_of_turn : (homes : ℕ) (what : Turn) (before after : Progress) (trace : List Done) (answered : Result Turned Refusal) (ns : List RecordValue) → TurnFits homes what before after trace answered → AreOf trace ns → length ns ≤ 1
 one_of_turn homes (turn.DeadTurn name) before after trace answered ns h are = one_of_leave homes name trace answered ns h.0 are
@@ -114,5 +121,6 @@ one_record homes what before after a b answered left =
 -- a turn for the task of a walk leaves a walk
 pub walk_left : (homes : ℕ) (before : Walk) (after : Progress) (a b : Journal) (answered : Result Turned Refusal) → LeavesRecords (TurnFits homes (turn.TaskTurn (Some before.task)) (with_walk before no_progress) after) a answered b → (walk : Walk) × (after ≡ with_walk walk no_progress)
 walk_left homes before after a b answered left = elim left.fits [
-    inl refused ↦ (before, refused.4)
-  | inr found ↦ (found.1, found.5) ]
+  | inl refused ↦ (before, refused.4)
+  | inr found ↦ (found.1, found.5)
+]

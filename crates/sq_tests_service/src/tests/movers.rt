@@ -31,7 +31,9 @@ fn with_dead_letter<D: Ledger, T: Ledger, R: Wait + Abort>(
     client: &mut Client<D, T>,
 ) -> bool {
     let made = service.call(rt, client, &create(rt, "d")).is_ok()
-        && service.call(rt, client, &create_with_target(rt, "q", "d")).is_ok();
+        && service
+            .call(rt, client, &create_with_target(rt, "q", "d"))
+            .is_ok();
     time.store(1000, Ordering::SeqCst);
     let sent = service.call(rt, client, &send(rt, alloc, "q")).is_ok();
     let received = received_from(rt, service, client, "q") == 1;
@@ -145,14 +147,9 @@ fn words<D: Ledger, T: Ledger, R: Wait + Abort>(
         "a dead letter"
     );
     let mut tried = 0;
-    let dead = word(
-        dead_turn(service.service(), rt, worker.session(), &named(rt, "q")),
-    );
+    let dead = word(dead_turn(service.service(), rt, worker.session(), &named(rt, "q")));
     let entered = word(enter_turn(service.service(), rt, worker.session(), &mut tried));
-    assert!(rt;
-        service.call(rt, &mut client, &back(rt)).is_ok(),
-        "a task"
-    );
+    assert!(rt; service.call(rt, &mut client, &back(rt)).is_ok(), "a task");
     let mut walk = Walk::new(TaskNo::new(1).expect(rt, "a number"));
     let mut words = [dead, entered, 0, 0, 0, 0, 0, 0];
     for at in 2..8usize {
