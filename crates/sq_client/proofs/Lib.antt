@@ -6,3 +6,4 @@ pub mod ClientLaws
 pub mod EntryLaws
 pub mod TurnLaws
 pub mod TurnRecordLaws
+pub mod StopPaths

@@ -17,7 +17,7 @@ use Rattle.sq_steps.specs.declared.act.TaskAct.{TaskAct}
 use Rattle.sq_steps.specs.declared.act.TaskAct.TheVariants.{Finish}
 use Rattle.sq_client.specs.declared.progress.Progress.{Progress}
 use Rattle.sq_client.specs.declared.walk.Walk.{Walk}
-use Rattle.sq_client.specs.Asks.{Resolve, Moving, Peek, Ledgered, ReadTask, Gave, Found, Replied, Nothing, Peeked, TaskFound, Done, AreOf, AreOfStep, told_of}
+use Rattle.sq_client.specs.Asks.{Moving, Ledgered, Gave, Found, Replied, Nothing, Peeked, TaskFound, Done, AreOf, AreOfStep, told_of}
 use Rattle.sq_client.specs.Performs.{LeavesRecords}
 use Rattle.sq_client.specs.Progresses.{no_progress, walk_for, with_walk}
 use Rattle.sq_client.specs.Calls.{home_numbered}

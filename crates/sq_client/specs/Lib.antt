@@ -8,3 +8,5 @@ pub mod Steps
 pub mod Entries
 pub mod Fits
 pub mod Turns
+pub mod Stops
+pub mod StopLaws

@@ -7,4 +7,5 @@ pub mod lock_steps;
 mod message;
 pub mod progress;
 pub mod turns;
+pub mod until;
 pub mod walk;

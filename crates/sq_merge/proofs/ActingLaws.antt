@@ -1,43 +1,20 @@
 -- What the steps of a call get for a reply, why they are refused, and what their actor knows after them.
-use Rattle.std.proofs.Common.{◌≡◌, ◌≢◌, ◌⊎◌, ℕ, ◌+◌, Bool, true, false, not, ◌&&◌, ◌||◌, List, length, Option, Some, None, Result, Ok, Err, IfOk, IfErr, OnErr, sym, subst, inl, inr}
-use Rattle.std.specs.Prelude.{max, nat_le, if◌then◌else◌}
-use Rattle.sq_base.specs.Stamps.{stamp_end, next_at, after, stamped}
-use Rattle.sq_base.specs.StampValue.{StampValue}
+use Rattle.std.proofs.Common.{◌≡◌, ◌⊎◌, ℕ, List, Option, Some, Result, Ok, Err, IfOk, IfErr, OnErr, sym, subst, inl, inr}
 use Rattle.sq_base.specs.declared.ids.HomeId.{HomeId}
 use Rattle.sq_base.specs.declared.refusal.Refusal.{Refusal}
-use Rattle.sq_base.specs.declared.refusal.Refusal.TheVariants.{NoMemory, ClockRange, Worn, InvalidAttributeValue, InvalidParameterValue, PurgeQueueInProgress, QueueDoesNotExist, OverLimit, ReceiptHandleIsInvalid, ResourceNotFoundException, MessageNotInflight, UnsupportedOperation}
-use Rattle.std.specs.List.{list_any}
-use Rattle.sq_base.specs.declared.row.Row.{Row}
-use Rattle.sq_model.specs.Directories.{Directory, DirectoryStep, MoveEnds, agrees, create_refusal, deleted_recently, directory_refusal, last_version, may_have, move_between, move_from, move_to, purged_recently, queue_of, refused_at}
+use Rattle.sq_base.specs.declared.refusal.Refusal.TheVariants.{QueueDoesNotExist}
 use Rattle.sq_model.specs.declared.task.NamedQueue.{NamedQueue}
 use Rattle.sq_model.specs.declared.ledger.LedgerReply.{LedgerReply}
-use Rattle.sq_model.specs.declared.ledger.LedgerReply.TheVariants as ledger
 use Rattle.sq_steps.specs.declared.act.TaskAct.{TaskAct}
-use Rattle.sq_steps.specs.declared.act.TaskAct.TheVariants as task
-use Rattle.sq_steps.specs.TaskActs.{task_call}
-use Rattle.sq_model.specs.declared.directory.Attributes.{Attributes}
 use Rattle.sq_model.specs.declared.directory.DirectoryCall.{DirectoryCall}
-use Rattle.sq_model.specs.declared.directory.DirectoryCall.TheVariants as asks
 use Rattle.sq_model.specs.declared.directory.DirectoryReply.{DirectoryReply}
-use Rattle.sq_model.specs.declared.directory.DirectoryReply.TheVariants as answers
-use Rattle.sq_model.specs.declared.directory.Queue.{Queue}
-use Rattle.sq_model.specs.Rows.{ms, trimmed, is_dead, is_held, is_late, is_live}
-use Rattle.sq_model.specs.declared.task.Task.{Task}
-use Rattle.sq_model.specs.Tasks.{is_running}
-use Rattle.sq_model.specs.Ledgers.{Ledger, LedgerStep, cancel_refusal, finish_refusal, in_transit, is_of_source, item_of, last_number, ledger_refusal, room_refusal, task_of}
-use Rattle.sq_model.specs.Shared.{after_given, is_entering, is_returning, is_throttled, shared_refusal, task_refusal}
 use Rattle.sq_model.specs.declared.shared.SharedAct.{SharedAct}
-use Rattle.sq_model.specs.declared.shared.SharedAct.TheVariants as move
-use Rattle.sq_model.specs.Homes.{Home, Unopened, Serving, Closed, last_serial, slots, HomeStep, home_refusal, place_refusal, refused_if}
-use Rattle.sq_model.specs.declared.place.Site.{Site}
 use Rattle.sq_model.specs.declared.replies.HomeReply.{HomeReply}
-use Rattle.sq_model.specs.declared.replies.HomeReply.TheVariants as reply
 use Rattle.sq_history.specs.declared.act.HomeAct.{HomeAct}
-use Rattle.sq_history.specs.declared.act.HomeAct.TheVariants as act
 use Rattle.sq_history.specs.Acts.{call_of}
 use Rattle.sq_history.specs.HistoryValue.{HistoryValue}
-use Rattle.sq_client.specs.Asks.{Resolve, Directed, AtHome, Moving, Redriven, Ledgered, IsAnswerTo, IsReplyTo, IsToldTo, IsOfAnyStep, IsOfAct, IsOfMove, IsOfDirectory, IsOfTask, MayRefuse}
-use Rattle.sq_steps.specs.Journals.{journal_of, worn_at, last_place, IsNotReady}
+use Rattle.sq_client.specs.Asks.{Resolve, Directed, AtHome, Moving, Redriven, Ledgered, IsAnswerTo, IsReplyTo, IsToldTo, IsOfAnyStep, IsOfAct, IsOfMove, MayRefuse}
+use Rattle.sq_steps.specs.Journals.{journal_of}
 use Rattle.sq_model.specs.RecordValues.{Journal}
 use Rattle.sq_steps.specs.Journals.{IsHomeRefused}
 use Rattle.sq_steps.specs.SharedSteps.{IsSharedRefused}

@@ -1,28 +1,14 @@
 -- A step of a call leaves its record with its actor, and no others.
-use Rattle.std.specs.Prelude.{◌≡◌, ℕ, List, length, Option, Some, Result, Ok, Err}
-use Rattle.std.proofs.Common.{◌∙◌, refl, ap, sym, subst}
+use Rattle.std.specs.Prelude.{◌≡◌, ℕ, List, Result, Ok, Err}
+use Rattle.std.proofs.Common.{◌∙◌, ap, sym, subst}
 use Rattle.sq_base.specs.declared.refusal.Refusal.{Refusal}
-use Rattle.sq_base.specs.Stamps.{Below}
-use Rattle.sq_base.proofs.StampLaws.{after_above_second}
-use Rattle.sq_model.specs.RecordValues.{HomeRecordValue, DirectoryRecordValue, LedgerRecordValue, Journal, OfDirectory, OfLedger, OfHome, RecordValue, actor_of, place_of_record, stamp_of}
-use Rattle.sq_base.specs.declared.ids.HomeId.{HomeId}
-use Rattle.sq_model.specs.declared.calls.HomeCall.{HomeCall}
-use Rattle.sq_model.specs.declared.replies.HomeReply.{HomeReply}
-use Rattle.sq_model.specs.Ledgers.{Ledger}
-use Rattle.sq_model.specs.Shared.{IsCallOf}
-use Rattle.sq_laws.proofs.LedgerLists.{found_number}
-use Rattle.sq_history.specs.Acts.{call_of}
-use Rattle.sq_history.specs.Histories.{new_record}
-use Rattle.sq_history.specs.HistoryValue.{HistoryValue}
-use Rattle.sq_history.specs.Rooms.{KeepsRoom}
+use Rattle.sq_model.specs.RecordValues.{Journal, OfDirectory, OfLedger, OfHome, RecordValue}
 use Rattle.sq_steps.specs.Journals.{journal_of, put_journal, having_seen, with_record}
-use Rattle.sq_model.specs.declared.shared.SharedAct.{SharedAct}
-use Rattle.sq_model.specs.declared.shared.SharedAct.TheVariants as move
 use Rattle.sq_steps.proofs.JournalListLaws.{journal_own, journal_put}
 use Rattle.sq_base.specs.StampValue.{StampValue}
 use Rattle.sq_client.proofs.LeaveLaws.{home_leaves, shared_leaves, directory_leaves, ledger_leaves}
 use Rattle.sq_merge.specs.Acting.{ActorDoes, ActorStepped}
-use Rattle.sq_client.specs.Asks.{Ask, Resolve, Directed, AtHome, Moving, Peek, Redriven, Ledgered, ReadTask, Gave, Found, Answered, Replied, Nothing, Peeked, Ends, Told, TaskFound, IsCallFor, IsStepRecord, IsNext, LeavesOf}
+use Rattle.sq_client.specs.Asks.{Ask, Resolve, Directed, AtHome, Moving, Peek, Redriven, Ledgered, ReadTask, Gave, Found, Answered, Replied, Nothing, Peeked, Ends, Told, TaskFound, LeavesOf}
 use Rattle.sq_merge.specs.WorldValue.{WorldValue}
 
 -- what an actor has after a change is the change

@@ -5,6 +5,7 @@ ghost use Rattle.sq_merge.specs.ActingLaws.{actor_leaves};
 ghost use Rattle.sq_steps.specs.Journals.{journal_of};
 ghost use Rattle.sq_client.specs.Fits.{CallFits};
 ghost use Rattle.sq_client.specs.Turns.{TurnFits};
+ghost use Rattle.sq_client.specs.Stops.{UntilFits};
 ghost use Rattle.sq_client.specs.Performs.{Performs, LeavesRecords};
 
 use crate::world::World;
@@ -15,6 +16,7 @@ use sq_calls::calls::{Answer, Call};
 use sq_calls::turns::{Turn, Turned};
 use sq_client::lock_steps::LockSteps;
 use sq_client::progress::Progress;
+use sq_client::until::call_until;
 use sq_client::{client, turns};
 use sq_history::act::HomeAct;
 use sq_model::directory::{DirectoryCall, DirectoryReply};
@@ -128,6 +130,19 @@ pub(crate) fn call_at(acting: &mut Acting<'_>, call: &Call) -> Result<Answer, Re
     ensures leaves_records { LeavesRecords (CallFits (counts_of acting.old.world.now) call.now) (journal_of acting.old.actor acting.old.world.now.journals) result (journal_of acting.old.actor acting.new.world.now.journals) }
 {
     client::call(acting, call)
+}
+
+// Does a client's call at the world that is borrowed, up to so many steps.
+pub(crate) fn call_until_at(
+    acting: &mut Acting<'_>,
+    call: &Call,
+    limit: u64,
+) -> Result<Option<Answer>, Refusal>
+    ensures same_reference { acting.new.world.ghost_name ≡ acting.old.world.ghost_name }
+    ensures answered { Performs (ActorStepped acting.old.actor acting.old.clock) (UntilFits limit (CallFits (counts_of acting.old.world.now) call.now)) acting.old.world.now result acting.new.world.now }
+    ensures leaves_records { LeavesRecords (UntilFits limit (CallFits (counts_of acting.old.world.now) call.now)) (journal_of acting.old.actor acting.old.world.now.journals) result (journal_of acting.old.actor acting.new.world.now.journals) }
+{
+    call_until(acting, call, limit)
 }
 
 // Does a turn at the world that is borrowed; it is lent its actor's progress.

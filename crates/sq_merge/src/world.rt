@@ -12,6 +12,7 @@ ghost use Rattle.sq_audit.specs.HomeIds.{histories_of};
 ghost use Rattle.sq_merge.specs.Acting.{counts_of, IsKnownTo, ActorStepped, TurnDone, UnlessNoPlace};
 ghost use Rattle.sq_merge.specs.Progresses.{progress_of};
 ghost use Rattle.sq_client.specs.Fits.{CallFits};
+ghost use Rattle.sq_client.specs.Stops.{UntilFits};
 ghost use Rattle.sq_client.specs.Turns.{TurnFits};
 ghost use Rattle.sq_client.specs.Performs.{Performs, LeavesRecords};
 ghost use Rattle.sq_merge.specs.Openings.{new_world};
@@ -20,7 +21,7 @@ ghost use Rattle.sq_merge.specs.PartsValue.{ArePartsOf};
 ghost use Rattle.sq_model.specs.Ledgers.{last_task, peek};
 ghost use Rattle.sq_model.specs.Matches.{IsMatched, IsPaired};
 
-use crate::acting::{Acting, call_at, turn_at};
+use crate::acting::{Acting, call_at, call_until_at, turn_at};
 use crate::homes::never_opened_homes;
 use crate::progress::{ActorProgress, place_of};
 use sq_audit::homes::{Homes, home_index};
@@ -191,6 +192,29 @@ impl World {
             clock: now,
         };
         call_at(&mut acting, call)
+    }
+
+    /// A call that ends early: so many of its steps, reads among them, and no more, as where a client's thread is stopped between
+    /// two steps. It answers None where a further step was due, else what the call answers; what was done stands.
+    /// Refused as `call`.
+    pub fn call_until(
+        &mut self,
+        alloc: Global,
+        actor: u32,
+        now: u64,
+        call: &Call,
+        steps: u64,
+    ) -> Result<Option<Answer>, Refusal>
+        ensures answered { Performs (ActorStepped actor now) (UntilFits steps (CallFits (counts_of self.old) call.now)) self.old result self.new }
+        ensures leaves_records { LeavesRecords (UntilFits steps (CallFits (counts_of self.old) call.now)) (journal_of actor self.old.journals) result (journal_of actor self.new.journals) }
+    {
+        let mut acting = Acting {
+            alloc,
+            world: self,
+            actor,
+            clock: now,
+        };
+        call_until_at(&mut acting, call, steps)
     }
 
     /// A turn of an actor at a clock reading in ms: one step of moving messages, beside reads. A dead letter leaves a home of

@@ -1,11 +1,12 @@
 //! The calls of a session.
 ghost use Rattle.std.specs.Prelude.{◌≡◌};
 ghost use Rattle.sq_client.specs.Fits.{CallFits};
+ghost use Rattle.sq_client.specs.Stops.{UntilFits};
 ghost use Rattle.sq_client.specs.Turns.{TurnFits};
 ghost use Rattle.sq_client.specs.Performs.{LeavesRecords};
 ghost use Rattle.sq_queue.specs.Services.{counts_of};
 
-use crate::locked::{Locked, call_in, turn_in};
+use crate::locked::{Locked, call_in, call_until_in, turn_in};
 use crate::service::{Clock, Gate, Serving};
 use crate::session::Session;
 use sq_base::refusal::Refusal;
@@ -35,6 +36,26 @@ impl<C: Clock + Drop, G: Gate + Drop, D: Ledger, T: Ledger> Serving<C, G, D, T, 
             left: None,
         };
         call_in(&mut locked, call)
+    }
+
+    /// A call that ends early, as `World::call_until` in `sq_merge`: so many of its steps, reads among them, and no more. It answers
+    /// None where a further step was due, else what the call answers. Refused as `call`.
+    pub fn call_until<R: Wait>(
+        &self,
+        rt: &R,
+        session: &mut Session<D, T>,
+        call: &Call,
+        steps: u64,
+    ) -> Result<Option<Answer>, Refusal>
+        ensures leaves_records { LeavesRecords (UntilFits steps (CallFits (counts_of self.now.per_queue self.now.sample) call.now)) session.old.journal result session.new.journal }
+    {
+        let mut locked = Locked {
+            rt,
+            service: self,
+            session,
+            left: None,
+        };
+        call_until_in(&mut locked, call, steps)
     }
 
     /// A turn of a mover that is so far: one step of moving messages, beside reads, as `World::turn` in `sq_merge`. How far it is

@@ -2,6 +2,7 @@
 ghost use Rattle.std.specs.Prelude.{◌≡◌};
 ghost use Rattle.sq_client.specs.Asks.{LeavesOf};
 ghost use Rattle.sq_client.specs.Fits.{CallFits};
+ghost use Rattle.sq_client.specs.Stops.{UntilFits};
 ghost use Rattle.sq_client.specs.Turns.{TurnFits};
 ghost use Rattle.sq_client.specs.Performs.{LeavesRecords};
 ghost use Rattle.sq_queue.specs.Services.{counts_of};
@@ -16,6 +17,7 @@ use sq_calls::calls::{Answer, Call};
 use sq_calls::turns::{Turn, Turned};
 use sq_client::lock_steps::LockSteps;
 use sq_client::progress::Progress;
+use sq_client::until::call_until;
 use sq_client::{client, turns};
 use sq_history::act::HomeAct;
 use sq_model::directory::{DirectoryCall, DirectoryReply};
@@ -187,6 +189,18 @@ pub(crate) fn call_in<C: Clock + Drop, G: Gate + Drop, D: Ledger, T: Ledger, R: 
     ensures leaves_records { LeavesRecords (CallFits (counts_of locked.old.service.now.per_queue locked.old.service.now.sample) call.now) locked.old.session.now.journal result locked.new.session.now.journal }
 {
     client::call(locked, call)
+}
+
+// Does a client's call with the session that is borrowed, up to so many steps.
+pub(crate) fn call_until_in<C: Clock + Drop, G: Gate + Drop, D: Ledger, T: Ledger, R: Wait>(
+    locked: &mut Locked<'_, C, G, D, T, R>,
+    call: &Call,
+    limit: u64,
+) -> Result<Option<Answer>, Refusal>
+    ensures same_reference { locked.new.session.ghost_name ≡ locked.old.session.ghost_name }
+    ensures leaves_records { LeavesRecords (UntilFits limit (CallFits (counts_of locked.old.service.now.per_queue locked.old.service.now.sample) call.now)) locked.old.session.now.journal result locked.new.session.now.journal }
+{
+    call_until(locked, call, limit)
 }
 
 // Does a turn with the session that is borrowed; the gate is told of an item that left, with no lock held.

@@ -8,4 +8,5 @@ mod queues;
 mod scripts;
 mod service;
 mod setup;
+mod stops;
 mod worlds;

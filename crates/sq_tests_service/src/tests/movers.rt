@@ -2,7 +2,7 @@
 ghost use Rattle.std.specs.Prelude.{◌≡◌};
 
 use super::runs::{create, create_with_target, named, receive, send};
-use super::shared::{Client, Door, Shared, is_set, open, options};
+use super::shared::{Client, Door, Seen, Shared, is_set, open, options};
 use sq_base::message_id::MessageId;
 use sq_base::refusal::Refusal;
 use sq_calls::calls::{Answer, Call, StartMessageMoveTask};
@@ -222,7 +222,7 @@ fn held_between<D: Ledger + Send + Sync, T: Ledger + Send + Sync, R: Threads + W
     let (inside, told) = (&held, &sign);
     let (moved, answered) = thread::join(
         rt,
-        || moves(rt, alloc, shared, &mut worker),
+        || moves(rt, alloc, shared, &mut worker, 6),
         || {
             let there = is_set(inside);
             let asked = shared.call(rt, &mut client, &receive(rt, "q")).is_ok();
@@ -233,15 +233,16 @@ fn held_between<D: Ledger + Send + Sync, T: Ledger + Send + Sync, R: Threads + W
     moved && answered && met.load(Ordering::SeqCst) == 1
 }
 
-// Six turns of a mover, and whether they were made.
+// So many turns of a mover, and whether they were made.
 fn moves<D: Ledger, T: Ledger, R: Wait>(
     rt: &R,
     alloc: Global,
     service: &Shared<'_, D, T, SlotStore>,
     client: &mut Client<D, T>,
+    turns: u64,
 ) -> bool {
     let mut mover = Mover::new(alloc);
-    run_mover(service.service(), rt, client.session(), &mut mover, 6).is_ok()
+    run_mover(service.service(), rt, client.session(), &mut mover, turns) == Ok(turns)
 }
 
 #[test]
@@ -254,4 +255,80 @@ fn a_mover_holds_no_source_while_its_item_is_on_the_way(rt: HostRuntime) {
             Blank::new(SEATS),
         )
     );
+}
+
+// A mover makes so many turns, and the dead-letter queue is deleted while an item is on its way there, or else after the turns:
+// whether all was done, and what it leaves.
+fn deleted_between<
+    D: Ledger + Send + Sync,
+    T: Ledger + Send + Sync,
+    R: Threads + Wait + Abort + Sync,
+>(rt: &R, alloc: Global, turns: u64, of_directory: Blank, of_ledger: Blank) -> (bool, Seen)
+    requires of_directory { (of_directory.name ≡ D.name) × (of_directory.parts ≡ D.parts) × (D.parts ≡ 4294967296) }
+    requires of_ledger { (of_ledger.name ≡ T.name) × (of_ledger.parts ≡ T.parts) × (T.parts ≡ 4294967296) }
+{
+    let time = AtomicU64::new(0);
+    let sign = AtomicU64::new(0);
+    let met = AtomicU64::new(0);
+    let held = AtomicU64::new(0);
+    let door = Door {
+        queue: 0,
+        item: 1,
+        held: &held,
+        sign: &sign,
+        met: &met,
+    };
+    let service: Shared<'_, D, T, SlotStore> = Shared::new(
+        rt,
+        alloc,
+        options(1),
+        &time,
+        door,
+        of_directory,
+        of_ledger,
+    );
+    let mut client = service.client(rt, alloc);
+    let mut worker = service.client(rt, alloc);
+    assert!(rt;
+        with_dead_letter(rt, alloc, &time, &service, &mut client),
+        "a dead letter"
+    );
+    let shared = &service;
+    let (inside, told) = (&held, &sign);
+    let (made, deleted) = thread::join(
+        rt,
+        || {
+            let made = moves(rt, alloc, shared, &mut worker, turns);
+            inside.store(1, Ordering::SeqCst);
+            made
+        },
+        || {
+            let there = is_set(inside);
+            let deleted = shared.call(rt, &mut client, &Call::DeleteQueue(named(rt, "d")));
+            told.store(1, Ordering::SeqCst);
+            there && deleted.is_ok()
+        },
+    );
+    let clients = vec![in alloc; client, worker].expect(rt, "memory");
+    let seen = service.finish(rt, alloc, clients).seen(alloc);
+    (made && deleted, seen)
+}
+
+#[test]
+fn a_mover_is_stopped_after_each_turn_while_its_target_is_deleted(rt: HostRuntime) {
+    let mut left = 0u64;
+    for turns in 0..=50u64 {
+        let (done, seen) = deleted_between::<Brand, Brand, HostRuntime>(
+            &rt,
+            rt.alloc(),
+            turns,
+            Blank::new(SEATS),
+            Blank::new(SEATS),
+        );
+        assert!(rt; done && seen.sessions == [2, 2], "{turns} {seen:?}");
+        assert!(rt; seen.messages == Some(1), "{turns} {seen:?}");
+        left = left.saturating_add((seen.events[1] != 0) as u64);
+    }
+    // The first turns are of d, where there is no dead letter.
+    assert!(rt; left == 48, "{left}");
 }

@@ -162,3 +162,54 @@ fn a_message_is_sent_received_and_deleted(rt: HostRuntime) {
     assert!(rt; seen.events == [1, 0, 4], "{seen:?}");
     assert!(rt; seen.messages == Some(1), "{seen:?}");
 }
+
+// Whether a send is stopped that may do so many steps, and what it leaves.
+fn send_of_steps<D: Ledger, T: Ledger, R: Wait + Abort>(
+    rt: &R,
+    alloc: Global,
+    steps: u64,
+    of_directory: Blank,
+    of_ledger: Blank,
+) -> (bool, Seen)
+    requires of_directory { (of_directory.name ≡ D.name) × (of_directory.parts ≡ D.parts) × (D.parts ≡ 4294967296) }
+    requires of_ledger { (of_ledger.name ≡ T.name) × (of_ledger.parts ≡ T.parts) × (T.parts ≡ 4294967296) }
+{
+    let time = AtomicU64::new(0);
+    let service: Shared<'_, D, T, SlotStore> = Shared::new(
+        rt,
+        alloc,
+        options(1),
+        &time,
+        open(&time),
+        of_directory,
+        of_ledger,
+    );
+    let mut client = service.client(rt, alloc);
+    assert!(rt;
+        is_done(rt, &service, &mut client, &create(rt, "q")),
+        "made"
+    );
+    let call = send(rt, alloc, "q");
+    let told = service
+        .service()
+        .call_until(rt, client.session(), &call, steps);
+    let stopped = matches!(told, Ok(None));
+    let clients = vec![in alloc; client].expect(rt, "memory");
+    (stopped, service.finish(rt, alloc, clients).seen(alloc))
+}
+
+// A send looks its queue up, and puts its message.
+#[test]
+fn a_send_is_stopped_before_it_puts_its_message(rt: HostRuntime) {
+    for steps in 0..=3u64 {
+        let (stopped, seen) = send_of_steps::<Brand, Brand, HostRuntime>(
+            &rt,
+            rt.alloc(),
+            steps,
+            Blank::new(SEATS),
+            Blank::new(SEATS),
+        );
+        assert!(rt; stopped == (steps < 2), "{steps}");
+        assert!(rt; seen.messages == Some((steps >= 2) as u64), "{steps}");
+    }
+}

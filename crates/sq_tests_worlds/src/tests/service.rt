@@ -56,6 +56,18 @@ impl Service {
         self.world.call(alloc, actor, clock, call)
     }
 
+    /// Does what a client asks, up to so many steps.
+    pub fn call_until(
+        &mut self,
+        alloc: Global,
+        actor: u32,
+        clock: u64,
+        call: &Call,
+        steps: u64,
+    ) -> Result<Option<Answer>, Refusal> {
+        self.world.call_until(alloc, actor, clock, call, steps)
+    }
+
     /// Does a turn.
     pub fn turn(
         &mut self,

@@ -1,0 +1,287 @@
+//! Calls that are stopped after each of their steps: all that is left is one run, and each message that was sent is in it once.
+use super::service::{Evidence, Service};
+use super::setup::{is_answered, options};
+use sq_audit::merge::merge;
+use sq_calls::batches::EntryAnswer;
+use sq_calls::calls::{Answer, Asked};
+use sq_json::Scratch;
+use sq_model::place::Place;
+use sq_opening::options::Options;
+use sq_places::places::places_of;
+use sq_requests::request::read_request;
+use std::alloc::Global;
+use std::process::Abort;
+
+const MAKE_D: &str = r#"{"Action":"CreateQueue","Now":0,"QueueName":"d"}"#;
+
+const MAKE_Q: &str =
+    r#"{"Action":"CreateQueue","QueueName":"q","Attributes":{"RedrivePolicy":"{\"deadLetterTargetArn\":\"arn:aws:sqs:local:000000000000:d\",\"maxReceiveCount\":1}"}}"#;
+
+const SEND_TO_Q: &str =
+    r#"{"Action":"SendMessage","Now":1000,"QueueUrl":"http://localhost/000000000000/q","MessageBody":"hello"}"#;
+
+const SEND_TO_D: &str =
+    r#"{"Action":"SendMessage","Now":1000,"QueueUrl":"http://localhost/000000000000/d","MessageBody":"hello"}"#;
+
+const RECEIVE: &str = r#"{"Action":"ReceiveMessage","QueueUrl":"http://localhost/000000000000/q"}"#;
+
+const RECEIVE_LATER: &str =
+    r#"{"Action":"ReceiveMessage","Now":31000,"QueueUrl":"http://localhost/000000000000/q"}"#;
+
+const RECEIVE_FROM_D: &str =
+    r#"{"Action":"ReceiveMessage","Now":31000,"QueueUrl":"http://localhost/000000000000/d"}"#;
+
+const LEAVE: &str =
+    r#"{"Action":"DeadTurn","Actor":1,"QueueUrl":"http://localhost/000000000000/q"}"#;
+
+const ENTER: &str = r#"{"Action":"EnterTurn","Actor":1}"#;
+
+const ENTER_LATER: &str = r#"{"Action":"EnterTurn","Actor":1,"Now":31000}"#;
+
+const ENTERED: &str = r#"{"Turn":"entered"}"#;
+
+const NO_QUEUE: &str = r#"{"Error":{"Code":"QueueDoesNotExist","Number":9}}"#;
+
+const DELETE_D: &str =
+    r#"{"Action":"DeleteQueue","Now":31000,"QueueUrl":"http://localhost/000000000000/d"}"#;
+
+const DELETE_Q: &str = r#"{"Action":"DeleteQueue","QueueUrl":"http://localhost/000000000000/q"}"#;
+
+const START: &str =
+    r#"{"Action":"StartMessageMoveTask","Now":1000,"SourceArn":"arn:aws:sqs:local:000000000000:d","DestinationArn":"arn:aws:sqs:local:000000000000:q","MaxNumberOfMessagesPerSecond":2}"#;
+
+const TASK: &str = r#"{"Action":"TaskTurn","Actor":1,"TaskHandle":"task-0000000000000001"}"#;
+
+const TASK_LATER: &str =
+    r#"{"Action":"TaskTurn","Actor":1,"Now":2000,"TaskHandle":"task-0000000000000001"}"#;
+
+const CANCEL: &str =
+    r#"{"Action":"CancelMessageMoveTask","Now":2001,"TaskHandle":"task-0000000000000001"}"#;
+
+const LIST: &str =
+    r#"{"Action":"ListMessageMoveTasks","SourceArn":"arn:aws:sqs:local:000000000000:d"}"#;
+
+const MAKE_Q_PLAIN: &str = r#"{"Action":"CreateQueue","Now":0,"QueueName":"q"}"#;
+
+const PURGE: &str =
+    r#"{"Action":"PurgeQueue","Now":1000,"QueueUrl":"http://localhost/000000000000/q"}"#;
+
+const PURGE_TOO_EARLY: &str =
+    r#"{"Action":"PurgeQueue","Now":60999,"QueueUrl":"http://localhost/000000000000/q"}"#;
+
+const PURGE_AGAIN: &str =
+    r#"{"Action":"PurgeQueue","Now":61000,"QueueUrl":"http://localhost/000000000000/q"}"#;
+
+const MAKE_Q_TOO_EARLY: &str = r#"{"Action":"CreateQueue","Now":120999,"QueueName":"q"}"#;
+
+const MAKE_Q_AGAIN: &str = r#"{"Action":"CreateQueue","Now":121000,"QueueName":"q"}"#;
+
+const SEND_AGAIN: &str =
+    r#"{"Action":"SendMessage","QueueUrl":"http://localhost/000000000000/q","MessageBody":"hello"}"#;
+
+/// Sends four messages, of which one is refused by itself.
+const SEND_ALL: &str =
+    r#"{"Action":"SendMessageBatch","Now":1000,"QueueUrl":"http://localhost/000000000000/q","Entries":[{"Id":"a","MessageBody":"a"},{"Id":"b","MessageBody":"b","DelaySeconds":901},{"Id":"c","MessageBody":"c"},{"Id":"d","MessageBody":"d"}]}"#;
+
+const COUNT: &str =
+    r#"{"Action":"GetQueueAttributes","QueueUrl":"http://localhost/000000000000/q","AttributeNames":["All"]}"#;
+
+// Queues of one home.
+fn one_home() -> Options {
+    options(1, 100, 100)
+}
+
+// How many messages an answer tells to be sent.
+fn sent_by(answer: &Answer) -> u64 {
+    match answer {
+        Answer::Sent(_, _) => 1,
+        Answer::Batch(entries) => entries
+            .as_slice()
+            .iter()
+            .filter(|entry| matches!(entry.answer, Ok(EntryAnswer::Sent(_, _))))
+            .count() as u64,
+        _ => 0,
+    }
+}
+
+/// A run of lines, one of which may be stopped.
+#[derive(Drop)]
+struct Run {
+    scratch: Scratch,
+    clock: u64,
+    /// Whether a further step was due of the line that was stopped.
+    stopped: bool,
+    /// How many messages the clients were told to be sent.
+    told: u64,
+}
+
+impl Run {
+    // Does what a line asks, up to so many steps where there is such a number.
+    fn line(&mut self, alloc: Global, service: &mut Service, line: &str, steps: Option<u64>) {
+        let Ok(request) = read_request(alloc, &mut self.scratch, line.as_bytes()) else {
+            return;
+        };
+        if let Some(reading) = request.clock {
+            self.clock = reading;
+        }
+        match request.asked {
+            Asked::Call(call) => {
+                let most = steps.unwrap_or(u64::MAX);
+                match service.call_until(alloc, request.actor, self.clock, &call, most) {
+                    Ok(Some(answer)) => self.told = self.told.saturating_add(sent_by(&answer)),
+                    Ok(None) => self.stopped = true,
+                    Err(_) => {}
+                }
+            }
+            Asked::Turn(turn) => {
+                let _ = service.turn(alloc, request.actor, self.clock, &turn);
+            }
+        }
+    }
+}
+
+// Where each message of a run is; none where what it left is not of one run.
+fn places(alloc: Global, evidence: &Evidence) -> Option<Vec<Place>> {
+    let run = merge(alloc, evidence.parts()).ok()?;
+    let listed = places_of(alloc, &run).ok()?;
+    listed.iter().map(|(_, place)| *place).collect(alloc).ok()
+}
+
+// Does lines, the one at this place up to so many steps: whether a further step of it was due, how many messages its clients were
+// told to be sent, and how many are in one place each; none where what is left is not of one run.
+fn stopped_at(
+    rt: &impl Abort,
+    alloc: Global,
+    lines: &[&str],
+    place: usize,
+    steps: u64,
+) -> (bool, u64, Option<usize>) {
+    let mut service = Service::new(rt, alloc, options(2, 100, 100));
+    let mut run = Run {
+        scratch: Scratch::new(alloc),
+        clock: 0,
+        stopped: false,
+        told: 0,
+    };
+    for (at, line) in lines.iter().enumerate() {
+        let most = if at == place { Some(steps) } else { None };
+        run.line(alloc, &mut service, line, most);
+    }
+    let found = places(alloc, &service.evidence(rt, alloc)).map(|found| found.len());
+    (run.stopped, run.told, found)
+}
+
+// In how many ways lines can be stopped within one of them. A stopped line was told nothing, and has left what its first steps
+// leave: of a batch of sends one message for each after the first, which looks its queue up, and of all others none.
+fn stops_of(rt: &impl Abort, alloc: Global, lines: &[&str]) -> u64 {
+    let mut stops = 0u64;
+    for (place, line) in lines.iter().enumerate() {
+        let is_batch = *line == SEND_ALL;
+        for steps in 0..20u64 {
+            let (stopped, told, found) = stopped_at(rt, alloc, lines, place, steps);
+            let untold = if stopped && is_batch {
+                steps.saturating_sub(1)
+            } else {
+                0
+            };
+            assert!(rt;
+                found == Some(told.saturating_add(untold) as usize),
+                "line {place} after {steps} steps: {told} {found:?}"
+            );
+            if !stopped {
+                break;
+            }
+            stops = stops.saturating_add(1);
+        }
+    }
+    stops
+}
+
+// A queue that is made, purged or deleted is three steps, of the directory and of two homes; a send is two, a receive two or three,
+// and what is refused at once is one. A batch has one for each entry that is not refused by itself, after the look-up.
+#[test]
+fn batches_are_stopped_after_each_step(rt: HostRuntime) {
+    let lines = [MAKE_D, MAKE_Q, SEND_ALL, RECEIVE, COUNT];
+    assert_eq!(rt; stops_of(&rt, rt.alloc(), &lines), 15);
+}
+
+#[test]
+fn dead_letters_are_stopped_after_each_step(rt: HostRuntime) {
+    let lines = [
+        MAKE_D,
+        MAKE_Q,
+        SEND_TO_Q,
+        RECEIVE,
+        RECEIVE_LATER,
+        LEAVE,
+        ENTER,
+        RECEIVE_FROM_D,
+    ];
+    assert_eq!(rt; stops_of(&rt, rt.alloc(), &lines), 17);
+}
+
+#[test]
+fn deletions_on_the_way_are_stopped_after_each_step(rt: HostRuntime) {
+    let lines = [
+        MAKE_D,
+        MAKE_Q,
+        SEND_TO_Q,
+        RECEIVE,
+        RECEIVE_LATER,
+        LEAVE,
+        DELETE_D,
+        DELETE_Q,
+        ENTER,
+        ENTER,
+    ];
+    assert_eq!(rt; stops_of(&rt, rt.alloc(), &lines), 20);
+}
+
+#[test]
+fn tasks_are_stopped_after_each_step(rt: HostRuntime) {
+    let lines = [
+        MAKE_D, MAKE_Q, SEND_TO_D, SEND_TO_D, SEND_TO_D, SEND_TO_D, SEND_TO_D, START, TASK, TASK,
+        TASK_LATER, ENTER, ENTER, CANCEL, LIST, TASK, ENTER, TASK, RECEIVE,
+    ];
+    assert_eq!(rt; stops_of(&rt, rt.alloc(), &lines), 24);
+}
+
+#[test]
+fn purges_and_deletions_are_stopped_after_each_step(rt: HostRuntime) {
+    let lines = [
+        MAKE_Q_PLAIN,
+        SEND_TO_Q,
+        PURGE,
+        PURGE_TOO_EARLY,
+        PURGE_AGAIN,
+        DELETE_Q,
+        SEND_AGAIN,
+        MAKE_Q_TOO_EARLY,
+        MAKE_Q_AGAIN,
+        SEND_AGAIN,
+    ];
+    assert_eq!(rt; stops_of(&rt, rt.alloc(), &lines), 22);
+}
+
+// A queue is deleted up to its first step: it is gone by its name, and its homes are open yet, so that a message on its way comes
+// in.
+#[test]
+fn a_deletion_that_is_stopped_leaves_homes_open(rt: HostRuntime) {
+    let alloc = rt.alloc();
+    let mut service = Service::new(&rt, alloc, one_home());
+    let mut run = Run {
+        scratch: Scratch::new(alloc),
+        clock: 0,
+        stopped: false,
+        told: 0,
+    };
+    for line in [MAKE_D, MAKE_Q, SEND_TO_Q, RECEIVE, RECEIVE_LATER, LEAVE] {
+        run.line(alloc, &mut service, line, None);
+    }
+    run.line(alloc, &mut service, DELETE_D, Some(1));
+    assert!(rt; run.stopped);
+    assert!(rt; is_answered(&rt, alloc, &mut service, RECEIVE_FROM_D, NO_QUEUE));
+    assert!(rt; is_answered(&rt, alloc, &mut service, ENTER_LATER, ENTERED));
+    let found = places(alloc, &service.evidence(&rt, alloc)).expect(&rt, "one run");
+    assert!(rt; found.len() == 1 && found[0] == Place::InHome);
+}
