@@ -1,6 +1,5 @@
 -- How a run ends, from how its parts did.
-use Rattle.std.proofs.Common.{◌≡◌, ◌≢◌, ◌⊎◌, ◌≤◌, ℕ, zero, suc, true, false, Some, None, List, length, Option, IfSome, Ok, Err, refl, inl, inr, arith}
-use Rattle.clap.specs.Words.{Text}
+use Rattle.std.proofs.Common.{◌≡◌, ◌⊎◌, ℕ, zero, suc, true, false, Some, None, List, length, Option, IfSome, Result, Ok, Err, refl, inl, inr, arith}
 use Rattle.clap.specs.declared.error.Error.{Error}
 use Rattle.sq_lines.specs.declared.counted.Counted.{Counted}
 use Rattle.sq_merge.specs.Openings.{new_world}
@@ -12,28 +11,32 @@ use Rattle.sq_wire.specs.declared.run.ServeFault.{ServeFault}
 use Rattle.sq_wire.specs.declared.run.ServeFault.TheVariants.{NoMemory}
 use Rattle.sq_wire.specs.Scripts.{ScriptValue, script_at, LineReplies, LineUnanswered}
 use Rattle.sq_program.specs.Streams.{Stream, stream, EndsWritten, HasNoFault, IsUntouched}
-use Rattle.sq_program.specs.Endings.{Ends, EndsFor, EndsRacing, EndsServing, HasReplies, IsAuditLine, IsHelp, MayRace, MayServe, lines_in}
+use Rattle.sq_program.specs.Endings.{Ends, EndsBy, EndsRacing, EndsServing, HasReplies, HasStatus, IsAuditLine, IsHelp, lines_in}
+use Rattle.sq_program.specs.declared.program.Next.{Next}
+use Rattle.sq_program.specs.declared.program.Next.TheVariants as next
+use Rattle.sq_flags.specs.declared.flags.Mode.{Mode}
 use Rattle.sq_flags.specs.declared.flags.Mode.TheVariants.{Script, Serve, Race}
+use Rattle.sq_flags.specs.declared.flags.Refused.{Refused}
 use Rattle.sq_flags.specs.declared.flags.Refused.TheVariants as refused
 use Rattle.sq_flags.specs.declared.flags.ScriptMode.{ScriptMode}
 use Rattle.sq_flags.specs.declared.flags.ServeMode.{ServeMode}
 use Rattle.sq_flags.specs.declared.flags.RaceMode.{RaceMode}
 
 -- what the words ask for was shown
-pub ends_written : {R W : Type 0} (error : Error) (input : Stream R) (output : Stream W) (status : ℕ) → IsUntouched input → EndsWritten IsHelp output status → Ends (Err (refused.Text error)) input output status
+pub ends_written : {R W : Type 0} (error : Error) (input : Stream R) (output : Stream W) (status : ℕ) → IsUntouched input → EndsWritten IsHelp output status → EndsBy (Err (refused.Text error)) input output status
 ends_written error input output zero same h = (same, h)
 ends_written error input output (suc zero) same h = (same, h)
 ends_written error input output (suc (suc n)) same h = absurd h
 
 -- all lines have their replies, and no audit was asked for
 pub ends_answered : {R W : Type 0} (mode : ScriptMode) (input : Stream R) (output : Stream W) (world : WorldValue) → mode.audit ≡ false → IsServed mode.options → HasNoFault input → HasNoFault output
-    → HasReplies mode.options (lines_in input) (output.bytes output.before.inner) (output.bytes output.after.inner) world → Ends (Ok (Script mode)) input output 0
+    → HasReplies mode.options (lines_in input) (output.bytes output.before.inner) (output.bytes output.after.inner) world → EndsBy (Ok (Script mode)) input output 0
 ends_answered mode input output world none served r w replies = (served, (world, output.after, r, w, replies, rw none refl))
 
 -- or one was asked for, and ended so
 pub ends_audited : {R W : Type 0} (mode : ScriptMode) (input : Stream R) (output : Stream W) (world : WorldValue) (mid : Counted W) (status : ℕ) → mode.audit ≡ true → IsServed mode.options → HasNoFault input
     → HasNoFault (stream output.bytes output.before mid) → HasReplies mode.options (lines_in input) (output.bytes output.before.inner) (output.bytes mid.inner) world
-    → EndsWritten (IsAuditLine world) (stream output.bytes mid output.after) status → Ends (Ok (Script mode)) input output status
+    → EndsWritten (IsAuditLine world) (stream output.bytes mid output.after) status → EndsBy (Ok (Script mode)) input output status
 ends_audited mode input output world mid zero parsed served r w replies answered = (served, (world, mid, r, w, replies, rw parsed answered))
 ends_audited mode input output world mid (suc zero) parsed served r w replies answered = (served, inr (inr (world, mid, r, w, replies, rw parsed answered)))
 ends_audited mode input output world mid (suc (suc n)) parsed served r w replies answered = absurd answered
@@ -53,7 +56,7 @@ stopped (Some lines) fault coming old new begin world h = (script_at world h.0, 
 pub ends_stopped : {R W : Type 0} (mode : ScriptMode) (input : Stream R) (output : Stream W) (fault : ServeFault) (world : WorldValue) (Other : Type 0) → IsServed mode.options
     → ((fault ≡ NoMemory 0) × (input.after ≡ input.before) × (output.after ≡ output.before) × Other)
     ⊎ IfSome (lines_in input) (λ lines. (clock : ℕ) × StopsAt LineReplies LineUnanswered fault lines (input.bytes input.after.inner) (output.bytes output.before.inner) (output.bytes output.after.inner) (script_at (new_world mode.options) 0) (script_at world clock))
-    → IsOfCall fault input.before.failed input.after.failed output.before.failed output.after.failed → Ends (Ok (Script mode)) input output 1
+    → IsOfCall fault input.before.failed input.after.failed output.before.failed output.after.failed → EndsBy (Ok (Script mode)) input output 1
 ends_stopped mode input output fault world Other served err count = (
   served,
   elim err [
@@ -62,40 +65,28 @@ ends_stopped mode input output fault world Other served err count = (
   ],
 )
 
--- connections were served, or clients raced, and nothing was read
-pub ends_serving : {R W : Type 0} (mode : ServeMode) (input : Stream R) (output : Stream W) (status : ℕ) → IsUntouched input → EndsServing mode output status → Ends (Ok (Serve mode)) input output status
-ends_serving mode input output zero same h = (same, h)
-ends_serving mode input output (suc zero) same h = (same, h)
-ends_serving mode input output (suc (suc zero)) same h = (same, h)
-ends_serving mode input output (suc (suc (suc zero))) same h = (same, h)
-ends_serving mode input output (suc (suc (suc (suc n)))) same h = absurd h
+-- serving goes on, or is refused, and nothing was touched
+pub ends_serving : {R W : Type 0} (mode : ServeMode) (input : Stream R) (output : Stream W) (then : Next) → IsUntouched input → IsUntouched output → EndsServing mode then → Ends (Ok (Serve mode)) input output then
+ends_serving mode input output (next.End zero) r w h = absurd h
+ends_serving mode input output (next.End (suc zero)) r w h = (h.0, h.1, r, w)
+ends_serving mode input output (next.End (suc (suc zero))) r w h = (h, r, w)
+ends_serving mode input output (next.End (suc (suc (suc n)))) r w h = absurd h
+ends_serving mode input output (next.Serve address asked) r w h = rw h.2 (refl, h.0, h.1, r, w)
+ends_serving mode input output (next.Race asked) r w h = absurd h
 
-pub ends_racing : {R W : Type 0} (mode : RaceMode) (input : Stream R) (output : Stream W) (status : ℕ) → IsUntouched input → EndsRacing mode output status → Ends (Ok (Race mode)) input output status
-ends_racing mode input output zero same h = (same, h)
-ends_racing mode input output (suc zero) same h = (same, h)
-ends_racing mode input output (suc (suc zero)) same h = (same, h)
-ends_racing mode input output (suc (suc (suc zero))) same h = (same, h)
-ends_racing mode input output (suc (suc (suc (suc n)))) same h = absurd h
+pub ends_racing : {R W : Type 0} (mode : RaceMode) (input : Stream R) (output : Stream W) (then : Next) → IsUntouched input → IsUntouched output → EndsRacing mode then → Ends (Ok (Race mode)) input output then
+ends_racing mode input output (next.End zero) r w h = absurd h
+ends_racing mode input output (next.End (suc zero)) r w h = absurd h
+ends_racing mode input output (next.End (suc (suc zero))) r w h = (h, r, w)
+ends_racing mode input output (next.End (suc (suc (suc n)))) r w h = absurd h
+ends_racing mode input output (next.Serve address asked) r w h = absurd h
+ends_racing mode input output (next.Race asked) r w h = rw h.1 (refl, h.0, r, w)
 
--- where it may be, it ends with a status that is not 2
-pub serves : {W : Type 0} (mode : ServeMode) (output : Stream W) (status : ℕ) → MayServe mode → (mode.address ≡ None → ⊥) → status ≤ 3 → status ≢ 2 → EndsServing mode output status
-serves mode output zero may there within other = may
-serves mode output (suc zero) may there within other = (may.0, λ none. absurd (there none))
-serves mode output (suc (suc zero)) may there within other = absurd (other refl)
-serves mode output (suc (suc (suc zero))) may there within other = may
-serves mode output (suc (suc (suc (suc n)))) may there within other = absurd (omega arith)
-
-pub races : {W : Type 0} (mode : RaceMode) (output : Stream W) (status : ℕ) → MayRace mode → status ≤ 3 → status ≢ 2 → EndsRacing mode output status
-races mode output zero may within other = may
-races mode output (suc zero) may within other = may
-races mode output (suc (suc zero)) may within other = absurd (other refl)
-races mode output (suc (suc (suc zero))) may within other = may
-races mode output (suc (suc (suc (suc n)))) may within other = absurd (omega arith)
-
--- the status is one of four
-pub status_within : {R W : Type 0} (words : List Text) (input : Stream R) (output : Stream W) (status : ℕ) → EndsFor words input output status → status ≤ 3
-status_within words input output zero h = omega arith
-status_within words input output (suc zero) h = omega arith
-status_within words input output (suc (suc zero)) h = omega arith
-status_within words input output (suc (suc (suc zero))) h = omega arith
-status_within words input output (suc (suc (suc (suc n)))) h = absurd h.ends
+-- the status is one of three
+pub status_within : {R W : Type 0} (parsed : Result Mode Refused) (input : Stream R) (output : Stream W) (then : Next) → Ends parsed input output then → HasStatus then
+status_within parsed input output (next.End zero) h = omega arith
+status_within parsed input output (next.End (suc zero)) h = omega arith
+status_within parsed input output (next.End (suc (suc zero))) h = omega arith
+status_within parsed input output (next.End (suc (suc (suc n)))) h = absurd h
+status_within parsed input output (next.Serve address mode) h = tt
+status_within parsed input output (next.Race mode) h = tt

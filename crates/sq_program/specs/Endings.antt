@@ -1,5 +1,5 @@
--- How the program ends, by its exit status, over what its words ask for and what becomes of its input and its output.
-use Rattle.std.specs.Prelude.{ℕ, zero, suc, Bool, true, false, List, [], ◌∷◌, ◌++◌, ◌≡◌, ◌≤◌, ◌⊎◌, Option, None, IfSome, IsSome, Result, Ok, Err}
+-- How the program ends, by its exit status or by what is left to do, over what its words ask for and what becomes of its input and its output.
+use Rattle.std.specs.Prelude.{ℕ, zero, suc, Bool, true, false, List, [], ◌∷◌, ◌++◌, ◌≡◌, ◌≤◌, ◌⊎◌, Option, None, Some, IfSome, Result, Ok, Err}
 use Rattle.clap.specs.Words.{Text}
 use Rattle.sq_lines.specs.Lines.{lines_left}
 use Rattle.sq_lines.specs.declared.counted.Counted.{Counted}
@@ -19,6 +19,8 @@ use Rattle.sq_flags.specs.declared.flags.RaceMode.{RaceMode}
 use Rattle.sq_flags.specs.declared.flags.Refused.{Refused}
 use Rattle.sq_flags.specs.declared.flags.Refused.TheVariants as refused
 use Rattle.sq_program.specs.Streams.{Stream, stream, IsUntouched, HasNoFault, WrittenWhole, WrittenInPart}
+use Rattle.sq_program.specs.declared.program.Next.{Next}
+use Rattle.sq_program.specs.declared.program.Next.TheVariants as next
 use Rattle.sq_program.specs.declared.program.TheConstants.{TITLE}
 
 -- the lines of an input, where they are known
@@ -60,48 +62,28 @@ StopsEarly options input output =
     (fault : ServeFault) × IsOfCall fault input.before.failed input.after.failed output.before.failed output.after.failed × IfSome (lines_in input) (λ lines. (after : ScriptValue)
     × StopsAt LineReplies LineUnanswered fault lines (input.bytes input.after.inner) (output.bytes output.before.inner) (output.bytes output.after.inner) (script_at (new_world options) 0) after)
 
--- connections may be served: the options are served, and there is an address
-abbrev pub MayServe : ServeMode → Type 0
-MayServe mode = IsServed mode.options × IsSome mode.address
-
 -- a race may be run: the options are served, and it has its two queues
 abbrev pub MayRace : RaceMode → Type 0
 MayRace mode = IsServed mode.options × (2 ≤ mode.options.queues)
-
--- By the status, how serving ends: done, a fault, refused for its options, or with a fault of the audit. Where there is no
--- address nothing went out.
-abbrev pub EndsServing : {W : Type 0} → ServeMode → Stream W → ℕ → Type 0
-EndsServing mode output zero = MayServe mode
-EndsServing mode output (suc zero) = IsServed mode.options × (mode.address ≡ None → IsUntouched output)
-EndsServing mode output (suc (suc zero)) = (¬ IsServed mode.options) × IsUntouched output
-EndsServing mode output (suc (suc (suc zero))) = MayServe mode
-EndsServing mode output (suc (suc (suc (suc n)))) = ⊥
-
--- the same of a race
-abbrev pub EndsRacing : {W : Type 0} → RaceMode → Stream W → ℕ → Type 0
-EndsRacing mode output zero = MayRace mode
-EndsRacing mode output (suc zero) = MayRace mode
-EndsRacing mode output (suc (suc zero)) = (¬ MayRace mode) × IsUntouched output
-EndsRacing mode output (suc (suc (suc zero))) = MayRace mode
-EndsRacing mode output (suc (suc (suc (suc n)))) = ⊥
 
 -- Status 0: what was asked for is done. A script has served options, a reply to each line, and its audit where one was asked
 -- for; a text was shown whole, and nothing was read.
 abbrev pub EndsWell : {R W : Type 0} → Result Mode Refused → Stream R → Stream W → Type 0
 EndsWell (Ok (Script mode)) input output = IsServed mode.options × AnswersAll mode.options input output (AuditWritten mode.audit)
-EndsWell (Ok (Serve mode)) input output = IsUntouched input × EndsServing mode output 0
-EndsWell (Ok (Race mode)) input output = IsUntouched input × EndsRacing mode output 0
+EndsWell (Ok (Serve mode)) input output = ⊥
+EndsWell (Ok (Race mode)) input output = ⊥
 EndsWell (Err (refused.Text error)) input output = IsUntouched input × WrittenWhole IsHelp output
 EndsWell (Err (refused.Mistake error)) input output = ⊥
 EndsWell (Err refused.NoMemory) input output = ⊥
 
 -- Status 1: a fault. A script has served options, and there was no memory to begin it, or it stopped at a line, or its audit
--- was cut short; a text was shown in part, and nothing was read; or there was no memory to see what the words ask for.
+-- was cut short; a text was shown in part, and nothing was read; or there was no memory to see what the words ask for. Where
+-- connections were to be served, there is no address.
 abbrev pub EndsByFault : {R W : Type 0} → Result Mode Refused → Stream R → Stream W → Type 0
 EndsByFault (Ok (Script mode)) input output =
     IsServed mode.options × ((IsUntouched input × IsUntouched output) ⊎ (StopsEarly mode.options input output ⊎ AnswersAll mode.options input output (AuditCut mode.audit)))
-EndsByFault (Ok (Serve mode)) input output = IsUntouched input × EndsServing mode output 1
-EndsByFault (Ok (Race mode)) input output = IsUntouched input × EndsRacing mode output 1
+EndsByFault (Ok (Serve mode)) input output = IsServed mode.options × (mode.address ≡ None) × IsUntouched input × IsUntouched output
+EndsByFault (Ok (Race mode)) input output = ⊥
 EndsByFault (Err (refused.Text error)) input output = IsUntouched input × WrittenInPart IsHelp output
 EndsByFault (Err (refused.Mistake error)) input output = ⊥
 EndsByFault (Err refused.NoMemory) input output = IsUntouched input × IsUntouched output
@@ -109,29 +91,51 @@ EndsByFault (Err refused.NoMemory) input output = IsUntouched input × IsUntouch
 -- Status 2: what was asked for cannot be done, since the options are not served or the words are mistaken; nothing was touched.
 abbrev pub EndsRefused : {R W : Type 0} → Result Mode Refused → Stream R → Stream W → Type 0
 EndsRefused (Ok (Script mode)) input output = (¬ IsServed mode.options) × IsUntouched input × IsUntouched output
-EndsRefused (Ok (Serve mode)) input output = IsUntouched input × EndsServing mode output 2
-EndsRefused (Ok (Race mode)) input output = IsUntouched input × EndsRacing mode output 2
+EndsRefused (Ok (Serve mode)) input output = (¬ IsServed mode.options) × IsUntouched input × IsUntouched output
+EndsRefused (Ok (Race mode)) input output = (¬ MayRace mode) × IsUntouched input × IsUntouched output
 EndsRefused (Err (refused.Text error)) input output = ⊥
 EndsRefused (Err (refused.Mistake error)) input output = IsUntouched input × IsUntouched output
 EndsRefused (Err refused.NoMemory) input output = ⊥
 
--- Status 3: an audit of what threads did found a fault. A script never ends so.
-abbrev pub EndsAccused : {R W : Type 0} → Result Mode Refused → Stream R → Stream W → Type 0
-EndsAccused (Ok (Script mode)) input output = ⊥
-EndsAccused (Ok (Serve mode)) input output = IsUntouched input × EndsServing mode output 3
-EndsAccused (Ok (Race mode)) input output = IsUntouched input × EndsRacing mode output 3
-EndsAccused (Err refused) input output = ⊥
+-- By its status, how the program ends; no other status is there.
+abbrev pub EndsBy : {R W : Type 0} → Result Mode Refused → Stream R → Stream W → ℕ → Type 0
+EndsBy parsed input output zero = EndsWell parsed input output
+EndsBy parsed input output (suc zero) = EndsByFault parsed input output
+EndsBy parsed input output (suc (suc zero)) = EndsRefused parsed input output
+EndsBy parsed input output (suc (suc (suc n))) = ⊥
 
--- no other status is there
-abbrev pub Ends : {R W : Type 0} → Result Mode Refused → Stream R → Stream W → ℕ → Type 0
-Ends parsed input output zero = EndsWell parsed input output
-Ends parsed input output (suc zero) = EndsByFault parsed input output
-Ends parsed input output (suc (suc zero)) = EndsRefused parsed input output
-Ends parsed input output (suc (suc (suc zero))) = EndsAccused parsed input output
-Ends parsed input output (suc (suc (suc (suc n)))) = ⊥
+-- By what is left to do, how the program ends. What needs threads and sockets is handed back as the words have it: connections are to be served at their
+-- address where the options are served, and clients are to race where a race may be run. Nothing was touched then.
+abbrev pub Ends : {R W : Type 0} → Result Mode Refused → Stream R → Stream W → Next → Type 0
+Ends parsed input output (next.End status) = EndsBy parsed input output status
+Ends parsed input output (next.Serve address mode) = (parsed ≡ Ok (Serve mode)) × IsServed mode.options × (mode.address ≡ Some address) × IsUntouched input × IsUntouched output
+Ends parsed input output (next.Race mode) = (parsed ≡ Ok (Race mode)) × MayRace mode × IsUntouched input × IsUntouched output
+
+-- the same of what serving asks for alone, and of a race
+abbrev pub EndsServing : ServeMode → Next → Type 0
+EndsServing mode (next.End zero) = ⊥
+EndsServing mode (next.End (suc zero)) = IsServed mode.options × (mode.address ≡ None)
+EndsServing mode (next.End (suc (suc zero))) = ¬ IsServed mode.options
+EndsServing mode (next.End (suc (suc (suc n)))) = ⊥
+EndsServing mode (next.Serve address asked) = IsServed mode.options × (mode.address ≡ Some address) × (asked ≡ mode)
+EndsServing mode (next.Race asked) = ⊥
+
+abbrev pub EndsRacing : RaceMode → Next → Type 0
+EndsRacing mode (next.End zero) = ⊥
+EndsRacing mode (next.End (suc zero)) = ⊥
+EndsRacing mode (next.End (suc (suc zero))) = ¬ MayRace mode
+EndsRacing mode (next.End (suc (suc (suc n)))) = ⊥
+EndsRacing mode (next.Serve address asked) = ⊥
+EndsRacing mode (next.Race asked) = MayRace mode × (asked ≡ mode)
+
+-- where the program ends, it ends with one of three statuses
+abbrev pub HasStatus : Next → Type 0
+HasStatus (next.End status) = status ≤ 2
+HasStatus (next.Serve address mode) = Unit {0}
+HasStatus (next.Race mode) = Unit {0}
 
 -- the words ask for something, and the program ends as is right for it
-pub record EndsFor {R W : Type 0} (words : List Text) (input : Stream R) (output : Stream W) (status : ℕ) : Type 0 where
+pub record EndsFor {R W : Type 0} (words : List Text) (input : Stream R) (output : Stream W) (then : Next) : Type 0 where
   pub parsed : Result Mode Refused
   pub parses : ParsesTo words parsed
-  pub ends : Ends parsed input output status
+  pub ends : Ends parsed input output then

@@ -4,4 +4,3 @@
 pub mod program;
 pub mod reports;
 pub mod results;
-pub mod server;

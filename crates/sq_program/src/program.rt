@@ -4,11 +4,10 @@ ghost use Rattle.sq_merge.specs.Openings.{new_world};
 ghost use Rattle.sq_opening.specs.Openings.{IsServed};
 ghost use Rattle.sq_wire.specs.Audits.{IsAudit};
 ghost use Rattle.sq_program.specs.Streams.{stream, EndsWritten};
-ghost use Rattle.sq_program.specs.Endings.{EndsFor, Ends, EndsServing, EndsRacing, IsHelp, IsAuditLine};
+ghost use Rattle.sq_program.specs.Endings.{EndsBy, EndsFor, Ends, EndsServing, EndsRacing, HasStatus, IsHelp, IsAuditLine};
 ghost use Rattle.sq_flags.specs.declared.flags.Mode.TheVariants.{Script as ByScript};
 
 use crate::reports::{Failure, explain, fail, no_memory, report, report_audit};
-use crate::server::Server;
 use clap::Error;
 use sq_base::refusal::Refusal;
 use sq_flags::flags::{Mode, RaceMode, Refused, ScriptMode, ServeMode, flags};
@@ -22,6 +21,18 @@ use sq_wire::audit::audit_world;
 use sq_wire::run::{ServeFault, run_script};
 use std::alloc::Global;
 use std::io::{Read, Write};
+use std::net::SocketAddr;
+
+/// What is left to do.
+#[derive(Clone, Copy, PartialEq, Eq, Debug)]
+pub enum Next {
+    /// Nothing: the process ends with this status.
+    End(u8),
+    /// Connections are to be served at this address.
+    Serve(SocketAddr, ServeMode),
+    /// Clients are to race.
+    Race(RaceMode),
+}
 
 /// What the text of help begins with.
 pub const TITLE: &str = "A queue service in the manner of Amazon SQS standard queues\n\n";
@@ -98,7 +109,7 @@ fn script<R: Read, W: Write, E: Write>(
     output: &mut Counted<W>,
     errors: &mut E,
 ) -> u8
-    ensures { Ends (Ok (ByScript mode)) (stream R.remaining input.old input.new) (stream W.contents output.old output.new) result }
+    ensures { EndsBy (Ok (ByScript mode)) (stream R.remaining input.old input.new) (stream W.contents output.old output.new) result }
 {
     let mut world = match opened(alloc, mode.options) {
         Ok(world) => world,
@@ -112,74 +123,61 @@ fn script<R: Read, W: Write, E: Write>(
     }
 }
 
-// Serves connections, where the options are served and the address is one.
-fn serve<S: Server, W: Write, E: Write>(
-    alloc: Global,
-    server: &mut S,
-    mode: ServeMode,
-    output: &mut Counted<W>,
-    errors: &mut E,
-) -> u8
-    ensures { EndsServing mode (stream W.contents output.old output.new) result }
+// Serving: it goes on where the options are served and the address is one.
+fn serve<E: Write>(mode: ServeMode, errors: &mut E) -> Next
+    ensures { EndsServing mode result }
 {
     if !mode.options.are_served() {
-        return fail(errors, Failure::BadOptions);
+        return Next::End(fail(errors, Failure::BadOptions));
     }
-    let Some(address) = mode.address else {
-        return fail(errors, Failure::CannotListen);
-    };
-    server.serve(alloc, address, mode, output, errors)
+    match mode.address {
+        Some(address) => Next::Serve(address, mode),
+        None => Next::End(fail(errors, Failure::CannotListen)),
+    }
 }
 
-// Has clients race, where the options are served and there may be two queues.
-fn race<S: Server, W: Write, E: Write>(
-    alloc: Global,
-    server: &mut S,
-    mode: RaceMode,
-    output: &mut Counted<W>,
-    errors: &mut E,
-) -> u8
-    ensures { EndsRacing mode (stream W.contents output.old output.new) result }
+// A race: it goes on where the options are served and there may be two queues.
+fn race<E: Write>(mode: RaceMode, errors: &mut E) -> Next
+    ensures { EndsRacing mode result }
 {
     if !mode.options.are_served() || mode.options.queues < RACE_QUEUES {
-        return fail(errors, Failure::BadOptions);
+        return Next::End(fail(errors, Failure::BadOptions));
     }
-    server.race(alloc, mode, output, errors)
+    Next::Race(mode)
 }
 
-// Does what was asked for.
-fn carry_out<S: Server, R: Read, W: Write, E: Write>(
+// Does what was asked for, up to what needs threads and sockets.
+fn carry_out<R: Read, W: Write, E: Write>(
     alloc: Global,
     parsed: Result<Mode, Refused>,
-    server: &mut S,
     input: &mut Counted<R>,
     output: &mut Counted<W>,
     errors: &mut E,
-) -> u8
+) -> Next
     ensures { Ends parsed (stream R.remaining input.old input.new) (stream W.contents output.old output.new) result }
 {
     match parsed {
-        Ok(Mode::Script(mode)) => script(alloc, mode, input, output, errors),
-        Ok(Mode::Serve(mode)) => serve(alloc, server, mode, output, errors),
-        Ok(Mode::Race(mode)) => race(alloc, server, mode, output, errors),
-        Err(Refused::Text(error)) => show(alloc, &error, output, errors),
-        Err(Refused::Mistake(error)) => explain(&error, errors),
-        Err(Refused::NoMemory) => no_memory(errors),
+        Ok(Mode::Script(mode)) => Next::End(script(alloc, mode, input, output, errors)),
+        Ok(Mode::Serve(mode)) => serve(mode, errors),
+        Ok(Mode::Race(mode)) => race(mode, errors),
+        Err(Refused::Text(error)) => Next::End(show(alloc, &error, output, errors)),
+        Err(Refused::Mistake(error)) => Next::End(explain(&error, errors)),
+        Err(Refused::NoMemory) => Next::End(no_memory(errors)),
     }
 }
 
-/// The whole program, over the words of its command line and what it does with threads and sockets. Its status is 0 where
-/// what they ask for is done, 1 for a fault, 2 for bad words or options, and 3 where an audit found a fault.
-pub fn run<S: Server, R: Read, W: Write, E: Write>(
+/// The whole program, over the words of its command line, up to what needs threads and sockets, which it hands back. It ends
+/// with status 0 where what the words ask for is done, 1 for a fault, and 2 for bad words or options.
+pub fn run<R: Read, W: Write, E: Write>(
     alloc: Global,
     words: &[&str],
-    server: &mut S,
     input: &mut Counted<R>,
     output: &mut Counted<W>,
     errors: &mut E,
-) -> u8
-    ensures { EndsFor (map (λ word. word.now) words.now) (stream R.remaining input.old input.new) (stream W.contents output.old output.new) result }
+) -> Next
+    ensures ends { EndsFor (map (λ word. word.now) words.now) (stream R.remaining input.old input.new) (stream W.contents output.old output.new) result }
+    ensures within { HasStatus result }
 {
     let parsed = flags(alloc, words);
-    carry_out(alloc, parsed, server, input, output, errors)
+    carry_out(alloc, parsed, input, output, errors)
 }

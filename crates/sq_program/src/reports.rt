@@ -121,9 +121,7 @@ fn audit_fault_name(fault: AuditFault) -> &'static str
 
 /// Reports why there is no audit: memory was out, or the audit found a fault.
 pub fn report_audit<E: Write>(errors: &mut E, fault: AuditFault) -> u8
-    ensures memory { fault ≡ AuditFault.NoMemory → result ≡ 1 }
-    ensures wrong { fault ≢ AuditFault.NoMemory → result ≡ 3 }
-    ensures within { (result ≡ 1) ⊎ (result ≡ 3) }
+    ensures { ((fault ≡ AuditFault.NoMemory) × (result ≡ 1)) ⊎ ((fault ≢ AuditFault.NoMemory) × (result ≡ 3)) }
 {
     let name = audit_fault_name(fault);
     let _ = writeln!(errors, "sqd: {name}");

@@ -7,7 +7,7 @@ ghost use Rattle.sq_audit.specs.HomeIds.{histories_of};
 ghost use Rattle.sq_audit.specs.SystemNow.{events_of, system_now};
 
 use crate::clock::SystemClock;
-use crate::served::{Client, Served};
+use crate::served::{Client, Served, TRIES};
 use sq_audit::check::AuditFault;
 use sq_audit::merge::merge;
 use sq_audit::parts::Parts;
@@ -18,9 +18,6 @@ use std::alloc::{AllocError, Global};
 use std::sync::Wait;
 use std::sync::ledger::Ledger;
 use std::time::Clock;
-
-/// How often the parts are gathered, where there is no memory at first.
-const TRIES: u32 = 3;
 
 // Whether what was done to these parts, sorted by stamp, is one run that leaves them as they are.
 fn judged(alloc: Global, parts: &Parts) -> Result<(), AuditFault>

@@ -1,5 +1,7 @@
 //! A race of clients and movers at one queue.
-ghost use Rattle.std.specs.Prelude.{◌≡◌, ◌≢◌, ◌≤◌};
+ghost use Rattle.std.specs.Prelude.{◌≡◌};
+ghost use Rattle.sq_program.specs.Streams.{stream};
+ghost use Rattle.sq_server.specs.Outcomes.{HasRaced, HasToldRace};
 
 use crate::clients::{make_calls, make_queues};
 use crate::ending::end;
@@ -85,10 +87,9 @@ fn run_all<R: Threads + Wait + Clock + Sync, D: Ledger + Send + Sync, T: Ledger 
     );
 }
 
-// Their clients with the first, and how many sends of all were answered.
+// Their clients, and how many sends of all were answered.
 fn apart<D: Ledger, T: Ledger>(
     alloc: Global,
-    first: Client<D, T>,
     racers: Vec<Racer<D, T>>,
 ) -> Result<(u64, Vec<Client<D, T>>), AllocError> {
     let mut clients = Vec::with_capacity(alloc, racers.len())?;
@@ -97,21 +98,20 @@ fn apart<D: Ledger, T: Ledger>(
         sent = sent.saturating_add(racer.sent);
         clients.push_reserved(racer.client);
     }
-    clients.push(first)?;
     Ok((sent, clients))
 }
 
-// The race, before it begins: its service, the client that made the queues, and all others.
+// All that race, once the queues are made by a client that then goes.
 fn ready<R: Clock + Wait, D: Ledger, T: Ledger>(
     rt: &R,
     alloc: Global,
     service: &Served<'_, R, D, T, SlotStore>,
     mode: &RaceMode,
-) -> Result<(Client<D, T>, Vec<Racer<D, T>>), Refusal> {
+) -> Result<Vec<Racer<D, T>>, Refusal> {
     let mut first = service.client(rt, alloc)?;
     make_queues(rt, service, &mut first)?;
-    let racers = racers(rt, alloc, service, mode)?;
-    Ok((first, racers))
+    service.retire(rt, first)?;
+    racers(rt, alloc, service, mode)
 }
 
 // The race at a service: how many sends were answered, where what was done is one run.
@@ -119,7 +119,6 @@ fn race_at<R: Threads + Wait + Clock + Sync, D: Ledger + Send + Sync, T: Ledger 
     rt: &R,
     alloc: Global,
     service: Served<'_, R, D, T, SlotStore>,
-    first: Client<D, T>,
     racers: Vec<Racer<D, T>>,
     calls: u64,
 ) -> Result<u64, AuditFault>
@@ -128,11 +127,33 @@ fn race_at<R: Threads + Wait + Clock + Sync, D: Ledger + Send + Sync, T: Ledger 
 {
     let mut racers = racers;
     run_all(rt, alloc, &service, &mut racers, calls);
-    let Ok((sent, clients)) = apart(alloc, first, racers) else {
+    let Ok((sent, clients)) = apart(alloc, racers) else {
         return Err(AuditFault::NoMemory);
     };
     end(alloc, service, clients)?;
     Ok(sent)
+}
+
+// Tells how it ended.
+fn tell_race<W: Write, E: Write>(
+    alloc: Global,
+    mode: &RaceMode,
+    ended: Result<u64, AuditFault>,
+    output: &mut Counted<W>,
+    errors: &mut E,
+) -> u8
+    ensures { HasToldRace mode.now ended (stream W.contents output.old output.new) result }
+{
+    match ended {
+        Ok(sent) => print_race(
+            alloc,
+            mode.calls.saturating_mul(mode.clients as u64),
+            sent,
+            output,
+            errors,
+        ),
+        Err(fault) => report_audit(errors, fault),
+    }
 }
 
 // The race at a service of its own, whose counts have names.
@@ -153,8 +174,7 @@ fn race_named<
 ) -> u8
     requires of_directory { (of_directory.name ≡ D.name) × (of_directory.parts ≡ D.parts) × (D.parts ≡ 4294967296) }
     requires of_ledger { (of_ledger.name ≡ T.name) × (of_ledger.parts ≡ T.parts) × (T.parts ≡ 4294967296) }
-    ensures within { result ≤ 3 }
-    ensures not_refused { result ≢ 2 }
+    ensures { HasRaced mode.now (stream W.contents output.old output.new) result }
 {
     let made: Result<Served<'_, R, D, T, SlotStore>, Refusal> = Served::new(
         rt,
@@ -166,19 +186,11 @@ fn race_named<
     let Ok(service) = made else {
         return no_memory(errors);
     };
-    let Ok((first, racers)) = ready(rt, alloc, &service, mode) else {
+    let Ok(racers) = ready(rt, alloc, &service, mode) else {
         return no_memory(errors);
     };
-    match race_at(rt, alloc, service, first, racers, mode.calls) {
-        Ok(sent) => print_race(
-            alloc,
-            mode.calls.saturating_mul(mode.clients as u64),
-            sent,
-            output,
-            errors,
-        ),
-        Err(fault) => report_audit(errors, fault),
-    }
+    let ended = race_at(rt, alloc, service, racers, mode.calls);
+    tell_race(alloc, mode, ended, output, errors)
 }
 
 /// Lets clients and movers call at one queue at once, and holds what they did against the histories. Status 0 where what was done is one
@@ -191,8 +203,7 @@ pub fn race<R: Threads + Wait + Clock + Sync, W: Write, E: Write>(
     output: &mut Counted<W>,
     errors: &mut E,
 ) -> u8
-    ensures within { result ≤ 3 }
-    ensures not_refused { result ≢ 2 }
+    ensures { HasRaced mode.now (stream W.contents output.old output.new) result }
 {
     race_named::<R, W, E, Brand, Brand>(
         rt,

@@ -1,5 +1,7 @@
 //! A server over sockets: a thread and a session for each connection, and movers beside them.
-ghost use Rattle.std.specs.Prelude.{◌≡◌, ◌≢◌, ◌≤◌};
+ghost use Rattle.std.specs.Prelude.{◌≡◌};
+ghost use Rattle.sq_program.specs.Streams.{stream};
+ghost use Rattle.sq_server.specs.Outcomes.{HasServed, HasToldEnd};
 
 use crate::ending::end;
 use crate::movers::move_while_open;
@@ -189,8 +191,7 @@ fn tell_end<W: Write, E: Write>(
     output: &mut Counted<W>,
     errors: &mut E,
 ) -> u8
-    ensures within { result ≤ 3 }
-    ensures not_refused { result ≢ 2 }
+    ensures { HasToldEnd ended (stream W.contents output.old output.new) result }
 {
     match ended {
         Ok(true) => print_verdict(output, errors),
@@ -218,8 +219,7 @@ fn serve_named<
 ) -> u8
     requires of_directory { (of_directory.name ≡ D.name) × (of_directory.parts ≡ D.parts) × (D.parts ≡ 4294967296) }
     requires of_ledger { (of_ledger.name ≡ T.name) × (of_ledger.parts ≡ T.parts) × (T.parts ≡ 4294967296) }
-    ensures within { result ≤ 3 }
-    ensures not_refused { result ≢ 2 }
+    ensures { HasServed (stream W.contents output.old output.new) result }
 {
     let made: Result<Served<'_, R, D, T, SlotStore>, Refusal> = Served::new(
         rt,
@@ -261,8 +261,7 @@ pub fn serve<
     output: &mut Counted<W>,
     errors: &mut E,
 ) -> u8
-    ensures within { result ≤ 3 }
-    ensures not_refused { result ≢ 2 }
+    ensures { HasServed (stream W.contents output.old output.new) result }
 {
     serve_named::<R, W, E, Brand, Brand>(
         rt,

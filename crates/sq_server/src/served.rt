@@ -20,6 +20,9 @@ use std::sync::Wait;
 use std::sync::ledger::{Blank, Ledger};
 use std::time::Clock;
 
+/// How often what takes memory at the end of a client or of a service is tried.
+pub(crate) const TRIES: u32 = 3;
+
 /// A service by the system's clock, which threads share.
 #[derive(Drop)]
 pub struct Served<'a, R, D: Ledger, T: Ledger, S: Store> {
@@ -71,6 +74,19 @@ impl<'a, R: Clock + Wait, D: Ledger, T: Ledger> Served<'a, R, D, T, SlotStore> {
         Ok(Client {
             session: Box::new(alloc, session)?,
         })
+    }
+
+    /// Takes a client back, and keeps what it did until the service ends. Where there is no memory for that it is tried again a few
+    /// times; refused as NoMemory after that, and then what the client did is lost.
+    pub fn retire(&self, rt: &R, client: Client<D, T>) -> Result<(), Refusal> {
+        let mut session = Box::into_inner(client.session);
+        for _ in 0..TRIES {
+            match self.service.retire(rt, session) {
+                Ok(()) => return Ok(()),
+                Err((_, back)) => session = back,
+            }
+        }
+        Err(Refusal::NoMemory)
     }
 
     /// Does what a client asks.

@@ -7,7 +7,7 @@ ghost use Rattle.std.specs.Process.{exit_status};
 use sq_lines::counted::Counted;
 use sq_program::program::run;
 use sq_program::reports::{no_memory, no_text};
-use sq_server::host::{Noted, do_noted};
+use sq_server::host::do_next;
 use std::env;
 use std::io::{self, ErrorKind};
 use std::net::{Net, TcpListener, TcpStream};
@@ -32,16 +32,14 @@ fn run_process<R: Net<Listener = TcpListener, Stream = TcpStream> + Threads + Wa
     let mut input = Counted::new(rt.stdin());
     let mut output = Counted::new(rt.stdout());
     let mut errors = rt.stderr();
-    let mut noted = Noted { wanted: None };
-    let status = run(
+    let next = run(
         alloc,
         words.as_slice(),
-        &mut noted,
         &mut input,
         &mut output,
         &mut errors,
     );
-    Ok(do_noted(threads, alloc, &noted, status, &mut output, &mut errors))
+    Ok(do_next(threads, alloc, next, &mut output, &mut errors))
 }
 
 // Runs, and tells the status of the process.

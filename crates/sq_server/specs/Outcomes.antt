@@ -1,0 +1,67 @@
+-- What serving connections and a race have written when they end, by the status of the process.
+use Rattle.std.specs.Prelude.{ℕ, zero, suc, ◌-◌, ◌*◌, ◌^◌, min, Bool, true, false, ◌≡◌, ◌≢◌, ◌⊎◌, ◌++◌, List, take, Result, Ok, Err}
+use Rattle.std.specs.declared.net.socket_addr.SocketAddr.{SocketAddr}
+use Rattle.sq_audit.specs.declared.check.AuditFault.{AuditFault}
+use Rattle.sq_audit.specs.declared.check.AuditFault.TheVariants.{NoMemory}
+use Rattle.sq_flags.specs.declared.flags.RaceMode.{RaceMode}
+use Rattle.sq_program.specs.Results.{line_of, listening_text, race_text, verdict_text}
+use Rattle.sq_program.specs.Streams.{Stream, EndsWritten, IsUntouched, PutsOut, WrittenInPart, WrittenWhole}
+use Rattle.sq_program.specs.declared.program.Next.{Next}
+use Rattle.sq_program.specs.declared.program.Next.TheVariants as next
+
+-- where connections are taken
+abbrev pub IsListeningLine : List ℕ → Type 0
+IsListeningLine text = (here : SocketAddr) × (text ≡ line_of (listening_text here))
+
+-- and that all that was done is one run
+abbrev pub AreServedLines : List ℕ → Type 0
+AreServedLines text = (listening : List ℕ) × IsListeningLine listening × (text ≡ listening ++ line_of verdict_text)
+
+-- a front of a text of this kind went out
+abbrev pub WritesFront : {W : Type 0} → (List ℕ → Type 0) → Stream W → Type 0
+WritesFront IsText output = (text : List ℕ) × (part : ℕ) × IsText text × PutsOut output (take part text)
+
+-- Connections were served and what was done is one run, which is told; or there was a fault, and no more than a front of that went out; or what was done is no run: then
+-- it is not told that it is one.
+abbrev pub HasServed : {W : Type 0} → Stream W → ℕ → Type 0
+HasServed output zero = WrittenWhole AreServedLines output
+HasServed output (suc zero) = WritesFront AreServedLines output
+HasServed output (suc (suc zero)) = ⊥
+HasServed output (suc (suc (suc zero))) = WrittenWhole IsListeningLine output
+HasServed output (suc (suc (suc (suc n)))) = ⊥
+
+-- that a race is one run, with its calls, as many as a number of 64 bits can tell, and how many sends of them were answered
+abbrev pub race_line : RaceMode → ℕ → List ℕ
+race_line mode sent = line_of (race_text (min (mode.calls * mode.clients) (2 ^ 64 - 1)) sent)
+
+abbrev pub IsRaceLine : RaceMode → List ℕ → Type 0
+IsRaceLine mode text = (sent : ℕ) × (text ≡ race_line mode sent)
+
+-- A race was run and what was done is one run, which is told; or there was a fault, and no more than a front of that went out; or what was done is no run, and nothing is told.
+abbrev pub HasRaced : {W : Type 0} → RaceMode → Stream W → ℕ → Type 0
+HasRaced mode output zero = WrittenWhole (IsRaceLine mode) output
+HasRaced mode output (suc zero) = WrittenInPart (IsRaceLine mode) output
+HasRaced mode output (suc (suc zero)) = ⊥
+HasRaced mode output (suc (suc (suc zero))) = IsUntouched output
+HasRaced mode output (suc (suc (suc (suc n)))) = ⊥
+
+-- what was left to do is done, and the process ends with this status
+abbrev pub IsDone : {W : Type 0} → Next → Stream W → ℕ → Type 0
+IsDone (next.End answered) output status = (status ≡ answered) × IsUntouched output
+IsDone (next.Serve address mode) output status = HasServed output status
+IsDone (next.Race mode) output status = HasRaced mode output status
+
+-- that what was done is no run, or that there was no memory to see it, is no line, but a status
+abbrev pub HasToldFault : {W : Type 0} → AuditFault → Stream W → ℕ → Type 0
+HasToldFault fault output status = (((fault ≡ NoMemory) × (status ≡ 1)) ⊎ ((fault ≢ NoMemory) × (status ≡ 3))) × IsUntouched output
+
+-- By how serving ended, what is told of it: that it is one run where each connection could be taken; else nothing.
+abbrev pub HasToldEnd : {W : Type 0} → Result Bool AuditFault → Stream W → ℕ → Type 0
+HasToldEnd (Ok true) output status = EndsWritten (λ line. line ≡ line_of verdict_text) output status
+HasToldEnd (Ok false) output status = (status ≡ 1) × IsUntouched output
+HasToldEnd (Err fault) output status = HasToldFault fault output status
+
+-- by how a race ended, with so many sends that were answered, what is told of it
+abbrev pub HasToldRace : {W : Type 0} → RaceMode → Result ℕ AuditFault → Stream W → ℕ → Type 0
+HasToldRace mode (Ok sent) output status = EndsWritten (λ line. line ≡ race_line mode sent) output status
+HasToldRace mode (Err fault) output status = HasToldFault fault output status
