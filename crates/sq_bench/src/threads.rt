@@ -54,10 +54,14 @@ fn make_calls<R: Clock + Wait, D: Ledger, T: Ledger>(
     caller: &mut Caller<D, T>,
     calls: u64,
 ) {
+    // Nothing is written that lies beside what another thread reads.
+    let queue = caller.queue;
+    let mut all = 0u64;
     for _ in 0..calls / 3 {
-        let answered = cycle(rt, alloc, service, &mut caller.client, caller.queue);
-        caller.answered = caller.answered.saturating_add(answered);
+        let answered = cycle(rt, alloc, service, &mut caller.client, queue);
+        all = all.saturating_add(answered);
     }
+    caller.answered = all;
 }
 
 // A caller for each thread, at the queues by turns, which are made.

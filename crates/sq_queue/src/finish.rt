@@ -7,7 +7,7 @@ ghost use Rattle.sq_queue.specs.Tallies.{directory_records, ledger_records};
 
 use crate::actors::Actors;
 use crate::parts::{CountedDirectory, CountedLedger, PlacedHome};
-use crate::service::{Service, Serving, placed};
+use crate::service::{Lock, Service, Serving, placed, under_lock};
 use crate::session::Session;
 use sq_audit::homes::Homes;
 use sq_audit::parts::Parts;
@@ -19,7 +19,6 @@ use sq_shard::slots::SlotStore;
 use sq_steps::journal::Journal;
 use sq_steps::journals::{Journals, are_distinct};
 use std::alloc::{AllocError, Global};
-use std::sync::Mutex;
 use std::sync::ledger::{Ledger, Share};
 
 /// What is handed back where there is no memory.
@@ -121,7 +120,7 @@ fn unlocked(
     alloc: Global,
     per_queue: HomeCount,
     out: Vec<Home>,
-    locks: Vec<Mutex<PlacedHome>>,
+    locks: Vec<Lock<PlacedHome>>,
 ) -> Vec<Home>
     requires room { vec_len locks ≤ vec_capacity out }
     requires none { out.items ≡ [] }
@@ -132,7 +131,7 @@ fn unlocked(
     let mut out = out;
     let mut index = 0u32;
     for lock in locks {
-        out.push_reserved(at_place(alloc, per_queue, index, lock.into_inner()));
+        out.push_reserved(at_place(alloc, per_queue, index, lock.into_inner().into_inner()));
         index += 1;
     }
     out
@@ -161,7 +160,7 @@ fn room_for<D: Ledger, T: Ledger>(
     alloc: Global,
     actors: &Actors<D, T>,
     sessions: &Vec<Session<D, T>>,
-    homes: &Vec<Mutex<PlacedHome>>,
+    homes: &Vec<Lock<PlacedHome>>,
 ) -> Result<(Vec<Journal>, Vec<Home>), AllocError>
     ensures journals { IfOk result (λ r. (r.0.items ≡ []) × (vec_len actors.now.retired + vec_len sessions.now ≤ vec_capacity r.0)) }
     ensures homes { IfOk result (λ r. (r.1.items ≡ []) × (vec_len homes.now ≤ vec_capacity r.1)) }
@@ -199,7 +198,7 @@ impl<C: Drop, G: Drop, D: Ledger, T: Ledger> Serving<C, G, D, T, SlotStore> {
             ledger,
             actors,
         } = self;
-        let actors = actors.into_inner();
+        let actors = actors.into_inner().into_inner();
         let Ok((journals, out)) = room_for(alloc, &actors, &sessions, &homes) else {
             let service = Serving {
                 alloc,
@@ -210,7 +209,7 @@ impl<C: Drop, G: Drop, D: Ledger, T: Ledger> Serving<C, G, D, T, SlotStore> {
                 homes,
                 directory,
                 ledger,
-                actors: Mutex::new(actors),
+                actors: under_lock(actors),
             };
             return Err(Unfinished {
                 refusal: Refusal::NoMemory,
@@ -227,12 +226,12 @@ impl<C: Drop, G: Drop, D: Ledger, T: Ledger> Serving<C, G, D, T, SlotStore> {
         let CountedDirectory {
             directory,
             mut tallies,
-        } = directory.into_inner();
+        } = directory.into_inner().into_inner();
         tallies.audit(&mut of_directory);
         let CountedLedger {
             ledger,
             tallies: mut shared,
-        } = ledger.into_inner();
+        } = ledger.into_inner().into_inner();
         shared.audit(&mut of_ledger);
         let homes = unlocked(alloc, per_queue, out, homes);
         Ok(Parts {

@@ -7,6 +7,7 @@ ghost use Rattle.sq_queue.specs.SessionValue.{new_session};
 use crate::actors::Actors;
 use crate::parts::{CountedDirectory, CountedLedger, Placed, PlacedHome};
 use crate::session::Session;
+use crossbeam_utils::CachePadded;
 use sq_base::ids::HomeId;
 use sq_base::refusal::Refusal;
 use sq_directory::directory::Directory;
@@ -45,6 +46,14 @@ impl Gate for Open {
     fn between(&self, _item: u64) {}
 }
 
+/// A lock, with nothing else on its cache lines: so a thread that takes it slows down none that is at another part.
+pub(crate) type Lock<T> = CachePadded<Mutex<T>>;
+
+// A value under its lock.
+pub(crate) fn under_lock<T>(value: T) -> Lock<T> {
+    CachePadded::new(Mutex::new(value))
+}
+
 /// The parts of a service, each under a lock of its own. A thread holds one lock, or that of a home and then that of the
 /// ledger, and no others together; that of the actors is held alone.
 ///
@@ -57,10 +66,10 @@ pub struct Serving<C, G, D: Ledger, T: Ledger, S: Store> {
     pub(crate) gate: G,
     pub(crate) per_queue: HomeCount,
     pub(crate) sample: HomeCount,
-    pub(crate) homes: Vec<Mutex<Placed<S>>>,
-    pub(crate) directory: Mutex<CountedDirectory<D>>,
-    pub(crate) ledger: Mutex<CountedLedger<T>>,
-    pub(crate) actors: Mutex<Actors<D, T>>,
+    pub(crate) homes: Vec<Lock<Placed<S>>>,
+    pub(crate) directory: Lock<CountedDirectory<D>>,
+    pub(crate) ledger: Lock<CountedLedger<T>>,
+    pub(crate) actors: Lock<Actors<D, T>>,
     ghost sampled: { sample ≤ per_queue },
     ghost few: { vec_len homes ≤ 16384 },
 }
@@ -100,15 +109,15 @@ impl<C: Clock + Drop, G: Gate + Drop, D: Ledger, T: Ledger> Serving<C, G, D, T, 
             per_queue,
             sample: HomeCount::of(options.sample),
             homes: never_opened_homes(alloc, options.queues, per_queue, &limits)?,
-            directory: Mutex::new(CountedDirectory {
+            directory: under_lock(CountedDirectory {
                 directory: Directory::new(alloc, options.queues)?,
                 tallies: of_directory,
             }),
-            ledger: Mutex::new(CountedLedger {
+            ledger: under_lock(CountedLedger {
                 ledger: TransitLedger::new(alloc, options.transit),
                 tallies: of_ledger,
             }),
-            actors: Mutex::new(Actors {
+            actors: under_lock(Actors {
                 seed: options.seed,
                 made: 0,
                 of_directory: directory_left,
@@ -154,7 +163,7 @@ fn never_opened_homes(
     queues: u32,
     per_queue: HomeCount,
     limits: &Limits,
-) -> Result<Vec<Mutex<PlacedHome>>, Refusal>
+) -> Result<Vec<Lock<PlacedHome>>, Refusal>
     requires { queues ≤ 1024 }
     ensures homes { IfOk result (λ homes. vec_len homes ≡ queues * per_queue) }
     ensures few { IfOk result (λ homes. vec_len homes ≤ 16384) }
@@ -162,7 +171,7 @@ fn never_opened_homes(
 {
     let mut homes = Vec::new(alloc);
     for index in 0..queues * per_queue.get() {
-        homes.push(Mutex::new(placed(alloc, per_queue, limits, index)))?;
+        homes.push(under_lock(placed(alloc, per_queue, limits, index)))?;
     }
     Ok(homes)
 }

@@ -2,4 +2,4 @@ use Rattle.sq_queue.proofs.reads.Serving+C+G+D+T+SlotStore.last_task.Goals as go
 use Rattle.sq_queue.proofs.LastTaskLaws.{last_is_of_source}
 
 pub returns-clause-source : goal.returns-clause-source
-returns-clause-source g c = last_is_of_source c.args.source c.deref.result.now.ledger.history.ledger c.last_task.result c.last_task.ensures.task
+returns-clause-source g c = last_is_of_source c.args.source c.deref-2.result.now.ledger.history.ledger c.last_task.result c.last_task.ensures.task
