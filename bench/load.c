@@ -1,18 +1,23 @@
-/* Clients of a queue server over loopback, each a thread with a connection of its own.
+/* Clients of a queue server over loopback, each a thread with a connection and a queue of its own.
  *
- *   load KIND PORT CONNECTIONS CYCLES BODY TOGETHER
+ *   load KIND PORT CONNECTIONS CYCLES BODY TOGETHER BATCH WAITING FLYING
  *   load answer PORT
  *
- * KIND is sqd, beanstalkd or echo. Each connection makes CYCLES cycles: a send of BODY bytes, a receive and a delete of what it
- * gave; an echo server gets lines of the length of these. TOGETHER requests of a kind are written at once, and then their replies
- * are read. A line is written: cycles a second, and of each kind of request the microseconds of the middle and of the slowest
- * hundredth, from before its write to after its reply. `load answer` is the echo server: a thread for each connection, which writes
- * what it reads.
+ * KIND is sqd, beanstalkd or echo. Before the cycles WAITING messages are put into each queue and stay there, and FLYING are
+ * received from it and not deleted; both are multiples of 100. When all queues are filled, it writes a line "ready", and reads a line
+ * before it goes on: so whoever started it may begin to count.
+ *
+ * Then each connection makes CYCLES cycles: a send of BODY bytes, a receive of the first message that waits, and a delete of what that
+ * gave; an echo server gets lines of the length of these. A request is for BATCH messages: for one, or for up to ten, by the batches
+ * of sqd. TOGETHER requests of a kind are written at once, and then their replies are read. A line is written: cycles a second, and
+ * of each kind of request the microseconds of the middle and of the slowest hundredth, from before its write to after its reply.
+ * `load answer` is the echo server: a thread for each connection, which writes what it reads.
  */
 #include <arpa/inet.h>
 #include <errno.h>
 #include <netinet/tcp.h>
 #include <pthread.h>
+#include <stdarg.h>
 #include <stdio.h>
 #include <stdlib.h>
 #include <string.h>
@@ -21,22 +26,23 @@
 #include <unistd.h>
 
 enum { SEND, RECEIVE, DELETE, KINDS };
-enum { MOST_TOGETHER = 64 };
+/* A queue is filled by so many messages at once. */
+enum { MOST_TOGETHER = 64, MOST_BATCH = 10, FILL = 100 };
 
 static const char *kind;
-static int port, connections, together;
-static long cycles;
+static int port, connections, together, batch;
+static long requests, waiting, flying;
 static size_t body;
-static char *filling;
-static pthread_barrier_t start;
+static char *letters;
+/* All clients meet there when they have filled their queues, and again when the cycles begin. */
+static pthread_barrier_t gate;
 
 struct client {
     int number, socket;
     char *out, *in;
     size_t out_len, in_len, in_at, room;
-    char handles[MOST_TOGETHER][64];
+    char handles[MOST_TOGETHER * MOST_BATCH][64];
     float *took[KINDS];
-    long taken;
 };
 
 static void fail(const char *what) {
@@ -55,7 +61,12 @@ static void put(struct client *c, const char *text, size_t len) {
     c->out_len += len;
 }
 
-static void puts_to(struct client *c, const char *text) { put(c, text, strlen(text)); }
+__attribute__((format(printf, 2, 3))) static void say(struct client *c, const char *format, ...) {
+    va_list rest;
+    va_start(rest, format);
+    c->out_len += (size_t)vsnprintf(c->out + c->out_len, c->room - c->out_len, format, rest);
+    va_end(rest);
+}
 
 static void flush(struct client *c) {
     for (size_t at = 0; at < c->out_len;) {
@@ -101,44 +112,68 @@ static void skip(struct client *c, size_t count) {
 
 static int is(const char *name) { return strcmp(kind, name) == 0; }
 
-static void ask(struct client *c, int what, int at) {
-    char text[256];
+/* What a request of sqd says of one message. */
+static void say_message(struct client *c, int what, int at) {
+    if (what == SEND) {
+        say(c, "\"MessageBody\":\"");
+        put(c, letters, body);
+        say(c, "\"");
+    } else {
+        say(c, "\"ReceiptHandle\":\"%s\"", c->handles[at]);
+    }
+}
+
+/* A request for so many messages, of those that are numbered from `at`. */
+static void ask(struct client *c, int what, int at, int messages) {
+    static const char *const actions[KINDS] = {"SendMessage", "ReceiveMessage", "DeleteMessage"};
     if (is("beanstalkd")) {
         if (what == SEND) {
-            snprintf(text, sizeof text, "put 0 0 3600 %zu\r\n", body);
-            puts_to(c, text);
-            put(c, filling, body);
-            puts_to(c, "\r\n");
+            say(c, "put 0 0 3600 %zu\r\n", body);
+            put(c, letters, body);
+            say(c, "\r\n");
         } else if (what == RECEIVE) {
-            puts_to(c, "reserve\r\n");
+            say(c, "reserve\r\n");
         } else {
-            snprintf(text, sizeof text, "delete %s\r\n", c->handles[at]);
-            puts_to(c, text);
+            say(c, "delete %s\r\n", c->handles[at]);
         }
         return;
     }
-    snprintf(text, sizeof text, "{\"Action\":\"%s\",\"QueueUrl\":\"http://localhost/000000000000/q%d\"",
-             what == SEND ? "SendMessage" : what == RECEIVE ? "ReceiveMessage" : "DeleteMessage", c->number);
-    puts_to(c, text);
-    if (what == SEND) {
-        puts_to(c, ",\"MessageBody\":\"");
-        put(c, filling, body);
-        puts_to(c, "\"");
-    } else if (what == DELETE) {
-        snprintf(text, sizeof text, ",\"ReceiptHandle\":\"%s\"", c->handles[at]);
-        puts_to(c, text);
+    int entries = messages > 1 && what != RECEIVE;
+    say(c, "{\"Action\":\"%s%s\",\"QueueUrl\":\"http://localhost/000000000000/q%d\"", actions[what], entries ? "Batch" : "", c->number);
+    if (entries) {
+        for (int it = 0; it < messages; it++) {
+            say(c, "%s{\"Id\":\"%d\",", it == 0 ? ",\"Entries\":[" : ",", it);
+            say_message(c, what, at + it);
+            say(c, "}");
+        }
+        say(c, "]");
+    } else if (what != RECEIVE) {
+        say(c, ",");
+        say_message(c, what, at);
+    } else if (messages > 1) {
+        say(c, ",\"MaxNumberOfMessages\":%d", messages);
     }
-    puts_to(c, "}\n");
+    say(c, "}\n");
 }
 
 static void expect(const char *got, const char *front) {
     if (strncmp(got, front, strlen(front)) != 0) {
-        fprintf(stderr, "load: a reply is %.200s\n", got);
+        fprintf(stderr, "load: a reply is %.200s, and not %s\n", got, front);
         exit(1);
     }
 }
 
-static void read_reply(struct client *c, int what, int at) {
+/* How often a text is there. */
+static int count_of(const char *text, const char *part) {
+    int count = 0;
+    while ((text = strstr(text, part)) != NULL) {
+        count++;
+        text += strlen(part);
+    }
+    return count;
+}
+
+static void read_reply(struct client *c, int what, int at, int messages) {
     size_t len;
     char *got = line(c, &len);
     if (is("echo")) return;
@@ -150,34 +185,40 @@ static void read_reply(struct client *c, int what, int at) {
         } else {
             expect(got, what == SEND ? "INSERTED" : "DELETED");
         }
-        return;
-    }
-    if (what == RECEIVE) {
-        char *handle = strstr(got, "\"ReceiptHandle\":\"");
-        if (!handle) expect(got, "a message");
-        memcpy(c->handles[at], handle + 17, 51);
-        c->handles[at][51] = 0;
+    } else if (what == RECEIVE) {
+        char *from = got;
+        for (int it = 0; it < messages; it++) {
+            char *handle = strstr(from, "\"ReceiptHandle\":\"");
+            if (!handle) expect(got, "as many messages as were asked for");
+            memcpy(c->handles[at + it], handle + 17, 51);
+            from = handle + 17 + 51;
+        }
+        expect(from, "\"}]}");
+    } else if (messages > 1) {
+        expect(got, "{\"Failed\":[],\"Successful\":[");
+        if (count_of(got, "\"Id\":\"") != messages) expect(got, "as many entries as were asked for");
     } else {
         expect(got, what == SEND ? "{\"MD5OfMessageBody\"" : "{}");
     }
 }
 
-static void *run(void *given) {
-    struct client *c = given;
-    pthread_barrier_wait(&start);
-    for (long cycle = 0; cycle < cycles; cycle += together) {
-        for (int what = 0; what < KINDS; what++) {
-            double begun = now();
-            for (int at = 0; at < together; at++) ask(c, what, at);
-            flush(c);
-            for (int at = 0; at < together; at++) {
-                read_reply(c, what, at);
-                c->took[what][cycle + at] = (float)(now() - begun);
-            }
-        }
-        c->taken = cycle + together;
+/* So many requests of a kind at once, each for so many messages, and their replies; the microseconds of each are kept. */
+static void exchange(struct client *c, int what, int many, int messages, float *took) {
+    double begun = now();
+    for (int at = 0; at < many; at++) ask(c, what, at * messages, messages);
+    flush(c);
+    for (int at = 0; at < many; at++) {
+        read_reply(c, what, at * messages, messages);
+        took[at] = (float)(now() - begun);
     }
-    return NULL;
+}
+
+/* Puts so many messages into the queue of a client, and receives them where they are to be in flight. */
+static void fill(struct client *c, long count, int last) {
+    float passed[FILL];
+    int messages = is("sqd") ? MOST_BATCH : 1;
+    for (long done = 0; done < count; done += FILL)
+        for (int what = SEND; what <= last; what++) exchange(c, what, FILL / messages, messages, passed);
 }
 
 static struct client *opened(int number) {
@@ -186,27 +227,36 @@ static struct client *opened(int number) {
     int one = 1;
     if (!c) fail("memory");
     c->number = number;
-    c->room = (size_t)together * (body + 4096) + 65536;
+    c->room = (size_t)(MOST_TOGETHER * MOST_BATCH) * (body + 512);
     c->out = malloc(c->room);
     c->in = malloc(c->room);
-    for (int what = 0; what < KINDS; what++) c->took[what] = malloc(sizeof(float) * (size_t)(cycles + together));
+    for (int what = 0; what < KINDS; what++) c->took[what] = malloc(sizeof(float) * (size_t)requests);
     c->socket = socket(AF_INET, SOCK_STREAM, 0);
     if (c->socket < 0 || connect(c->socket, (struct sockaddr *)&to, sizeof to) != 0) fail("connect");
     setsockopt(c->socket, IPPROTO_TCP, TCP_NODELAY, &one, sizeof one);
-    char text[256];
     size_t len;
     if (is("sqd")) {
-        snprintf(text, sizeof text, "{\"Action\":\"CreateQueue\",\"QueueName\":\"q%d\"}\n", number);
-        puts_to(c, text);
+        say(c, "{\"Action\":\"CreateQueue\",\"QueueName\":\"q%d\",\"Attributes\":{\"VisibilityTimeout\":\"3600\"}}\n", number);
         flush(c);
         expect(line(c, &len), "{\"QueueUrl\"");
     } else if (is("beanstalkd")) {
-        snprintf(text, sizeof text, "use q%d\r\nwatch q%d\r\nignore default\r\n", number, number);
-        puts_to(c, text);
+        say(c, "use q%d\r\nwatch q%d\r\nignore default\r\n", number, number);
         flush(c);
         for (int it = 0; it < 3; it++) line(c, &len);
     }
     return c;
+}
+
+static void *run(void *given) {
+    struct client *c = given;
+    /* beanstalkd goes through all that a connection has reserved whenever it deletes one of them: so another one holds these. */
+    fill(flying > 0 && is("beanstalkd") ? opened(c->number) : c, flying, RECEIVE);
+    fill(c, waiting, SEND);
+    pthread_barrier_wait(&gate);
+    pthread_barrier_wait(&gate);
+    for (long done = 0; done < requests; done += together)
+        for (int what = 0; what < KINDS; what++) exchange(c, what, together, batch, c->took[what] + done);
+    return NULL;
 }
 
 static int by_size(const void *a, const void *b) {
@@ -246,35 +296,43 @@ static void answer(int at) {
 
 int main(int count, char **words) {
     if (count == 3 && strcmp(words[1], "answer") == 0) answer(atoi(words[2]));
-    if (count != 7) {
-        fprintf(stderr, "load KIND PORT CONNECTIONS CYCLES BODY TOGETHER\nload answer PORT\n");
+    if (count != 10) {
+        fprintf(stderr, "load KIND PORT CONNECTIONS CYCLES BODY TOGETHER BATCH WAITING FLYING\nload answer PORT\n");
         return 2;
     }
     kind = words[1];
     port = atoi(words[2]);
     connections = atoi(words[3]);
-    together = atoi(words[6]);
-    cycles = atol(words[4]) / together * together;
     body = (size_t)atol(words[5]);
-    if (together < 1 || together > MOST_TOGETHER || connections < 1 || cycles < 1) return 2;
-    filling = malloc(body + 1);
-    memset(filling, 'x', body);
+    together = atoi(words[6]);
+    batch = atoi(words[7]);
+    waiting = atol(words[8]);
+    flying = atol(words[9]);
+    if (together < 1 || together > MOST_TOGETHER || batch < 1 || batch > (is("sqd") ? MOST_BATCH : 1)) return 2;
+    requests = atol(words[4]) / (together * batch) * together;
+    if (connections < 1 || requests < 1 || waiting % FILL != 0 || flying % FILL != 0) return 2;
+    letters = malloc(body + 1);
+    memset(letters, 'x', body);
     struct client **all = malloc(sizeof *all * (size_t)connections);
     pthread_t *threads = malloc(sizeof *threads * (size_t)connections);
-    pthread_barrier_init(&start, NULL, (unsigned)connections + 1);
+    pthread_barrier_init(&gate, NULL, (unsigned)connections + 1);
     for (int it = 0; it < connections; it++) all[it] = opened(it);
     for (int it = 0; it < connections; it++)
         if (pthread_create(&threads[it], NULL, run, all[it]) != 0) fail("pthread_create");
-    pthread_barrier_wait(&start);
+    pthread_barrier_wait(&gate);
+    printf("ready\n");
+    fflush(stdout);
+    if (getchar() == EOF) fail("no line to begin");
+    pthread_barrier_wait(&gate);
     double begun = now();
     for (int it = 0; it < connections; it++) pthread_join(threads[it], NULL);
     double seconds = (now() - begun) / 1e6;
-    printf("%.0f", (double)cycles * connections / seconds);
+    printf("%.0f", (double)requests * batch * connections / seconds);
     for (int what = 0; what < KINDS; what++) {
-        size_t n = (size_t)cycles * (size_t)connections, at = 0;
+        size_t n = (size_t)requests * (size_t)connections, at = 0;
         float *took = malloc(sizeof(float) * n);
         for (int it = 0; it < connections; it++)
-            for (long cycle = 0; cycle < cycles; cycle++) took[at++] = all[it]->took[what][cycle];
+            for (long each = 0; each < requests; each++) took[at++] = all[it]->took[what][each];
         qsort(took, n, sizeof(float), by_size);
         printf(" %.1f %.1f", took[n / 2], took[n - 1 - n / 100]);
     }
