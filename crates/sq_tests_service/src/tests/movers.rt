@@ -314,17 +314,20 @@ fn deleted_between<
     (made && deleted, seen)
 }
 
+// The same, at a service of its own.
+fn deleted_after<R: Threads + Wait + Abort + Sync>(
+    rt: &R,
+    alloc: Global,
+    turns: u64,
+) -> (bool, Seen) {
+    deleted_between::<Brand, Brand, R>(rt, alloc, turns, Blank::new(SEATS), Blank::new(SEATS))
+}
+
 #[test]
 fn a_mover_is_stopped_after_each_turn_while_its_target_is_deleted(rt: HostRuntime) {
     let mut left = 0u64;
     for turns in 0..=50u64 {
-        let (done, seen) = deleted_between::<Brand, Brand, HostRuntime>(
-            &rt,
-            rt.alloc(),
-            turns,
-            Blank::new(SEATS),
-            Blank::new(SEATS),
-        );
+        let (done, seen) = deleted_after(&rt, rt.alloc(), turns);
         assert!(rt; done && seen.sessions == [2, 2], "{turns} {seen:?}");
         assert!(rt; seen.messages == Some(1), "{turns} {seen:?}");
         left = left.saturating_add((seen.events[1] != 0) as u64);

@@ -198,17 +198,16 @@ fn send_of_steps<D: Ledger, T: Ledger, R: Wait + Abort>(
     (stopped, service.finish(rt, alloc, clients).seen(alloc))
 }
 
+// The same, at a service of its own.
+fn sent_in<R: Wait + Abort>(rt: &R, alloc: Global, steps: u64) -> (bool, Seen) {
+    send_of_steps::<Brand, Brand, R>(rt, alloc, steps, Blank::new(SEATS), Blank::new(SEATS))
+}
+
 // A send looks its queue up, and puts its message.
 #[test]
 fn a_send_is_stopped_before_it_puts_its_message(rt: HostRuntime) {
     for steps in 0..=3u64 {
-        let (stopped, seen) = send_of_steps::<Brand, Brand, HostRuntime>(
-            &rt,
-            rt.alloc(),
-            steps,
-            Blank::new(SEATS),
-            Blank::new(SEATS),
-        );
+        let (stopped, seen) = sent_in(&rt, rt.alloc(), steps);
         assert!(rt; stopped == (steps < 2), "{steps}");
         assert!(rt; seen.messages == Some((steps >= 2) as u64), "{steps}");
     }

@@ -2,6 +2,7 @@
 use super::service::{Evidence, Service};
 use super::setup::{is_answered, options};
 use sq_audit::merge::merge;
+use sq_base::refusal::Refusal;
 use sq_calls::batches::EntryAnswer;
 use sq_calls::calls::{Answer, Asked};
 use sq_json::Scratch;
@@ -124,18 +125,28 @@ impl Run {
         if let Some(reading) = request.clock {
             self.clock = reading;
         }
+        let (clock, actor) = (self.clock, request.actor);
         match request.asked {
             Asked::Call(call) => {
                 let most = steps.unwrap_or(u64::MAX);
-                match service.call_until(alloc, request.actor, self.clock, &call, most) {
-                    Ok(Some(answer)) => self.told = self.told.saturating_add(sent_by(&answer)),
-                    Ok(None) => self.stopped = true,
-                    Err(_) => {}
-                }
+                let answered = service.call_until(alloc, actor, clock, &call, most);
+                self.take(answered);
             }
             Asked::Turn(turn) => {
-                let _ = service.turn(alloc, request.actor, self.clock, &turn);
+                let _ = service.turn(alloc, actor, clock, &turn);
             }
+        }
+    }
+
+    // Notes what a line was answered.
+    fn take(&mut self, answered: Result<Option<Answer>, Refusal>) {
+        match answered {
+            Ok(Some(answer)) => {
+                let sent = sent_by(&answer);
+                self.told = self.told.saturating_add(sent);
+            }
+            Ok(None) => self.stopped = true,
+            Err(_) => {}
         }
     }
 }
