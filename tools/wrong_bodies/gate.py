@@ -8,6 +8,17 @@ import time
 
 DONE = re.compile(r"rt: (\w+) (proved$|is kept: an earlier run|NOT PROVED)", re.M)
 ROOM = 4_000_000  # what is left free for the gate beside each check, in KiB
+BEHIND = 10  # how nice a check is while the gate runs
+
+
+def put_forward(pid):
+    """Gives a process with its threads and its children what others get, where the system lets it."""
+    with contextlib.suppress(OSError):
+        for task in os.listdir(f"/proc/{pid}/task"):
+            os.setpriority(os.PRIO_PROCESS, int(task), 0)
+            with open(f"/proc/{pid}/task/{task}/children", encoding="ascii") as file:
+                for child in file.read().split():
+                    put_forward(int(child))
 
 
 class Gate:
@@ -17,6 +28,7 @@ class Gate:
         self.log, self.crates, self.folder = log, crates, folder
         self.free_memory, self.memory = free_memory, memory
         self.lock, self.begun, self.is_over, self.taken = threading.Lock(), 0, not log, {}
+        self.behind = set()  # the checks that leave the processors to the gate
 
     def read(self):
         """Takes the libraries of the crates that were proved since: a link each, since the gate puts others back at its end."""
@@ -35,6 +47,8 @@ class Gate:
                         shutil.copytree(crate.library, place, copy_function=os.link)
                         crate.library = place
             self.is_over = is_over
+            while is_over and self.behind:
+                put_forward(self.behind.pop())
 
     def wait_for(self, crate):
         """Waits until a crate is proved, or the crates below a program. Returns whether they were."""
@@ -59,9 +73,18 @@ class Gate:
                 with self.lock:
                     self.begun -= 1
 
-    def behind(self):
-        """The words that have a check leave the processors to the gate."""
-        return [] if self.is_over else ["nice", "-n", "10"]
+    @contextlib.contextmanager
+    def beside(self, pid):
+        """A check that runs: it leaves the processors to the gate until that is over."""
+        with self.lock:
+            if not self.is_over:
+                self.behind.add(pid)
+                os.setpriority(os.PRIO_PROCESS, pid, BEHIND)
+        try:
+            yield
+        finally:
+            with self.lock:
+                self.behind.discard(pid)
 
     def may_begin(self):
         self.read()

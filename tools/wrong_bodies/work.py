@@ -58,15 +58,16 @@ class Work:
         with self.gate.turn(self.slots):
             for _ in range(2):
                 began, last, text, slow = time.monotonic(), None, "", []
-                ran = subprocess.Popen(self.gate.behind() + self.command(crate, words), cwd=room, stdin=subprocess.DEVNULL,
-                                       stdout=subprocess.PIPE, stderr=subprocess.STDOUT, errors="replace", text=True)
-                for line in ran.stdout:
-                    text += line
-                    if line.startswith("checked "):
-                        now = time.monotonic()
-                        slow += [f"{line.split()[1]} {now - last:.0f} s"] if last and now - last > 10 else []
-                        last = now
-                _, status, used = os.wait4(ran.pid, 0)
+                ran = subprocess.Popen(self.command(crate, words), cwd=room, stdin=subprocess.DEVNULL, stdout=subprocess.PIPE,
+                                       stderr=subprocess.STDOUT, errors="replace", text=True)
+                with self.gate.beside(ran.pid):
+                    for line in ran.stdout:
+                        text += line
+                        if line.startswith("checked "):
+                            now = time.monotonic()
+                            slow += [f"{line.split()[1]} {now - last:.0f} s"] if last and now - last > 10 else []
+                            last = now
+                    _, status, used = os.wait4(ran.pid, 0)
                 ran.returncode = -(status & 127) or status >> 8
                 with self.lock:
                     self.used[crate.name] += used.ru_utime + used.ru_stime
