@@ -1,5 +1,5 @@
 -- Steps that are asked one after another up to a limit: those that were done, and the others.
-use Rattle.std.proofs.Common.{◌≡◌, ◌∙◌, ◌≤◌, Bool, true, false, List, [], ◌∷◌, ◌++◌, length, refl, ap, sym, inl, inr, arith, Option, Result, Ok, Err}
+use Rattle.std.proofs.Common.{◌≡◌, ◌∙◌, ◌≤◌, ℕ, Bool, true, false, List, [], ◌∷◌, ◌++◌, length, refl, ap, sym, inl, inr, arith, Option, Result, Ok, Err}
 use Rattle.std.specs.List.{AllByRecursion}
 use Rattle.std.proofs.lemmas.List.{append_assoc}
 use Rattle.sq_base.specs.declared.refusal.Refusal.{Refusal}
@@ -55,6 +55,11 @@ within stepped s t (d ∷ ds) still p =
       | inl over ↦ (let e : true ≡ false = sym over.4 ∙ rest.1 in absurd (cc e))
       | inr done ↦ ((p.0.steps, done.1, rest.0), sym done.2 ∙ rest.1, omega (arith, rest.2, done.0))
     ]
+
+-- a call that has no more steps than the limit tells what it tells without one
+pub whole_fits : {A : Type 0} (Fits : List Done → Result A Refusal → Type 0) (limit : ℕ) (trace : List Done) (told : Result A Refusal) → Fits trace told → length trace ≤ limit → UntilFits limit Fits trace (told_until false told)
+whole_fits Fits limit trace (Ok a) fits few = (fits, few)
+whole_fits Fits limit trace (Err e) fits few = (fits, few)
 
 -- the records of a front are a front of the records
 pub front_records : (ds es : List Done) (ns : List RecordValue) → AreOf (ds ++ es) ns → (front : List RecordValue) × (rest : List RecordValue) × AreOf ds front × AreOf es rest × (ns ≡ front ++ rest)

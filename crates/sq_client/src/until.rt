@@ -1,5 +1,5 @@
 //! Calls that are stopped after so many steps.
-ghost use Rattle.std.specs.Prelude.{◌≡◌, ◌<◌, ◌≤◌, ◌+◌, ◌++◌, IfErr, IfOk, ℕ, true, false, List, length, None, Some, Result, Ok};
+ghost use Rattle.std.specs.Prelude.{◌≡◌, ◌<◌, ◌≤◌, ◌+◌, ◌++◌, IfErr, IfOk, ℕ, true, false, List, length, Result};
 ghost use Rattle.sq_base.specs.declared.refusal.Refusal.{Refusal};
 ghost use Rattle.sq_model.specs.RecordValues.{RecordValue};
 ghost use Rattle.sq_calls.specs.declared.calls.Answer.{Answer};
@@ -182,7 +182,7 @@ fn told_until(stopped: bool, answered: Result<Answer, Refusal>) -> Result<Option
 /// front of its steps are a front of its records, so that a later stop leaves those of an earlier one and more.
 /// It does nothing: its contract is the law.
 pub fn stops_leave_fronts()
-    ensures whole { (counts : HomeCounts) (call : Call) (limit : ℕ) (trace : List Done) (answer : Answer) → CallFits counts call trace (Ok answer) → length trace ≤ limit → UntilFits limit (CallFits counts call) trace (Ok (Some answer)) }
+    ensures whole { (counts : HomeCounts) (call : Call) (limit : ℕ) (trace : List Done) (told : Result Answer Refusal) → CallFits counts call trace told → length trace ≤ limit → UntilFits limit (CallFits counts call) trace (told_until false told) }
     ensures stopped { (counts : HomeCounts) (call : Call) (limit : ℕ) (trace : List Done) → IsStopped (CallFits counts call) limit trace → (rest : List Done) × (told : Result Answer Refusal) × CallFits counts call (trace ++ rest) told × (limit < length (trace ++ rest)) }
     ensures records { (front rest : List Done) (all : List RecordValue) → AreOf (front ++ rest) all → (ns : List RecordValue) × (more : List RecordValue) × AreOf front ns × (all ≡ ns ++ more) }
 {}
