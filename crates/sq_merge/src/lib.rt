@@ -2,7 +2,6 @@
 #![tactic(auto)]
 
 pub mod acting;
-mod homes;
 pub mod progress;
 pub mod world;
 

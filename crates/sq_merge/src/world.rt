@@ -22,7 +22,6 @@ ghost use Rattle.sq_model.specs.Ledgers.{last_task, peek};
 ghost use Rattle.sq_model.specs.Matches.{IsMatched, IsPaired};
 
 use crate::acting::{Acting, call_at, call_until_at, turn_at};
-use crate::homes::never_opened_homes;
 use crate::progress::{ActorProgress, place_of};
 use sq_audit::homes::{Homes, home_index};
 use sq_audit::parts::Parts;
@@ -42,7 +41,7 @@ use sq_model::ledger::LedgerReply;
 use sq_model::listed::Listed;
 use sq_model::replies::HomeReply;
 use sq_model::task::{NamedQueue, Task};
-use sq_opening::homes::no_such_home;
+use sq_opening::homes::{never_opened_homes, no_such_home};
 use sq_opening::options::Options;
 use sq_sample::sampler::{HomeCount, Sampler};
 use sq_steps::act::{Act, HomeAct, NextItem, Outcome, SharedAct, Step, TaskAct};

@@ -1,5 +1,5 @@
 -- The options that a service takes, and the homes that it begins with.
-use Rattle.std.specs.Prelude.{ℕ, ◌/◌, ◌≤◌, []}
+use Rattle.std.specs.Prelude.{ℕ, zero, suc, ◌/◌, ◌≤◌, List, [], ◌∷◌, ◌++◌}
 use Rattle.sq_base.specs.Stamps.{start}
 use Rattle.sq_model.specs.Homes.{Unopened}
 use Rattle.sq_model.specs.declared.place.Limits.{Limits}
@@ -24,3 +24,8 @@ limits_of o = record { rows = o.rows; flights = o.flights / o.homes }
 -- a home that was never opened
 abbrev pub never_opened : ℕ → Limits → ℕ → HistoryValue
 never_opened per_queue limits at = record { site = record { home = home_id per_queue at; limits = limits }; home = Unopened; last = start; events = []; room = 0; row_room = 0 }
+
+-- so many homes that were never opened
+abbrev pub never_opened_homes : ℕ → Limits → ℕ → List HistoryValue
+never_opened_homes per_queue limits zero = []
+never_opened_homes per_queue limits (suc n) = never_opened_homes per_queue limits n ++ never_opened per_queue limits n ∷ []

@@ -1,9 +1,10 @@
 //! Homes that were never opened, and those that are not there.
-ghost use Rattle.std.specs.Prelude.{◌≡◌, nat_le, if◌then◌else◌};
+ghost use Rattle.std.specs.Prelude.{◌≡◌, ◌*◌, ◌≤◌, IfErr, IfOk, length, nat_le, if◌then◌else◌};
 ghost use Rattle.sq_base.specs.Stamps.{stamp_end};
 ghost use Rattle.sq_base.specs.declared.refusal.Refusal.TheVariants.{ClockRange, QueueDoesNotExist};
 ghost use Rattle.sq_audit.specs.HomeIds.{home_id};
-ghost use Rattle.sq_opening.specs.Openings.{never_opened};
+ghost use Rattle.sq_opening.specs.Openings.{never_opened, never_opened_homes};
+ghost use Rattle.sq_opening.specs.declared.options.TheConstants.{MOST_QUEUES};
 
 use sq_base::ids::{HomeId, HomeNo, QueueNo};
 use sq_base::refusal::Refusal;
@@ -46,4 +47,24 @@ pub fn never_opened(alloc: Global, per_queue: HomeCount, limits: &Limits, index:
         limits: *limits,
     };
     Recorded::unopened(alloc, Shard::unopened(site, SlotStore::new(alloc)))
+}
+
+/// The homes of so many queues; none is opened yet. Refused as NoMemory.
+pub fn never_opened_homes(
+    alloc: Global,
+    queues: u32,
+    per_queue: HomeCount,
+    limits: &Limits,
+) -> Result<Vec<Home>, Refusal>
+    requires { queues ≤ MOST_QUEUES }
+    ensures homes { IfOk result (λ homes. homes.items ≡ never_opened_homes per_queue limits.now (queues * per_queue)) }
+    ensures many { IfOk result (λ homes. length homes.items ≡ queues * per_queue) }
+    ensures few { IfOk result (λ homes. length homes.items ≤ 16384) }
+    ensures refused { IfErr result (λ e. e ≡ Refusal.NoMemory) }
+{
+    let mut homes = Vec::new(alloc);
+    for index in 0..queues * per_queue.get() {
+        homes.push(never_opened(alloc, per_queue, limits, index))?;
+    }
+    Ok(homes)
 }
