@@ -1,5 +1,5 @@
 -- What the sections under locks answer, why they refuse, and what they leave with their session.
-use Rattle.std.proofs.Common.{◌≡◌, ◌≢◌, ◌⊎◌, ◌∙◌, ℕ, List, Option, Some, None, Result, Ok, Err, IfOk, IfErr, OnOk, OnErr, IfSome, IfNone, ap, inl, inr}
+use Rattle.std.proofs.Common.{◌≡◌, ◌≢◌, ◌⊎◌, ◌∙◌, ℕ, List, Option, Some, None, Result, Ok, Err, IfOk, IfErr, OnOk, OnErr, IfSome, IfNone, inl, inr}
 use Rattle.sq_base.specs.declared.ids.HomeId.{HomeId}
 use Rattle.sq_base.specs.declared.refusal.Refusal.{Refusal}
 use Rattle.sq_base.specs.declared.refusal.Refusal.TheVariants.{QueueDoesNotExist}
@@ -15,25 +15,26 @@ use Rattle.sq_history.specs.HistoryValue.{HistoryValue}
 use Rattle.sq_directory.specs.DirectoryHistory.{DirectoryHistory}
 use Rattle.sq_ledger.specs.LedgerHistory.{LedgerHistory}
 use Rattle.sq_steps.specs.Journals.{HomeMoves, DirectoryMoves, LedgerMoves, IsHomeRefused, IsDirectoryStepRefused, IsLedgerStepRefused}
-use Rattle.sq_steps.specs.SharedSteps.{SharedMoves, IsSharedRefused}
+use Rattle.sq_steps.specs.SharedSteps.{SharedMoves, IsUnmoved, IsSharedRefused}
 use Rattle.sq_steps.specs.declared.act.TaskAct.{TaskAct}
 use Rattle.sq_steps.specs.TaskActs.{task_call}
-use Rattle.sq_client.specs.Asks.{Directed, AtHome, Moving, Ledgered, moved_of, IsAnswerTo, IsReplyTo, IsToldTo, LeavesOf, MayRefuse}
+use Rattle.sq_client.specs.Asks.{Directed, AtHome, Moving, Ledgered, moved_of, replied_of, IsAnswerTo, IsReplyTo, IsToldTo, MayRefuse}
 use Rattle.sq_client.proofs.AskLaws as ask
-use Rattle.sq_client.proofs.LeaveLaws.{shared_leaves}
+use Rattle.sq_audit.specs.HomeIds.{home_index}
+use Rattle.sq_queue.specs.Sections.{Surroundings, IsSection}
 use Rattle.sq_queue.specs.SessionValue.{SessionValue}
 
 pub answered_home : (old new : HistoryValue) (a b : Journal) (now : ℕ) (name : Option (List ℕ)) (what : HomeAct) (answered : Result HomeReply Refusal) → IfOk answered (λ by. HomeMoves old new a b now name (call_of what) by) → IfOk answered (IsReplyTo what)
 answered_home old new a b now name what (Ok by) moves = ask.home_reply old new a b now name what by moves
 answered_home old new a b now name what (Err e) moves = tt
 
-pub refused_home : (placed : HomeId) (h : HistoryValue) (b : Journal) (now : ℕ) (name : List ℕ) (id : HomeId) (a : HomeAct) (answered : Result HomeReply Refusal) → IfErr answered (λ e. IsHomeRefused h b now (call_of a) e ⊎ ((placed ≢ id) × (e ≡ QueueDoesNotExist))) → IfErr answered (MayRefuse (AtHome name id a))
+pub refused_home : (placed : HomeId) (h : HistoryValue) (b : Journal) (now : ℕ) (name : List ℕ) (id : HomeId) (a : HomeAct) (answered : Result HomeReply Refusal) → IfErr answered (λ e. ((placed ≡ id) × IsHomeRefused h b now (call_of a) e) ⊎ ((placed ≢ id) × (e ≡ QueueDoesNotExist))) → IfErr answered (MayRefuse (AtHome name id a))
 refused_home placed h b now name id a (Ok by) refused = tt
-refused_home placed h b now name id a (Err e) refused = elim refused [ inl own ↦ ask.home_may h b now name id a e own | inr other ↦ inr (inl other.1) ]
+refused_home placed h b now name id a (Err e) refused = elim refused [ inl own ↦ ask.home_may h b now name id a e own.1 | inr other ↦ inr (inl other.1) ]
 
-pub refused_moving : (placed : HomeId) (h : HistoryValue) (l : LedgerHistory) (b : Journal) (now : ℕ) (name : Option (List ℕ)) (id : HomeId) (what : SharedAct) (answered : Result (Option HomeReply) Refusal) → IfErr answered (λ e. IsSharedRefused h l b now what e ⊎ ((placed ≢ id) × (e ≡ QueueDoesNotExist))) → IfErr answered (MayRefuse (Moving name id what))
+pub refused_moving : (placed : HomeId) (h : HistoryValue) (l : LedgerHistory) (b : Journal) (now : ℕ) (name : Option (List ℕ)) (id : HomeId) (what : SharedAct) (answered : Result (Option HomeReply) Refusal) → IfErr answered (λ e. ((placed ≡ id) × IsSharedRefused h l b now what e) ⊎ ((placed ≢ id) × (e ≡ QueueDoesNotExist))) → IfErr answered (MayRefuse (Moving name id what))
 refused_moving placed h l b now name id what (Ok told) refused = tt
-refused_moving placed h l b now name id what (Err e) refused = elim refused [ inl own ↦ ask.moving_may h l b now name id what e own | inr other ↦ inr (inl other.1) ]
+refused_moving placed h l b now name id what (Err e) refused = elim refused [ inl own ↦ ask.moving_may h l b now name id what e own.1 | inr other ↦ inr (inl other.1) ]
 
 pub answered_directory : (old new : DirectoryHistory) (a b : Journal) (now : ℕ) (call : DirectoryCall) (answered : Result DirectoryReply Refusal) → IfOk answered (λ by. DirectoryMoves old new a b now call by) → IfOk answered (IsAnswerTo call)
 answered_directory old new a b now call (Ok by) moves = ask.directory_told old new a b now call by moves
@@ -51,9 +52,22 @@ pub refused_ledger : (l : LedgerHistory) (b : Journal) (now : ℕ) (what : TaskA
 refused_ledger l b now what (Ok by) refused = tt
 refused_ledger l b now what (Err e) refused = ask.ledgered_may l b now what e refused
 
-pub moving_leaves : (old new : HistoryValue) (l m : LedgerHistory) (s t : SessionValue) (now : ℕ) (name : Option (List ℕ)) (placed id : HomeId) (what : SharedAct) (answered : Result (Option HomeReply) Refusal)
-    → old.site.home ≡ placed → IfOk answered (λ told. IfSome told (SharedMoves old new l m s.journal t.journal now name what)) → OnOk answered (placed ≡ id)
-    → IfOk answered (λ told. IfNone told (t ≡ s)) → OnErr answered (t ≡ s) → LeavesOf (Moving name id what) (moved_of answered) s.journal t.journal
-moving_leaves old new l m s t now name placed id what (Ok (Some by)) own moves at none err = shared_leaves old new l m s.journal t.journal now name id what by (own ∙ at) moves
-moving_leaves old new l m s t now name placed id what (Ok None) own moves at none err = ap (λ (x : SessionValue). x.journal) none
-moving_leaves old new l m s t now name placed id what (Err e) own moves at none err = ap (λ (x : SessionValue). x.journal) err
+pub home_section : (at : Surroundings) (now : ℕ) (old new : HistoryValue) (s t : SessionValue) (name : List ℕ) (placed id : HomeId) (what : HomeAct) (index : ℕ) (answered : Result HomeReply Refusal)
+    → at.IsReading now → old.site.home ≡ placed → home_index at.per_queue at.homes id ≡ Some index
+    → IfOk answered (λ by. HomeMoves old new s.journal t.journal now (Some name) (call_of what) by) → OnOk answered (placed ≡ id)
+    → IfErr answered (λ e. ((placed ≡ id) × IsHomeRefused old s.journal now (call_of what) e) ⊎ ((placed ≢ id) × (e ≡ QueueDoesNotExist)))
+    → OnErr answered (t ≡ s) → IsSection at s (AtHome name id what) (replied_of answered) t
+home_section at now old new s t name placed id what index (Ok by) told own there moves here refused err = (now, old, new, told, own ∙ here, moves)
+home_section at now old new s t name placed id what index (Err e) told own there moves here refused err =
+    ((now, told, elim refused [ inl cause ↦ inr (inr (old, own ∙ cause.0, cause.1)) | inr other ↦ inr (inl (index, placed, there, other.0, other.1)) ]), err)
+
+pub moving_section : (at : Surroundings) (now : ℕ) (old new : HistoryValue) (l m : LedgerHistory) (s t : SessionValue) (name : Option (List ℕ)) (placed id : HomeId) (what : SharedAct) (index : ℕ) (answered : Result (Option HomeReply) Refusal)
+    → at.IsReading now → old.site.home ≡ placed → home_index at.per_queue at.homes id ≡ Some index
+    → IfOk answered (λ told. IfSome told (SharedMoves old new l m s.journal t.journal now name what)) → OnOk answered (placed ≡ id)
+    → IfOk answered (λ told. IfNone told (IsUnmoved old l s.journal now what)) → IfOk answered (λ told. IfNone told (t ≡ s))
+    → IfErr answered (λ e. ((placed ≡ id) × IsSharedRefused old l s.journal now what e) ⊎ ((placed ≢ id) × (e ≡ QueueDoesNotExist)))
+    → OnErr answered (t ≡ s) → IsSection at s (Moving name id what) (moved_of answered) t
+moving_section at now old new l m s t name placed id what index (Ok (Some by)) told own there moves here unmoved none refused err = (now, old, new, l, m, told, own ∙ here, moves)
+moving_section at now old new l m s t name placed id what index (Ok None) told own there moves here unmoved none refused err = (now, old, l, told, own ∙ here, unmoved, none)
+moving_section at now old new l m s t name placed id what index (Err e) told own there moves here unmoved none refused err =
+    ((now, told, elim refused [ inl cause ↦ inr (inr (old, l, own ∙ cause.0, cause.1)) | inr other ↦ inr (inl (index, placed, there, other.0, other.1)) ]), err)

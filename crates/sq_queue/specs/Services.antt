@@ -1,6 +1,12 @@
 -- What the calls of a service's sessions promise.
-use Rattle.std.specs.Prelude.{◌≡◌, ℕ}
+use Rattle.std.specs.Prelude.{◌≡◌, ℕ, List, Option}
 use Rattle.sq_base.specs.StampValue.{StampValue}
+use Rattle.sq_model.specs.declared.task.NamedQueue.{NamedQueue}
+use Rattle.sq_model.specs.declared.task.Task.{Task}
+use Rattle.sq_model.specs.Directories.{all_named}
+use Rattle.sq_model.specs.Ledgers.{last_task}
+use Rattle.sq_directory.specs.DirectoryHistory.{DirectoryHistory}
+use Rattle.sq_ledger.specs.LedgerHistory.{LedgerHistory}
 use Rattle.sq_client.specs.Asks.{HomeCounts}
 use Rattle.sq_queue.specs.SessionValue.{SessionValue, having_read}
 
@@ -11,3 +17,11 @@ counts_of homes sample = record { homes = homes; sample = sample }
 -- a session has read a part, whose last stamp it has seen then, and nothing else of it changed
 abbrev pub HasRead : SessionValue → SessionValue → Type 0
 HasRead before after = (last : StampValue) × (after ≡ having_read before last)
+
+-- a session has read the names and numbers of all queues, as the directory lies under its lock at that moment
+abbrev pub NamesRead : SessionValue → List NamedQueue → SessionValue → Type 0
+NamesRead before names after = (part : DirectoryHistory) × (names ≡ all_named part.directory) × (after ≡ having_read before part.last)
+
+-- a session has read the most recent task of a source, if it had one, as the ledger lies under its lock at that moment
+abbrev pub LastTaskRead : SessionValue → ℕ → Option Task → SessionValue → Type 0
+LastTaskRead before source task after = (part : LedgerHistory) × (task ≡ last_task source part.ledger) × (after ≡ having_read before part.last)

@@ -1,9 +1,10 @@
 //! The calls of a session.
-ghost use Rattle.std.specs.Prelude.{◌≡◌};
+ghost use Rattle.std.specs.Prelude.{◌≡◌, vec_len};
 ghost use Rattle.sq_client.specs.Fits.{CallFits};
 ghost use Rattle.sq_client.specs.Stops.{UntilFits};
 ghost use Rattle.sq_client.specs.Turns.{TurnFits};
-ghost use Rattle.sq_client.specs.Performs.{LeavesRecords};
+ghost use Rattle.sq_client.specs.Performs.{LeavesRecords, Performs};
+ghost use Rattle.sq_queue.specs.Sections.{IsSection, around};
 ghost use Rattle.sq_queue.specs.Services.{counts_of};
 
 use crate::locked::{Locked, call_in, call_until_in, turn_in};
@@ -20,13 +21,15 @@ use std::sync::ledger::Ledger;
 impl<C: Clock + Drop, G: Gate + Drop, D: Ledger, T: Ledger> Serving<C, G, D, T, SlotStore> {
     /// What a client asks, step by step, each under the lock of its part. The steps, the answer and each refusal are as those
     /// of `World::call` in `sq_merge`; other sessions may step between any two of them. What it leaves with the session are just
-    /// the records of its steps, numbered on, at rising stamps above all that the session had seen.
+    /// the records of its steps, numbered on, at rising stamps above all that the session had seen. Each step is one of the part
+    /// that it asks, as that lies under its lock at that moment, and a refusal has its cause there.
     pub fn call<R: Wait>(
         &self,
         rt: &R,
         session: &mut Session<D, T>,
         call: &Call,
     ) -> Result<Answer, Refusal>
+        ensures sections { Performs (IsSection (around (C.tells self.now.clock) self.now.per_queue (vec_len self.now.homes))) (CallFits (counts_of self.now.per_queue self.now.sample) call.now) session.old result session.new }
         ensures leaves_records { LeavesRecords (CallFits (counts_of self.now.per_queue self.now.sample) call.now) session.old.journal result session.new.journal }
     {
         let mut locked = Locked {
@@ -47,6 +50,7 @@ impl<C: Clock + Drop, G: Gate + Drop, D: Ledger, T: Ledger> Serving<C, G, D, T, 
         call: &Call,
         steps: u64,
     ) -> Result<Option<Answer>, Refusal>
+        ensures sections { Performs (IsSection (around (C.tells self.now.clock) self.now.per_queue (vec_len self.now.homes))) (UntilFits steps (CallFits (counts_of self.now.per_queue self.now.sample) call.now)) session.old result session.new }
         ensures leaves_records { LeavesRecords (UntilFits steps (CallFits (counts_of self.now.per_queue self.now.sample) call.now)) session.old.journal result session.new.journal }
     {
         let mut locked = Locked {
@@ -67,6 +71,7 @@ impl<C: Clock + Drop, G: Gate + Drop, D: Ledger, T: Ledger> Serving<C, G, D, T, 
         progress: &mut Progress,
         turn: &Turn,
     ) -> Result<Turned, Refusal>
+        ensures sections { Performs (IsSection (around (C.tells self.now.clock) self.now.per_queue (vec_len self.now.homes))) (TurnFits self.now.per_queue turn.now progress.old progress.new) session.old result session.new }
         ensures leaves_records { LeavesRecords (TurnFits self.now.per_queue turn.now progress.old progress.new) session.old.journal result session.new.journal }
     {
         let mut locked = Locked {

@@ -7,13 +7,14 @@ ghost use Rattle.sq_queue.specs.Tallies.{directory_records, ledger_records};
 
 use crate::actors::Actors;
 use crate::parts::{CountedDirectory, CountedLedger, PlacedHome};
-use crate::service::{Lock, Service, Serving, placed, under_lock};
+use crate::service::{Lock, Service, Serving, under_lock};
 use crate::session::Session;
 use sq_audit::homes::Homes;
 use sq_audit::parts::Parts;
 use sq_base::refusal::Refusal;
 use sq_history::recorded::Home;
 use sq_model::place::Limits;
+use sq_opening::homes::{id_at, never_opened};
 use sq_sample::sampler::HomeCount;
 use sq_shard::slots::SlotStore;
 use sq_steps::journal::Journal;
@@ -147,11 +148,10 @@ fn at_place(alloc: Global, per_queue: HomeCount, index: u32, found: PlacedHome) 
         rows: 1,
         flights: 1,
     };
-    let none = placed(alloc, per_queue, &limits, index);
-    if found.id == none.id {
+    if found.id == id_at(per_queue, index) {
         found.home
     } else {
-        none.home
+        never_opened(alloc, per_queue, &limits, index)
     }
 }
 

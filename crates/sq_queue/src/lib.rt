@@ -5,6 +5,7 @@ pub mod actors;
 pub mod calls;
 pub mod finish;
 mod locked;
+mod making;
 pub mod named;
 pub mod parts;
 pub mod reads;

@@ -1,10 +1,10 @@
 //! The steps of a session's calls, each under the lock of its part.
-ghost use Rattle.std.specs.Prelude.{◌≡◌};
-ghost use Rattle.sq_client.specs.Asks.{LeavesOf};
+ghost use Rattle.std.specs.Prelude.{◌≡◌, vec_len};
 ghost use Rattle.sq_client.specs.Fits.{CallFits};
 ghost use Rattle.sq_client.specs.Stops.{UntilFits};
 ghost use Rattle.sq_client.specs.Turns.{TurnFits};
-ghost use Rattle.sq_client.specs.Performs.{LeavesRecords};
+ghost use Rattle.sq_client.specs.Performs.{LeavesRecords, Performs};
+ghost use Rattle.sq_queue.specs.Sections.{IsSection, around};
 ghost use Rattle.sq_queue.specs.Services.{counts_of};
 
 use crate::service::{Clock, Gate, Service};
@@ -45,8 +45,12 @@ pub(crate) struct Locked<'a, C, G, D: Ledger, T: Ledger, R> {
 // The clock is read before a lock is taken, and the lock is let go when its section ends: no reply is made while it is held.
 impl<'a, C: Clock + Drop, G: Gate + Drop, D: Ledger, T: Ledger, R: Wait> LockSteps
     for Locked<'a, C, G, D, T, R> {
+    ghost use Rattle.sq_queue.specs.SectionLaws.{section_leaves};
+
     ghost stepped = { λ s ask answered t.
-        LeavesOf ask answered s.session.now.journal t.session.now.journal × (t.session.ghost_name ≡ s.session.ghost_name) };
+        IsSection (around (C.tells s.service.now.clock) s.service.now.per_queue (vec_len s.service.now.homes)) s.session.now ask answered t.session.now
+        × (t.service ≡ s.service)
+        × (t.session.ghost_name ≡ s.session.ghost_name) };
 
     ghost knows = { λ s name queue. Unit {0} };
 
@@ -169,7 +173,8 @@ impl<'a, C: Clock + Drop, G: Gate + Drop, D: Ledger, T: Ledger, R: Wait> LockSte
         )
     }
 
-    ghost leaves = { λ s t ask answered h. h.0 };
+    ghost leaves = { λ s t ask answered h.
+        section_leaves (around (C.tells s.service.now.clock) s.service.now.per_queue (vec_len s.service.now.homes)) s.session.now t.session.now ask answered h.0 };
 }
 
 // The number of the item that left, if one did.
@@ -186,6 +191,7 @@ pub(crate) fn call_in<C: Clock + Drop, G: Gate + Drop, D: Ledger, T: Ledger, R: 
     call: &Call,
 ) -> Result<Answer, Refusal>
     ensures same_reference { locked.new.session.ghost_name ≡ locked.old.session.ghost_name }
+    ensures sections { Performs (IsSection (around (C.tells locked.old.service.now.clock) locked.old.service.now.per_queue (vec_len locked.old.service.now.homes))) (CallFits (counts_of locked.old.service.now.per_queue locked.old.service.now.sample) call.now) locked.old.session.now result locked.new.session.now }
     ensures leaves_records { LeavesRecords (CallFits (counts_of locked.old.service.now.per_queue locked.old.service.now.sample) call.now) locked.old.session.now.journal result locked.new.session.now.journal }
 {
     client::call(locked, call)
@@ -198,6 +204,7 @@ pub(crate) fn call_until_in<C: Clock + Drop, G: Gate + Drop, D: Ledger, T: Ledge
     limit: u64,
 ) -> Result<Option<Answer>, Refusal>
     ensures same_reference { locked.new.session.ghost_name ≡ locked.old.session.ghost_name }
+    ensures sections { Performs (IsSection (around (C.tells locked.old.service.now.clock) locked.old.service.now.per_queue (vec_len locked.old.service.now.homes))) (UntilFits limit (CallFits (counts_of locked.old.service.now.per_queue locked.old.service.now.sample) call.now)) locked.old.session.now result locked.new.session.now }
     ensures leaves_records { LeavesRecords (UntilFits limit (CallFits (counts_of locked.old.service.now.per_queue locked.old.service.now.sample) call.now)) locked.old.session.now.journal result locked.new.session.now.journal }
 {
     call_until(locked, call, limit)
@@ -210,6 +217,7 @@ pub(crate) fn turn_in<C: Clock + Drop, G: Gate + Drop, D: Ledger, T: Ledger, R: 
     turn: &Turn,
 ) -> Result<Turned, Refusal>
     ensures same_reference { locked.new.session.ghost_name ≡ locked.old.session.ghost_name }
+    ensures sections { Performs (IsSection (around (C.tells locked.old.service.now.clock) locked.old.service.now.per_queue (vec_len locked.old.service.now.homes))) (TurnFits locked.old.service.now.per_queue turn.now progress.old progress.new) locked.old.session.now result locked.new.session.now }
     ensures leaves_records { LeavesRecords (TurnFits locked.old.service.now.per_queue turn.now progress.old progress.new) locked.old.session.now.journal result locked.new.session.now.journal }
 {
     let told = turns::turn(locked, progress, turn);

@@ -58,7 +58,7 @@ impl Placed<SlotStore> {
     ) -> Result<HomeReply, Refusal>
         ensures step { IfOk result (λ reply. HomeMoves self.old.home self.new.home session.old.journal session.new.journal now name (call_of act) reply) }
         ensures at { OnOk result (self.old.id ≡ id.now) }
-        ensures refusal { IfErr result (λ e. IsHomeRefused self.old.home session.old.journal now (call_of act) e ⊎ ((self.old.id ≢ id.now) × (e ≡ Refusal.QueueDoesNotExist))) }
+        ensures refusal { IfErr result (λ e. ((self.old.id ≡ id.now) × IsHomeRefused self.old.home session.old.journal now (call_of act) e) ⊎ ((self.old.id ≢ id.now) × (e ≡ Refusal.QueueDoesNotExist))) }
         ensures id { self.new.id ≡ self.old.id }
         ensures err { OnErr result (self.new.home ≡ self.old.home) }
         ensures session_err { OnErr result (session.new ≡ session.old) }
@@ -203,7 +203,7 @@ impl<T: Ledger> CountedLedger<T> {
         ensures none_home { IfOk result (λ told. IfNone told (placed.new.home ≡ placed.old.home)) }
         ensures none_ledger { IfOk result (λ told. IfNone told (self.new.ledger.history ≡ self.old.ledger.history)) }
         ensures none_session { IfOk result (λ told. IfNone told (session.new ≡ session.old)) }
-        ensures refusal { IfErr result (λ e. IsSharedRefused placed.old.home self.old.ledger.history session.old.journal now act e ⊎ ((placed.old.id ≢ id.now) × (e ≡ Refusal.QueueDoesNotExist))) }
+        ensures refusal { IfErr result (λ e. ((placed.old.id ≡ id.now) × IsSharedRefused placed.old.home self.old.ledger.history session.old.journal now act e) ⊎ ((placed.old.id ≢ id.now) × (e ≡ Refusal.QueueDoesNotExist))) }
         ensures id { placed.new.id ≡ placed.old.id }
         ensures home_err { OnErr result (placed.new.home ≡ placed.old.home) }
         ensures ledger_err { OnErr result (self.new.ledger.history ≡ self.old.ledger.history) }

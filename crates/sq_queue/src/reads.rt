@@ -1,7 +1,8 @@
 //! What a session reads of a service between its calls. It is no event: the session has seen then all that the part has.
-ghost use Rattle.std.specs.Prelude.{◌≡◌, IfErr, IfSome, OnErr, OnOk, true};
+ghost use Rattle.std.specs.Prelude.{◌≡◌, ◌<◌, IfErr, IfOk, IfSome, OnErr, OnOk, length, true};
 ghost use Rattle.sq_model.specs.Ledgers.{is_of_source};
-ghost use Rattle.sq_queue.specs.Services.{HasRead};
+ghost use Rattle.sq_directory.specs.DirectoryHistory.{DirectoryHistory};
+ghost use Rattle.sq_queue.specs.Services.{HasRead, LastTaskRead, NamesRead};
 
 use crate::service::{Clock, Gate, Serving};
 use crate::session::Session;
@@ -14,14 +15,16 @@ use std::sync::Wait;
 use std::sync::ledger::Ledger;
 
 impl<C: Clock + Drop, G: Gate + Drop, D: Ledger, T: Ledger> Serving<C, G, D, T, SlotStore> {
-    /// The names and numbers of all queues, in order of creation. Refused as NoMemory.
+    /// The names and numbers of all queues, in order of creation, as they are at one moment. Refused as NoMemory where there are
+    /// some.
     pub fn names<R: Wait>(
         &self,
         rt: &R,
         session: &mut Session<D, T>,
     ) -> Result<Listed<NamedQueue>, Refusal>
+        ensures names { IfOk result (λ names. NamesRead session.old names session.new) }
         ensures read { OnOk result (HasRead session.old session.new) }
-        ensures refused { IfErr result (λ e. e ≡ Refusal.NoMemory) }
+        ensures refused { IfErr result (λ e. (e ≡ Refusal.NoMemory) × ((part : DirectoryHistory) × (0 < length part.directory.queues))) }
         ensures err { OnErr result (session.new ≡ session.old) }
     {
         self.directory.lock(rt).names(self.alloc, session)
@@ -34,6 +37,7 @@ impl<C: Clock + Drop, G: Gate + Drop, D: Ledger, T: Ledger> Serving<C, G, D, T, 
         session: &mut Session<D, T>,
         source: QueueNo,
     ) -> Option<Task>
+        ensures task { LastTaskRead session.old source result session.new }
         ensures source { IfSome result (λ task. is_of_source source task ≡ true) }
         ensures read { HasRead session.old session.new }
     {

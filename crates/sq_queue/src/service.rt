@@ -1,19 +1,16 @@
 //! A service whose parts lie under locks.
-ghost use Rattle.std.specs.Prelude.{◌≡◌, ◌⊎◌, ◌*◌, ◌≤◌, ◌<◌, ℕ, IfOk, IfErr, OnOk, vec_len};
-ghost use Rattle.sq_audit.specs.HomeIds.{home_id};
+ghost use Rattle.std.specs.Prelude.{◌≡◌, ◌⊎◌, ◌*◌, ◌≤◌, ℕ, IfOk, IfErr, OnOk, length, vec_len};
 ghost use Rattle.sq_opening.specs.Openings.{IsServed};
 ghost use Rattle.sq_queue.specs.SessionValue.{new_session};
 
 use crate::actors::Actors;
+use crate::making::{NewParts, new_parts};
 use crate::parts::{CountedDirectory, CountedLedger, Placed, PlacedHome};
 use crate::session::Session;
 use crossbeam_utils::CachePadded;
 use sq_base::ids::HomeId;
 use sq_base::refusal::Refusal;
-use sq_directory::directory::Directory;
-use sq_ledger::ledger::TransitLedger;
-use sq_model::place::Limits;
-use sq_opening::homes::{id_at, never_opened};
+use sq_history::recorded::Home;
 use sq_opening::options::Options;
 use sq_sample::sampler::HomeCount;
 use sq_shard::slots::SlotStore;
@@ -24,7 +21,11 @@ use std::sync::{Mutex, Wait};
 
 /// Tells the time, in ms. A reading at or above 2^62 refuses the step that it was made for, as ClockRange.
 pub trait Clock {
-    fn now(&self) -> u64;
+    /// What it may tell.
+    ghost tells: { Self → ℕ → Type 0 };
+
+    fn now(&self) -> u64
+        ensures { tells self.now result };
 }
 
 /// Where tests look in.
@@ -98,32 +99,22 @@ impl<C: Clock + Drop, G: Gate + Drop, D: Ledger, T: Ledger> Serving<C, G, D, T, 
         if !options.are_served() {
             return Err(Refusal::InvalidParameterValue);
         }
-        let per_queue = HomeCount::of(options.homes);
-        let limits = options.limits();
-        let (of_directory, directory_left) = of_directory.open::<D>();
-        let (of_ledger, ledger_left) = of_ledger.open::<T>();
+        let NewParts {
+            homes,
+            directory,
+            ledger,
+            actors,
+        } = new_parts(alloc, &options, of_directory, of_ledger)?;
         Ok(Serving {
             alloc,
             clock,
             gate,
-            per_queue,
+            per_queue: HomeCount::of(options.homes),
             sample: HomeCount::of(options.sample),
-            homes: never_opened_homes(alloc, options.queues, per_queue, &limits)?,
-            directory: under_lock(CountedDirectory {
-                directory: Directory::new(alloc, options.queues)?,
-                tallies: of_directory,
-            }),
-            ledger: under_lock(CountedLedger {
-                ledger: TransitLedger::new(alloc, options.transit),
-                tallies: of_ledger,
-            }),
-            actors: under_lock(Actors {
-                seed: options.seed,
-                made: 0,
-                of_directory: directory_left,
-                of_ledger: ledger_left,
-                retired: Vec::new(alloc),
-            }),
+            homes: each_under_lock(alloc, homes)?,
+            directory: under_lock(directory),
+            ledger: under_lock(ledger),
+            actors: under_lock(actors),
         })
     }
 
@@ -147,31 +138,25 @@ impl<C: Clock + Drop, G: Gate + Drop, D: Ledger, T: Ledger> Serving<C, G, D, T, 
     }
 }
 
-// The home at an index, with its id; no queue is made for it yet.
-pub(crate) fn placed(alloc: Global, per_queue: HomeCount, limits: &Limits, index: u32) -> PlacedHome
-    ensures { result.id ≡ home_id per_queue index }
-{
-    Placed {
-        id: id_at(per_queue, index),
-        home: never_opened(alloc, per_queue, limits, index),
-    }
-}
-
-// The homes of so many queues, each under its lock; none is opened yet.
-fn never_opened_homes(
-    alloc: Global,
-    queues: u32,
-    per_queue: HomeCount,
-    limits: &Limits,
-) -> Result<Vec<Lock<PlacedHome>>, Refusal>
-    requires { queues ≤ 1024 }
-    ensures homes { IfOk result (λ homes. vec_len homes ≡ queues * per_queue) }
-    ensures few { IfOk result (λ homes. vec_len homes ≤ 16384) }
+// Homes, each with its id under a lock of its own.
+fn each_under_lock(alloc: Global, homes: Vec<Home>) -> Result<Vec<Lock<PlacedHome>>, Refusal>
+    ensures many { IfOk result (λ locks. vec_len locks ≡ length homes.items) }
     ensures refused { IfErr result (λ e. e ≡ Refusal.NoMemory) }
 {
-    let mut homes = Vec::new(alloc);
-    for index in 0..queues * per_queue.get() {
-        homes.push(under_lock(placed(alloc, per_queue, limits, index)))?;
+    let mut locks = Vec::with_capacity(alloc, homes.len())?;
+    for home in homes {
+        locks.push_reserved(under_lock(placed(home)));
     }
-    Ok(homes)
+    Ok(locks)
+}
+
+// A home with its id.
+fn placed(home: Home) -> PlacedHome
+    ensures id { result.id ≡ home.site.home }
+    ensures home { result.home ≡ home }
+{
+    Placed {
+        id: home.id(),
+        home,
+    }
 }

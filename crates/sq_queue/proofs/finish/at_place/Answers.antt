@@ -4,4 +4,4 @@ use Rattle.sq_queue.proofs.finish.at_place.Goals as goal
 
 pub returns-then-eq-clause-at : goal.returns-then-eq-clause-at
 returns-then-eq-clause-at c =
-    c.args.found.own ∙ found_same c.args.found.id c.placed-none.result.id (sym c.eq.ensures ∙ c.if-eq.true) ∙ c.placed-none.ensures
+    c.args.found.own ∙ found_same c.args.found.id c.id_at.result (sym c.eq.ensures ∙ c.if-eq.true) ∙ c.id_at.ensures

@@ -1,6 +1,17 @@
+use Rattle.std.proofs.Common.{refl, rules}
 use Rattle.sq_client.specs.Calls.{home_numbered}
-use Rattle.sq_queue.proofs.LockLaws.{answered_home, refused_home}
+use Rattle.sq_queue.proofs.LockLaws.{answered_home, refused_home, home_section}
 use Rattle.sq_queue.proofs.locked.LockedLockSteps.at_home.Goals as goal
+
+pub returns-clause-did : goal.returns-clause-did
+returns-clause-did g c =
+    let placed = c.deref_mut.result.now in
+    let told = c.step in (
+      home_section _ c.now-now.result placed.home told.new.self.home c.args.self.now.session.now told.new.session c.args.of.now.name placed.id (home_numbered c.args.of.now.number c.args.home) c.args.act c.in-Some.index told.result c.now-now.ensures placed.own (search rules)
+          told.ensures.step told.ensures.at told.ensures.refusal told.ensures.session_err,
+      refl,
+      refl,
+    )
 
 pub returns-clause-reply : goal.returns-clause-reply
 returns-clause-reply g c = answered_home _ _ _ _ _ _ c.args.act c.step.result c.step.ensures.step

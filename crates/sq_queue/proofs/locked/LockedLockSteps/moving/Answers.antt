@@ -1,14 +1,17 @@
-use Rattle.std.proofs.Common.{refl}
-use Rattle.sq_queue.proofs.LockLaws.{refused_moving}
-use Rattle.sq_queue.proofs.LockLaws.{moving_leaves}
+use Rattle.std.proofs.Common.{refl, rules}
+use Rattle.sq_queue.proofs.LockLaws.{refused_moving, moving_section}
 use Rattle.sq_queue.proofs.locked.LockedLockSteps.moving.Goals as goal
 
 pub returns-clause-did : goal.returns-clause-did
 returns-clause-did g c =
     let ledger = c.deref_mut.result.now in
     let placed = c.deref_mut-2.result.now in
-    let told = c.share-told in
-    (moving_leaves placed.home told.new.placed.home ledger.ledger.history told.new.self.ledger.history c.args.self.now.session.now told.new.session c.now-now.result c.args.name placed.id c.args.home.now c.args.what told.result placed.own told.ensures.step told.ensures.at told.ensures.none_session told.ensures.session_err, refl)
+    let told = c.share-told in (
+      moving_section _ c.now-now.result placed.home told.new.placed.home ledger.ledger.history told.new.self.ledger.history c.args.self.now.session.now told.new.session c.args.name placed.id c.args.home.now c.args.what c.in-Some.index told.result c.now-now.ensures placed.own (search rules)
+          told.ensures.step told.ensures.at told.ensures.none told.ensures.none_session told.ensures.refusal told.ensures.session_err,
+      refl,
+      refl,
+    )
 
 pub returns-clause-refusal : goal.returns-clause-refusal
 returns-clause-refusal g c =

@@ -1,0 +1,75 @@
+-- What a section under a lock does for a session: the step of its part, as the part lies there at that moment. Other sessions may step at it before and after.
+use Rattle.std.specs.Prelude.{◌≡◌, ◌≢◌, ◌⊎◌, ℕ, nat_le, if◌then◌else◌, Some, None, option_map, Result, Ok, Err}
+use Rattle.sq_base.specs.Stamps.{stamp_end}
+use Rattle.sq_base.specs.declared.ids.HomeId.{HomeId}
+use Rattle.sq_base.specs.declared.refusal.Refusal.{Refusal}
+use Rattle.sq_base.specs.declared.refusal.Refusal.TheVariants.{ClockRange, QueueDoesNotExist, ResourceNotFoundException}
+use Rattle.sq_model.specs.Directories.{can_redrive, number_named}
+use Rattle.sq_model.specs.Ledgers.{peek, task_of}
+use Rattle.sq_model.specs.RecordValues.{Journal}
+use Rattle.sq_history.specs.Acts.{call_of}
+use Rattle.sq_history.specs.HistoryValue.{HistoryValue}
+use Rattle.sq_directory.specs.DirectoryHistory.{DirectoryHistory}
+use Rattle.sq_ledger.specs.LedgerHistory.{LedgerHistory}
+use Rattle.sq_steps.specs.Journals.{HomeMoves, DirectoryMoves, LedgerMoves, IsHomeRefused, IsDirectoryStepRefused, IsLedgerStepRefused}
+use Rattle.sq_steps.specs.Reads.{next_of}
+use Rattle.sq_steps.specs.SharedSteps.{SharedMoves, IsUnmoved, IsSharedRefused}
+use Rattle.sq_steps.specs.TaskActs.{task_call}
+use Rattle.sq_audit.specs.HomeIds.{home_index}
+use Rattle.sq_client.specs.Asks.{Ask, Resolve, Directed, AtHome, Moving, Peek, Redriven, Ledgered, ReadTask, Gave, Found, Answered, Replied, Nothing, Peeked, Ends, Told, TaskFound}
+use Rattle.sq_queue.specs.SessionValue.{SessionValue, having_read}
+
+-- What a session meets at a service: which readings its clock may give, how many homes a queue has, and how many homes there are.
+pub record Surroundings : Type 1 where
+  pub IsReading : ℕ → Type 0
+  pub per_queue : ℕ
+  pub homes : ℕ
+
+abbrev pub around : (ℕ → Type 0) → ℕ → ℕ → Surroundings
+around IsReading per_queue homes = record { IsReading = IsReading; per_queue = per_queue; homes = homes }
+
+-- A section that is not refused: its part was so at that moment, and the step is one of that part.
+abbrev pub SectionDone : Surroundings → Ask → Gave → SessionValue → SessionValue → Type 0
+SectionDone at (Resolve name) (Found queue) before after = (part : DirectoryHistory) × (number_named name part.directory.queues ≡ Some queue) × (after ≡ having_read before part.last)
+SectionDone at (Directed call) (Answered reply) before after = (now : ℕ) × (part : DirectoryHistory) × (left : DirectoryHistory) × at.IsReading now × DirectoryMoves part left before.journal after.journal now call reply
+SectionDone at (AtHome name id act) (Replied reply) before after =
+    (now : ℕ) × (part : HistoryValue) × (left : HistoryValue) × at.IsReading now × (part.site.home ≡ id) × HomeMoves part left before.journal after.journal now (Some name) (call_of act) reply
+SectionDone at (Moving name id what) (Replied reply) before after =
+    (now : ℕ) × (part : HistoryValue) × (left : HistoryValue) × (ledger : LedgerHistory) × (ledger_left : LedgerHistory) × at.IsReading now × (part.site.home ≡ id)
+    × SharedMoves part left ledger ledger_left before.journal after.journal now name what reply
+SectionDone at (Moving name id what) Nothing before after =
+    (now : ℕ) × (part : HistoryValue) × (ledger : LedgerHistory) × at.IsReading now × (part.site.home ≡ id) × IsUnmoved part ledger before.journal now what × (after ≡ before)
+SectionDone at (Peek number) (Peeked next) before after = (part : LedgerHistory) × (next ≡ option_map next_of (peek number part.ledger)) × (after ≡ having_read before part.last)
+SectionDone at (Redriven source destination) (Ends ends) before after = (part : DirectoryHistory) × (can_redrive source destination part.directory ≡ Ok ends) × (after ≡ having_read before part.last)
+SectionDone at (Ledgered what) (Told reply) before after =
+    (now : ℕ) × (part : LedgerHistory) × (left : LedgerHistory) × at.IsReading now × LedgerMoves part left before.journal after.journal now (task_call what) reply
+SectionDone at (ReadTask number) (TaskFound task) before after = (part : LedgerHistory) × (task_of number part.ledger ≡ Some task) × (after ≡ having_read before part.last)
+SectionDone at ask gave before after = ⊥
+
+-- there is no lock for this home: the clock is looked at first
+abbrev pub HasNoLock : Surroundings → ℕ → HomeId → Refusal → Type 0
+HasNoLock at now id e = (home_index at.per_queue at.homes id ≡ None) × (e ≡ (if nat_le stamp_end now then ClockRange else QueueDoesNotExist))
+
+-- another home lies under the lock of this one, which never is
+abbrev pub IsMisplaced : Surroundings → HomeId → Refusal → Type 0
+IsMisplaced at id e = (index : ℕ) × (other : HomeId) × (home_index at.per_queue at.homes id ≡ Some index) × (other ≢ id) × (e ≡ QueueDoesNotExist)
+
+-- Why a section is refused: the cause was there, in its part, at that moment.
+abbrev pub SectionRefused : Surroundings → Ask → Refusal → Journal → Type 0
+SectionRefused at (Resolve name) e journal = (part : DirectoryHistory) × (number_named name part.directory.queues ≡ None) × (e ≡ QueueDoesNotExist)
+SectionRefused at (Directed call) e journal = (now : ℕ) × (part : DirectoryHistory) × at.IsReading now × IsDirectoryStepRefused part journal now call e
+SectionRefused at (AtHome name id act) e journal =
+    (now : ℕ) × at.IsReading now
+    × (HasNoLock at now id e ⊎ IsMisplaced at id e ⊎ ((part : HistoryValue) × (part.site.home ≡ id) × IsHomeRefused part journal now (call_of act) e))
+SectionRefused at (Moving name id what) e journal =
+    (now : ℕ) × at.IsReading now
+    × (HasNoLock at now id e ⊎ IsMisplaced at id e ⊎ ((part : HistoryValue) × (ledger : LedgerHistory) × (part.site.home ≡ id) × IsSharedRefused part ledger journal now what e))
+SectionRefused at (Peek number) e journal = ⊥
+SectionRefused at (Redriven source destination) e journal = (part : DirectoryHistory) × (can_redrive source destination part.directory ≡ Err e)
+SectionRefused at (Ledgered what) e journal = (now : ℕ) × (part : LedgerHistory) × at.IsReading now × IsLedgerStepRefused part journal now (task_call what) e
+SectionRefused at (ReadTask number) e journal = (part : LedgerHistory) × (task_of number part.ledger ≡ None) × (e ≡ ResourceNotFoundException)
+
+-- A section under a lock, with its answer, and what it leaves with the session; what is refused leaves nothing.
+abbrev pub IsSection : Surroundings → SessionValue → Ask → Result Gave Refusal → SessionValue → Type 0
+IsSection at before ask (Ok gave) after = SectionDone at ask gave before after
+IsSection at before ask (Err e) after = SectionRefused at ask e before.journal × (after ≡ before)
