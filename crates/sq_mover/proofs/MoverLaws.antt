@@ -1,19 +1,25 @@
 -- Turns one after another, and reads between them.
-use Rattle.std.proofs.Common.{◌≡◌, ℕ, ◌+◌, ◌≤◌, List, [], ◌++◌, length, ap, arith}
+use Rattle.std.proofs.Common.{◌≡◌, ◌∙◌, ℕ, ◌+◌, ◌≤◌, List, [], ◌++◌, length, ap, inr, sym, subst, arith}
+use Rattle.std.proofs.Math.Numerals.{add-one}
 use Rattle.std.proofs.lemmas.List.{length-append}
 use Rattle.sq_model.specs.RecordValues.{RecordValue, Journal}
 use Rattle.sq_calls.specs.declared.turns.Turn.{Turn}
+use Rattle.sq_calls.specs.declared.turns.Turn.TheVariants as turn
 use Rattle.sq_calls.specs.declared.turns.Turned.{Turned}
 use Rattle.sq_base.specs.declared.refusal.Refusal.{Refusal}
-use Rattle.std.specs.Prelude.{Result, Ok, Err, OnOk, OnErr}
+use Rattle.std.specs.Prelude.{Result, Ok, Err, OnOk, OnErr, Some}
 use Rattle.sq_client.specs.declared.progress.Progress.{Progress}
+use Rattle.sq_client.specs.declared.walk.Walk.{Walk}
 use Rattle.sq_client.specs.Performs.{LeavesRecords}
+use Rattle.sq_client.specs.Progresses.{no_progress, with_walk}
 use Rattle.sq_client.specs.Turns.{TurnFits}
 use Rattle.sq_client.proofs.PathLaws.{no_gain, read_gain, gains_more}
 use Rattle.sq_client.proofs.TurnRecordLaws.{one_record}
 use Rattle.sq_queue.specs.SessionValue.{SessionValue}
 use Rattle.sq_queue.specs.Services.{HasRead}
 use Rattle.sq_mover.specs.Movers.{GainsAtMost}
+use Rattle.sq_mover.specs.MoverValue.{MoverValue, walk_kept, walked}
+use Rattle.sq_mover.specs.MoverTurns.{IsPassedOver, MakesTurn, ServesFor, TakesTurn, TakesTurns}
 
 -- nothing was done
 pub gains_none : (most : ℕ) (s t : SessionValue) → t ≡ s → GainsAtMost most s.journal t.journal
@@ -42,3 +48,20 @@ gains_both m n a b c h k = (h.0 ++ k.0, gains_more a b c h.0 k.0 h.1 k.1, let x 
 -- of more it is true too
 pub gains_fewer : (m n : ℕ) (a b : Journal) → m ≤ n → GainsAtMost m a b → GainsAtMost n a b
 gains_fewer m n a b most h = (h.0, h.1, let x = h.2 in omega (arith, x, most))
+
+-- one turn more
+pub turns_more : (homes made : ℕ) (m mid n : MoverValue) (s read t : SessionValue) (told : Result Turned Refusal) → TakesTurns homes made m s mid read → TakesTurn homes mid read told n t → IsPassedOver told → TakesTurns homes (made + 1) m s n t
+turns_more homes made m mid n s read t told before turn passed = subst (λ (k : ℕ). TakesTurns homes k m s n t) (sym (add-one made)) (mid, read, told, before, turn, passed)
+
+-- a task was served by the walk that was kept for it, which is kept as it is then
+pub served : (homes task : ℕ) (m n : MoverValue) (s t : SessionValue) (told : Result Turned Refusal) (before after : Walk) (last : List Walk)
+    → before ≡ walk_kept task last → before.task ≡ task → last ≡ m.last → n ≡ walked after m
+    → MakesTurn homes (turn.TaskTurn (Some before.task)) (with_walk before no_progress) (with_walk after no_progress) s told t
+    → ServesFor homes (Some task) m s told n t
+served homes task m n s t told before after last kept same of_last new made =
+    inr (
+      after,
+      new,
+      subst (λ (walk : Walk). MakesTurn homes (turn.TaskTurn (Some task)) (with_walk walk no_progress) (with_walk after no_progress) s told t) (kept ∙ ap (walk_kept task) of_last)
+          (subst (λ (number : ℕ). MakesTurn homes (turn.TaskTurn (Some number)) (with_walk before no_progress) (with_walk after no_progress) s told t) same made),
+    )

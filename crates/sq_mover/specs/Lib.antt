@@ -1,1 +1,3 @@
+pub mod MoverValue
 pub mod Movers
+pub mod MoverTurns

@@ -1,7 +1,9 @@
 //! A mover, turn after turn, over all queues.
-ghost use Rattle.std.specs.Prelude.{◌≡◌, Err, IfErr, IfOk, OnOk};
+ghost use Rattle.std.specs.Prelude.{◌≡◌, ◌≤◌, Err, IfErr, IfOk, OnErr, OnOk, length, slice_get};
 ghost use Rattle.sq_client.specs.Asks.{IsOfAnyStep};
 ghost use Rattle.sq_mover.specs.Movers.{GainsAtMost, active_of};
+ghost use Rattle.sq_mover.specs.MoverTurns.{BringsNext, EndsEarly, IsPassedOver, ServesFor, ServesSource, SweepsOn, TakesTurn, TakesTurns, TurnsAt};
+ghost use Rattle.sq_mover.specs.MoverValue.{new_mover};
 
 use crate::turns::{dead_turn, enter_turn, task_turn};
 use crate::walks::Walks;
@@ -14,6 +16,7 @@ use sq_model::task::{NamedQueue, Task, TaskStatus};
 use sq_queue::service::{Clock, Gate, Service};
 use sq_queue::session::Session;
 use std::alloc::Global;
+use std::marker::Model;
 use std::sync::Wait;
 use std::sync::ledger::Ledger;
 
@@ -38,9 +41,19 @@ pub struct Mover {
     walks: Walks,
 }
 
+impl Model for Mover {
+    ghost use Rattle.sq_mover.specs.MoverValue.{MoverValue};
+
+    ghost Value = { MoverValue };
+
+    ghost view = { λ m. record { queues = m.queues; at = m.at; stage = m.stage; tried = m.tried; last = m.walks.last.items; this = m.walks.this.items } };
+}
+
 impl Mover {
     /// A mover that has done nothing yet.
-    pub fn new(alloc: Global) -> Mover {
+    pub fn new(alloc: Global) -> Mover
+        ensures { result ≡ new_mover }
+    {
         Mover {
             queues: Listed::new(alloc),
             at: 0,
@@ -59,6 +72,10 @@ impl Mover {
     ) -> Result<(), Refusal>
         ensures gains { GainsAtMost 0 session.old.journal session.new.journal }
         ensures refused { IfErr result (λ e. e ≡ Refusal.NoMemory) }
+        ensures ok { OnOk result (SweepsOn self.old session.old self.new session.new) }
+        ensures over { OnErr result (length self.old.queues ≤ self.old.at) }
+        ensures kept { OnErr result (self.new ≡ self.old) }
+        ensures unread { OnErr result (session.new ≡ session.old) }
     {
         if self.at < self.queues.len() {
             return Ok(());
@@ -70,7 +87,9 @@ impl Mover {
     }
 
     // The queue that the sweep is at; none where there is no queue.
-    fn queue(&self) -> Option<NamedQueue> {
+    fn queue(&self) -> Option<NamedQueue>
+        ensures { result ≡ slice_get self.now.queues self.now.at }
+    {
         self.queues.as_slice().get(self.at).copied()
     }
 
@@ -81,7 +100,8 @@ impl Mover {
         rt: &R,
         session: &mut Session<D, T>,
     ) -> Result<Turned, Refusal>
-        ensures { GainsAtMost 1 session.old.journal session.new.journal }
+        ensures gains { GainsAtMost 1 session.old.journal session.new.journal }
+        ensures takes { TakesTurn service.now.per_queue self.old session.old result self.new session.new }
     {
         self.begin_sweep(service, rt, session)?;
         match self.queue() {
@@ -98,7 +118,8 @@ impl Mover {
         session: &mut Session<D, T>,
         queue: &NamedQueue,
     ) -> Result<Turned, Refusal>
-        ensures { GainsAtMost 1 session.old.journal session.new.journal }
+        ensures gains { GainsAtMost 1 session.old.journal session.new.journal }
+        ensures turns { TurnsAt service.now.per_queue queue.now self.old session.old result self.new session.new }
     {
         match self.stage {
             Stage::Leave => {
@@ -121,23 +142,25 @@ impl Mover {
         session: &mut Session<D, T>,
         source: QueueNo,
     ) -> Result<Turned, Refusal>
-        ensures { GainsAtMost 1 session.old.journal session.new.journal }
+        ensures gains { GainsAtMost 1 session.old.journal session.new.journal }
+        ensures serves { ServesSource service.now.per_queue source self.old session.old result self.new session.new }
     {
         let task = service.last_task(rt, session, source);
-        self.serve(service, rt, session, active(task))
+        self.serve(service, rt, session, task)
     }
 
-    // A message leaves for a task, or it is to finish. Without a task the next item comes in.
+    // A message leaves for a task, or it is to finish. Without one that is not over the next item comes in.
     fn serve<C: Clock + Drop, G: Gate + Drop, D: Ledger, T: Ledger, R: Wait>(
         &mut self,
         service: &Service<C, G, D, T>,
         rt: &R,
         session: &mut Session<D, T>,
-        task: Option<TaskNo>,
+        task: Option<Task>,
     ) -> Result<Turned, Refusal>
-        ensures { GainsAtMost 1 session.old.journal session.new.journal }
+        ensures gains { GainsAtMost 1 session.old.journal session.new.journal }
+        ensures serves { ServesFor service.now.per_queue (active_of task) self.old session.old result self.new session.new }
     {
-        let Some(task) = task else {
+        let Some(task) = active(task) else {
             return self.bring(service, rt, session);
         };
         self.walks.reserve()?;
@@ -154,7 +177,8 @@ impl Mover {
         rt: &R,
         session: &mut Session<D, T>,
     ) -> Result<Turned, Refusal>
-        ensures { GainsAtMost 1 session.old.journal session.new.journal }
+        ensures gains { GainsAtMost 1 session.old.journal session.new.journal }
+        ensures brings { BringsNext service.now.per_queue self.old session.old result self.new session.new }
     {
         self.stage = Stage::Leave;
         self.at = self.at.saturating_add(1);
@@ -178,7 +202,7 @@ fn active(task: Option<Task>) -> Option<TaskNo>
 // Whether a refusal ends a mover's run: memory, the clock, or a count at its end. Others are passed over.
 fn ends(told: &Result<Turned, Refusal>) -> Result<(), Refusal>
     ensures ends { IfErr result (λ e. IsOfAnyStep e × (told.now ≡ Err e)) }
-    ensures goes_on { OnOk result (IfErr told.now (λ e. ¬ IsOfAnyStep e)) }
+    ensures goes_on { OnOk result (IsPassedOver told.now) }
 {
     match told {
         Err(refusal @ (Refusal::NoMemory | Refusal::ClockRange | Refusal::Worn)) => Err(*refusal),
@@ -201,6 +225,8 @@ pub fn run_mover<C: Clock + Drop, G: Gate + Drop, D: Ledger, T: Ledger, R: Wait>
     ensures gains { GainsAtMost turns session.old.journal session.new.journal }
     ensures made { IfOk result (λ n. n ≡ turns) }
     ensures refused { IfErr result IsOfAnyStep }
+    ensures turns { OnOk result (TakesTurns service.now.per_queue turns mover.old session.old mover.new session.new) }
+    ensures ended { IfErr result (λ e. EndsEarly service.now.per_queue turns mover.old session.old e mover.new session.new) }
 {
     for _ in 0..turns {
         let told = mover.turn(service, rt, session);

@@ -1,5 +1,6 @@
 //! The walks of a mover over the homes that tasks take messages from.
-ghost use Rattle.std.specs.Prelude.{◌≡◌, ◌<◌, OnOk, IfErr, vec_capacity, vec_len};
+ghost use Rattle.std.specs.Prelude.{◌≡◌, ◌<◌, ◌≤◌, [], ◌∷◌, ◌++◌, OnOk, OnErr, IfErr, vec_capacity, vec_len};
+ghost use Rattle.sq_mover.specs.MoverValue.{walk_kept};
 
 use sq_base::refusal::Refusal;
 use sq_client::walk::Walk;
@@ -16,7 +17,10 @@ pub(crate) struct Walks {
 }
 
 impl Walks {
-    pub(crate) fn new(alloc: Global) -> Walks {
+    pub(crate) fn new(alloc: Global) -> Walks
+        ensures last { result.last.items ≡ [] }
+        ensures this { result.this.items ≡ [] }
+    {
         Walks {
             last: Vec::new(alloc),
             this: Vec::new(alloc),
@@ -25,7 +29,8 @@ impl Walks {
 
     /// The walk for a task: as the last sweep left it, or a new one.
     pub(crate) fn of(&self, task: TaskNo) -> Walk
-        ensures { result.task ≡ task }
+        ensures kept { result ≡ walk_kept task self.now.last.items }
+        ensures task { result.task ≡ task }
     {
         for walk in &self.last {
             if walk.task == task {
@@ -38,7 +43,10 @@ impl Walks {
     /// Gets memory for one walk more of this sweep.
     pub(crate) fn reserve(&mut self) -> Result<(), Refusal>
         ensures room { OnOk result (vec_len self.new.this < vec_capacity self.new.this) }
+        ensures last { self.new.last ≡ self.old.last }
+        ensures this { self.new.this.items ≡ self.old.this.items }
         ensures refused { IfErr result (λ e. e ≡ Refusal.NoMemory) }
+        ensures full { OnErr result (vec_capacity self.old.this ≤ vec_len self.old.this) }
     {
         self.this.try_reserve(1)?;
         Ok(())
@@ -47,12 +55,17 @@ impl Walks {
     /// Keeps a walk of this sweep, for which there is memory.
     pub(crate) fn keep(&mut self, walk: Walk)
         requires { vec_len self.old.this < vec_capacity self.old.this }
+        ensures last { self.new.last ≡ self.old.last }
+        ensures this { self.new.this.items ≡ self.old.this.items ++ walk ∷ [] }
     {
         self.this.push_reserved(walk);
     }
 
-    /// The next sweep begins.
-    pub(crate) fn next_sweep(&mut self) {
+    /// The next sweep begins: the walks of this one are those of the last one then.
+    pub(crate) fn next_sweep(&mut self)
+        ensures last { self.new.last.items ≡ self.old.this.items }
+        ensures this { self.new.this.items ≡ [] }
+    {
         mem::swap(&mut self.last, &mut self.this);
         self.this.clear();
     }

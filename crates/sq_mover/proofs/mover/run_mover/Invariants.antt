@@ -1,5 +1,9 @@
 use Rattle.sq_mover.specs.Movers.{GainsAtMost}
+use Rattle.sq_mover.specs.MoverTurns.{TakesTurns}
 use Rattle.sq_mover.proofs.mover.run_mover.Given as goal
 
 abbrev pub invariant-loop : goal.invariant-loop
-invariant-loop g l = GainsAtMost l.counter l.fn.session.journal l.session.journal
+invariant-loop g l = record {
+  gains : GainsAtMost l.counter l.fn.session.journal l.session.journal;
+  turns : TakesTurns l.service.per_queue l.counter l.fn.mover l.fn.session l.mover l.session;
+}
