@@ -1,1 +1,2 @@
 pub mod OutcomeLaws
+pub mod VerdictLaws

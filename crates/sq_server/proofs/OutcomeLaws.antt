@@ -1,5 +1,5 @@
 -- What has gone out when serving ends, from what its parts wrote.
-use Rattle.std.proofs.Common.{◌≡◌, ◌≢◌, ◌∙◌, ℕ, zero, suc, Bool, true, false, List, [], ◌∷◌, ◌++◌, Option, Result, Ok, Err, refl, ap, sym, inl, inr}
+use Rattle.std.proofs.Common.{◌≡◌, ◌≢◌, ◌∙◌, ℕ, zero, suc, List, [], ◌∷◌, ◌++◌, Option, Some, None, Result, Ok, Err, refl, ap, sym, inl, inr}
 use Rattle.std.specs.Prelude.{take}
 use Rattle.std.specs.declared.net.socket_addr.SocketAddr.{SocketAddr}
 use Rattle.sq_audit.specs.declared.check.AuditFault.{AuditFault}
@@ -8,6 +8,7 @@ use Rattle.sq_lines.specs.declared.counted.Counted.{Counted}
 use Rattle.sq_lines.proofs.WriteLaws.{appends_none, appends_more, part_of_end}
 use Rattle.sq_program.specs.Results.{line_of, listening_text, verdict_text}
 use Rattle.sq_program.specs.Streams.{stream, EndsWritten, WrittenWhole}
+use Rattle.sq_server.specs.declared.verdict.OneRun.{OneRun}
 use Rattle.sq_server.specs.Outcomes.{HasRaced, HasServed, HasToldEnd, HasToldRace}
 
 -- a front of a text is one of it with more behind it
@@ -59,23 +60,23 @@ judged bytes a b c here (suc zero) told h = elim h [
 judged bytes a b c here (suc (suc n)) told h = absurd h
 
 -- it was told, and then how serving ended
-pub ends_told : {W : Type 0} (bytes : W → Option (List ℕ)) (a b c : Counted W) (here : SocketAddr) (ended : Result Bool AuditFault) (status : ℕ) → WrittenWhole (λ line. line ≡ line_of (listening_text here)) (stream bytes a b)
+pub ends_told : {W : Type 0} (bytes : W → Option (List ℕ)) (a b c : Counted W) (here : SocketAddr) (ended : Result (Option OneRun) AuditFault) (status : ℕ) → WrittenWhole (λ line. line ≡ line_of (listening_text here)) (stream bytes a b)
     → HasToldEnd ended (stream bytes b c) status → HasServed (stream bytes a c) status
-ends_told bytes a b c here (Ok true) status told h = judged bytes a b c here status told h
-ends_told bytes a b c here (Ok false) status told h = rw h.0 (listened bytes a b c here told h.1)
+ends_told bytes a b c here (Ok (Some run)) status told h = judged bytes a b c here status told h
+ends_told bytes a b c here (Ok None) status told h = rw h.0 (listened bytes a b c here told h.1)
 ends_told bytes a b c here (Err fault) status told h = elim h.0 [
   | inl memory ↦ rw memory.1 (listened bytes a b c here told h.1)
   | inr wrong ↦ rw (wrong.1, h.1) (told.0, (told.1.0, (here, told.1.1), told.1.2))
 ]
 
 -- a race was told, or why not
-pub race_told : {W : Type 0} (bytes : W → Option (List ℕ)) (a b : Counted W) (mode : RaceMode) (ended : Result ℕ AuditFault) (status : ℕ) → HasToldRace mode ended (stream bytes a b) status → HasRaced mode (stream bytes a b) status
-race_told bytes a b mode (Ok sent) zero h = (h.0, (h.1.0, (sent, h.1.1), h.1.2))
-race_told bytes a b mode (Ok sent) (suc zero) h = elim h [
+pub race_told : {W : Type 0} (bytes : W → Option (List ℕ)) (a b : Counted W) (mode : RaceMode) (ended : Result (OneRun × ℕ) AuditFault) (status : ℕ) → HasToldRace mode ended (stream bytes a b) status → HasRaced mode (stream bytes a b) status
+race_told bytes a b mode (Ok (run, sent)) zero h = (h.0, (h.1.0, (sent, h.1.1), h.1.2))
+race_told bytes a b mode (Ok (run, sent)) (suc zero) h = elim h [
   | inl same ↦ inl same
   | inr cut ↦ inr (cut.0, (cut.1.0, cut.1.1, (sent, cut.1.2), cut.1.3))
 ]
-race_told bytes a b mode (Ok sent) (suc (suc n)) h = absurd h
+race_told bytes a b mode (Ok (run, sent)) (suc (suc n)) h = absurd h
 race_told bytes a b mode (Err fault) status h = elim h.0 [
   | inl memory ↦ rw memory.1 (inl h.1)
   | inr wrong ↦ rw wrong.1 h.1

@@ -1,4 +1,9 @@
 //! The clients of a race, and what they ask.
+ghost use Rattle.std.specs.Prelude.{◌≡◌, ◌+◌, ◌*◌, ◌≤◌, IfErr, IfOk, IfSome, None, Some, codes, false};
+ghost use Rattle.sq_calls.specs.declared.calls.Call.TheVariants as asks;
+ghost use Rattle.sq_model.specs.Policies.{nothing_given};
+ghost use Rattle.sq_server.specs.Handles.{first_given};
+
 use crate::served::{Client, Served};
 use sq_base::handle::Handle;
 use sq_base::name::QueueName;
@@ -19,7 +24,9 @@ use std::time::Clock;
 
 // The queue of a race.
 #[tactic(auto, unfolding(sq_base::specs::Names::is_name_byte))]
-fn race_queue() -> QueueName {
+fn race_queue() -> QueueName
+    ensures { result ≡ codes "race" }
+{
     match QueueName::new(b"race") {
         Some(name) => name,
         None => unreachable!(),
@@ -28,7 +35,9 @@ fn race_queue() -> QueueName {
 
 // The queue of its dead letters.
 #[tactic(auto, unfolding(sq_base::specs::Names::is_name_byte))]
-fn dead_queue() -> QueueName {
+fn dead_queue() -> QueueName
+    ensures { result ≡ codes "race-dlq" }
+{
     match QueueName::new(b"race-dlq") {
         Some(name) => name,
         None => unreachable!(),
@@ -36,7 +45,10 @@ fn dead_queue() -> QueueName {
 }
 
 /// CreateQueue; where dead letters have a target, what was received twice goes there.
-pub fn create(name: QueueName, target: Option<QueueName>) -> Call {
+pub fn create(name: QueueName, target: Option<QueueName>) -> Call
+    ensures alone { target ≡ None → result ≡ asks.CreateQueue (record { name = name; attributes = nothing_given }) }
+    ensures to { IfSome target (λ to. result ≡ asks.CreateQueue (record { name = name; attributes = record nothing_given { redrive = Some (Some (record { target = to; max_receives = 2 })) } })) }
+{
     let mut attributes = Attributes::none();
     if let Some(target) = target {
         attributes.redrive = Some(Some(RedrivePolicy {
@@ -59,7 +71,10 @@ pub(crate) fn make_queues<R: Clock + Wait, D: Ledger, T: Ledger>(
 }
 
 /// SendMessage of a short body. Refused as NoMemory.
-pub fn send(alloc: Global, queue: QueueName) -> Result<Call, Refusal> {
+pub fn send(alloc: Global, queue: QueueName) -> Result<Call, Refusal>
+    ensures call { IfOk result (λ call. call ≡ asks.SendMessage (record { queue = queue; body = codes "race"; delay = None })) }
+    ensures refused { IfErr result (λ e. e ≡ Refusal.NoMemory) }
+{
     Ok(Call::SendMessage(SendMessage {
         queue,
         body: BodyText::new(alloc, "race")?,
@@ -68,7 +83,9 @@ pub fn send(alloc: Global, queue: QueueName) -> Result<Call, Refusal> {
 }
 
 /// ReceiveMessage of one message.
-pub fn receive(queue: QueueName, timeout: Option<Timeout>) -> Call {
+pub fn receive(queue: QueueName, timeout: Option<Timeout>) -> Call
+    ensures { result ≡ asks.ReceiveMessage (record { queue = queue; max = 1; timeout = timeout; attributes = record { receive_count = false; sent_timestamp = false } }) }
+{
     Call::ReceiveMessage(ReceiveMessage {
         queue,
         max: MaxMessages::of(1),
@@ -81,7 +98,9 @@ pub fn receive(queue: QueueName, timeout: Option<Timeout>) -> Call {
 }
 
 /// DeleteMessage.
-pub fn delete(queue: QueueName, handle: Handle) -> Call {
+pub fn delete(queue: QueueName, handle: Handle) -> Call
+    ensures { result ≡ asks.DeleteMessage (record { queue = queue; handle = Some handle }) }
+{
     Call::DeleteMessage(DeleteMessage {
         queue,
         handle: Some(handle),
@@ -89,7 +108,9 @@ pub fn delete(queue: QueueName, handle: Handle) -> Call {
 }
 
 /// The handle of the first message that was given, if one was.
-pub fn first_handle(answer: &Answer) -> Option<Handle> {
+pub fn first_handle(answer: &Answer) -> Option<Handle>
+    ensures { result ≡ first_given answer.now }
+{
     let Answer::Received(received) = answer else {
         return None;
     };
@@ -98,7 +119,9 @@ pub fn first_handle(answer: &Answer) -> Option<Handle> {
 }
 
 // ReceiveMessage of one message of a race, which is visible again at once.
-fn at_once() -> Call {
+fn at_once() -> Call
+    ensures { result ≡ asks.ReceiveMessage (record { queue = codes "race"; max = 1; timeout = Some 0; attributes = record { receive_count = false; sent_timestamp = false } }) }
+{
     receive(race_queue(), Some(Timeout::of(0)))
 }
 
@@ -149,7 +172,9 @@ pub(crate) fn make_calls<R: Clock + Wait, D: Ledger, T: Ledger>(
     service: &Served<'_, R, D, T, SlotStore>,
     client: &mut Client<D, T>,
     calls: u64,
-) -> u64 {
+) -> u64
+    ensures { 3 * result ≤ calls + 2 }
+{
     let mut given = None;
     let mut sent = 0u64;
     for number in 0..calls {

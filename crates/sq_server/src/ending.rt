@@ -1,15 +1,11 @@
 //! How a service ends: its parts are gathered with the records of its sessions, and whether all that was done is one run.
-ghost use Rattle.std.specs.Prelude.{◌≡◌, IfErr, List, OnOk, map};
-ghost use Rattle.sq_model.specs.Merges.{IsMerged};
-ghost use Rattle.sq_model.specs.Systems.{IsRun, Tag};
-ghost use Rattle.sq_audit.specs.Faults.{FaultHolds};
-ghost use Rattle.sq_audit.specs.HomeIds.{histories_of};
-ghost use Rattle.sq_audit.specs.SystemNow.{events_of, system_now};
+ghost use Rattle.std.specs.Prelude.{◌≡◌, IfErr, IfOk, IfSome, OnOk, vec_len};
+ghost use Rattle.sq_server.specs.Verdicts.{AreLeftBy, IsFaultLeft, LeavesOneRun};
 
 use crate::clock::SystemClock;
 use crate::served::{Client, Served, TRIES};
+use crate::verdict::{OneRun, judged};
 use sq_audit::check::AuditFault;
-use sq_audit::merge::merge;
 use sq_audit::parts::Parts;
 use sq_queue::service::{Open, Serving};
 use sq_queue::session::Session;
@@ -19,21 +15,13 @@ use std::sync::Wait;
 use std::sync::ledger::Ledger;
 use std::time::Clock;
 
-// Whether what was done to these parts, sorted by stamp, is one run that leaves them as they are.
-fn judged(alloc: Global, parts: &Parts) -> Result<(), AuditFault>
-    ensures run { OnOk result ((run : List Tag) × IsMerged parts.now.directory.events parts.now.ledger.history.events (events_of parts.now.homes.homes) run
-        × IsRun parts.now.directory.directory.places parts.now.ledger.history.ledger.limit (map (λ h. h.site) parts.now.homes.homes) run (system_now parts.now.directory parts.now.ledger.history parts.now.homes.homes)) }
-    ensures fault { IfErr result (FaultHolds parts.now.directory.events parts.now.ledger.history.events (histories_of parts.now.homes.homes) parts.now.records) }
-{
-    let _run = merge(alloc, parts)?;
-    Ok(())
-}
-
-// The sessions of clients.
+// The sessions of clients, in their order.
 fn sessions_of<D: Ledger, T: Ledger>(
     alloc: Global,
     clients: Vec<Client<D, T>>,
-) -> Result<Vec<Session<D, T>>, AllocError> {
+) -> Result<Vec<Session<D, T>>, AllocError>
+    ensures { IfOk result (λ sessions. sessions.items ≡ clients.items) }
+{
     let mut sessions = Vec::with_capacity(alloc, clients.len())?;
     for client in clients {
         sessions.push_reserved(Box::into_inner(client.session));
@@ -49,6 +37,7 @@ fn gathered<R: Clock + Wait, D: Ledger, T: Ledger>(
 ) -> Option<Parts>
     requires of_directory { D.parts ≡ 4294967296 }
     requires of_ledger { T.parts ≡ 4294967296 }
+    ensures { IfSome result (AreLeftBy (vec_len service.entry.homes) sessions.items) }
 {
     let mut service = service;
     let mut sessions = sessions;
@@ -72,6 +61,7 @@ fn parts_of<R: Clock + Wait, D: Ledger, T: Ledger>(
 ) -> Option<Box<Parts>>
     requires of_directory { D.parts ≡ 4294967296 }
     requires of_ledger { T.parts ≡ 4294967296 }
+    ensures { IfSome result (λ parts. AreLeftBy (vec_len service.entry.service.value.homes) clients.items parts.value) }
 {
     let sessions = sessions_of(alloc, clients).ok()?;
     let parts = gathered(Box::into_inner(service.service), sessions)?;
@@ -83,9 +73,11 @@ pub fn end<R: Clock + Wait, D: Ledger, T: Ledger>(
     alloc: Global,
     service: Served<'_, R, D, T, SlotStore>,
     clients: Vec<Client<D, T>>,
-) -> Result<(), AuditFault>
+) -> Result<OneRun, AuditFault>
     requires of_directory { D.parts ≡ 4294967296 }
     requires of_ledger { T.parts ≡ 4294967296 }
+    ensures run { OnOk result (LeavesOneRun (vec_len service.entry.service.value.homes) clients.items) }
+    ensures fault { IfErr result (IsFaultLeft (vec_len service.entry.service.value.homes) clients.items) }
 {
     match parts_of(alloc, service, clients) {
         Some(parts) => judged(alloc, &parts),

@@ -9,3 +9,5 @@ mod movers;
 pub mod race;
 pub mod serve;
 pub mod served;
+mod threads;
+pub mod verdict;

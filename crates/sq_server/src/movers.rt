@@ -1,4 +1,6 @@
 //! The movers of a service: round after round, with a rest where nothing is to move.
+ghost use Rattle.std.specs.Prelude.{◌≡◌, ◌*◌, min};
+
 use crate::served::{Client, Served};
 use sq_mover::mover::Mover;
 use sq_shard::slots::SlotStore;
@@ -40,6 +42,8 @@ pub(crate) fn move_while_open<R: Clock + Wait, D: Ledger, T: Ledger>(
 }
 
 // The rest after one of so many ms.
-fn longer(rest: u64) -> u64 {
+fn longer(rest: u64) -> u64
+    ensures { result ≡ min (2 * rest) 50 }
+{
     rest.saturating_mul(2).min(LONGEST)
 }

@@ -1,11 +1,15 @@
 //! A race of clients and movers at one queue.
-ghost use Rattle.std.specs.Prelude.{◌≡◌};
+ghost use Rattle.std.specs.Prelude.{◌≡◌, ◌⊎◌, ◌++◌, ◌+◌, ◌-◌, ◌*◌, ◌^◌, ◌≤◌, IfErr, IfOk, OnOk, false, map, min, replicate, sum_by, true, vec_len};
 ghost use Rattle.sq_program.specs.Streams.{stream};
+ghost use Rattle.sq_server.specs.Crews.{movers_last};
 ghost use Rattle.sq_server.specs.Outcomes.{HasRaced, HasToldRace};
+ghost use Rattle.sq_server.specs.Verdicts.{HasFault, HasOneRun, IsFaultLeft, LeavesOneRun};
 
 use crate::clients::{make_calls, make_queues};
 use crate::ending::end;
 use crate::served::{Client, Served};
+use crate::threads::threads_for;
+use crate::verdict::OneRun;
 use sq_audit::check::AuditFault;
 use sq_base::refusal::Refusal;
 use sq_flags::flags::RaceMode;
@@ -35,22 +39,44 @@ struct Racer<D: Ledger, T: Ledger> {
     sent: u64,
 }
 
+// So many more that make calls, or movers.
+fn add<R: Clock + Wait, D: Ledger, T: Ledger>(
+    rt: &R,
+    alloc: Global,
+    service: &Served<'_, R, D, T, SlotStore>,
+    racers: &mut Vec<Racer<D, T>>,
+    count: u32,
+    moves: bool,
+) -> Result<(), Refusal>
+    ensures moves { OnOk result (map (λ r. r.moves) racers.new.items ≡ map (λ r. r.moves) racers.old.items ++ replicate count moves) }
+    ensures sent { OnOk result (sum_by (λ r. r.sent) racers.new.items ≡ sum_by (λ r. r.sent) racers.old.items) }
+    ensures refused { IfErr result (λ e. (e ≡ Refusal.NoMemory) ⊎ (e ≡ Refusal.Worn)) }
+{
+    for _ in 0..count {
+        racers.push(Racer {
+            client: service.client(rt, alloc)?,
+            moves,
+            sent: 0,
+        })?;
+    }
+    Ok(())
+}
+
 // So many clients, and then so many movers.
 fn racers<R: Clock + Wait, D: Ledger, T: Ledger>(
     rt: &R,
     alloc: Global,
     service: &Served<'_, R, D, T, SlotStore>,
     mode: &RaceMode,
-) -> Result<Vec<Racer<D, T>>, Refusal> {
+) -> Result<Vec<Racer<D, T>>, Refusal>
+    ensures moves { IfOk result (λ racers. map (λ r. r.moves) racers.items ≡ movers_last mode.now.clients mode.now.movers) }
+    ensures sent { IfOk result (λ racers. sum_by (λ r. r.sent) racers.items ≡ 0) }
+    ensures refused { IfErr result (λ e. (e ≡ Refusal.NoMemory) ⊎ (e ≡ Refusal.Worn)) }
+{
     let all = mode.clients as usize + mode.movers as usize;
     let mut racers = Vec::with_capacity(alloc, all)?;
-    for number in 0..all {
-        racers.push(Racer {
-            client: service.client(rt, alloc)?,
-            moves: number >= mode.clients as usize,
-            sent: 0,
-        })?;
-    }
+    add(rt, alloc, service, &mut racers, mode.clients, false)?;
+    add(rt, alloc, service, &mut racers, mode.movers, true)?;
     Ok(racers)
 }
 
@@ -61,7 +87,11 @@ fn run<R: Clock + Wait, D: Ledger, T: Ledger>(
     service: &Served<'_, R, D, T, SlotStore>,
     racer: &mut Racer<D, T>,
     calls: u64,
-) {
+)
+    ensures moves { racer.new.moves ≡ racer.old.moves }
+    ensures mover { racer.old.moves ≡ true → racer.new.sent ≡ racer.old.sent }
+    ensures client { racer.old.moves ≡ false → 3 * racer.new.sent ≤ calls + 2 }
+{
     if racer.moves {
         let mut mover = Mover::new(alloc);
         service.turns(rt, &mut racer.client, &mut mover, TURNS);
@@ -77,8 +107,10 @@ fn run_all<R: Threads + Wait + Clock + Sync, D: Ledger + Send + Sync, T: Ledger 
     service: &Served<'_, R, D, T, SlotStore>,
     racers: &mut Vec<Racer<D, T>>,
     calls: u64,
-) {
-    let threads = racers.len().max(1);
+)
+    ensures { vec_len racers.new ≡ vec_len racers.old }
+{
+    let threads = threads_for(racers.len());
     thread::for_each_mut(
         rt,
         racers,
@@ -87,11 +119,14 @@ fn run_all<R: Threads + Wait + Clock + Sync, D: Ledger + Send + Sync, T: Ledger 
     );
 }
 
-// Their clients, and how many sends of all were answered.
+// How many sends of all were answered, and their clients, in their order.
 fn apart<D: Ledger, T: Ledger>(
     alloc: Global,
     racers: Vec<Racer<D, T>>,
-) -> Result<(u64, Vec<Client<D, T>>), AllocError> {
+) -> Result<(u64, Vec<Client<D, T>>), AllocError>
+    ensures sent { IfOk result (λ r. r.0 ≡ min (sum_by (λ racer. racer.sent) racers.items) (2 ^ 64 - 1)) }
+    ensures clients { IfOk result (λ r. r.1.items ≡ map (λ racer. racer.client) racers.items) }
+{
     let mut clients = Vec::with_capacity(alloc, racers.len())?;
     let mut sent = 0u64;
     for racer in racers {
@@ -107,45 +142,65 @@ fn ready<R: Clock + Wait, D: Ledger, T: Ledger>(
     alloc: Global,
     service: &Served<'_, R, D, T, SlotStore>,
     mode: &RaceMode,
-) -> Result<Vec<Racer<D, T>>, Refusal> {
+) -> Result<Vec<Racer<D, T>>, Refusal>
+    ensures moves { IfOk result (λ racers. map (λ r. r.moves) racers.items ≡ movers_last mode.now.clients mode.now.movers) }
+    ensures sent { IfOk result (λ racers. sum_by (λ r. r.sent) racers.items ≡ 0) }
+{
     let mut first = service.client(rt, alloc)?;
     make_queues(rt, service, &mut first)?;
     service.retire(rt, first)?;
     racers(rt, alloc, service, mode)
 }
 
-// The race at a service: how many sends were answered, where what was done is one run.
+// Ends a service after a race: the verdict on what was done, and how many sends were answered. Refused where it is no run.
+fn conclude<R: Clock + Wait, D: Ledger, T: Ledger>(
+    alloc: Global,
+    service: Served<'_, R, D, T, SlotStore>,
+    racers: Vec<Racer<D, T>>,
+) -> Result<(OneRun, u64), AuditFault>
+    requires of_directory { D.parts ≡ 4294967296 }
+    requires of_ledger { T.parts ≡ 4294967296 }
+    ensures sent { IfOk result (λ r. r.1 ≡ min (sum_by (λ racer. racer.sent) racers.items) (2 ^ 64 - 1)) }
+    ensures run { OnOk result (LeavesOneRun (vec_len service.entry.service.value.homes) (map (λ racer. racer.client) racers.items)) }
+    ensures fault { IfErr result (IsFaultLeft (vec_len service.entry.service.value.homes) (map (λ racer. racer.client) racers.items)) }
+{
+    let Ok((sent, clients)) = apart(alloc, racers) else {
+        return Err(AuditFault::NoMemory);
+    };
+    let run = end(alloc, service, clients)?;
+    Ok((run, sent))
+}
+
+// The race at a service, which then ends.
 fn race_at<R: Threads + Wait + Clock + Sync, D: Ledger + Send + Sync, T: Ledger + Send + Sync>(
     rt: &R,
     alloc: Global,
     service: Served<'_, R, D, T, SlotStore>,
     racers: Vec<Racer<D, T>>,
     calls: u64,
-) -> Result<u64, AuditFault>
+) -> Result<(OneRun, u64), AuditFault>
     requires of_directory { D.parts ≡ 4294967296 }
     requires of_ledger { T.parts ≡ 4294967296 }
+    ensures run { OnOk result (HasOneRun (vec_len service.entry.service.value.homes)) }
+    ensures fault { IfErr result (HasFault (vec_len service.entry.service.value.homes)) }
 {
     let mut racers = racers;
     run_all(rt, alloc, &service, &mut racers, calls);
-    let Ok((sent, clients)) = apart(alloc, racers) else {
-        return Err(AuditFault::NoMemory);
-    };
-    end(alloc, service, clients)?;
-    Ok(sent)
+    conclude(alloc, service, racers)
 }
 
-// Tells how it ended.
+// Tells how it ended: that it is one run, where it is given that it is.
 fn tell_race<W: Write, E: Write>(
     alloc: Global,
     mode: &RaceMode,
-    ended: Result<u64, AuditFault>,
+    ended: Result<(OneRun, u64), AuditFault>,
     output: &mut Counted<W>,
     errors: &mut E,
 ) -> u8
     ensures { HasToldRace mode.now ended (stream W.contents output.old output.new) result }
 {
     match ended {
-        Ok(sent) => print_race(
+        Ok((_run, sent)) => print_race(
             alloc,
             mode.calls.saturating_mul(mode.clients as u64),
             sent,

@@ -1,11 +1,16 @@
 //! A server over sockets: a thread and a session for each connection, and movers beside them.
-ghost use Rattle.std.specs.Prelude.{◌≡◌};
+ghost use Rattle.std.specs.Prelude.{◌≡◌, ◌⊎◌, ◌++◌, IfErr, IfOk, IfSome, OnOk, is_some, map, not, replicate, vec_len};
+ghost use Rattle.std.specs.List.{list_all};
 ghost use Rattle.sq_program.specs.Streams.{stream};
+ghost use Rattle.sq_server.specs.Crews.{roles_of};
 ghost use Rattle.sq_server.specs.Outcomes.{HasServed, HasToldEnd};
+ghost use Rattle.sq_server.specs.Verdicts.{HasFault, HasOneRun, IsFaultLeft, LeavesOneRun};
 
 use crate::ending::end;
 use crate::movers::move_while_open;
 use crate::served::{Client, Served};
+use crate::threads::threads_for;
+use crate::verdict::OneRun;
 use sq_audit::check::AuditFault;
 use sq_base::refusal::Refusal;
 use sq_flags::flags::ServeMode;
@@ -59,15 +64,17 @@ fn accepted(rt: &impl Clock, listener: &TcpListener) -> Option<TcpStream> {
     None
 }
 
-// Answers the lines of the next connection, until its end or a fault, which ends it alone; whether there was one.
+// Answers the lines of a connection, until its end or a fault, which ends it alone; whether one could be taken.
 fn connection<R: Clock + Wait, D: Ledger, T: Ledger>(
     rt: &R,
     alloc: Global,
     service: &Served<'_, R, D, T, SlotStore>,
-    listener: &TcpListener,
+    taken: Option<TcpStream>,
     client: &mut Client<D, T>,
-) -> bool {
-    let Some(stream) = accepted(rt, listener) else {
+) -> bool
+    ensures { result ≡ is_some taken }
+{
+    let Some(stream) = taken else {
         return false;
     };
     // Without it a reply may wait for the peer's delayed acknowledgement; where it is not to be had, replies come later.
@@ -86,14 +93,40 @@ fn work<R: Clock + Wait, D: Ledger, T: Ledger>(
     listener: &TcpListener,
     open: &AtomicU64,
     worker: &mut Worker<D, T>,
-) {
+)
+    ensures role { worker.new.role ≡ worker.old.role }
+    ensures mover { worker.old.role ≡ Role.Move → worker.new.refused ≡ worker.old.refused }
+{
     match worker.role {
         Role::Answer => {
-            worker.refused = !connection(rt, alloc, service, listener, &mut worker.client);
+            let taken = accepted(rt, listener);
+            worker.refused = !connection(rt, alloc, service, taken, &mut worker.client);
             open.fetch_sub(1, Ordering::SeqCst);
         }
         Role::Move => move_while_open(rt, alloc, service, &mut worker.client, open),
     }
+}
+
+// So many threads more for a role.
+fn add<R: Clock + Wait, D: Ledger, T: Ledger>(
+    rt: &R,
+    alloc: Global,
+    service: &Served<'_, R, D, T, SlotStore>,
+    workers: &mut Vec<Worker<D, T>>,
+    count: u32,
+    role: Role,
+) -> Result<(), Refusal>
+    ensures roles { OnOk result (map (λ w. w.role) workers.new.items ≡ map (λ w. w.role) workers.old.items ++ replicate count role) }
+    ensures refused { IfErr result (λ e. (e ≡ Refusal.NoMemory) ⊎ (e ≡ Refusal.Worn)) }
+{
+    for _ in 0..count {
+        workers.push(Worker {
+            client: service.client(rt, alloc)?,
+            role,
+            refused: false,
+        })?;
+    }
+    Ok(())
 }
 
 // So many threads for connections, and then so many for movers: where not all can be had, these come last.
@@ -102,21 +135,21 @@ fn workers<R: Clock + Wait, D: Ledger, T: Ledger>(
     alloc: Global,
     service: &Served<'_, R, D, T, SlotStore>,
     mode: &ServeMode,
-) -> Result<Vec<Worker<D, T>>, Refusal> {
+) -> Result<Vec<Worker<D, T>>, Refusal>
+    ensures roles { IfOk result (λ workers. map (λ w. w.role) workers.items ≡ roles_of mode.now.connections mode.now.movers) }
+    ensures refused { IfErr result (λ e. (e ≡ Refusal.NoMemory) ⊎ (e ≡ Refusal.Worn)) }
+{
     let all = mode.connections as usize + mode.movers as usize;
     let mut workers = Vec::with_capacity(alloc, all)?;
-    for number in 0..all {
-        let role = if number < mode.connections as usize {
-            Role::Answer
-        } else {
-            Role::Move
-        };
-        workers.push(Worker {
-            client: service.client(rt, alloc)?,
-            role,
-            refused: false,
-        })?;
-    }
+    add(
+        rt,
+        alloc,
+        service,
+        &mut workers,
+        mode.connections,
+        Role::Answer,
+    )?;
+    add(rt, alloc, service, &mut workers, mode.movers, Role::Move)?;
     Ok(workers)
 }
 
@@ -128,10 +161,12 @@ fn work_all<R: Threads + Wait + Clock + Sync, D: Ledger + Send + Sync, T: Ledger
     listener: &TcpListener,
     workers: &mut Vec<Worker<D, T>>,
     connections: u32,
-) {
+)
+    ensures { vec_len workers.new ≡ vec_len workers.old }
+{
     let open = AtomicU64::new(connections as u64);
     let left = &open;
-    let threads = workers.len().max(1);
+    let threads = threads_for(workers.len());
     thread::for_each_mut(
         rt,
         workers,
@@ -140,11 +175,14 @@ fn work_all<R: Threads + Wait + Clock + Sync, D: Ledger + Send + Sync, T: Ledger
     );
 }
 
-// Their clients, and whether each connection could be taken.
+// Whether each connection could be taken, and their clients, in their order.
 fn apart<D: Ledger, T: Ledger>(
     alloc: Global,
     workers: Vec<Worker<D, T>>,
-) -> Result<(bool, Vec<Client<D, T>>), AllocError> {
+) -> Result<(bool, Vec<Client<D, T>>), AllocError>
+    ensures taken { IfOk result (λ r. r.0 ≡ list_all (λ w. not w.refused) workers.items) }
+    ensures clients { IfOk result (λ r. r.1.items ≡ map (λ w. w.client) workers.items) }
+{
     let mut clients = Vec::with_capacity(alloc, workers.len())?;
     let mut taken = true;
     for worker in workers {
@@ -154,7 +192,27 @@ fn apart<D: Ledger, T: Ledger>(
     Ok((taken, clients))
 }
 
-// Serves at a listener: whether each connection could be taken, where what was done is one run.
+// Ends a service after its threads: the verdict on what they did, where each connection could be taken; None where one could not.
+// Refused where what was done is no run.
+fn conclude<R: Clock + Wait, D: Ledger, T: Ledger>(
+    alloc: Global,
+    service: Served<'_, R, D, T, SlotStore>,
+    workers: Vec<Worker<D, T>>,
+) -> Result<Option<OneRun>, AuditFault>
+    requires of_directory { D.parts ≡ 4294967296 }
+    requires of_ledger { T.parts ≡ 4294967296 }
+    ensures taken { IfOk result (λ ended. is_some ended ≡ list_all (λ w. not w.refused) workers.items) }
+    ensures run { OnOk result (LeavesOneRun (vec_len service.entry.service.value.homes) (map (λ w. w.client) workers.items)) }
+    ensures fault { IfErr result (IsFaultLeft (vec_len service.entry.service.value.homes) (map (λ w. w.client) workers.items)) }
+{
+    let Ok((taken, clients)) = apart(alloc, workers) else {
+        return Err(AuditFault::NoMemory);
+    };
+    let run = end(alloc, service, clients)?;
+    if taken { Ok(Some(run)) } else { Ok(None) }
+}
+
+// Serves at a listener, and ends the service.
 fn serve_at<R: Threads + Wait + Clock + Sync, D: Ledger + Send + Sync, T: Ledger + Send + Sync>(
     rt: &R,
     alloc: Global,
@@ -162,17 +220,15 @@ fn serve_at<R: Threads + Wait + Clock + Sync, D: Ledger + Send + Sync, T: Ledger
     workers: Vec<Worker<D, T>>,
     listener: &TcpListener,
     connections: u32,
-) -> Result<bool, AuditFault>
+) -> Result<Option<OneRun>, AuditFault>
     requires of_directory { D.parts ≡ 4294967296 }
     requires of_ledger { T.parts ≡ 4294967296 }
+    ensures run { OnOk result (HasOneRun (vec_len service.entry.service.value.homes)) }
+    ensures fault { IfErr result (HasFault (vec_len service.entry.service.value.homes)) }
 {
     let mut workers = workers;
     work_all(rt, alloc, &service, listener, &mut workers, connections);
-    let Ok((taken, clients)) = apart(alloc, workers) else {
-        return Err(AuditFault::NoMemory);
-    };
-    end(alloc, service, clients)?;
-    Ok(taken)
+    conclude(alloc, service, workers)
 }
 
 // A listener at an address, and its address with the real port.
@@ -185,19 +241,43 @@ fn bound<R: Net<Listener = TcpListener, Stream = TcpStream>>(
     Some((listener, here))
 }
 
-// Tells how it ended.
+// Tells how it ended: that it is one run, where it is given that it is.
 fn tell_end<W: Write, E: Write>(
-    ended: Result<bool, AuditFault>,
+    ended: Result<Option<OneRun>, AuditFault>,
     output: &mut Counted<W>,
     errors: &mut E,
 ) -> u8
     ensures { HasToldEnd ended (stream W.contents output.old output.new) result }
 {
     match ended {
-        Ok(true) => print_verdict(output, errors),
-        Ok(false) => fail(errors, Failure::AcceptFailed),
+        Ok(Some(_run)) => print_verdict(output, errors),
+        Ok(None) => fail(errors, Failure::AcceptFailed),
         Err(fault) => report_audit(errors, fault),
     }
+}
+
+// A service by these options, with its threads. None for want of memory.
+fn ready<'a, R: Clock + Wait, D: Ledger, T: Ledger>(
+    rt: &'a R,
+    alloc: Global,
+    mode: &ServeMode,
+    of_directory: Blank,
+    of_ledger: Blank,
+) -> Option<(Served<'a, R, D, T, SlotStore>, Vec<Worker<D, T>>)>
+    requires of_directory { (of_directory.name ≡ D.name) × (of_directory.parts ≡ D.parts) × (D.parts ≡ 4294967296) }
+    requires of_ledger { (of_ledger.name ≡ T.name) × (of_ledger.parts ≡ T.parts) × (T.parts ≡ 4294967296) }
+    ensures homes { IfSome result (λ r. (r.0.service.value.per_queue ≡ mode.now.options.homes) × (r.0.service.value.sample ≡ mode.now.options.sample)) }
+    ensures roles { IfSome result (λ r. map (λ w. w.role) r.1.items ≡ roles_of mode.now.connections mode.now.movers) }
+{
+    let service: Served<'a, R, D, T, SlotStore> = Served::new(
+        rt,
+        alloc,
+        mode.options,
+        of_directory,
+        of_ledger,
+    ).ok()?;
+    let workers = workers(rt, alloc, &service, mode).ok()?;
+    Some((service, workers))
 }
 
 // Serves by a service of its own, whose counts have names.
@@ -221,17 +301,8 @@ fn serve_named<
     requires of_ledger { (of_ledger.name ≡ T.name) × (of_ledger.parts ≡ T.parts) × (T.parts ≡ 4294967296) }
     ensures { HasServed (stream W.contents output.old output.new) result }
 {
-    let made: Result<Served<'_, R, D, T, SlotStore>, Refusal> = Served::new(
-        rt,
-        alloc,
-        mode.options,
-        of_directory,
-        of_ledger,
-    );
-    let Ok(service) = made else {
-        return no_memory(errors);
-    };
-    let Ok(workers) = workers(rt, alloc, &service, mode) else {
+    let made = ready::<R, D, T>(rt, alloc, mode, of_directory, of_ledger);
+    let Some((service, workers)) = made else {
         return no_memory(errors);
     };
     let Some((listener, here)) = bound(rt, address) else {

@@ -1,5 +1,14 @@
 //! A service in a box, and its sessions: a function that has one on its own stack is proved with all that it is made of.
-ghost use Rattle.std.specs.Prelude.{◌≡◌, ◌⊎◌, IfErr, IfOk};
+ghost use Rattle.std.specs.Prelude.{◌≡◌, ◌⊎◌, ◌<◌, [], ℕ, IfErr, IfOk, IfSome, IsTrue, OnOk, length};
+ghost use Rattle.sq_client.specs.Fits.{CallFits};
+ghost use Rattle.sq_client.specs.Performs.{LeavesRecords};
+ghost use Rattle.sq_lines.specs.Lines.{lines_left};
+ghost use Rattle.sq_mover.specs.Movers.{GainsAtMost};
+ghost use Rattle.sq_opening.specs.Openings.{IsServed};
+ghost use Rattle.sq_queue.specs.Services.{counts_of};
+ghost use Rattle.sq_queue.specs.SessionValue.{new_session};
+ghost use Rattle.sq_wire.specs.Runs.{IsOfCall, StopsAt, Writes};
+ghost use Rattle.sq_wire.specs.Serves.{ServedReplies, ServedUnanswered};
 
 use crate::clock::SystemClock;
 use sq_base::refusal::Refusal;
@@ -36,11 +45,11 @@ pub struct Client<D: Ledger, T: Ledger> {
 }
 
 impl<D: Ledger, T: Ledger> Model for Client<D, T> {
-    ghost use Rattle.std.specs.Prelude.{⊤};
+    ghost use Rattle.sq_queue.specs.SessionValue.{SessionValue};
 
-    ghost Value = { ⊤ };
+    ghost Value = { SessionValue };
 
-    ghost view = { λ c. tt };
+    ghost view = { λ c. c.session.value };
 }
 
 impl<'a, R: Clock + Wait, D: Ledger, T: Ledger> Served<'a, R, D, T, SlotStore> {
@@ -54,6 +63,9 @@ impl<'a, R: Clock + Wait, D: Ledger, T: Ledger> Served<'a, R, D, T, SlotStore> {
     ) -> Result<Served<'a, R, D, T, SlotStore>, Refusal>
         requires of_directory { (of_directory.name ≡ D.name) × (of_directory.parts ≡ D.parts) × (D.parts ≡ 4294967296) }
         requires of_ledger { (of_ledger.name ≡ T.name) × (of_ledger.parts ≡ T.parts) × (T.parts ≡ 4294967296) }
+        ensures counts { IfOk result (λ s. (s.service.value.per_queue ≡ options.homes) × (s.service.value.sample ≡ options.sample)) }
+        ensures served { OnOk result (IsServed options) }
+        ensures refused { IfErr result (λ e. ((e ≡ Refusal.NoMemory) × IsServed options) ⊎ ((e ≡ Refusal.InvalidParameterValue) × (¬ IsServed options))) }
     {
         let service: Service<SystemClock<'a, R>, Open, D, T> = Service::new(
             alloc,
@@ -69,7 +81,10 @@ impl<'a, R: Clock + Wait, D: Ledger, T: Ledger> Served<'a, R, D, T, SlotStore> {
     }
 
     /// A new client. Refused as Worn where all numbers of clients are given; NoMemory.
-    pub fn client(&self, rt: &R, alloc: Global) -> Result<Client<D, T>, Refusal> {
+    pub fn client(&self, rt: &R, alloc: Global) -> Result<Client<D, T>, Refusal>
+        ensures made { IfOk result (λ c. (actor : ℕ) × (c ≡ new_session actor)) }
+        ensures refused { IfErr result (λ e. (e ≡ Refusal.NoMemory) ⊎ (e ≡ Refusal.Worn)) }
+    {
         let session = self.service.session(rt)?;
         Ok(Client {
             session: Box::new(alloc, session)?,
@@ -78,7 +93,9 @@ impl<'a, R: Clock + Wait, D: Ledger, T: Ledger> Served<'a, R, D, T, SlotStore> {
 
     /// Takes a client back, and keeps what it did until the service ends. Where there is no memory for that it is tried again a few
     /// times; refused as NoMemory after that, and then what the client did is lost.
-    pub fn retire(&self, rt: &R, client: Client<D, T>) -> Result<(), Refusal> {
+    pub fn retire(&self, rt: &R, client: Client<D, T>) -> Result<(), Refusal>
+        ensures refused { IfErr result (λ e. e ≡ Refusal.NoMemory) }
+    {
         let mut session = Box::into_inner(client.session);
         for _ in 0..TRIES {
             match self.service.retire(rt, session) {
@@ -90,11 +107,13 @@ impl<'a, R: Clock + Wait, D: Ledger, T: Ledger> Served<'a, R, D, T, SlotStore> {
     }
 
     /// Does what a client asks.
-    pub fn call(&self, rt: &R, client: &mut Client<D, T>, call: &Call) -> Result<Answer, Refusal> {
+    pub fn call(&self, rt: &R, client: &mut Client<D, T>, call: &Call) -> Result<Answer, Refusal>
+        ensures leaves_records { LeavesRecords (CallFits (counts_of self.now.service.value.per_queue self.now.service.value.sample) call.now) client.old.journal result client.new.journal }
+    {
         self.service.call(rt, &mut client.session, call)
     }
 
-    /// Answers each line of a reader with a line, until its end or a fault.
+    /// Answers each line of a reader with a line, until its end or a fault, as `serve` of `sq_wire`.
     pub fn answer<I: Read, O: Write>(
         &self,
         rt: &R,
@@ -102,7 +121,15 @@ impl<'a, R: Clock + Wait, D: Ledger, T: Ledger> Served<'a, R, D, T, SlotStore> {
         client: &mut Client<D, T>,
         reader: &mut Counted<I>,
         writer: &mut Counted<O>,
-    ) -> Result<u64, ServeFault> {
+    ) -> Result<u64, ServeFault>
+        ensures ok { IfOk result (λ n. IfSome (lines_left [] (I.remaining reader.old.inner)) (λ lines.
+            (n ≡ length lines) × Writes (ServedReplies (counts_of self.now.service.value.per_queue self.now.service.value.sample)) (O.contents writer.old.inner) (O.contents writer.new.inner) client.old.journal lines client.new.journal)) }
+        ensures err { IfErr result (λ f. ((f ≡ ServeFault.NoMemory 0) × (reader.new ≡ reader.old) × (writer.new ≡ writer.old) × (client.new ≡ client.old))
+            ⊎ IfSome (lines_left [] (I.remaining reader.old.inner)) (λ lines.
+            StopsAt (ServedReplies (counts_of self.now.service.value.per_queue self.now.service.value.sample)) (ServedUnanswered (counts_of self.now.service.value.per_queue self.now.service.value.sample)) f lines (I.remaining reader.new.inner) (O.contents writer.old.inner) (O.contents writer.new.inner) client.old.journal client.new.journal)) }
+        ensures no_failure { OnOk result ((reader.new.failed ≡ reader.old.failed) × (writer.new.failed ≡ writer.old.failed)) }
+        ensures count { IfErr result (λ f. IsOfCall f reader.old.failed reader.new.failed writer.old.failed writer.new.failed) }
+    {
         serve(
             alloc,
             rt,
@@ -114,7 +141,10 @@ impl<'a, R: Clock + Wait, D: Ledger, T: Ledger> Served<'a, R, D, T, SlotStore> {
     }
 
     /// Makes so many turns of a mover, and tells whether it was not refused and has a record more.
-    pub fn turns(&self, rt: &R, client: &mut Client<D, T>, mover: &mut Mover, turns: u64) -> bool {
+    pub fn turns(&self, rt: &R, client: &mut Client<D, T>, mover: &mut Mover, turns: u64) -> bool
+        ensures gains { GainsAtMost turns client.old.journal client.new.journal }
+        ensures moved { IsTrue result → length client.old.journal.records < length client.new.journal.records }
+    {
         let before = client.session.len();
         let made = run_mover(&*self.service, rt, &mut client.session, mover, turns);
         made.is_ok() && before < client.session.len()
