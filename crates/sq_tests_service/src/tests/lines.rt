@@ -1,22 +1,17 @@
 //! Lines of clients, each call made by its own name; and turns.
-ghost use Rattle.std.specs.Prelude.{◌≡◌};
-
-use super::shared::{Client, Shared, open, options};
+use super::shared::{Client, First, Setting};
+use super::stories::{Scene, Story, tell};
 use sq_base::refusal::Refusal;
 use sq_calls::batches::{Batch, EntryAsk};
 use sq_calls::calls::{Answer, Answered, Asked, Call};
 use sq_client::progress::Progress;
 use sq_json::Scratch;
-use sq_queue::actors::SEATS;
 use sq_replies::reply::reply_text;
 use sq_requests::request::{Request, read_request};
-use sq_shard::slots::SlotStore;
-use std::alloc::Global;
-use std::marker::Brand;
 use std::process::Abort;
 use std::sync::Wait;
-use std::sync::atomic::{AtomicU64, Ordering};
-use std::sync::ledger::{Blank, Ledger};
+use std::sync::atomic::Ordering;
+use std::sync::ledger::Ledger;
 
 /// Each line with its reply, as a world of one home gives it.
 const LINES: [(&str, &str); 29] = [
@@ -140,12 +135,11 @@ const LINES: [(&str, &str); 29] = [
 
 // A batch, by the name of what its first entry asks.
 fn batch<D: Ledger, T: Ledger, R: Wait>(
-    rt: &R,
-    shared: &Shared<'_, D, T, SlotStore>,
+    at: &Scene<'_, '_, D, T, R>,
     client: &mut Client<D, T>,
     batch: Batch,
 ) -> Result<Answer, Refusal> {
-    let (service, session) = (shared.service(), client.session());
+    let (rt, service, session) = (at.rt, at.service.service(), client.session());
     let asks = batch.entries.as_slice().first().map(|entry| &entry.ask);
     match asks {
         Some(EntryAsk::Delete(_)) => service.delete_batch(rt, session, batch),
@@ -154,119 +148,82 @@ fn batch<D: Ledger, T: Ledger, R: Wait>(
     }
 }
 
-// A call on messages by its name.
+// A call by its name; first those on messages, then those on queues.
 fn by_name<D: Ledger, T: Ledger, R: Wait>(
-    rt: &R,
-    shared: &Shared<'_, D, T, SlotStore>,
+    at: &Scene<'_, '_, D, T, R>,
     client: &mut Client<D, T>,
     call: Call,
 ) -> Result<Answer, Refusal> {
-    let (service, session) = (shared.service(), client.session());
+    let (rt, service) = (at.rt, at.service.service());
     match call {
-        Call::SendMessage(request) => service.send(rt, session, request),
-        Call::ReceiveMessage(request) => service.receive(rt, session, request),
-        Call::DeleteMessage(request) => service.delete(rt, session, request),
-        Call::ChangeMessageVisibility(request) => service.change(rt, session, request),
-        Call::Batch(entries) => batch(rt, shared, client, entries),
-        Call::StartMessageMoveTask(request) => service.start_move(rt, session, request),
-        Call::CancelMessageMoveTask(task) => service.cancel_move(rt, session, task),
-        Call::ListMessageMoveTasks(request) => service.list_moves(rt, session, request),
-        other => on_queues(rt, shared, client, other),
-    }
-}
-
-// A call on queues by its name.
-fn on_queues<D: Ledger, T: Ledger, R: Wait>(
-    rt: &R,
-    shared: &Shared<'_, D, T, SlotStore>,
-    client: &mut Client<D, T>,
-    call: Call,
-) -> Result<Answer, Refusal> {
-    let (service, session) = (shared.service(), client.session());
-    match call {
-        Call::CreateQueue(request) => service.create(rt, session, request),
-        Call::GetQueueUrl(name) => service.url(rt, session, name),
-        Call::ListQueues(prefix) => service.list(rt, session, prefix),
-        Call::SetQueueAttributes(request) => service.set(rt, session, request),
-        Call::GetQueueAttributes(request) => service.get(rt, session, request),
-        Call::PurgeQueue(name) => service.purge(rt, session, name),
-        Call::DeleteQueue(name) => service.delete_queue(rt, session, name),
-        Call::ListDeadLetterSourceQueues(name) => service.sources(rt, session, name),
-        other => service.call(rt, session, &other),
+        Call::SendMessage(request) => service.send(rt, client.session(), request),
+        Call::ReceiveMessage(request) => service.receive(rt, client.session(), request),
+        Call::DeleteMessage(request) => service.delete(rt, client.session(), request),
+        Call::ChangeMessageVisibility(request) => service.change(rt, client.session(), request),
+        Call::Batch(entries) => batch(at, client, entries),
+        Call::StartMessageMoveTask(request) => service.start_move(rt, client.session(), request),
+        Call::CancelMessageMoveTask(task) => service.cancel_move(rt, client.session(), task),
+        Call::ListMessageMoveTasks(request) => service.list_moves(rt, client.session(), request),
+        Call::CreateQueue(request) => service.create(rt, client.session(), request),
+        Call::GetQueueUrl(name) => service.url(rt, client.session(), name),
+        Call::ListQueues(prefix) => service.list(rt, client.session(), prefix),
+        Call::SetQueueAttributes(request) => service.set(rt, client.session(), request),
+        Call::GetQueueAttributes(request) => service.get(rt, client.session(), request),
+        Call::PurgeQueue(name) => service.purge(rt, client.session(), name),
+        Call::DeleteQueue(name) => service.delete_queue(rt, client.session(), name),
+        Call::ListDeadLetterSourceQueues(name) => service.sources(rt, client.session(), name),
     }
 }
 
 // Does what a line asks, at its clock reading or the last one's.
 fn answered<D: Ledger, T: Ledger, R: Wait>(
-    rt: &R,
-    time: &AtomicU64,
-    shared: &Shared<'_, D, T, SlotStore>,
+    at: &Scene<'_, '_, D, T, R>,
     clients: (&mut Client<D, T>, &mut Client<D, T>),
     progress: &mut Progress,
     request: Request,
 ) -> Result<Answered, Refusal> {
     if let Some(reading) = request.clock {
-        time.store(reading, Ordering::SeqCst);
+        at.signs.time.store(reading, Ordering::SeqCst);
     }
     let (client, mover) = clients;
     match request.asked {
-        Asked::Call(call) => Ok(Answered::Call(by_name(rt, shared, client, call)?)),
-        Asked::Turn(turn) => Ok(Answered::Turn(shared.turn(rt, mover, progress, &turn)?)),
+        Asked::Call(call) => Ok(Answered::Call(by_name(at, client, call)?)),
+        Asked::Turn(turn) => Ok(Answered::Turn(at.service.turn(at.rt, mover, progress, &turn)?)),
     }
 }
 
 // How many lines have their replies.
-fn right_lines<D: Ledger, T: Ledger, R: Wait + Abort>(
-    rt: &R,
-    alloc: Global,
-    of_directory: Blank,
-    of_ledger: Blank,
-) -> usize
-    requires of_directory { (of_directory.name ≡ D.name) × (of_directory.parts ≡ D.parts) × (D.parts ≡ 4294967296) }
-    requires of_ledger { (of_ledger.name ≡ T.name) × (of_ledger.parts ≡ T.parts) × (T.parts ≡ 4294967296) }
-{
-    let time = AtomicU64::new(0);
-    let service: Shared<'_, D, T, SlotStore> = Shared::new(
-        rt,
-        alloc,
-        options(1),
-        &time,
-        open(&time),
-        of_directory,
-        of_ledger,
-    );
-    let mut client = service.client(rt, alloc);
-    let mut mover = service.client(rt, alloc);
-    let mut progress = Progress::new();
-    let mut scratch = Scratch::new(alloc);
-    let mut right = 0usize;
-    for (line, reply) in LINES {
-        let told = match read_request(alloc, &mut scratch, line.as_bytes()) {
-            Ok(request) => answered(
-                rt,
-                &time,
-                &service,
-                (&mut client, &mut mover),
-                &mut progress,
-                request,
-            ),
-            Err(refusal) => Err(refusal),
-        };
-        let text = reply_text(alloc, &told).expect(rt, "memory");
-        if text.as_bytes() == reply.as_bytes() {
-            right = right.saturating_add(1);
+#[derive(Drop)]
+struct Lines;
+
+impl Story for Lines {
+    fn act<D: Ledger, T: Ledger, R: Wait + Abort>(
+        &self,
+        at: &Scene<'_, '_, D, T, R>,
+        client: &mut Client<D, T>,
+    ) -> u64 {
+        let mut mover = at.service.client(at.rt, at.alloc);
+        let mut progress = Progress::new();
+        let mut scratch = Scratch::new(at.alloc);
+        let mut right = 0u64;
+        for (line, reply) in LINES {
+            let told = match read_request(at.alloc, &mut scratch, line.as_bytes()) {
+                Ok(request) => answered(at, (&mut *client, &mut mover), &mut progress, request),
+                Err(refusal) => Err(refusal),
+            };
+            let text = reply_text(at.alloc, &told).expect(at.rt, "memory");
+            if text.as_bytes() == reply.as_bytes() {
+                right = right.saturating_add(1);
+            }
         }
+        at.service.retire(at.rt, mover);
+        right
     }
-    right
 }
 
 #[test]
 fn each_call_by_its_name_is_answered_as_by_a_world(rt: HostRuntime) {
-    let right = right_lines::<Brand, Brand, HostRuntime>(
-        &rt,
-        rt.alloc(),
-        Blank::new(SEATS),
-        Blank::new(SEATS),
-    );
-    assert!(rt; right == LINES.len(), "{right}");
+    let told = tell(&rt, rt.alloc(), Setting::of(First::Nothing, 1, 1), &Lines);
+    assert!(rt; told.by[0] == LINES.len() as u64, "{told:?}");
+    assert!(rt; told.seen.messages.is_some(), "{told:?}");
 }

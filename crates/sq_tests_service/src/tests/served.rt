@@ -1,20 +1,14 @@
 //! Lines of a client over memory, answered by a session.
-ghost use Rattle.std.specs.Prelude.{◌≡◌};
-
-use super::shared::{Door, Hand, open, options};
+use super::shared::{Client, First, Setting};
+use super::stories::{Scene, Story, tell};
 use sq_lines::counted::Counted;
-use sq_queue::actors::SEATS;
-use sq_queue::service::Service;
-use sq_queue::session::Session;
 use sq_tests_values::streams::{Batches, Whole};
 use sq_wire::run::ServeFault;
 use sq_wire::serve::serve;
-use std::alloc::Global;
-use std::marker::Brand;
 use std::process::Abort;
 use std::sync::Wait;
-use std::sync::atomic::AtomicU64;
-use std::sync::ledger::{Blank, Ledger};
+use std::sync::atomic::Ordering;
+use std::sync::ledger::Ledger;
 
 /// A message is sent, received and deleted. Clock readings and actors are passed over.
 const LINES: &[u8] = b"{\"Action\":\"CreateQueue\",\"Now\":0,\"QueueName\":\"q\"}
@@ -33,6 +27,11 @@ const REPLIES: &[u8] = b"{\"QueueUrl\":\"http://localhost/000000000000/q\"}
 {\"Error\":{\"Code\":\"InvalidRequest\",\"Number\":4}}
 ";
 
+/// What the same session is asked then, and answers.
+const MORE: &[u8] = b"{\"Action\":\"ListQueues\"}\n";
+
+const LISTED: &[u8] = b"{\"QueueUrls\":[\"http://localhost/000000000000/q\"]}\n";
+
 /// How a run ends, how many lines it answered, whether the replies are those, and how many records it left.
 #[derive(Clone, Copy, PartialEq, Eq, Debug)]
 struct Ended {
@@ -48,56 +47,71 @@ fn lines_of(done: Result<u64, ServeFault>) -> Option<u64> {
     done.ok()
 }
 
-// What becomes of the lines at a service of its own.
-fn serve_lines<D: Ledger, T: Ledger, R: Wait + Abort>(
-    rt: &R,
-    alloc: Global,
-    of_directory: Blank,
-    of_ledger: Blank,
-) -> Ended
-    requires of_directory { (of_directory.name ≡ D.name) × (of_directory.parts ≡ D.parts) × (D.parts ≡ 4294967296) }
-    requires of_ledger { (of_ledger.name ≡ T.name) × (of_ledger.parts ≡ T.parts) × (T.parts ≡ 4294967296) }
-{
-    let time = AtomicU64::new(1000);
-    let service: Service<Hand<'_>, Door<'_>, D, T> = Service::new(
-        alloc,
-        options(1),
-        Hand(&time),
-        open(&time),
-        of_directory,
-        of_ledger,
-    )
-    .expect(rt, "a service");
-    let service = Box::new(alloc, service).expect(rt, "memory");
-    let session: Session<D, T> = service.session(rt).expect(rt, "a number");
-    let mut session = Box::new(alloc, session).expect(rt, "memory");
-    let mut reader = Counted::new(Batches::new(&[LINES]));
-    let mut writer = Counted::new(Whole::new(alloc));
-    let done = serve(alloc, rt, &mut reader, &mut writer, &service, &mut session);
+// What becomes of these lines, where the replies are to be those.
+fn serve_lines<D: Ledger, T: Ledger, R: Wait>(
+    at: &Scene<'_, '_, D, T, R>,
+    client: &mut Client<D, T>,
+    asked: &[u8],
+    replies: &[u8],
+) -> Ended {
+    let batches = [asked];
+    let mut reader = Counted::new(Batches::new(&batches));
+    let mut writer = Counted::new(Whole::new(at.alloc));
+    let service = at.service.service();
+    let done = serve(
+        at.alloc,
+        at.rt,
+        &mut reader,
+        &mut writer,
+        service,
+        client.session(),
+    );
     let lines = lines_of(done);
     Ended {
         well: lines.is_some(),
         lines: lines.unwrap_or(0),
-        replied: writer.inner().written.as_slice() == REPLIES,
+        replied: writer.inner().written.as_slice() == replies,
         writes: writer.inner().writes,
-        records: session.len() as u64,
+        records: client.session().len() as u64,
+    }
+}
+
+// A session answers the lines of one connection, and then those of another.
+#[derive(Drop)]
+struct Serves;
+
+impl Story for Serves {
+    fn act<D: Ledger, T: Ledger, R: Wait + Abort>(
+        &self,
+        at: &Scene<'_, '_, D, T, R>,
+        client: &mut Client<D, T>,
+    ) -> u64 {
+        at.signs.time.store(1000, Ordering::SeqCst);
+        let first = serve_lines(at, client, LINES, REPLIES);
+        let want = Ended {
+            well: true,
+            lines: 6,
+            replied: true,
+            writes: 1,
+            records: 5,
+        };
+        assert!(at.rt; first == want, "{first:?}");
+        let second = serve_lines(at, client, MORE, LISTED);
+        let want = Ended {
+            well: true,
+            lines: 1,
+            replied: true,
+            writes: 1,
+            records: 6,
+        };
+        assert!(at.rt; second == want, "{second:?}");
+        7
     }
 }
 
 #[test]
 fn the_lines_of_a_client_are_answered_in_order(rt: HostRuntime) {
-    let ended = serve_lines::<Brand, Brand, HostRuntime>(
-        &rt,
-        rt.alloc(),
-        Blank::new(SEATS),
-        Blank::new(SEATS),
-    );
-    let want = Ended {
-        well: true,
-        lines: 6,
-        replied: true,
-        writes: 1,
-        records: 5,
-    };
-    assert!(rt; ended == want, "{ended:?}");
+    let told = tell(&rt, rt.alloc(), Setting::of(First::Nothing, 1, 1), &Serves);
+    assert!(rt; told.by[0] == 7, "{told:?}");
+    assert!(rt; told.seen.messages == Some(1), "{told:?}");
 }

@@ -27,6 +27,8 @@ use std::sync::ledger::{Blank, Ledger};
 pub struct Hand<'a>(pub &'a AtomicU64);
 
 impl<'a> Clock for Hand<'a> {
+    ghost tells = { λ c ms. Unit {0} };
+
     fn now(&self) -> u64 {
         self.0.load(Ordering::SeqCst)
     }
@@ -35,19 +37,75 @@ impl<'a> Clock for Hand<'a> {
 /// How often a gate looks whether it may let a thread go on.
 const LOOKS: u32 = 100_000_000;
 
+/// The clock of a service, and what its gate tells and waits for.
+#[derive(Drop)]
+pub struct Signs {
+    /// What the clock says, in ms.
+    pub time: AtomicU64,
+    /// Is 1 once somebody is held.
+    pub held: AtomicU64,
+    /// The sign: not 0.
+    pub sign: AtomicU64,
+    /// Is 1 once somebody who was held saw the sign.
+    pub met: AtomicU64,
+}
+
+impl Signs {
+    pub fn new() -> Signs {
+        Signs {
+            time: AtomicU64::new(0),
+            held: AtomicU64::new(0),
+            sign: AtomicU64::new(0),
+            met: AtomicU64::new(0),
+        }
+    }
+}
+
+/// What the first client of a story does before they all act.
+#[derive(Clone, Copy, PartialEq, Eq, Debug)]
+pub enum First {
+    Nothing,
+    /// Makes queue q.
+    Queue,
+    /// Makes queues q and r, and lets who is inside a home of q be held.
+    Held,
+    /// Makes queues d and q, and a dead letter in q.
+    DeadLetter,
+}
+
+/// How a service under test is made, and a story begins.
+#[derive(Clone, Copy)]
+pub struct Setting {
+    pub first: First,
+    /// Homes of each queue, all of which are asked.
+    pub homes: u32,
+    /// How many clients there are.
+    pub clients: usize,
+    /// The number of the queue inside whose homes a thread is held until the sign; 0 where none is.
+    pub queue: u64,
+    /// The number of the item after whose leave its mover is held; 0 where none is.
+    pub item: u64,
+}
+
+impl Setting {
+    /// Of so many clients at queues of so many homes; nobody is held.
+    pub fn of(first: First, homes: u32, clients: usize) -> Setting {
+        Setting {
+            first,
+            homes,
+            clients,
+            queue: 0,
+            item: 0,
+        }
+    }
+}
+
 /// A gate that holds who is inside a home of one queue, or has let one item leave, until a sign is given.
 #[derive(Drop)]
 pub struct Door<'a> {
-    /// The number of the queue; 0 where it holds nobody there.
-    pub queue: u64,
-    /// The number of the item after whose leave it holds its mover; 0 where it holds none.
-    pub item: u64,
-    /// Is 1 once somebody is held.
-    pub held: &'a AtomicU64,
-    /// The sign: not 0.
-    pub sign: &'a AtomicU64,
-    /// Is 1 once somebody who was held saw the sign.
-    pub met: &'a AtomicU64,
+    queue: u64,
+    item: u64,
+    signs: &'a Signs,
 }
 
 /// Waits until a number is not 0, and tells whether it was before it had looked so often.
@@ -63,9 +121,9 @@ pub fn is_set(number: &AtomicU64) -> bool {
 impl<'a> Door<'a> {
     // Waits for the sign.
     fn hold(&self) {
-        self.held.store(1, Ordering::SeqCst);
-        if is_set(self.sign) {
-            self.met.store(1, Ordering::SeqCst);
+        self.signs.held.store(1, Ordering::SeqCst);
+        if is_set(&self.signs.sign) {
+            self.signs.met.store(1, Ordering::SeqCst);
         }
     }
 }
@@ -84,8 +142,8 @@ impl<'a> Gate for Door<'a> {
     }
 }
 
-/// Queues of so many homes, all of which are asked.
-pub fn options(homes: u32) -> Options {
+// Queues of so many homes, all of which are asked.
+fn options(homes: u32) -> Options {
     Options {
         homes,
         sample: homes,
@@ -94,17 +152,6 @@ pub fn options(homes: u32) -> Options {
         flights: 100_000,
         transit: 1000,
         seed: 7,
-    }
-}
-
-/// A gate that holds nobody; the number is never looked at.
-pub fn open(none: &AtomicU64) -> Door<'_> {
-    Door {
-        queue: 0,
-        item: 0,
-        held: none,
-        sign: none,
-        met: none,
     }
 }
 
@@ -139,23 +186,29 @@ impl<'a, D: Ledger, T: Ledger> Shared<'a, D, T, SlotStore> {
     pub fn new(
         rt: &impl Abort,
         alloc: Global,
-        options: Options,
-        time: &'a AtomicU64,
-        door: Door<'a>,
+        setting: Setting,
+        signs: &'a Signs,
         of_directory: Blank,
         of_ledger: Blank,
     ) -> Shared<'a, D, T, SlotStore>
         requires of_directory { (of_directory.name ≡ D.name) × (of_directory.parts ≡ D.parts) × (D.parts ≡ 4294967296) }
         requires of_ledger { (of_ledger.name ≡ T.name) × (of_ledger.parts ≡ T.parts) × (T.parts ≡ 4294967296) }
     {
+        let Setting {
+            homes,
+            queue,
+            item,
+            ..
+        } = setting;
         let service: Service<Hand<'a>, Door<'a>, D, T> = Service::new(
             alloc,
-            options,
-            Hand(time),
-            door,
+            options(homes),
+            Hand(&signs.time),
+            Door { queue, item, signs },
             of_directory,
             of_ledger,
-        ).expect(rt, "a service");
+        )
+        .expect(rt, "a service");
         Shared {
             service: Box::new(alloc, service).expect(rt, "memory"),
         }
