@@ -1,5 +1,6 @@
 //! A module a subject.
 
+mod blocks;
 mod lines;
 mod samples;
 mod tasks;

@@ -1,0 +1,126 @@
+//! A list that grows in blocks, so that one item more moves none of those that are there.
+ghost use Rattle.std.specs.Prelude.{◌≡◌, ◌+◌, ◌<◌, ◌≤◌, ◌++◌, ◌∷◌, [], IfErr, OnOk, length, option_map, slice_get};
+
+use sq_base::refusal::Refusal;
+use std::alloc::Global;
+use std::marker::Model;
+use std::mem;
+
+/// How many items a block has.
+const BLOCK: usize = 4096;
+
+/// Blocks that there are at most: with more, an item's place would be past any number.
+const BLOCKS: usize = 1 << 50;
+
+/// Items in order, the first ones in whole blocks. The last block grows by copying while it is the first; memory for a later one is got whole.
+#[derive(Drop)]
+pub struct Blocks<T> {
+    alloc: Global,
+    whole: Vec<Vec<T>>,
+    last: Vec<T>,
+    next: Vec<T>,
+}
+
+impl<T> Model for Blocks<T> {
+    ghost use Rattle.std.specs.Prelude.{◌≡◌, ◌≤◌, ◌-◌, ◌^◌, length, vec_len, vec_capacity};
+    ghost use Rattle.std.specs.List.{AllByRecursion};
+    ghost use Rattle.sq_log.specs.BlocksValue.{BlocksValue, joined, room_in};
+
+    ghost Value = { BlocksValue T };
+
+    ghost view = { λ b. record { items = joined b.whole.items b.last.items; reserved = room_in (vec_len b.last) (vec_capacity b.last) (vec_len b.whole) (vec_capacity b.whole) (vec_capacity b.next) } };
+
+    ghost invariant = { λ b. record {
+      whole : AllByRecursion (λ block. length block.items ≡ 4096) b.whole.items;
+      few : vec_len b.whole ≤ 2 ^ 50;
+      last : vec_len b.last ≤ 4096;
+      next : vec_len b.next ≡ 0;
+    } };
+}
+
+impl<T: Drop> Blocks<T> {
+    /// No item, and memory for none.
+    pub fn new(alloc: Global) -> Blocks<T>
+        ensures { result ≡ record { items = []; reserved = 0 } }
+    {
+        Blocks {
+            alloc,
+            whole: Vec::new(alloc),
+            last: Vec::new(alloc),
+            next: Vec::new(alloc),
+        }
+    }
+
+    /// How many items there are.
+    pub fn len(&self) -> usize
+        ensures { result ≡ length self.now.items }
+    {
+        self.whole.len() * BLOCK + self.last.len()
+    }
+
+    /// For how many items more there is memory.
+    pub fn reserved(&self) -> usize
+        ensures { result ≡ self.now.reserved }
+    {
+        let here = self.last.capacity().min(BLOCK) - self.last.len();
+        if self.last.capacity() >= BLOCK
+            && self.whole.len() < self.whole.capacity().min(BLOCKS)
+            && self.next.capacity() >= BLOCK
+        {
+            here + BLOCK
+        } else {
+            here
+        }
+    }
+
+    /// The item at a place, from 0 upwards.
+    pub fn get(&self, place: usize) -> Option<&T>
+        ensures { option_map (λ item. item.now) result ≡ slice_get self.now.items place }
+    {
+        match at(self.whole.as_slice(), place / BLOCK) {
+            Some(block) => at(block.as_slice(), place % BLOCK),
+            None => at(self.last.as_slice(), place - self.whole.len() * BLOCK),
+        }
+    }
+
+    /// Gets memory for four items more. Refused as NoMemory where there was not so much.
+    pub fn reserve(&mut self) -> Result<(), Refusal>
+        ensures items { self.new.items ≡ self.old.items }
+        ensures kept { self.old.reserved ≤ self.new.reserved }
+        ensures ready { OnOk result (4 ≤ self.new.reserved) }
+        ensures refused { IfErr result (λ e. (e ≡ Refusal.NoMemory) × (self.old.reserved < 4)) }
+    {
+        if self.last.len() + 4 <= BLOCK {
+            self.last.try_reserve(4)?;
+            return Ok(());
+        }
+        if self.whole.len() >= BLOCKS {
+            return Err(Refusal::NoMemory);
+        }
+        self.last.try_reserve(BLOCK - self.last.len())?;
+        self.whole.try_reserve(1)?;
+        self.next.try_reserve(BLOCK)?;
+        Ok(())
+    }
+
+    /// Puts an item last, for which there is memory.
+    pub fn push(&mut self, item: T)
+        requires { 0 < self.old.reserved }
+        ensures items { self.new.items ≡ self.old.items ++ item ∷ [] }
+        ensures reserved { self.old.reserved ≡ self.new.reserved + 1 }
+    {
+        if self.last.len() == BLOCK {
+            let next = mem::replace(&mut self.next, Vec::new(self.alloc));
+            let block = mem::replace(&mut self.last, next);
+            self.whole.push_reserved(block);
+        }
+        self.last.push_reserved(item);
+    }
+}
+
+// The item of a slice at a place.
+fn at<T>(items: &[T], place: usize) -> Option<&T>
+    ensures { option_map (λ item. item.now) result ≡ slice_get items.now place }
+{
+    items.get(place)
+}

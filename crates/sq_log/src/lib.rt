@@ -1,0 +1,4 @@
+//! Lists of events and records, which are never forgotten.
+#![tactic(auto)]
+
+pub mod blocks;
