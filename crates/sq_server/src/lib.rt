@@ -3,6 +3,7 @@
 
 pub mod clients;
 pub mod clock;
+mod crew;
 pub mod ending;
 pub mod host;
 mod movers;

@@ -1,25 +1,23 @@
 //! A server over sockets: a thread and a session for each connection, and movers beside them.
-ghost use Rattle.std.specs.Prelude.{◌≡◌, ◌⊎◌, ◌++◌, IfErr, IfOk, IfSome, OnOk, is_some, map, not, replicate, vec_len};
-ghost use Rattle.std.specs.List.{list_all};
+ghost use Rattle.std.specs.Prelude.{◌≡◌, ◌==◌, IfErr, IfSome, OnOk, is_some, map, vec_len};
 ghost use Rattle.sq_program.specs.Streams.{stream};
 ghost use Rattle.sq_server.specs.Crews.{roles_of};
 ghost use Rattle.sq_server.specs.Outcomes.{HasServed, HasToldEnd};
-ghost use Rattle.sq_server.specs.Verdicts.{HasFault, HasOneRun, IsFaultLeft, LeavesOneRun};
+ghost use Rattle.sq_server.specs.Verdicts.{HasFault, HasOneRun};
 
-use crate::ending::end;
+use crate::crew::{Member, Role, conclude, crew};
 use crate::movers::move_while_open;
 use crate::served::{Client, Served};
 use crate::threads::threads_for;
 use crate::verdict::OneRun;
 use sq_audit::check::AuditFault;
-use sq_base::refusal::Refusal;
 use sq_flags::flags::ServeMode;
 use sq_lines::counted::Counted;
 use sq_program::reports::{Failure, fail, no_memory, report_audit};
 use sq_program::results::{print_listening, print_verdict};
 use sq_queue::actors::SEATS;
 use sq_shard::slots::SlotStore;
-use std::alloc::{AllocError, Global};
+use std::alloc::Global;
 use std::io::Write;
 use std::marker::Brand;
 use std::net::{Net, SocketAddr, TcpListener, TcpStream};
@@ -35,23 +33,6 @@ const TRIES: u32 = 100;
 
 /// The rest before it is asked for again, in ms.
 const REST: u64 = 50;
-
-/// What a thread of a server does.
-#[derive(Clone, Copy, PartialEq, Eq, Debug)]
-enum Role {
-    /// Answers the lines of one connection.
-    Answer,
-    /// Moves messages between queues.
-    Move,
-}
-
-/// A thread of a server: its session, and whether it could not take a connection.
-#[derive(Drop)]
-struct Worker<D: Ledger, T: Ledger> {
-    client: Client<D, T>,
-    role: Role,
-    refused: bool,
-}
 
 // The next connection.
 fn accepted(rt: &impl Clock, listener: &TcpListener) -> Option<TcpStream> {
@@ -92,65 +73,21 @@ fn work<R: Clock + Wait, D: Ledger, T: Ledger>(
     service: &Served<'_, R, D, T, SlotStore>,
     listener: &TcpListener,
     open: &AtomicU64,
-    worker: &mut Worker<D, T>,
+    worker: &mut Member<D, T>,
 )
     ensures role { worker.new.role ≡ worker.old.role }
-    ensures mover { worker.old.role ≡ Role.Move → worker.new.refused ≡ worker.old.refused }
+    ensures mover { worker.old.role ≡ Role.Move → worker.new.count ≡ worker.old.count }
 {
     match worker.role {
-        Role::Answer => {
+        Role::Call => {
             let taken = accepted(rt, listener);
-            worker.refused = !connection(rt, alloc, service, taken, &mut worker.client);
+            if !connection(rt, alloc, service, taken, &mut worker.client) {
+                worker.count = 1;
+            }
             open.fetch_sub(1, Ordering::SeqCst);
         }
         Role::Move => move_while_open(rt, alloc, service, &mut worker.client, open),
     }
-}
-
-// So many threads more for a role.
-fn add<R: Clock + Wait, D: Ledger, T: Ledger>(
-    rt: &R,
-    alloc: Global,
-    service: &Served<'_, R, D, T, SlotStore>,
-    workers: &mut Vec<Worker<D, T>>,
-    count: u32,
-    role: Role,
-) -> Result<(), Refusal>
-    ensures roles { OnOk result (map (λ w. w.role) workers.new.items ≡ map (λ w. w.role) workers.old.items ++ replicate count role) }
-    ensures refused { IfErr result (λ e. (e ≡ Refusal.NoMemory) ⊎ (e ≡ Refusal.Worn)) }
-{
-    for _ in 0..count {
-        workers.push(Worker {
-            client: service.client(rt, alloc)?,
-            role,
-            refused: false,
-        })?;
-    }
-    Ok(())
-}
-
-// So many threads for connections, and then so many for movers: where not all can be had, these come last.
-fn workers<R: Clock + Wait, D: Ledger, T: Ledger>(
-    rt: &R,
-    alloc: Global,
-    service: &Served<'_, R, D, T, SlotStore>,
-    mode: &ServeMode,
-) -> Result<Vec<Worker<D, T>>, Refusal>
-    ensures roles { IfOk result (λ workers. map (λ w. w.role) workers.items ≡ roles_of mode.now.connections mode.now.movers) }
-    ensures refused { IfErr result (λ e. (e ≡ Refusal.NoMemory) ⊎ (e ≡ Refusal.Worn)) }
-{
-    let all = mode.connections as usize + mode.movers as usize;
-    let mut workers = Vec::with_capacity(alloc, all)?;
-    add(
-        rt,
-        alloc,
-        service,
-        &mut workers,
-        mode.connections,
-        Role::Answer,
-    )?;
-    add(rt, alloc, service, &mut workers, mode.movers, Role::Move)?;
-    Ok(workers)
 }
 
 // All of them at once, until the last connection has ended.
@@ -159,7 +96,7 @@ fn work_all<R: Threads + Wait + Clock + Sync, D: Ledger + Send + Sync, T: Ledger
     alloc: Global,
     service: &Served<'_, R, D, T, SlotStore>,
     listener: &TcpListener,
-    workers: &mut Vec<Worker<D, T>>,
+    workers: &mut Vec<Member<D, T>>,
     connections: u32,
 )
     ensures { vec_len workers.new ≡ vec_len workers.old }
@@ -171,45 +108,15 @@ fn work_all<R: Threads + Wait + Clock + Sync, D: Ledger + Send + Sync, T: Ledger
         rt,
         workers,
         threads,
-        &|_: usize, worker: &mut Worker<D, T>| { work(rt, alloc, service, listener, left, worker) },
+        &|_: usize, worker: &mut Member<D, T>| { work(rt, alloc, service, listener, left, worker) },
     );
 }
 
-// Whether each connection could be taken, and their clients, in their order.
-fn apart<D: Ledger, T: Ledger>(
-    alloc: Global,
-    workers: Vec<Worker<D, T>>,
-) -> Result<(bool, Vec<Client<D, T>>), AllocError>
-    ensures taken { IfOk result (λ r. r.0 ≡ list_all (λ w. not w.refused) workers.items) }
-    ensures clients { IfOk result (λ r. r.1.items ≡ map (λ w. w.client) workers.items) }
+// The verdict is told where each connection could be taken.
+fn told_of(run: OneRun, lost: u64) -> Option<OneRun>
+    ensures { is_some result ≡ (lost == 0) }
 {
-    let mut clients = Vec::with_capacity(alloc, workers.len())?;
-    let mut taken = true;
-    for worker in workers {
-        taken = taken && !worker.refused;
-        clients.push_reserved(worker.client);
-    }
-    Ok((taken, clients))
-}
-
-// Ends a service after its threads: the verdict on what they did, where each connection could be taken; None where one could not.
-// Refused where what was done is no run.
-fn conclude<R: Clock + Wait, D: Ledger, T: Ledger>(
-    alloc: Global,
-    service: Served<'_, R, D, T, SlotStore>,
-    workers: Vec<Worker<D, T>>,
-) -> Result<Option<OneRun>, AuditFault>
-    requires of_directory { D.parts ≡ 4294967296 }
-    requires of_ledger { T.parts ≡ 4294967296 }
-    ensures taken { IfOk result (λ ended. is_some ended ≡ list_all (λ w. not w.refused) workers.items) }
-    ensures run { OnOk result (LeavesOneRun (vec_len service.entry.service.value.homes) (map (λ w. w.client) workers.items)) }
-    ensures fault { IfErr result (IsFaultLeft (vec_len service.entry.service.value.homes) (map (λ w. w.client) workers.items)) }
-{
-    let Ok((taken, clients)) = apart(alloc, workers) else {
-        return Err(AuditFault::NoMemory);
-    };
-    let run = end(alloc, service, clients)?;
-    if taken { Ok(Some(run)) } else { Ok(None) }
+    if lost == 0 { Some(run) } else { None }
 }
 
 // Serves at a listener, and ends the service.
@@ -217,7 +124,7 @@ fn serve_at<R: Threads + Wait + Clock + Sync, D: Ledger + Send + Sync, T: Ledger
     rt: &R,
     alloc: Global,
     service: Served<'_, R, D, T, SlotStore>,
-    workers: Vec<Worker<D, T>>,
+    workers: Vec<Member<D, T>>,
     listener: &TcpListener,
     connections: u32,
 ) -> Result<Option<OneRun>, AuditFault>
@@ -228,7 +135,8 @@ fn serve_at<R: Threads + Wait + Clock + Sync, D: Ledger + Send + Sync, T: Ledger
 {
     let mut workers = workers;
     work_all(rt, alloc, &service, listener, &mut workers, connections);
-    conclude(alloc, service, workers)
+    let (run, lost) = conclude(alloc, service, workers)?;
+    Ok(told_of(run, lost))
 }
 
 // A listener at an address, and its address with the real port.
@@ -263,7 +171,7 @@ fn ready<'a, R: Clock + Wait, D: Ledger, T: Ledger>(
     mode: &ServeMode,
     of_directory: Blank,
     of_ledger: Blank,
-) -> Option<(Served<'a, R, D, T, SlotStore>, Vec<Worker<D, T>>)>
+) -> Option<(Served<'a, R, D, T, SlotStore>, Vec<Member<D, T>>)>
     requires of_directory { (of_directory.name ≡ D.name) × (of_directory.parts ≡ D.parts) × (D.parts ≡ 4294967296) }
     requires of_ledger { (of_ledger.name ≡ T.name) × (of_ledger.parts ≡ T.parts) × (T.parts ≡ 4294967296) }
     ensures homes { IfSome result (λ r. (r.0.service.value.per_queue ≡ mode.now.options.homes) × (r.0.service.value.sample ≡ mode.now.options.sample)) }
@@ -276,7 +184,7 @@ fn ready<'a, R: Clock + Wait, D: Ledger, T: Ledger>(
         of_directory,
         of_ledger,
     ).ok()?;
-    let workers = workers(rt, alloc, &service, mode).ok()?;
+    let workers = crew(rt, alloc, &service, mode.connections, mode.movers).ok()?;
     Some((service, workers))
 }
 
