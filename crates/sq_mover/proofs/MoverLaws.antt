@@ -15,6 +15,7 @@ use Rattle.sq_client.specs.Progresses.{no_progress, with_walk}
 use Rattle.sq_client.specs.Turns.{TurnFits}
 use Rattle.sq_client.proofs.PathLaws.{no_gain, read_gain, gains_more}
 use Rattle.sq_client.proofs.TurnRecordLaws.{one_record}
+use Rattle.sq_queue.specs.Sections.{Surroundings}
 use Rattle.sq_queue.specs.SessionValue.{SessionValue}
 use Rattle.sq_queue.specs.Services.{HasRead}
 use Rattle.sq_mover.specs.Movers.{GainsAtMost}
@@ -50,18 +51,18 @@ pub gains_fewer : (m n : ℕ) (a b : Journal) → m ≤ n → GainsAtMost m a b 
 gains_fewer m n a b most h = (h.0, h.1, let x = h.2 in omega (arith, x, most))
 
 -- one turn more
-pub turns_more : (homes made : ℕ) (m mid n : MoverValue) (s read t : SessionValue) (told : Result Turned Refusal) → TakesTurns homes made m s mid read → TakesTurn homes mid read told n t → IsPassedOver told → TakesTurns homes (made + 1) m s n t
-turns_more homes made m mid n s read t told before turn passed = subst (λ (k : ℕ). TakesTurns homes k m s n t) (sym (add-one made)) (mid, read, told, before, turn, passed)
+pub turns_more : (at : Surroundings) (made : ℕ) (m mid n : MoverValue) (s read t : SessionValue) (told : Result Turned Refusal) → TakesTurns at made m s mid read → TakesTurn at mid read told n t → IsPassedOver told → TakesTurns at (made + 1) m s n t
+turns_more at made m mid n s read t told before turn passed = subst (λ (k : ℕ). TakesTurns at k m s n t) (sym (add-one made)) (mid, read, told, before, turn, passed)
 
 -- a task was served by the walk that was kept for it, which is kept as it is then
-pub served : (homes task : ℕ) (m n : MoverValue) (s t : SessionValue) (told : Result Turned Refusal) (before after : Walk) (last : List Walk)
+pub served : (at : Surroundings) (task : ℕ) (m n : MoverValue) (s t : SessionValue) (told : Result Turned Refusal) (before after : Walk) (last : List Walk)
     → before ≡ walk_kept task last → before.task ≡ task → last ≡ m.last → n ≡ walked after m
-    → MakesTurn homes (turn.TaskTurn (Some before.task)) (with_walk before no_progress) (with_walk after no_progress) s told t
-    → ServesFor homes (Some task) m s told n t
-served homes task m n s t told before after last kept same of_last new made =
+    → MakesTurn at (turn.TaskTurn (Some before.task)) (with_walk before no_progress) (with_walk after no_progress) s told t
+    → ServesFor at (Some task) m s told n t
+served at task m n s t told before after last kept same of_last new made =
     inr (
       after,
       new,
-      subst (λ (walk : Walk). MakesTurn homes (turn.TaskTurn (Some task)) (with_walk walk no_progress) (with_walk after no_progress) s told t) (kept ∙ ap (walk_kept task) of_last)
-          (subst (λ (number : ℕ). MakesTurn homes (turn.TaskTurn (Some number)) (with_walk before no_progress) (with_walk after no_progress) s told t) same made),
+      subst (λ (walk : Walk). MakesTurn at (turn.TaskTurn (Some task)) (with_walk walk no_progress) (with_walk after no_progress) s told t) (kept ∙ ap (walk_kept task) of_last)
+          (subst (λ (number : ℕ). MakesTurn at (turn.TaskTurn (Some number)) (with_walk before no_progress) (with_walk after no_progress) s told t) same made),
     )

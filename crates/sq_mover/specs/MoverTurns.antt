@@ -14,6 +14,8 @@ use Rattle.sq_client.specs.Asks.{IsOfAnyStep}
 use Rattle.sq_client.specs.Performs.{LeavesRecords}
 use Rattle.sq_client.specs.Progresses.{no_progress, with_item, with_walk}
 use Rattle.sq_client.specs.Turns.{TurnFits}
+use Rattle.sq_queue.specs.LockedParts.{LockedPart}
+use Rattle.sq_queue.specs.Sections.{Surroundings}
 use Rattle.sq_queue.specs.SessionValue.{SessionValue}
 use Rattle.sq_queue.specs.Services.{LastTaskRead, NamesRead}
 use Rattle.sq_mover.specs.declared.mover.Stage.TheVariants.{Leave, Serve, Bring}
@@ -21,67 +23,67 @@ use Rattle.sq_mover.specs.MoverValue.{MoverValue, sweeping, staged, brought, wal
 use Rattle.sq_mover.specs.Movers.{active_of}
 
 -- This turn was made, by an actor that was so far before it and is so far after it. What it leaves with its session fits what it told.
-abbrev pub MakesTurn : ℕ → Turn → Progress → Progress → SessionValue → Result Turned Refusal → SessionValue → Type 0
-MakesTurn homes what before after s told t = LeavesRecords (TurnFits homes what before after) s.journal told t.journal
+abbrev pub MakesTurn : Surroundings → Turn → Progress → Progress → SessionValue → Result Turned Refusal → SessionValue → Type 0
+MakesTurn at what before after s told t = LeavesRecords (TurnFits at.per_queue what before after) s.journal told t.journal
 
 -- it was refused for want of memory, and nothing changed
 abbrev pub RunsOut : MoverValue → SessionValue → Result Turned Refusal → MoverValue → SessionValue → Type 0
 RunsOut m s told n t = (told ≡ Err NoMemory) × (n ≡ m) × (t ≡ s)
 
 -- a dead letter leaves the queue of this name; a task is served there next
-abbrev pub DeadLeaves : ℕ → List ℕ → MoverValue → SessionValue → Result Turned Refusal → MoverValue → SessionValue → Type 0
-DeadLeaves homes name m s told n t = (n ≡ staged Serve m) × MakesTurn homes (turn.DeadTurn name) no_progress no_progress s told t
+abbrev pub DeadLeaves : Surroundings → List ℕ → MoverValue → SessionValue → Result Turned Refusal → MoverValue → SessionValue → Type 0
+DeadLeaves at name m s told n t = (n ≡ staged Serve m) × MakesTurn at (turn.DeadTurn name) no_progress no_progress s told t
 
 -- the item after the one that was tried last comes in, and the sweep goes on to the next queue
-abbrev pub BringsNext : ℕ → MoverValue → SessionValue → Result Turned Refusal → MoverValue → SessionValue → Type 0
-BringsNext homes m s told n t = (n ≡ brought n.tried m) × MakesTurn homes turn.EnterTurn (with_item m.tried no_progress) (with_item n.tried no_progress) s told t
+abbrev pub BringsNext : Surroundings → MoverValue → SessionValue → Result Turned Refusal → MoverValue → SessionValue → Type 0
+BringsNext at m s told n t = (n ≡ brought n.tried m) × MakesTurn at turn.EnterTurn (with_item m.tried no_progress) (with_item n.tried no_progress) s told t
 
 -- A task is served by the walk that was kept for it in the last sweep, or by a new one, which is kept as the turn leaves it. There may be no memory for a walk more. Without a task the next item comes in.
-abbrev pub ServesFor : ℕ → Option ℕ → MoverValue → SessionValue → Result Turned Refusal → MoverValue → SessionValue → Type 0
-ServesFor homes None m s told n t = BringsNext homes m s told n t
-ServesFor homes (Some task) m s told n t =
+abbrev pub ServesFor : Surroundings → Option ℕ → MoverValue → SessionValue → Result Turned Refusal → MoverValue → SessionValue → Type 0
+ServesFor at None m s told n t = BringsNext at m s told n t
+ServesFor at (Some task) m s told n t =
     RunsOut m s told n t
-    ⊎ ((walk : Walk) × (n ≡ walked walk m) × MakesTurn homes (turn.TaskTurn (Some task)) (with_walk (walk_kept task m.last) no_progress) (with_walk walk no_progress) s told t)
+    ⊎ ((walk : Walk) × (n ≡ walked walk m) × MakesTurn at (turn.TaskTurn (Some task)) (with_walk (walk_kept task m.last) no_progress) (with_walk walk no_progress) s told t)
 
--- the last task of a source is read, as the ledger lies under its lock at that moment, and served where it is not over
-abbrev pub ServesSource : ℕ → ℕ → MoverValue → SessionValue → Result Turned Refusal → MoverValue → SessionValue → Type 0
-ServesSource homes source m s told n t =
-    (last : Option Task) × (read : SessionValue) × LastTaskRead s source last read × ServesFor homes (active_of last) m read told n t
+-- the last task of a source is read, as the gate saw the ledger, and served where it is not over
+abbrev pub ServesSource : Surroundings → ℕ → MoverValue → SessionValue → Result Turned Refusal → MoverValue → SessionValue → Type 0
+ServesSource at source m s told n t =
+    (last : Option Task) × (read : SessionValue) × LastTaskRead at.Saw s source last read × ServesFor at (active_of last) m read told n t
 
 -- The turn at a queue: a dead letter leaves, then the task is served, and then an item comes in. What is next is settled first: where memory for a walk is out, the next turn brings an item.
-pub record TurnsAt (homes : ℕ) (queue : NamedQueue) (m : MoverValue) (s : SessionValue) (told : Result Turned Refusal) (n : MoverValue) (t : SessionValue) : Type 0 where
-  pub leave : m.stage ≡ Leave → DeadLeaves homes queue.name m s told n t
-  pub serve : m.stage ≡ Serve → ServesSource homes queue.number (staged Bring m) s told n t
-  pub bring : m.stage ≡ Bring → BringsNext homes m s told n t
+pub record TurnsAt (at : Surroundings) (queue : NamedQueue) (m : MoverValue) (s : SessionValue) (told : Result Turned Refusal) (n : MoverValue) (t : SessionValue) : Type 0 where
+  pub leave : m.stage ≡ Leave → DeadLeaves at queue.name m s told n t
+  pub serve : m.stage ≡ Serve → ServesSource at queue.number (staged Bring m) s told n t
+  pub bring : m.stage ≡ Bring → BringsNext at m s told n t
 
 -- the turn at the queue that the sweep is at; a sweep that found no queue has nothing to do
-abbrev pub TurnsAtAny : ℕ → Option NamedQueue → MoverValue → SessionValue → Result Turned Refusal → MoverValue → SessionValue → Type 0
-TurnsAtAny homes None m s told n t = (told ≡ Ok word.Nothing) × (n ≡ m) × (t ≡ s)
-TurnsAtAny homes (Some queue) m s told n t = TurnsAt homes queue m s told n t
+abbrev pub TurnsAtAny : Surroundings → Option NamedQueue → MoverValue → SessionValue → Result Turned Refusal → MoverValue → SessionValue → Type 0
+TurnsAtAny at None m s told n t = (told ≡ Ok word.Nothing) × (n ≡ m) × (t ≡ s)
+TurnsAtAny at (Some queue) m s told n t = TurnsAt at queue m s told n t
 
--- the sweep goes on; or it is over, and a new one begins with the queues that the directory names as it lies under its lock at that moment
-abbrev pub SweepsOn : MoverValue → SessionValue → MoverValue → SessionValue → Type 0
-SweepsOn m s n t =
+-- the sweep goes on; or it is over, and a new one begins with the queues that the directory names, as the gate saw it
+abbrev pub SweepsOn : (LockedPart → Type 0) → MoverValue → SessionValue → MoverValue → SessionValue → Type 0
+SweepsOn Saw m s n t =
     ((m.at < length m.queues) × (n ≡ m) × (t ≡ s))
-    ⊎ ((queues : List NamedQueue) × (length m.queues ≤ m.at) × (n ≡ sweeping queues m) × NamesRead s queues t)
+    ⊎ ((queues : List NamedQueue) × (length m.queues ≤ m.at) × (n ≡ sweeping queues m) × NamesRead Saw s queues t)
 
 -- A turn: at the queue that the sweep is at, which may be a new sweep. There may be no memory for the names of a new sweep.
-abbrev pub TakesTurn : ℕ → MoverValue → SessionValue → Result Turned Refusal → MoverValue → SessionValue → Type 0
-TakesTurn homes m s told n t =
+abbrev pub TakesTurn : Surroundings → MoverValue → SessionValue → Result Turned Refusal → MoverValue → SessionValue → Type 0
+TakesTurn at m s told n t =
     ((length m.queues ≤ m.at) × RunsOut m s told n t)
-    ⊎ ((mid : MoverValue) × (read : SessionValue) × SweepsOn m s mid read × TurnsAtAny homes (slice_get mid.queues mid.at) mid read told n t)
+    ⊎ ((mid : MoverValue) × (read : SessionValue) × SweepsOn at.Saw m s mid read × TurnsAtAny at (slice_get mid.queues mid.at) mid read told n t)
 
 -- it told a word, or a refusal that no step may be refused as: such a one is passed over
 abbrev pub IsPassedOver : Result Turned Refusal → Type 0
 IsPassedOver told = IfErr told (λ e. ¬ IsOfAnyStep e)
 
 -- so many turns, one after another, and after each the run goes on
-abbrev pub TakesTurns : ℕ → ℕ → MoverValue → SessionValue → MoverValue → SessionValue → Type 0
-TakesTurns homes zero m s n t = (n ≡ m) × (t ≡ s)
-TakesTurns homes (suc made) m s n t =
-    (mid : MoverValue) × (read : SessionValue) × (told : Result Turned Refusal) × TakesTurns homes made m s mid read × TakesTurn homes mid read told n t × IsPassedOver told
+abbrev pub TakesTurns : Surroundings → ℕ → MoverValue → SessionValue → MoverValue → SessionValue → Type 0
+TakesTurns at zero m s n t = (n ≡ m) × (t ≡ s)
+TakesTurns at (suc made) m s n t =
+    (mid : MoverValue) × (read : SessionValue) × (told : Result Turned Refusal) × TakesTurns at made m s mid read × TakesTurn at mid read told n t × IsPassedOver told
 
 -- fewer turns than these, and then one that is refused so, which ends the run
-abbrev pub EndsEarly : ℕ → ℕ → MoverValue → SessionValue → Refusal → MoverValue → SessionValue → Type 0
-EndsEarly homes turns m s e n t =
-    (made : ℕ) × (mid : MoverValue) × (read : SessionValue) × (made < turns) × TakesTurns homes made m s mid read × TakesTurn homes mid read (Err e) n t × IsOfAnyStep e
+abbrev pub EndsEarly : Surroundings → ℕ → MoverValue → SessionValue → Refusal → MoverValue → SessionValue → Type 0
+EndsEarly at turns m s e n t =
+    (made : ℕ) × (mid : MoverValue) × (read : SessionValue) × (made < turns) × TakesTurns at made m s mid read × TakesTurn at mid read (Err e) n t × IsOfAnyStep e

@@ -1,6 +1,7 @@
 //! A mover, turn after turn, over all queues.
-ghost use Rattle.std.specs.Prelude.{◌≡◌, ◌≤◌, Err, IfErr, IfOk, OnErr, OnOk, length, slice_get};
+ghost use Rattle.std.specs.Prelude.{◌≡◌, ◌≤◌, Err, IfErr, IfOk, OnErr, OnOk, length, slice_get, vec_len};
 ghost use Rattle.sq_client.specs.Asks.{IsOfAnyStep};
+ghost use Rattle.sq_queue.specs.Sections.{around};
 ghost use Rattle.sq_mover.specs.Movers.{GainsAtMost, active_of};
 ghost use Rattle.sq_mover.specs.MoverTurns.{BringsNext, EndsEarly, IsPassedOver, ServesFor, ServesSource, SweepsOn, TakesTurn, TakesTurns, TurnsAt};
 ghost use Rattle.sq_mover.specs.MoverValue.{new_mover};
@@ -72,7 +73,7 @@ impl Mover {
     ) -> Result<(), Refusal>
         ensures gains { GainsAtMost 0 session.old.journal session.new.journal }
         ensures refused { IfErr result (λ e. e ≡ Refusal.NoMemory) }
-        ensures ok { OnOk result (SweepsOn self.old session.old self.new session.new) }
+        ensures ok { OnOk result (SweepsOn (G.saw service.now.gate) self.old session.old self.new session.new) }
         ensures over { OnErr result (length self.old.queues ≤ self.old.at) }
         ensures kept { OnErr result (self.new ≡ self.old) }
         ensures unread { OnErr result (session.new ≡ session.old) }
@@ -101,7 +102,7 @@ impl Mover {
         session: &mut Session<D, T>,
     ) -> Result<Turned, Refusal>
         ensures gains { GainsAtMost 1 session.old.journal session.new.journal }
-        ensures takes { TakesTurn service.now.per_queue self.old session.old result self.new session.new }
+        ensures takes { TakesTurn (around (C.tells service.now.clock) (G.saw service.now.gate) service.now.per_queue (vec_len service.now.homes)) self.old session.old result self.new session.new }
     {
         self.begin_sweep(service, rt, session)?;
         match self.queue() {
@@ -119,7 +120,7 @@ impl Mover {
         queue: &NamedQueue,
     ) -> Result<Turned, Refusal>
         ensures gains { GainsAtMost 1 session.old.journal session.new.journal }
-        ensures turns { TurnsAt service.now.per_queue queue.now self.old session.old result self.new session.new }
+        ensures turns { TurnsAt (around (C.tells service.now.clock) (G.saw service.now.gate) service.now.per_queue (vec_len service.now.homes)) queue.now self.old session.old result self.new session.new }
     {
         match self.stage {
             Stage::Leave => {
@@ -143,7 +144,7 @@ impl Mover {
         source: QueueNo,
     ) -> Result<Turned, Refusal>
         ensures gains { GainsAtMost 1 session.old.journal session.new.journal }
-        ensures serves { ServesSource service.now.per_queue source self.old session.old result self.new session.new }
+        ensures serves { ServesSource (around (C.tells service.now.clock) (G.saw service.now.gate) service.now.per_queue (vec_len service.now.homes)) source self.old session.old result self.new session.new }
     {
         let task = service.last_task(rt, session, source);
         self.serve(service, rt, session, task)
@@ -158,7 +159,7 @@ impl Mover {
         task: Option<Task>,
     ) -> Result<Turned, Refusal>
         ensures gains { GainsAtMost 1 session.old.journal session.new.journal }
-        ensures serves { ServesFor service.now.per_queue (active_of task) self.old session.old result self.new session.new }
+        ensures serves { ServesFor (around (C.tells service.now.clock) (G.saw service.now.gate) service.now.per_queue (vec_len service.now.homes)) (active_of task) self.old session.old result self.new session.new }
     {
         let Some(task) = active(task) else {
             return self.bring(service, rt, session);
@@ -178,7 +179,7 @@ impl Mover {
         session: &mut Session<D, T>,
     ) -> Result<Turned, Refusal>
         ensures gains { GainsAtMost 1 session.old.journal session.new.journal }
-        ensures brings { BringsNext service.now.per_queue self.old session.old result self.new session.new }
+        ensures brings { BringsNext (around (C.tells service.now.clock) (G.saw service.now.gate) service.now.per_queue (vec_len service.now.homes)) self.old session.old result self.new session.new }
     {
         self.stage = Stage::Leave;
         self.at = self.at.saturating_add(1);
@@ -225,8 +226,8 @@ pub fn run_mover<C: Clock + Drop, G: Gate + Drop, D: Ledger, T: Ledger, R: Wait>
     ensures gains { GainsAtMost turns session.old.journal session.new.journal }
     ensures made { IfOk result (λ n. n ≡ turns) }
     ensures refused { IfErr result IsOfAnyStep }
-    ensures turns { OnOk result (TakesTurns service.now.per_queue turns mover.old session.old mover.new session.new) }
-    ensures ended { IfErr result (λ e. EndsEarly service.now.per_queue turns mover.old session.old e mover.new session.new) }
+    ensures turns { OnOk result (TakesTurns (around (C.tells service.now.clock) (G.saw service.now.gate) service.now.per_queue (vec_len service.now.homes)) turns mover.old session.old mover.new session.new) }
+    ensures ended { IfErr result (λ e. EndsEarly (around (C.tells service.now.clock) (G.saw service.now.gate) service.now.per_queue (vec_len service.now.homes)) turns mover.old session.old e mover.new session.new) }
 {
     for _ in 0..turns {
         let told = mover.turn(service, rt, session);

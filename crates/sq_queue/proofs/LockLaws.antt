@@ -1,5 +1,5 @@
 -- What the sections under locks answer, why they refuse, and what they leave with their session.
-use Rattle.std.proofs.Common.{◌≡◌, ◌≢◌, ◌⊎◌, ◌∙◌, ℕ, List, Option, Some, None, Result, Ok, Err, IfOk, IfErr, OnOk, OnErr, IfSome, IfNone, inl, inr}
+use Rattle.std.proofs.Common.{◌≡◌, ◌≢◌, ◌⊎◌, ◌∙◌, ℕ, List, Option, Some, None, Result, Ok, Err, IfOk, IfErr, OnOk, OnErr, IfSome, IfNone, inl, inr, sym}
 use Rattle.sq_base.specs.declared.ids.HomeId.{HomeId}
 use Rattle.sq_base.specs.declared.refusal.Refusal.{Refusal}
 use Rattle.sq_base.specs.declared.refusal.Refusal.TheVariants.{QueueDoesNotExist}
@@ -21,6 +21,7 @@ use Rattle.sq_steps.specs.TaskActs.{task_call}
 use Rattle.sq_client.specs.Asks.{Directed, AtHome, Moving, Ledgered, moved_of, replied_of, IsAnswerTo, IsReplyTo, IsToldTo, MayRefuse}
 use Rattle.sq_client.proofs.AskLaws as ask
 use Rattle.sq_audit.specs.HomeIds.{home_index}
+use Rattle.sq_queue.specs.LockedParts.{AHome, TheLedger}
 use Rattle.sq_queue.specs.Sections.{Surroundings, IsSection}
 use Rattle.sq_queue.specs.SessionValue.{SessionValue}
 
@@ -53,21 +54,21 @@ refused_ledger l b now what (Ok by) refused = tt
 refused_ledger l b now what (Err e) refused = ask.ledgered_may l b now what e refused
 
 pub home_section : (at : Surroundings) (now : ℕ) (old new : HistoryValue) (s t : SessionValue) (name : List ℕ) (placed id : HomeId) (what : HomeAct) (index : ℕ) (answered : Result HomeReply Refusal)
-    → at.IsReading now → old.site.home ≡ placed → home_index at.per_queue at.homes id ≡ Some index
+    → at.IsReading now → at.Saw (AHome old) → old.site.home ≡ placed → home_index at.per_queue at.homes id ≡ Some index
     → IfOk answered (λ by. HomeMoves old new s.journal t.journal now (Some name) (call_of what) by) → OnOk answered (placed ≡ id)
     → IfErr answered (λ e. ((placed ≡ id) × IsHomeRefused old s.journal now (call_of what) e) ⊎ ((placed ≢ id) × (e ≡ QueueDoesNotExist)))
     → OnErr answered (t ≡ s) → IsSection at s (AtHome name id what) (replied_of answered) t
-home_section at now old new s t name placed id what index (Ok by) told own there moves here refused err = (now, old, new, told, own ∙ here, moves)
-home_section at now old new s t name placed id what index (Err e) told own there moves here refused err =
-    ((now, told, elim refused [ inl cause ↦ inr (inr (old, own ∙ cause.0, cause.1)) | inr other ↦ inr (inl (index, placed, there, other.0, other.1)) ]), err)
+home_section at now old new s t name placed id what index (Ok by) told saw own there moves here refused err = (now, old, new, told, saw, own ∙ here, moves)
+home_section at now old new s t name placed id what index (Err e) told saw own there moves here refused err =
+    ((now, told, elim refused [ inl cause ↦ inr (inr (old, saw, own ∙ cause.0, cause.1)) | inr other ↦ inr (inl (index, old, saw, there, (λ same. other.0 (sym own ∙ same)), other.1)) ]), err)
 
 pub moving_section : (at : Surroundings) (now : ℕ) (old new : HistoryValue) (l m : LedgerHistory) (s t : SessionValue) (name : Option (List ℕ)) (placed id : HomeId) (what : SharedAct) (index : ℕ) (answered : Result (Option HomeReply) Refusal)
-    → at.IsReading now → old.site.home ≡ placed → home_index at.per_queue at.homes id ≡ Some index
+    → at.IsReading now → at.Saw (AHome old) → at.Saw (TheLedger l) → old.site.home ≡ placed → home_index at.per_queue at.homes id ≡ Some index
     → IfOk answered (λ told. IfSome told (SharedMoves old new l m s.journal t.journal now name what)) → OnOk answered (placed ≡ id)
     → IfOk answered (λ told. IfNone told (IsUnmoved old l s.journal now what)) → IfOk answered (λ told. IfNone told (t ≡ s))
     → IfErr answered (λ e. ((placed ≡ id) × IsSharedRefused old l s.journal now what e) ⊎ ((placed ≢ id) × (e ≡ QueueDoesNotExist)))
     → OnErr answered (t ≡ s) → IsSection at s (Moving name id what) (moved_of answered) t
-moving_section at now old new l m s t name placed id what index (Ok (Some by)) told own there moves here unmoved none refused err = (now, old, new, l, m, told, own ∙ here, moves)
-moving_section at now old new l m s t name placed id what index (Ok None) told own there moves here unmoved none refused err = (now, old, l, told, own ∙ here, unmoved, none)
-moving_section at now old new l m s t name placed id what index (Err e) told own there moves here unmoved none refused err =
-    ((now, told, elim refused [ inl cause ↦ inr (inr (old, l, own ∙ cause.0, cause.1)) | inr other ↦ inr (inl (index, placed, there, other.0, other.1)) ]), err)
+moving_section at now old new l m s t name placed id what index (Ok (Some by)) told saw held own there moves here unmoved none refused err = (now, old, new, l, m, told, saw, held, own ∙ here, moves)
+moving_section at now old new l m s t name placed id what index (Ok None) told saw held own there moves here unmoved none refused err = (now, old, l, told, saw, held, own ∙ here, unmoved, none)
+moving_section at now old new l m s t name placed id what index (Err e) told saw held own there moves here unmoved none refused err =
+    ((now, told, elim refused [ inl cause ↦ inr (inr (old, l, saw, held, own ∙ cause.0, cause.1)) | inr other ↦ inr (inl (index, old, saw, there, (λ same. other.0 (sym own ∙ same)), other.1)) ]), err)

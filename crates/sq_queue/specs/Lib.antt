@@ -1,5 +1,6 @@
 pub mod SessionValue
 pub mod Tallies
+pub mod LockedParts
 pub mod Services
 pub mod Sections
 pub mod SectionLaws

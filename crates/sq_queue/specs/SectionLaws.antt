@@ -9,15 +9,15 @@ use Rattle.sq_queue.specs.Sections.{Surroundings, SectionDone, IsSection}
 use Rattle.sq_queue.specs.SessionValue.{SessionValue}
 
 done_leaves : (at : Surroundings) (ask : Ask) (gave : Gave) (before after : SessionValue) → SectionDone at ask gave before after → LeavesOf ask (Ok gave) before.journal after.journal
-done_leaves at (Resolve name) (Found queue) before after h = (h.0.last, ap (λ (s : SessionValue). s.journal) h.2)
-done_leaves at (Directed call) (Answered reply) before after h = directory_leaves h.1 h.2 before.journal after.journal h.0 call reply h.4
-done_leaves at (AtHome name id act) (Replied reply) before after h = home_leaves h.1 h.2 before.journal after.journal h.0 name id act reply h.4 h.5
-done_leaves at (Moving name id what) (Replied reply) before after h = shared_leaves h.1 h.2 h.3 h.4 before.journal after.journal h.0 name id what reply h.6 h.7
-done_leaves at (Moving name id what) Nothing before after h = ap (λ (s : SessionValue). s.journal) h.6
-done_leaves at (Peek number) (Peeked next) before after h = (h.0.last, ap (λ (s : SessionValue). s.journal) h.2)
-done_leaves at (Redriven source destination) (Ends ends) before after h = (h.0.last, ap (λ (s : SessionValue). s.journal) h.2)
-done_leaves at (Ledgered what) (Told reply) before after h = ledger_leaves h.1 h.2 before.journal after.journal h.0 what reply h.4
-done_leaves at (ReadTask number) (TaskFound task) before after h = (h.0.last, ap (λ (s : SessionValue). s.journal) h.2)
+done_leaves at (Resolve name) (Found queue) before after h = (h.0.last, ap (λ (s : SessionValue). s.journal) h.3)
+done_leaves at (Directed call) (Answered reply) before after h = directory_leaves h.1 h.2 before.journal after.journal h.0 call reply h.5
+done_leaves at (AtHome name id act) (Replied reply) before after h = home_leaves h.1 h.2 before.journal after.journal h.0 name id act reply h.5 h.6
+done_leaves at (Moving name id what) (Replied reply) before after h = shared_leaves h.1 h.2 h.3 h.4 before.journal after.journal h.0 name id what reply h.8 h.9
+done_leaves at (Moving name id what) Nothing before after h = ap (λ (s : SessionValue). s.journal) h.8
+done_leaves at (Peek number) (Peeked next) before after h = (h.0.last, ap (λ (s : SessionValue). s.journal) h.3)
+done_leaves at (Redriven source destination) (Ends ends) before after h = (h.0.last, ap (λ (s : SessionValue). s.journal) h.3)
+done_leaves at (Ledgered what) (Told reply) before after h = ledger_leaves h.1 h.2 before.journal after.journal h.0 what reply h.5
+done_leaves at (ReadTask number) (TaskFound task) before after h = (h.0.last, ap (λ (s : SessionValue). s.journal) h.3)
 done_leaves at ask gave before after h = elim h [ ]
 
 pub section_leaves : (at : Surroundings) (before after : SessionValue) (ask : Ask) (answered : Result Gave Refusal) → IsSection at before ask answered after → LeavesOf ask answered before.journal after.journal

@@ -17,33 +17,38 @@ use Rattle.sq_steps.specs.SharedSteps.{SharedMoves, IsUnmoved, IsSharedRefused}
 use Rattle.sq_steps.specs.TaskActs.{task_call}
 use Rattle.sq_audit.specs.HomeIds.{home_index}
 use Rattle.sq_client.specs.Asks.{Ask, Resolve, Directed, AtHome, Moving, Peek, Redriven, Ledgered, ReadTask, Gave, Found, Answered, Replied, Nothing, Peeked, Ends, Told, TaskFound}
+use Rattle.sq_queue.specs.LockedParts.{LockedPart, AHome, TheDirectory, TheLedger}
 use Rattle.sq_queue.specs.SessionValue.{SessionValue, having_read}
 
--- What a session meets at a service: which readings its clock may give, how many homes a queue has, and how many homes there are.
+-- What a session meets at a service: which readings its clock may give, what its gate saw under locks that were held, how many homes a queue has, and how many homes there are.
 pub record Surroundings : Type 1 where
   pub IsReading : ℕ → Type 0
+  pub Saw : LockedPart → Type 0
   pub per_queue : ℕ
   pub homes : ℕ
 
-abbrev pub around : (ℕ → Type 0) → ℕ → ℕ → Surroundings
-around IsReading per_queue homes = record { IsReading = IsReading; per_queue = per_queue; homes = homes }
+abbrev pub around : (ℕ → Type 0) → (LockedPart → Type 0) → ℕ → ℕ → Surroundings
+around IsReading Saw per_queue homes = record { IsReading = IsReading; Saw = Saw; per_queue = per_queue; homes = homes }
 
--- A section that is not refused: its part was so at that moment, and the step is one of that part.
+-- A section that is not refused: the gate saw its part so, and the step is one of that part.
 abbrev pub SectionDone : Surroundings → Ask → Gave → SessionValue → SessionValue → Type 0
-SectionDone at (Resolve name) (Found queue) before after = (part : DirectoryHistory) × (number_named name part.directory.queues ≡ Some queue) × (after ≡ having_read before part.last)
-SectionDone at (Directed call) (Answered reply) before after = (now : ℕ) × (part : DirectoryHistory) × (left : DirectoryHistory) × at.IsReading now × DirectoryMoves part left before.journal after.journal now call reply
+SectionDone at (Resolve name) (Found queue) before after = (part : DirectoryHistory) × at.Saw (TheDirectory part) × (number_named name part.directory.queues ≡ Some queue) × (after ≡ having_read before part.last)
+SectionDone at (Directed call) (Answered reply) before after =
+    (now : ℕ) × (part : DirectoryHistory) × (left : DirectoryHistory) × at.IsReading now × at.Saw (TheDirectory part) × DirectoryMoves part left before.journal after.journal now call reply
 SectionDone at (AtHome name id act) (Replied reply) before after =
-    (now : ℕ) × (part : HistoryValue) × (left : HistoryValue) × at.IsReading now × (part.site.home ≡ id) × HomeMoves part left before.journal after.journal now (Some name) (call_of act) reply
+    (now : ℕ) × (part : HistoryValue) × (left : HistoryValue) × at.IsReading now × at.Saw (AHome part) × (part.site.home ≡ id)
+    × HomeMoves part left before.journal after.journal now (Some name) (call_of act) reply
 SectionDone at (Moving name id what) (Replied reply) before after =
-    (now : ℕ) × (part : HistoryValue) × (left : HistoryValue) × (ledger : LedgerHistory) × (ledger_left : LedgerHistory) × at.IsReading now × (part.site.home ≡ id)
+    (now : ℕ) × (part : HistoryValue) × (left : HistoryValue) × (ledger : LedgerHistory) × (ledger_left : LedgerHistory) × at.IsReading now × at.Saw (AHome part) × at.Saw (TheLedger ledger) × (part.site.home ≡ id)
     × SharedMoves part left ledger ledger_left before.journal after.journal now name what reply
 SectionDone at (Moving name id what) Nothing before after =
-    (now : ℕ) × (part : HistoryValue) × (ledger : LedgerHistory) × at.IsReading now × (part.site.home ≡ id) × IsUnmoved part ledger before.journal now what × (after ≡ before)
-SectionDone at (Peek number) (Peeked next) before after = (part : LedgerHistory) × (next ≡ option_map next_of (peek number part.ledger)) × (after ≡ having_read before part.last)
-SectionDone at (Redriven source destination) (Ends ends) before after = (part : DirectoryHistory) × (can_redrive source destination part.directory ≡ Ok ends) × (after ≡ having_read before part.last)
+    (now : ℕ) × (part : HistoryValue) × (ledger : LedgerHistory) × at.IsReading now × at.Saw (AHome part) × at.Saw (TheLedger ledger) × (part.site.home ≡ id)
+    × IsUnmoved part ledger before.journal now what × (after ≡ before)
+SectionDone at (Peek number) (Peeked next) before after = (part : LedgerHistory) × at.Saw (TheLedger part) × (next ≡ option_map next_of (peek number part.ledger)) × (after ≡ having_read before part.last)
+SectionDone at (Redriven source destination) (Ends ends) before after = (part : DirectoryHistory) × at.Saw (TheDirectory part) × (can_redrive source destination part.directory ≡ Ok ends) × (after ≡ having_read before part.last)
 SectionDone at (Ledgered what) (Told reply) before after =
-    (now : ℕ) × (part : LedgerHistory) × (left : LedgerHistory) × at.IsReading now × LedgerMoves part left before.journal after.journal now (task_call what) reply
-SectionDone at (ReadTask number) (TaskFound task) before after = (part : LedgerHistory) × (task_of number part.ledger ≡ Some task) × (after ≡ having_read before part.last)
+    (now : ℕ) × (part : LedgerHistory) × (left : LedgerHistory) × at.IsReading now × at.Saw (TheLedger part) × LedgerMoves part left before.journal after.journal now (task_call what) reply
+SectionDone at (ReadTask number) (TaskFound task) before after = (part : LedgerHistory) × at.Saw (TheLedger part) × (task_of number part.ledger ≡ Some task) × (after ≡ having_read before part.last)
 SectionDone at ask gave before after = ⊥
 
 -- there is no lock for this home: the clock is looked at first
@@ -52,22 +57,22 @@ HasNoLock at now id e = (home_index at.per_queue at.homes id ≡ None) × (e ≡
 
 -- another home lies under the lock of this one, which never is
 abbrev pub IsMisplaced : Surroundings → HomeId → Refusal → Type 0
-IsMisplaced at id e = (index : ℕ) × (other : HomeId) × (home_index at.per_queue at.homes id ≡ Some index) × (other ≢ id) × (e ≡ QueueDoesNotExist)
+IsMisplaced at id e = (index : ℕ) × (part : HistoryValue) × at.Saw (AHome part) × (home_index at.per_queue at.homes id ≡ Some index) × (part.site.home ≢ id) × (e ≡ QueueDoesNotExist)
 
--- Why a section is refused: the cause was there, in its part, at that moment.
+-- Why a section is refused: the cause was there, in its part, as the gate saw it.
 abbrev pub SectionRefused : Surroundings → Ask → Refusal → Journal → Type 0
-SectionRefused at (Resolve name) e journal = (part : DirectoryHistory) × (number_named name part.directory.queues ≡ None) × (e ≡ QueueDoesNotExist)
-SectionRefused at (Directed call) e journal = (now : ℕ) × (part : DirectoryHistory) × at.IsReading now × IsDirectoryStepRefused part journal now call e
+SectionRefused at (Resolve name) e journal = (part : DirectoryHistory) × at.Saw (TheDirectory part) × (number_named name part.directory.queues ≡ None) × (e ≡ QueueDoesNotExist)
+SectionRefused at (Directed call) e journal = (now : ℕ) × (part : DirectoryHistory) × at.IsReading now × at.Saw (TheDirectory part) × IsDirectoryStepRefused part journal now call e
 SectionRefused at (AtHome name id act) e journal =
     (now : ℕ) × at.IsReading now
-    × (HasNoLock at now id e ⊎ IsMisplaced at id e ⊎ ((part : HistoryValue) × (part.site.home ≡ id) × IsHomeRefused part journal now (call_of act) e))
+    × (HasNoLock at now id e ⊎ IsMisplaced at id e ⊎ ((part : HistoryValue) × at.Saw (AHome part) × (part.site.home ≡ id) × IsHomeRefused part journal now (call_of act) e))
 SectionRefused at (Moving name id what) e journal =
     (now : ℕ) × at.IsReading now
-    × (HasNoLock at now id e ⊎ IsMisplaced at id e ⊎ ((part : HistoryValue) × (ledger : LedgerHistory) × (part.site.home ≡ id) × IsSharedRefused part ledger journal now what e))
+    × (HasNoLock at now id e ⊎ IsMisplaced at id e ⊎ ((part : HistoryValue) × (ledger : LedgerHistory) × at.Saw (AHome part) × at.Saw (TheLedger ledger) × (part.site.home ≡ id) × IsSharedRefused part ledger journal now what e))
 SectionRefused at (Peek number) e journal = ⊥
-SectionRefused at (Redriven source destination) e journal = (part : DirectoryHistory) × (can_redrive source destination part.directory ≡ Err e)
-SectionRefused at (Ledgered what) e journal = (now : ℕ) × (part : LedgerHistory) × at.IsReading now × IsLedgerStepRefused part journal now (task_call what) e
-SectionRefused at (ReadTask number) e journal = (part : LedgerHistory) × (task_of number part.ledger ≡ None) × (e ≡ ResourceNotFoundException)
+SectionRefused at (Redriven source destination) e journal = (part : DirectoryHistory) × at.Saw (TheDirectory part) × (can_redrive source destination part.directory ≡ Err e)
+SectionRefused at (Ledgered what) e journal = (now : ℕ) × (part : LedgerHistory) × at.IsReading now × at.Saw (TheLedger part) × IsLedgerStepRefused part journal now (task_call what) e
+SectionRefused at (ReadTask number) e journal = (part : LedgerHistory) × at.Saw (TheLedger part) × (task_of number part.ledger ≡ None) × (e ≡ ResourceNotFoundException)
 
 -- A section under a lock, with its answer, and what it leaves with the session; what is refused leaves nothing.
 abbrev pub IsSection : Surroundings → SessionValue → Ask → Result Gave Refusal → SessionValue → Type 0

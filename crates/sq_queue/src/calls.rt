@@ -29,7 +29,7 @@ impl<C: Clock + Drop, G: Gate + Drop, D: Ledger, T: Ledger> Serving<C, G, D, T, 
         session: &mut Session<D, T>,
         call: &Call,
     ) -> Result<Answer, Refusal>
-        ensures sections { Performs (IsSection (around (C.tells self.now.clock) self.now.per_queue (vec_len self.now.homes))) (CallFits (counts_of self.now.per_queue self.now.sample) call.now) session.old result session.new }
+        ensures sections { Performs (IsSection (around (C.tells self.now.clock) (G.saw self.now.gate) self.now.per_queue (vec_len self.now.homes))) (CallFits (counts_of self.now.per_queue self.now.sample) call.now) session.old result session.new }
         ensures leaves_records { LeavesRecords (CallFits (counts_of self.now.per_queue self.now.sample) call.now) session.old.journal result session.new.journal }
     {
         let mut locked = Locked {
@@ -50,7 +50,7 @@ impl<C: Clock + Drop, G: Gate + Drop, D: Ledger, T: Ledger> Serving<C, G, D, T, 
         call: &Call,
         steps: u64,
     ) -> Result<Option<Answer>, Refusal>
-        ensures sections { Performs (IsSection (around (C.tells self.now.clock) self.now.per_queue (vec_len self.now.homes))) (UntilFits steps (CallFits (counts_of self.now.per_queue self.now.sample) call.now)) session.old result session.new }
+        ensures sections { Performs (IsSection (around (C.tells self.now.clock) (G.saw self.now.gate) self.now.per_queue (vec_len self.now.homes))) (UntilFits steps (CallFits (counts_of self.now.per_queue self.now.sample) call.now)) session.old result session.new }
         ensures leaves_records { LeavesRecords (UntilFits steps (CallFits (counts_of self.now.per_queue self.now.sample) call.now)) session.old.journal result session.new.journal }
     {
         let mut locked = Locked {
@@ -71,7 +71,7 @@ impl<C: Clock + Drop, G: Gate + Drop, D: Ledger, T: Ledger> Serving<C, G, D, T, 
         progress: &mut Progress,
         turn: &Turn,
     ) -> Result<Turned, Refusal>
-        ensures sections { Performs (IsSection (around (C.tells self.now.clock) self.now.per_queue (vec_len self.now.homes))) (TurnFits self.now.per_queue turn.now progress.old progress.new) session.old result session.new }
+        ensures sections { Performs (IsSection (around (C.tells self.now.clock) (G.saw self.now.gate) self.now.per_queue (vec_len self.now.homes))) (TurnFits self.now.per_queue turn.now progress.old progress.new) session.old result session.new }
         ensures leaves_records { LeavesRecords (TurnFits self.now.per_queue turn.now progress.old progress.new) session.old.journal result session.new.journal }
     {
         let mut locked = Locked {

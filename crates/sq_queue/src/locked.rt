@@ -7,7 +7,7 @@ ghost use Rattle.sq_client.specs.Performs.{LeavesRecords, Performs};
 ghost use Rattle.sq_queue.specs.Sections.{IsSection, around};
 ghost use Rattle.sq_queue.specs.Services.{counts_of};
 
-use crate::service::{Clock, Gate, Service};
+use crate::service::{Clock, Gate, Service, held};
 use crate::session::Session;
 use sq_audit::homes::home_index;
 use sq_base::ids::{HomeId, HomeNo};
@@ -42,13 +42,14 @@ pub(crate) struct Locked<'a, C, G, D: Ledger, T: Ledger, R> {
     pub(crate) left: Option<u64>,
 }
 
-// The clock is read before a lock is taken, and the lock is let go when its section ends: no reply is made while it is held.
+// The clock is read before a lock is taken, and the lock is let go when its section ends: no reply is made while it is held. The
+// gate sees what lies under the lock before anything is done there.
 impl<'a, C: Clock + Drop, G: Gate + Drop, D: Ledger, T: Ledger, R: Wait> LockSteps
     for Locked<'a, C, G, D, T, R> {
     ghost use Rattle.sq_queue.specs.SectionLaws.{section_leaves};
 
     ghost stepped = { λ s ask answered t.
-        IsSection (around (C.tells s.service.now.clock) s.service.now.per_queue (vec_len s.service.now.homes)) s.session.now ask answered t.session.now
+        IsSection (around (C.tells s.service.now.clock) (G.saw s.service.now.gate) s.service.now.per_queue (vec_len s.service.now.homes)) s.session.now ask answered t.session.now
         × (t.service ≡ s.service)
         × (t.session.ghost_name ≡ s.session.ghost_name) };
 
@@ -67,9 +68,10 @@ impl<'a, C: Clock + Drop, G: Gate + Drop, D: Ledger, T: Ledger, R: Wait> LockSte
     }
 
     fn resolve(&mut self, name: &QueueName) -> Result<NamedQueue, Refusal> {
-        let held = self.service.directory.lock(self.rt);
+        let part = held(self.rt, &self.service.directory);
+        self.service.gate.at_directory(&part.directory);
         let session = &mut *self.session;
-        let number = held.resolve(session, name)?;
+        let number = part.resolve(session, name)?;
         Ok(NamedQueue {
             number,
             name: *name,
@@ -78,9 +80,10 @@ impl<'a, C: Clock + Drop, G: Gate + Drop, D: Ledger, T: Ledger, R: Wait> LockSte
 
     fn directed(&mut self, call: &DirectoryCall) -> Result<DirectoryReply, Refusal> {
         let now = self.service.clock.now();
-        let mut held = self.service.directory.lock(self.rt);
+        let mut part = held(self.rt, &self.service.directory);
+        self.service.gate.at_directory(&part.directory);
         let session = &mut *self.session;
-        held.step(self.service.alloc, session, now, call)
+        part.step(self.service.alloc, session, now, call)
     }
 
     fn at_home(
@@ -98,10 +101,10 @@ impl<'a, C: Clock + Drop, G: Gate + Drop, D: Ledger, T: Ledger, R: Wait> LockSte
         let Some(index) = home_index(self.service.per_queue, count, &id) else {
             return Err(no_such_home(now));
         };
-        let mut held = self.service.homes[index].lock(self.rt);
-        self.service.gate.inside(&id);
+        let mut part = held(self.rt, &self.service.homes[index]);
+        self.service.gate.inside(&part.home);
         let session = &mut *self.session;
-        held.step(self.service.alloc, session, now, Some(of.name), &id, act)
+        part.step(self.service.alloc, session, now, Some(of.name), &id, act)
     }
 
     fn moving(
@@ -115,13 +118,14 @@ impl<'a, C: Clock + Drop, G: Gate + Drop, D: Ledger, T: Ledger, R: Wait> LockSte
         let Some(index) = home_index(self.service.per_queue, count, home) else {
             return Err(no_such_home(now));
         };
-        let mut held = self.service.homes[index].lock(self.rt);
-        self.service.gate.inside(home);
+        let mut part = held(self.rt, &self.service.homes[index]);
+        self.service.gate.inside(&part.home);
         let session = &mut *self.session;
-        let mut ledger = self.service.ledger.lock(self.rt);
+        let mut ledger = held(self.rt, &self.service.ledger);
+        self.service.gate.at_ledger(&ledger.ledger);
         let told = ledger.share(
             self.service.alloc,
-            &mut held,
+            &mut part,
             session,
             now,
             name,
@@ -133,9 +137,10 @@ impl<'a, C: Clock + Drop, G: Gate + Drop, D: Ledger, T: Ledger, R: Wait> LockSte
     }
 
     fn peek(&mut self, after: u64) -> Result<Option<NextItem>, Refusal> {
-        let held = self.service.ledger.lock(self.rt);
+        let part = held(self.rt, &self.service.ledger);
+        self.service.gate.at_ledger(&part.ledger);
         let session = &mut *self.session;
-        Ok(held.peek(session, after))
+        Ok(part.peek(session, after))
     }
 
     fn can_redrive(
@@ -143,22 +148,25 @@ impl<'a, C: Clock + Drop, G: Gate + Drop, D: Ledger, T: Ledger, R: Wait> LockSte
         source: &QueueName,
         destination: &Option<QueueName>,
     ) -> Result<(NamedQueue, Option<NamedQueue>), Refusal> {
-        let held = self.service.directory.lock(self.rt);
+        let part = held(self.rt, &self.service.directory);
+        self.service.gate.at_directory(&part.directory);
         let session = &mut *self.session;
-        held.can_redrive(session, source, destination)
+        part.can_redrive(session, source, destination)
     }
 
     fn ledgered(&mut self, act: &TaskAct) -> Result<LedgerReply, Refusal> {
         let now = self.service.clock.now();
-        let mut held = self.service.ledger.lock(self.rt);
+        let mut part = held(self.rt, &self.service.ledger);
+        self.service.gate.at_ledger(&part.ledger);
         let session = &mut *self.session;
-        held.step(self.service.alloc, session, now, act)
+        part.step(self.service.alloc, session, now, act)
     }
 
     fn read_task(&mut self, number: TaskNo) -> Result<Task, Refusal> {
-        let held = self.service.ledger.lock(self.rt);
+        let part = held(self.rt, &self.service.ledger);
+        self.service.gate.at_ledger(&part.ledger);
         let session = &mut *self.session;
-        held.read_task(session, number)
+        part.read_task(session, number)
     }
 
     fn pick(&mut self) -> HomeNo {
@@ -174,7 +182,7 @@ impl<'a, C: Clock + Drop, G: Gate + Drop, D: Ledger, T: Ledger, R: Wait> LockSte
     }
 
     ghost leaves = { λ s t ask answered h.
-        section_leaves (around (C.tells s.service.now.clock) s.service.now.per_queue (vec_len s.service.now.homes)) s.session.now t.session.now ask answered h.0 };
+        section_leaves (around (C.tells s.service.now.clock) (G.saw s.service.now.gate) s.service.now.per_queue (vec_len s.service.now.homes)) s.session.now t.session.now ask answered h.0 };
 }
 
 // The number of the item that left, if one did.
@@ -191,7 +199,7 @@ pub(crate) fn call_in<C: Clock + Drop, G: Gate + Drop, D: Ledger, T: Ledger, R: 
     call: &Call,
 ) -> Result<Answer, Refusal>
     ensures same_reference { locked.new.session.ghost_name ≡ locked.old.session.ghost_name }
-    ensures sections { Performs (IsSection (around (C.tells locked.old.service.now.clock) locked.old.service.now.per_queue (vec_len locked.old.service.now.homes))) (CallFits (counts_of locked.old.service.now.per_queue locked.old.service.now.sample) call.now) locked.old.session.now result locked.new.session.now }
+    ensures sections { Performs (IsSection (around (C.tells locked.old.service.now.clock) (G.saw locked.old.service.now.gate) locked.old.service.now.per_queue (vec_len locked.old.service.now.homes))) (CallFits (counts_of locked.old.service.now.per_queue locked.old.service.now.sample) call.now) locked.old.session.now result locked.new.session.now }
     ensures leaves_records { LeavesRecords (CallFits (counts_of locked.old.service.now.per_queue locked.old.service.now.sample) call.now) locked.old.session.now.journal result locked.new.session.now.journal }
 {
     client::call(locked, call)
@@ -204,7 +212,7 @@ pub(crate) fn call_until_in<C: Clock + Drop, G: Gate + Drop, D: Ledger, T: Ledge
     limit: u64,
 ) -> Result<Option<Answer>, Refusal>
     ensures same_reference { locked.new.session.ghost_name ≡ locked.old.session.ghost_name }
-    ensures sections { Performs (IsSection (around (C.tells locked.old.service.now.clock) locked.old.service.now.per_queue (vec_len locked.old.service.now.homes))) (UntilFits limit (CallFits (counts_of locked.old.service.now.per_queue locked.old.service.now.sample) call.now)) locked.old.session.now result locked.new.session.now }
+    ensures sections { Performs (IsSection (around (C.tells locked.old.service.now.clock) (G.saw locked.old.service.now.gate) locked.old.service.now.per_queue (vec_len locked.old.service.now.homes))) (UntilFits limit (CallFits (counts_of locked.old.service.now.per_queue locked.old.service.now.sample) call.now)) locked.old.session.now result locked.new.session.now }
     ensures leaves_records { LeavesRecords (UntilFits limit (CallFits (counts_of locked.old.service.now.per_queue locked.old.service.now.sample) call.now)) locked.old.session.now.journal result locked.new.session.now.journal }
 {
     call_until(locked, call, limit)
@@ -217,7 +225,7 @@ pub(crate) fn turn_in<C: Clock + Drop, G: Gate + Drop, D: Ledger, T: Ledger, R: 
     turn: &Turn,
 ) -> Result<Turned, Refusal>
     ensures same_reference { locked.new.session.ghost_name ≡ locked.old.session.ghost_name }
-    ensures sections { Performs (IsSection (around (C.tells locked.old.service.now.clock) locked.old.service.now.per_queue (vec_len locked.old.service.now.homes))) (TurnFits locked.old.service.now.per_queue turn.now progress.old progress.new) locked.old.session.now result locked.new.session.now }
+    ensures sections { Performs (IsSection (around (C.tells locked.old.service.now.clock) (G.saw locked.old.service.now.gate) locked.old.service.now.per_queue (vec_len locked.old.service.now.homes))) (TurnFits locked.old.service.now.per_queue turn.now progress.old progress.new) locked.old.session.now result locked.new.session.now }
     ensures leaves_records { LeavesRecords (TurnFits locked.old.service.now.per_queue turn.now progress.old progress.new) locked.old.session.now.journal result locked.new.session.now.journal }
 {
     let told = turns::turn(locked, progress, turn);

@@ -2,9 +2,10 @@
 ghost use Rattle.std.specs.Prelude.{◌≡◌, ◌<◌, IfErr, IfOk, IfSome, OnErr, OnOk, length, true};
 ghost use Rattle.sq_model.specs.Ledgers.{is_of_source};
 ghost use Rattle.sq_directory.specs.DirectoryHistory.{DirectoryHistory};
+ghost use Rattle.sq_queue.specs.LockedParts.{TheDirectory};
 ghost use Rattle.sq_queue.specs.Services.{HasRead, LastTaskRead, NamesRead};
 
-use crate::service::{Clock, Gate, Serving};
+use crate::service::{Clock, Gate, Serving, held};
 use crate::session::Session;
 use sq_base::ids::QueueNo;
 use sq_base::refusal::Refusal;
@@ -22,12 +23,14 @@ impl<C: Clock + Drop, G: Gate + Drop, D: Ledger, T: Ledger> Serving<C, G, D, T, 
         rt: &R,
         session: &mut Session<D, T>,
     ) -> Result<Listed<NamedQueue>, Refusal>
-        ensures names { IfOk result (λ names. NamesRead session.old names session.new) }
+        ensures names { IfOk result (λ names. NamesRead (G.saw self.now.gate) session.old names session.new) }
         ensures read { OnOk result (HasRead session.old session.new) }
-        ensures refused { IfErr result (λ e. (e ≡ Refusal.NoMemory) × ((part : DirectoryHistory) × (0 < length part.directory.queues))) }
+        ensures refused { IfErr result (λ e. (e ≡ Refusal.NoMemory) × ((part : DirectoryHistory) × G.saw self.now.gate (TheDirectory part) × (0 < length part.directory.queues))) }
         ensures err { OnErr result (session.new ≡ session.old) }
     {
-        self.directory.lock(rt).names(self.alloc, session)
+        let part = held(rt, &self.directory);
+        self.gate.at_directory(&part.directory);
+        part.names(self.alloc, session)
     }
 
     /// The most recent move task of a source; none where it had none.
@@ -37,10 +40,12 @@ impl<C: Clock + Drop, G: Gate + Drop, D: Ledger, T: Ledger> Serving<C, G, D, T, 
         session: &mut Session<D, T>,
         source: QueueNo,
     ) -> Option<Task>
-        ensures task { LastTaskRead session.old source result session.new }
+        ensures task { LastTaskRead (G.saw self.now.gate) session.old source result session.new }
         ensures source { IfSome result (λ task. is_of_source source task ≡ true) }
         ensures read { HasRead session.old session.new }
     {
-        self.ledger.lock(rt).last_task(session, source)
+        let part = held(rt, &self.ledger);
+        self.gate.at_ledger(&part.ledger);
+        part.last_task(session, source)
     }
 }

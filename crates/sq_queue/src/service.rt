@@ -1,6 +1,7 @@
 //! A service whose parts lie under locks.
 ghost use Rattle.std.specs.Prelude.{◌≡◌, ◌⊎◌, ◌*◌, ◌≤◌, ℕ, IfOk, IfErr, OnOk, length, vec_len};
 ghost use Rattle.sq_opening.specs.Openings.{IsServed};
+ghost use Rattle.sq_queue.specs.LockedParts.{LockedPart, AHome, TheDirectory, TheLedger};
 ghost use Rattle.sq_queue.specs.SessionValue.{new_session};
 
 use crate::actors::Actors;
@@ -8,16 +9,18 @@ use crate::making::{NewParts, new_parts};
 use crate::parts::{CountedDirectory, CountedLedger, Placed, PlacedHome};
 use crate::session::Session;
 use crossbeam_utils::CachePadded;
-use sq_base::ids::HomeId;
 use sq_base::refusal::Refusal;
+use sq_directory::directory::Directory;
 use sq_history::recorded::Home;
+use sq_ledger::ledger::TransitLedger;
 use sq_opening::options::Options;
 use sq_sample::sampler::HomeCount;
 use sq_shard::slots::SlotStore;
 use sq_shard::store::Store;
 use std::alloc::Global;
+use std::hint::spin_loop;
 use std::sync::ledger::{Blank, Ledger};
-use std::sync::{Mutex, Wait};
+use std::sync::{Mutex, MutexGuard, Wait};
 
 /// Tells the time, in ms. A reading at or above 2^62 refuses the step that it was made for, as ClockRange.
 pub trait Clock {
@@ -28,10 +31,22 @@ pub trait Clock {
         ensures { tells self.now result };
 }
 
-/// Where tests look in.
+/// Where tests look in: it sees what lies under each lock while that is held, before a step is done there.
 pub trait Gate {
+    /// What it saw.
+    ghost saw: { Self → LockedPart → Type 0 };
+
     /// Called while the lock of a home is held.
-    fn inside(&self, home: &HomeId);
+    fn inside(&self, home: &Home)
+        ensures { saw self.now (AHome home.now) };
+
+    /// Called while the lock of the directory is held.
+    fn at_directory(&self, directory: &Directory)
+        ensures { saw self.now (TheDirectory directory.now) };
+
+    /// Called while the lock of the ledger is held.
+    fn at_ledger(&self, ledger: &TransitLedger)
+        ensures { saw self.now (TheLedger ledger.now.history) };
 
     /// Called by a turn after an item left, with no lock held.
     fn between(&self, item: u64);
@@ -42,7 +57,14 @@ pub trait Gate {
 pub struct Open;
 
 impl Gate for Open {
-    fn inside(&self, _home: &HomeId) {}
+    // Whatever there is.
+    ghost saw = { λ g part. Unit {0} };
+
+    fn inside(&self, _home: &Home) {}
+
+    fn at_directory(&self, _directory: &Directory) {}
+
+    fn at_ledger(&self, _ledger: &TransitLedger) {}
 
     fn between(&self, _item: u64) {}
 }
@@ -53,6 +75,23 @@ pub(crate) type Lock<T> = CachePadded<Mutex<T>>;
 // A value under its lock.
 pub(crate) fn under_lock<T>(value: T) -> Lock<T> {
     CachePadded::new(Mutex::new(value))
+}
+
+/// How often a lock is looked at before its thread sleeps.
+const LOOKS: u32 = 8;
+
+/// Takes a lock. What is done under one takes less time than to sleep and to be woken, so it is tried for a while first, with
+/// rests that double.
+pub(crate) fn held<'a, T, R: Wait>(rt: &R, lock: &'a Lock<T>) -> MutexGuard<'a, T> {
+    for look in 0..LOOKS {
+        if let Some(guard) = lock.try_lock() {
+            return guard;
+        }
+        for _ in 0..1u32 << look {
+            spin_loop();
+        }
+    }
+    lock.lock(rt)
 }
 
 /// The parts of a service, each under a lock of its own. A thread holds one lock, or that of a home and then that of the
@@ -123,7 +162,7 @@ impl<C: Clock + Drop, G: Gate + Drop, D: Ledger, T: Ledger> Serving<C, G, D, T, 
         ensures made { IfOk result (λ s. (actor : ℕ) × (s ≡ new_session actor)) }
         ensures refused { IfErr result (λ e. e ≡ Refusal.Worn) }
     {
-        self.actors.lock(rt).make(self.alloc)
+        held(rt, &self.actors).make(self.alloc)
     }
 
     /// Takes a session back, and keeps it whole until the service ends. Refused as NoMemory, with the session.
@@ -134,7 +173,7 @@ impl<C: Clock + Drop, G: Gate + Drop, D: Ledger, T: Ledger> Serving<C, G, D, T, 
     ) -> Result<(), (Refusal, Session<D, T>)>
         ensures refused { IfErr result (λ r. (r.0 ≡ Refusal.NoMemory) × (r.1 ≡ session)) }
     {
-        self.actors.lock(rt).keep(session)
+        held(rt, &self.actors).keep(session)
     }
 }
 

@@ -4,11 +4,13 @@ ghost use Rattle.std.specs.Prelude.{◌≡◌};
 
 use sq_audit::merge::merge;
 use sq_audit::parts::Parts;
-use sq_base::ids::HomeId;
 use sq_base::refusal::Refusal;
 use sq_calls::calls::{Answer, Call};
 use sq_calls::turns::{Turn, Turned};
 use sq_client::progress::Progress;
+use sq_directory::directory::Directory;
+use sq_history::recorded::Home;
+use sq_ledger::ledger::TransitLedger;
 use sq_opening::options::Options;
 use sq_places::places::places_of;
 use sq_queue::service::{Clock, Gate, Service, Serving};
@@ -129,11 +131,17 @@ impl<'a> Door<'a> {
 }
 
 impl<'a> Gate for Door<'a> {
-    fn inside(&self, home: &HomeId) {
-        if home.queue.get() == self.queue {
+    ghost saw = { λ g part. Unit {0} };
+
+    fn inside(&self, home: &Home) {
+        if home.id().queue.get() == self.queue {
             self.hold();
         }
     }
+
+    fn at_directory(&self, _directory: &Directory) {}
+
+    fn at_ledger(&self, _ledger: &TransitLedger) {}
 
     fn between(&self, item: u64) {
         if item == self.item {
