@@ -2,7 +2,6 @@
 
 mod calls;
 mod evidence;
-mod examples;
 mod moves;
 mod queues;
 mod scripts;

@@ -45,17 +45,6 @@ impl Service {
         self.world.run(alloc, steps)
     }
 
-    /// Does what a client asks.
-    pub fn call(
-        &mut self,
-        alloc: Global,
-        actor: u32,
-        clock: u64,
-        call: &Call,
-    ) -> Result<Answer, Refusal> {
-        self.world.call(alloc, actor, clock, call)
-    }
-
     /// Does what a client asks, up to so many steps.
     pub fn call_until(
         &mut self,

@@ -1,0 +1,5 @@
+//! The library in use: three short programs, each a test.
+#![tactic(auto)]
+
+#[cfg(test)]
+mod tests;

@@ -1,0 +1,207 @@
+//! Two threads share a service; an audit of all that they did says that it is one run.
+ghost use Rattle.std.specs.Prelude.{◌≡◌};
+
+use super::clients::{Client, create, receive, send};
+use super::worlds::options;
+use sq_audit::merge::merge;
+use sq_audit::parts::Parts;
+use sq_base::name::QueueName;
+use sq_base::ranges::Timeout;
+use sq_base::refusal::Refusal;
+use sq_calls::calls::{Answer, Call};
+use sq_queue::actors::SEATS;
+use sq_queue::service::{Clock, Open, Service, Serving};
+use sq_queue::session::Session;
+use sq_shard::slots::SlotStore;
+use sq_shard::store::Store;
+use std::alloc::Global;
+use std::marker::{Brand, Model};
+use std::process::Abort;
+use std::sync::Wait;
+use std::sync::ledger::{Blank, Ledger};
+use std::thread;
+use std::thread::Threads;
+
+/// A clock that has stopped.
+#[derive(Drop)]
+struct Stopped;
+
+impl Clock for Stopped {
+    ghost tells = { λ c ms. Unit {0} };
+
+    fn now(&self) -> u64 {
+        1000
+    }
+}
+
+/// A service, in a box. It is generic over its store: so the prover finds that threads may share it.
+#[derive(Drop)]
+struct Shop<D: Ledger, T: Ledger, S: Store> {
+    service: Box<Serving<Stopped, Open, D, T, S>>,
+}
+
+impl<D: Ledger, T: Ledger, S: Store> Model for Shop<D, T, S> {
+    ghost use Rattle.std.specs.Prelude.{⊤};
+
+    ghost Value = { ⊤ };
+
+    ghost view = { λ s. tt };
+}
+
+impl<D: Ledger, T: Ledger> Shop<D, T, SlotStore> {
+    // Does what a session asks.
+    fn call<R: Wait>(
+        &self,
+        rt: &R,
+        session: &mut Session<D, T>,
+        call: &Call,
+    ) -> Result<Answer, Refusal> {
+        self.service.call(rt, session, call)
+    }
+}
+
+/// A thread: its session, and whether it received a message.
+#[derive(Drop)]
+struct Worker<D: Ledger, T: Ledger> {
+    session: Box<Session<D, T>>,
+    received: bool,
+}
+
+/// A session that calls.
+#[derive(Drop)]
+struct Caller<'a, D: Ledger, T: Ledger, R> {
+    rt: &'a R,
+    shop: &'a Shop<D, T, SlotStore>,
+    session: &'a mut Session<D, T>,
+}
+
+impl<'a, D: Ledger, T: Ledger, R: Wait> Client for Caller<'a, D, T, R> {
+    fn call(&mut self, call: &Call) -> Result<Answer, Refusal> {
+        self.shop.call(self.rt, self.session, call)
+    }
+}
+
+// A client sends a message and receives one.
+fn work<D: Ledger, T: Ledger, R: Wait>(
+    rt: &R,
+    alloc: Global,
+    shop: &Shop<D, T, SlotStore>,
+    worker: &mut Worker<D, T>,
+    queue: QueueName,
+) {
+    let mut client = Caller {
+        rt,
+        shop,
+        session: &mut worker.session,
+    };
+    let sent = send(&mut client, alloc, queue, "hello").is_some();
+    worker.received = sent && receive(&mut client, queue, Timeout::of(30)).is_some();
+}
+
+// A worker with a session of its own.
+fn new_worker<D: Ledger, T: Ledger, R: Wait + Abort>(
+    rt: &R,
+    alloc: Global,
+    shop: &Shop<D, T, SlotStore>,
+) -> Worker<D, T> {
+    let session = shop.service.session(rt).expect(rt, "a number");
+    Worker {
+        session: Box::new(alloc, session).expect(rt, "memory"),
+        received: false,
+    }
+}
+
+// A service, whose two counts have names.
+fn open<D: Ledger, T: Ledger>(
+    rt: &impl Abort,
+    alloc: Global,
+    of_directory: Blank,
+    of_ledger: Blank,
+) -> Shop<D, T, SlotStore>
+    requires of_directory { (of_directory.name ≡ D.name) × (of_directory.parts ≡ D.parts) × (D.parts ≡ 4294967296) }
+    requires of_ledger { (of_ledger.name ≡ T.name) × (of_ledger.parts ≡ T.parts) × (T.parts ≡ 4294967296) }
+{
+    let service: Service<Stopped, Open, D, T> = Service::new(
+        alloc,
+        options(),
+        Stopped,
+        Open,
+        of_directory,
+        of_ledger,
+    ).expect(rt, "options in their ranges");
+    Shop {
+        service: Box::new(alloc, service).expect(rt, "memory"),
+    }
+}
+
+// All that a service leaves, with what its sessions did.
+fn close<D: Ledger, T: Ledger>(
+    rt: &impl Abort,
+    alloc: Global,
+    shop: Shop<D, T, SlotStore>,
+    workers: Vec<Worker<D, T>>,
+) -> Box<Parts>
+    requires of_directory { D.parts ≡ 4294967296 }
+    requires of_ledger { T.parts ≡ 4294967296 }
+{
+    let mut sessions = Vec::new(alloc);
+    for worker in workers {
+        match sessions.push(Box::into_inner(worker.session)) {
+            Ok(()) => {}
+            Err(_) => panic!(rt; "memory"),
+        }
+    }
+    match Box::into_inner(shop.service).finish(sessions) {
+        Ok(parts) => Box::new(alloc, parts).expect(rt, "memory"),
+        Err(_) => panic!(rt; "memory"),
+    }
+}
+
+// How many messages there are in the one run of all that was done.
+fn messages(rt: &impl Abort, alloc: Global, parts: &Parts) -> usize {
+    let run = merge(alloc, parts).expect(rt, "one run");
+    run.lineages(alloc).expect(rt, "memory").len()
+}
+
+// Two threads work at one service; how many received a message, and how many messages there were.
+fn share<R: Threads + Wait + Abort + Sync, D: Ledger + Send + Sync, T: Ledger + Send + Sync>(
+    rt: &R,
+    alloc: Global,
+    of_directory: Blank,
+    of_ledger: Blank,
+) -> (usize, usize)
+    requires of_directory { (of_directory.name ≡ D.name) × (of_directory.parts ≡ D.parts) × (D.parts ≡ 4294967296) }
+    requires of_ledger { (of_ledger.name ≡ T.name) × (of_ledger.parts ≡ T.parts) × (T.parts ≡ 4294967296) }
+{
+    let orders = QueueName::new(b"orders").expect(rt, "a name");
+    let shop: Shop<D, T, SlotStore> = open(rt, alloc, of_directory, of_ledger);
+    let mut first = new_worker(rt, alloc, &shop);
+    let mut maker = Caller {
+        rt,
+        shop: &shop,
+        session: &mut first.session,
+    };
+    assert!(rt; create(&mut maker, orders, None));
+    let second = new_worker(rt, alloc, &shop);
+    let mut workers = vec![in alloc; first, second].expect(rt, "memory");
+    thread::for_each_mut(
+        rt,
+        &mut workers,
+        2,
+        &|_: usize, worker: &mut Worker<D, T>| work(rt, alloc, &shop, worker, orders),
+    );
+    let received = workers.iter().filter(|worker| worker.received).count();
+    let parts = close(rt, alloc, shop, workers);
+    (received, messages(rt, alloc, &parts))
+}
+
+// At a service of their own.
+fn meet<R: Threads + Wait + Abort + Sync>(rt: &R, alloc: Global) -> (usize, usize) {
+    share::<R, Brand, Brand>(rt, alloc, Blank::new(SEATS), Blank::new(SEATS))
+}
+
+#[test]
+fn two_threads_send_and_receive(rt: HostRuntime) {
+    let (received, messages) = meet(&rt, rt.alloc());
+    assert!(rt; received == 2 && messages == 2, "{received} {messages}");
+}
