@@ -1,5 +1,5 @@
 //! A server over sockets: a thread and a session for each connection, and movers beside them.
-ghost use Rattle.std.specs.Prelude.{◌≡◌, ◌==◌, IfErr, IfSome, OnOk, is_some, map, vec_len};
+ghost use Rattle.std.specs.Prelude.{◌≡◌, ◌==◌, IfErr, IfOk, IfSome, OnOk, is_some, map, sum_by, vec_len};
 ghost use Rattle.sq_program.specs.Streams.{stream};
 ghost use Rattle.sq_server.specs.Crews.{roles_of};
 ghost use Rattle.sq_server.specs.Outcomes.{HasServed, HasToldEnd};
@@ -112,11 +112,21 @@ fn work_all<R: Threads + Wait + Clock + Sync, D: Ledger + Send + Sync, T: Ledger
     );
 }
 
-// The verdict is told where each connection could be taken.
-fn told_of(run: OneRun, lost: u64) -> Option<OneRun>
-    ensures { is_some result ≡ (lost == 0) }
+// Ends a service after its threads: the verdict on what they did, where each connection could be taken; None where one could not.
+// Refused where what was done is no run.
+fn ended<R: Clock + Wait, D: Ledger, T: Ledger>(
+    alloc: Global,
+    service: Served<'_, R, D, T, SlotStore>,
+    workers: Vec<Member<D, T>>,
+) -> Result<Option<OneRun>, AuditFault>
+    requires of_directory { D.parts ≡ 4294967296 }
+    requires of_ledger { T.parts ≡ 4294967296 }
+    ensures taken { IfOk result (λ run. is_some run ≡ (sum_by (λ m. m.count) workers.items == 0)) }
+    ensures run { OnOk result (HasOneRun (vec_len service.entry.service.value.homes)) }
+    ensures fault { IfErr result (HasFault (vec_len service.entry.service.value.homes)) }
 {
-    if lost == 0 { Some(run) } else { None }
+    let (run, lost) = conclude(alloc, service, workers)?;
+    if lost == 0 { Ok(Some(run)) } else { Ok(None) }
 }
 
 // Serves at a listener, and ends the service.
@@ -135,8 +145,7 @@ fn serve_at<R: Threads + Wait + Clock + Sync, D: Ledger + Send + Sync, T: Ledger
 {
     let mut workers = workers;
     work_all(rt, alloc, &service, listener, &mut workers, connections);
-    let (run, lost) = conclude(alloc, service, workers)?;
-    Ok(told_of(run, lost))
+    ended(alloc, service, workers)
 }
 
 // A listener at an address, and its address with the real port.
