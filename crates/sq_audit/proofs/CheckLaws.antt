@@ -17,13 +17,13 @@ use Rattle.sq_model.specs.declared.place.Component.TheVariants as component
 use Rattle.sq_model.specs.Passages.{is_alone, is_leave}
 use Rattle.sq_model.specs.Replays.{HomeEvent, Replays}
 use Rattle.sq_model.specs.Systems.{DirectoryEvent, as_ledger}
-use Rattle.sq_model.specs.RecordValues.{HomeRecordValue, DirectoryRecordValue, LedgerRecordValue, RecordValue, OfDirectory, OfLedger, OfHome, place_of_record, stamp_of, Journal, RecordsRise, record_of, directory_record_of, home_record_of}
+use Rattle.sq_model.specs.RecordValues.{HomeRecordValue, DirectoryRecordValue, LedgerRecordValue, RecordValue, OfDirectory, OfLedger, OfHome, place_of_record, record_stamp, Journal, RecordsRise, record_of, directory_record_of, home_record_of}
 use Rattle.sq_model.specs.Matches.{HomeHistory, IsHomeEvent, IsRecordAt, IsNamed, HasItsEvent, IsRecorded, IsOfDirectory, IsOfLedger, IsOfHome, IsMatched, IsPaired, InLedger as IsInLedger, InHome as IsInHome, is_of_item, is_shared_as}
 use Rattle.sq_laws.proofs.PairLaws.{leaves_matched, items_matched}
 use Rattle.sq_history.specs.HistoryValue.{HistoryValue}
 use Rattle.sq_model.specs.Ledgers.{Ledger, LedgerEvent, LedgerStep, is_own}
-use Rattle.sq_audit.specs.HomeIds.{history_of, histories_of, home_id, IsNumbered, home_index}
-use Rattle.sq_steps.specs.Journals.{AreDistinct, RecordsRiseAt, is_of}
+use Rattle.sq_audit.specs.HomeIds.{home_history, histories_of, home_id, IsNumbered, home_index}
+use Rattle.sq_steps.specs.Journals.{AreDistinct, RecordsRiseAt, is_of_actor}
 use Rattle.sq_audit.specs.declared.check.AuditFault.{AuditFault}
 use Rattle.sq_audit.specs.declared.check.AuditFault.TheVariants.{NoMemory, RecordMissing, RecordTwice, LeaveUnmatched, EnterUnmatched}
 use Rattle.sq_audit.specs.declared.check.Part.TheVariants as part
@@ -48,10 +48,10 @@ get_below (z ∷ zs) zero (suc j) x h le = absurd (omega (arith, le))
 get_below (z ∷ zs) (suc k) (suc j) x h le = get_below zs k j x h (omega (arith, le))
 
 -- a later record has the higher number and the higher stamp
-pub records_rise : (ns : List RecordValue) → RecordsRise ns → (i j : ℕ) (n m : RecordValue) → i < j → slice_get ns i ≡ Some n → slice_get ns j ≡ Some m → (place_of_record n < place_of_record m) × Below (stamp_of n) (stamp_of m)
+pub records_rise : (ns : List RecordValue) → RecordsRise ns → (i j : ℕ) (n m : RecordValue) → i < j → slice_get ns i ≡ Some n → slice_get ns j ≡ Some m → (place_of_record n < place_of_record m) × Below (record_stamp n) (record_stamp m)
 records_rise [] rise i j n m lt h g = absurd cc
 records_rise (z ∷ zs) rise i zero n m lt h g = absurd (omega (arith, lt))
-records_rise (z ∷ zs) rise zero (suc j) n m lt h g = subst (λ (x : RecordValue). (place_of_record x < place_of_record m) × Below (stamp_of x) (stamp_of m)) (some_same h) (all_get _ zs rise.0 j m g)
+records_rise (z ∷ zs) rise zero (suc j) n m lt h g = subst (λ (x : RecordValue). (place_of_record x < place_of_record m) × Below (record_stamp x) (record_stamp m)) (some_same h) (all_get _ zs rise.0 j m g)
 records_rise (z ∷ zs) rise (suc i) (suc j) n m lt h g = records_rise zs rise.1 i j n m (omega (arith, lt)) h g
 
 pub home_id_once : (per_queue j i : ℕ) → home_id per_queue j ≡ home_id per_queue i → j ≡ i
@@ -64,7 +64,7 @@ home_id_once per_queue j i e =
 -- a home is known by its place
 numbered_home : (per_queue : ℕ) (homes : List HistoryValue) → IsNumbered per_queue homes → (j : ℕ) (h : HomeHistory) → slice_get (histories_of homes) j ≡ Some h → h.home ≡ home_id per_queue j
 numbered_home per_queue homes numbered j h in_list =
-    let t = get_mapped history_of homes j h in_list in
+    let t = get_mapped home_history homes j h in_list in
     ap (λ (x : HomeHistory). x.home) t.2 ∙ numbered j t.0 t.1
 
 -- and is there once
@@ -87,8 +87,8 @@ home_test per_queue count id at place least some within h = (
 )
 
 -- the home at an index
-pub read_home : (homes : List HistoryValue) (j : ℕ) (h : HistoryValue) → j < length homes → h ≡ slice_index_or homes j h → slice_get (histories_of homes) j ≡ Some (history_of h)
-read_home homes j h lt is = get_map history_of homes j h (slice_get_read homes (length homes) j h refl lt is)
+pub read_home : (homes : List HistoryValue) (j : ℕ) (h : HistoryValue) → j < length homes → h ≡ slice_index_or homes j h → slice_get (histories_of homes) j ≡ Some (home_history h)
+read_home homes j h lt is = get_map home_history homes j h (slice_get_read homes (length homes) j h refl lt is)
 
 -- the record at an index
 pub read_record : (journals : List Journal) (b i : ℕ) (journal : Journal) (n : RecordValue) → b < length journals → journal ≡ slice_index_or journals b journal → slice_get journal.records i ≡ Some n → IsRecordAt journals b i journal n
@@ -97,7 +97,7 @@ read_record journals b i journal n lt is own = record { in_journals = slice_get_
 -- a record of a home that is not there did not happen
 pub no_event_found : (per_queue : ℕ) (homes : List HistoryValue) (d : List DirectoryEvent) (l : List LedgerEvent) (a : ℕ) (n : HomeRecordValue) → 1 ≤ per_queue → 1 ≤ n.home.queue → IsNumbered per_queue homes → home_index per_queue (length homes) n.home ≡ None → HasItsEvent d l (histories_of homes) a (OfHome n) → ⊥
 no_event_found per_queue homes d l a n some least numbered none h =
-    let t = get_mapped history_of homes h.0 h.1 h.3.in_homes in
+    let t = get_mapped home_history homes h.0 h.1 h.3.in_homes in
     place_none per_queue homes n.home some numbered none h.0 t.0 t.1 (sym (ap (λ (m : HomeRecordValue). m.home) h.5 ∙ ap (λ (x : HomeHistory). x.home) t.2))
 
 module _ (per_queue : ℕ) (homes : List HistoryValue) (d : List DirectoryEvent) (l : List LedgerEvent) (a : ℕ) (n : HomeRecordValue) (place : ℕ) (home : HistoryValue) (numbered : IsNumbered per_queue homes) (least : 1 ≤ n.home.queue) (found : home_index per_queue (length homes) n.home ≡ Some place) (is : home ≡ slice_index_or homes place home) where
@@ -111,9 +111,9 @@ module _ (per_queue : ℕ) (homes : List HistoryValue) (d : List DirectoryEvent)
   pub did_happen : HasHomeEvent home.events a n → IsNamed d n n.name → HasItsEvent d l (histories_of homes) a (OfHome n)
   did_happen h named = (
     place,
-    history_of home,
+    home_history home,
     h.0,
-    record { in_homes = get_map history_of homes place home home_there; in_events = h.1 },
+    record { in_homes = get_map home_history homes place home home_there; in_events = h.1 },
     h.2,
     h.3 ∙ ap (λ (x : HomeId). home_record_of x n.index n.name h.0) home_own,
     named,
@@ -121,8 +121,8 @@ module _ (per_queue : ℕ) (homes : List HistoryValue) (d : List DirectoryEvent)
 
   pub finds_its_event : HasItsEvent d l (histories_of homes) a (OfHome n) → HasHomeEvent home.events a n × IsNamed d n n.name
   finds_its_event h =
-      let at : h.0 ≡ place = home_once per_queue homes numbered h.0 place h.1 (history_of home) h.3.in_homes (get_map history_of homes place home home_there) (sym (ap (λ (m : HomeRecordValue). m.home) h.5) ∙ home_own) in
-      let same : h.1 ≡ history_of home = some_same (sym h.3.in_homes ∙ ap (slice_get (histories_of homes)) at ∙ get_map history_of homes place home home_there) in (
+      let at : h.0 ≡ place = home_once per_queue homes numbered h.0 place h.1 (home_history home) h.3.in_homes (get_map home_history homes place home home_there) (sym (ap (λ (m : HomeRecordValue). m.home) h.5) ∙ home_own) in
+      let same : h.1 ≡ home_history home = some_same (sym h.3.in_homes ∙ ap (slice_get (histories_of homes)) at ∙ get_map home_history homes place home home_there) in (
         (h.2, subst (λ (x : HomeHistory). slice_get x.events n.index ≡ Some h.2) same h.3.in_events, h.4, h.5 ∙ ap (λ (x : HomeId). home_record_of x n.index n.name h.2) (sym (ap (λ (m : HomeRecordValue). m.home) h.5))),
         h.6,
       )
@@ -190,7 +190,7 @@ pub all_rise_at : (journals : List Journal) → ((b : ℕ) → b < length journa
 all_rise_at journals each b x in_list = each b (slice_get_within journals b x in_list) x in_list
 
 pub all_homes : (homes : List HistoryValue) (journals : List Journal) → ((j : ℕ) → j < length homes → (k : ℕ) → HomeFits (histories_of homes) journals j k) → (j k : ℕ) → HomeFits (histories_of homes) journals j k
-all_homes homes journals each j k h e in_list = let t = get_mapped history_of homes j h in_list.in_homes in each j (slice_get_within homes j t.0 t.1) k h e in_list
+all_homes homes journals each j k h e in_list = let t = get_mapped home_history homes j h in_list.in_homes in each j (slice_get_within homes j t.0 t.1) k h e in_list
 
 -- where all fit, all is matched
 pub fits_match : (d : List DirectoryEvent) (l : List LedgerEvent) (hs : List HomeHistory) (journals : List Journal) → AreDistinct journals → ((b i : ℕ) → RecordFits d l hs journals b i) → ((k : ℕ) → DirectoryFits d journals k) → ((k : ℕ) → LedgerFits l journals k) → ((j k : ℕ) → HomeFits hs journals j k) → IsMatched d l hs journals
@@ -206,7 +206,7 @@ fits_match d l hs journals distinct each every own all = record {
       recorded_by journals b place journal t.0 (λ m. place_of_record m ≡ place) in_list (each b place journal t.0 in_list).0);
 }
 
-module _ (journals : List Journal) (actor at : ℕ) (journal : Journal) (place : ℕ) (pos : position (is_of actor) journals ≡ Some at) (lt : at < length journals) (is : journal ≡ slice_index_or journals at journal) where
+module _ (journals : List Journal) (actor at : ℕ) (journal : Journal) (place : ℕ) (pos : position (is_of_actor actor) journals ≡ Some at) (lt : at < length journals) (is : journal ≡ slice_index_or journals at journal) where
   journal_is : slice_get journals at ≡ Some journal
   journal_is = slice_get_read journals (length journals) at journal refl lt is
 
@@ -476,20 +476,20 @@ module _ (d : List DirectoryEvent) (l : List LedgerEvent) (hs : List HomeHistory
 names_home : (home : HistoryValue) → IsKept home → (k : ℕ) (e : HomeEvent) → slice_get home.events k ≡ Some e → e.component ≡ component.Home home.site.home
 names_home home kept k e in_events = all_at (λ (x : HomeEvent). x.component ≡ component.Home home.site.home) home.events k e kept.own in_events
 
-module _ (l : List LedgerEvent) (homes : List HistoryValue) (j : ℕ) (home : HistoryValue) (in_homes : slice_get (histories_of homes) j ≡ Some (history_of home)) (kept : IsKept home) (k : ℕ) (e : HomeEvent) (in_events : slice_get home.events k ≡ Some e) where
+module _ (l : List LedgerEvent) (homes : List HistoryValue) (j : ℕ) (home : HistoryValue) (in_homes : slice_get (histories_of homes) j ≡ Some (home_history home)) (kept : IsKept home) (k : ℕ) (e : HomeEvent) (in_events : slice_get home.events k ≡ Some e) where
   pub ledger_has : (is_alone e.call ≡ false → (id : HomeId) → e.component ≡ component.Home id → IsInLedger l id e) → LedgerHas l (histories_of homes) j k
   ledger_has has h f there shared =
-      let same : h ≡ history_of home = some_same (sym there.in_homes ∙ in_homes) in
+      let same : h ≡ home_history home = some_same (sym there.in_homes ∙ in_homes) in
       let event : f ≡ e = some_same (sym there.in_events ∙ ap (λ (y : HomeHistory). slice_get y.events k) same ∙ in_events) in
       subst (λ (y : HomeHistory). IsInLedger l y.home f) (sym same) (subst (IsInLedger l home.site.home) (sym event) (has (subst (λ (y : HomeEvent). is_alone y.call ≡ false) event shared) home.site.home (names_home home kept k e in_events)))
 
   pub ledger_lacks : (d : List DirectoryEvent) (journals : List Journal) (f : AuditFault) → IsWithoutPartner l e f → IsWrong d l (histories_of homes) journals f
   ledger_lacks d journals f wrong =
       subst (IsWrong d l (histories_of homes) journals) (sym wrong.told)
-      (wrong_at_home d l (histories_of homes) journals j k (history_of home) e (record { in_homes = in_homes; in_events = in_events }) wrong.shared (wrong.lost home.site.home (names_home home kept k e in_events)))
+      (wrong_at_home d l (histories_of homes) journals j k (home_history home) e (record { in_homes = in_homes; in_events = in_events }) wrong.shared (wrong.lost home.site.home (names_home home kept k e in_events)))
 
 pub all_partners : (l : List LedgerEvent) (homes : List HistoryValue) → ((j : ℕ) → j < length homes → (k : ℕ) → LedgerHas l (histories_of homes) j k) → (j k : ℕ) → LedgerHas l (histories_of homes) j k
-all_partners l homes each j k h e there = let t = get_mapped history_of homes j h there.in_homes in each j (slice_get_within homes j t.0 t.1) k h e there
+all_partners l homes each j k h e there = let t = get_mapped home_history homes j h there.in_homes in each j (slice_get_within homes j t.0 t.1) k h e there
 
 -- the home of an event that the ledger shares
 module _ (per_queue : ℕ) (homes : List HistoryValue) (numbered : IsNumbered per_queue homes) (id : HomeId) (e : LedgerEvent) (call : HomeCall) (is : e.call ≡ AtHome id call) where
@@ -498,7 +498,7 @@ module _ (per_queue : ℕ) (homes : List HistoryValue) (numbered : IsNumbered pe
 
   pub no_home_has : 1 ≤ per_queue → home_index per_queue (length homes) id ≡ None → IsInHome (histories_of homes) e → ⊥
   no_home_has some none x =
-      let t = get_mapped history_of homes x.0 x.2 x.4.in_homes in
+      let t = get_mapped home_history homes x.0 x.2 x.4.in_homes in
       place_none per_queue homes id some numbered none x.0 t.0 t.1 (sym (ap (λ (y : HomeHistory). y.home) t.2) ∙ home_is x.2 x.3 x.6)
 
   module _ (place : ℕ) (home : HistoryValue) (least : 1 ≤ id.queue) (found : home_index per_queue (length homes) id ≡ Some place) (read : home ≡ slice_index_or homes place home) where
@@ -512,17 +512,17 @@ module _ (per_queue : ℕ) (homes : List HistoryValue) (numbered : IsNumbered pe
     home_has f k in_events shared same = (
       place,
       k,
-      history_of home,
+      home_history home,
       f,
-      record { in_homes = get_map history_of homes place home it_stands; in_events = in_events },
+      record { in_homes = get_map home_history homes place home it_stands; in_events = in_events },
       subst (λ (c : LedgerCall). is_shared_as is_alone c ≡ false) (ap (λ (x : LedgerEvent). x.call) same) shared,
       same ∙ ap (λ (x : HomeId). as_ledger x f) its_id,
     )
 
     pub found_there : IsInHome (histories_of homes) e → (f : HomeEvent) × IsEventAt home.events e.stamp f × (e ≡ as_ledger id f)
     found_there x =
-        let at : x.0 ≡ place = home_once per_queue homes numbered x.0 place x.2 (history_of home) x.4.in_homes (get_map history_of homes place home it_stands) (home_is x.2 x.3 x.6 ∙ its_id) in
-        let same : x.2 ≡ history_of home = some_same (sym x.4.in_homes ∙ ap (slice_get (histories_of homes)) at ∙ get_map history_of homes place home it_stands) in (
+        let at : x.0 ≡ place = home_once per_queue homes numbered x.0 place x.2 (home_history home) x.4.in_homes (get_map home_history homes place home it_stands) (home_is x.2 x.3 x.6 ∙ its_id) in
+        let same : x.2 ≡ home_history home = some_same (sym x.4.in_homes ∙ ap (slice_get (histories_of homes)) at ∙ get_map home_history homes place home it_stands) in (
           x.3,
           (x.1, subst (λ (y : HomeHistory). slice_get y.events x.1 ≡ Some x.3) same x.4.in_events, sym (ap (λ (y : LedgerEvent). y.stamp) x.6)),
           x.6 ∙ ap (λ (y : HomeId). as_ledger y x.3) (home_is x.2 x.3 x.6),

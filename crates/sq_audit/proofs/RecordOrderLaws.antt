@@ -11,7 +11,7 @@ use Rattle.sq_model.specs.Ledgers.{LedgerEvent, is_own}
 use Rattle.sq_audit.specs.Actors.{event_actor, event_place, ActorsRise, PartsRise, PlacesAgree, PlacesApart}
 use Rattle.sq_steps.specs.Journals.{RecordsRiseAt, AreDistinct}
 use Rattle.sq_audit.specs.SystemNow.{events_of}
-use Rattle.sq_audit.specs.HomeIds.{history_of, histories_of, IsNumbered}
+use Rattle.sq_audit.specs.HomeIds.{home_history, histories_of, IsNumbered}
 use Rattle.sq_audit.proofs.ActorLaws.{all_rise, in_directory, in_home}
 use Rattle.sq_audit.proofs.CheckLaws.{nat_compare, records_rise, home_once, recorded_as}
 use Rattle.sq_audit.proofs.SharedLaws.{event_home, in_ledger}
@@ -29,7 +29,7 @@ own_at (OfLedger d ∷ ts) h (suc i) e is = own_at ts h.1 i e is
 own_at (OfHome j d ∷ ts) h (suc i) e is = own_at ts h i e is
 
 -- of two records of one actor, the one with the higher number has the higher stamp
-records_below : (ns : List RecordValue) → RecordsRise ns → (i j : ℕ) (n m : RecordValue) → slice_get ns i ≡ Some n → slice_get ns j ≡ Some m → kept.place_of_record n < kept.place_of_record m → Below (kept.stamp_of n) (kept.stamp_of m)
+records_below : (ns : List RecordValue) → RecordsRise ns → (i j : ℕ) (n m : RecordValue) → slice_get ns i ≡ Some n → slice_get ns j ≡ Some m → kept.place_of_record n < kept.place_of_record m → Below (kept.record_stamp n) (kept.record_stamp m)
 records_below ns rise i j n m h g lt = elim (nat_compare i j) [
   | inl less ↦ (records_rise ns rise i j n m less h g).1
   | inr rest ↦ (elim rest [
@@ -47,7 +47,7 @@ IsOfPart homes (kept.OfHome n) t = (j : ℕ) × (h : HomeHistory) × (slice_get 
 -- a record has the number, the stamp and the part of an event
 record IsLike (homes : List HomeHistory) (t : Tag) (its_record : RecordValue) : Type 0 where
   of_place : kept.place_of_record its_record ≡ event_place t
-  of_stamp : kept.stamp_of its_record ≡ stamp_of t
+  of_stamp : kept.record_stamp its_record ≡ stamp_of t
   of_part : IsOfPart homes its_record t
 
 module _ (per_queue : ℕ) (d : List DirectoryEvent) (l : List LedgerEvent) (homes : List HistoryValue) (journals : List Journal) (run : List Tag)
@@ -71,10 +71,10 @@ module _ (per_queue : ℕ) (d : List DirectoryEvent) (l : List LedgerEvent) (hom
   has_record i (OfHome j e) is =
       let at = in_home run i j e is in
       let h = event_home homes j at.0 e (rw (merged.of_each_home j) at at.1) in
-      let in_list = get_map history_of homes j h.0 h.1 in
-      let x = matched.homes_recorded j at.0 (history_of h.0) e (record { in_homes = in_list; in_events = h.2 }) in
+      let in_list = get_map home_history homes j h.0 h.1 in
+      let x = matched.homes_recorded j at.0 (home_history h.0) e (record { in_homes = in_list; in_events = h.2 }) in
       recorded_as journals e.actor e.actor (IsOfHome h.0.site.home at.0 e) (IsLike hs (OfHome j e)) x refl
-      (subst (IsLike hs (OfHome j e)) (sym x.of_event.1) (record { of_place = refl; of_stamp = refl; of_part = (j, history_of h.0, in_list, refl, refl) }))
+      (subst (IsLike hs (OfHome j e)) (sym x.of_event.1) (record { of_place = refl; of_stamp = refl; of_part = (j, home_history h.0, in_list, refl, refl) }))
 
   -- what is of one part with one record is of one part
   one_part : (t u : Tag) (n : RecordValue) → IsOfPart hs n t → IsOfPart hs n u → rank_of t ≡ rank_of u
@@ -99,7 +99,7 @@ module _ (per_queue : ℕ) (d : List DirectoryEvent) (l : List LedgerEvent) (hom
       let once = matched.once x.at y.at x.index y.index x.journal y.journal x.its_record y.its_record x.in_list y.in_list (x.of_actor ∙ actor ∙ sym y.of_actor) (x.of_event.of_place ∙ place ∙ sym y.of_event.of_place) in
       let same : x.journal ≡ y.journal = some_same (sym x.in_list.in_journals ∙ ap (slice_get journals) once.0 ∙ y.in_list.in_journals) in
       let one : x.its_record ≡ y.its_record = some_same (sym x.in_list.in_records ∙ ap (λ (z : Journal). slice_get z.records x.index) same ∙ ap (slice_get y.journal.records) once.1 ∙ y.in_list.in_records) in
-      (one_part t u y.its_record (subst (λ (n : RecordValue). IsOfPart hs n t) one x.of_event.of_part) y.of_event.of_part, sym x.of_event.of_stamp ∙ ap kept.stamp_of one ∙ y.of_event.of_stamp)
+      (one_part t u y.its_record (subst (λ (n : RecordValue). IsOfPart hs n t) one x.of_event.of_part) y.of_event.of_part, sym x.of_event.of_stamp ∙ ap kept.record_stamp one ∙ y.of_event.of_stamp)
 
 -- where records and histories are matched, each actor's events stand in its order in the run of them all
 pub matched_rise : (per_queue : ℕ) (d : List DirectoryEvent) (l : List LedgerEvent) (homes : List HistoryValue) (journals : List Journal) (run : List Tag) → IsNumbered per_queue homes → AreDistinct journals → ((b : ℕ) → RecordsRiseAt journals b)

@@ -19,7 +19,7 @@ use Rattle.sq_model.specs.Systems.{Tag, OfDirectory, OfLedger, OfHome, as_ledger
 use Rattle.sq_history.specs.HistoryValue.{HistoryValue}
 use Rattle.sq_history.specs.Histories.{IsKept}
 use Rattle.sq_audit.specs.Actors.{PartsRise}
-use Rattle.sq_audit.specs.HomeIds.{IsNumbered, histories_of, history_of}
+use Rattle.sq_audit.specs.HomeIds.{IsNumbered, histories_of, home_history}
 use Rattle.sq_audit.specs.SystemNow.{events_of, own_events}
 use Rattle.sq_directory.proofs.ElementLaws.{all_get, get_map, get_mapped, some_same}
 use Rattle.sq_audit.proofs.ActorLaws.{in_home, less_first, same_number}
@@ -284,7 +284,7 @@ module _ (per_queue : ℕ) (homes : List HistoryValue) (numbered : IsNumbered pe
       let shared : is_alone d.call ≡ false = not_alone (is_alone d.call) m in
       record {
         event = as_ledger at.home.site.home d;
-        there = paired.in_ledger j at.index (history_of at.home) d (record { in_homes = get_map history_of homes j at.home at.in_homes; in_events = at.in_events }) shared;
+        there = paired.in_ledger j at.index (home_history at.home) d (record { in_homes = get_map home_history homes j at.home at.in_homes; in_events = at.in_events }) shared;
         stamped = refl;
         moves_as = (at.home, at.in_homes, refl);
         its_part = shared_part d at.home.site.home shared at.names;
@@ -300,7 +300,7 @@ module _ (per_queue : ℕ) (homes : List HistoryValue) (numbered : IsNumbered pe
   one_rank (OfHome i d) (OfHome j f) e p q =
       let call : AtHome p.0.site.home d.call ≡ AtHome q.0.site.home f.call = ap (λ (x : LedgerEvent). x.call) (sym p.2 ∙ q.2) in
       let id : p.0.site.home ≡ q.0.site.home = cc in
-      ap (λ (k : ℕ). suc (suc k)) (home_once per_queue homes numbered i j (history_of p.0) (history_of q.0) (get_map history_of homes i p.0 p.1) (get_map history_of homes j q.0 q.1) id)
+      ap (λ (k : ℕ). suc (suc k)) (home_once per_queue homes numbered i j (home_history p.0) (home_history q.0) (get_map home_history homes i p.0 p.1) (get_map home_history homes j q.0 q.1) id)
 
   one_part : OnePart run
   one_part i j t u is too m n same =
@@ -336,7 +336,7 @@ module _ (per_queue : ℕ) (homes : List HistoryValue) (numbered : IsNumbered pe
             in_ledger run t.0 (OfLedger e) e t.1 (0, refl))
         | false ↦ (λ p.
             let x = paired.in_home k e in_list p in
-            let h = get_mapped history_of homes x.0 x.2 x.4.in_homes in
+            let h = get_mapped home_history homes x.0 x.2 x.4.in_homes in
             let in_events : slice_get h.0.events x.1 ≡ Some x.3 = subst (λ (y : HomeHistory). slice_get y.events x.1 ≡ Some x.3) h.2 x.4.in_events in
             let t = from_home run x.0 x.1 x.3 (rw (each x.0) (home_event homes x.0 x.1 h.0 x.3 h.1 in_events)) in
             let names : x.3.component ≡ part.Home h.0.site.home = all_at (λ (f : HomeEvent). f.component ≡ part.Home h.0.site.home) h.0.events x.1 x.3 (all_at IsKept homes x.0 h.0 kept h.1).own in_events in

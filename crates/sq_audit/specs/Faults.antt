@@ -116,10 +116,10 @@ IsAt per_queue (part.Home j) k (OfHome n) = (n.home ≡ home_id per_queue j) × 
 IsAt per_queue of k n = ⊥
 
 -- a part that is a home is there
-abbrev pub IsThere : List HomeHistory → Part → Type 0
-IsThere homes part.Directory = Unit {0}
-IsThere homes part.Ledger = Unit {0}
-IsThere homes (part.Home j) = j < length homes
+abbrev pub IsPartThere : List HomeHistory → Part → Type 0
+IsPartThere homes part.Directory = Unit {0}
+IsPartThere homes part.Ledger = Unit {0}
+IsPartThere homes (part.Home j) = j < length homes
 
 -- an actor has such a record at this index
 abbrev pub IsRecordedAt : List Journal → ℕ → ℕ → (RecordValue → Type 0) → Type 0

@@ -8,11 +8,11 @@ use Rattle.sq_history.specs.HistoryValue.{HistoryValue}
 abbrev pub home_id : ℕ → ℕ → HomeId
 home_id per_queue at = record { queue = at / per_queue + 1; home = at % per_queue }
 
-abbrev pub history_of : HistoryValue → HomeHistory
-history_of h = record { home = h.site.home; events = h.events }
+abbrev pub home_history : HistoryValue → HomeHistory
+home_history h = record { home = h.site.home; events = h.events }
 
 abbrev pub histories_of : List HistoryValue → List HomeHistory
-histories_of homes = map history_of homes
+histories_of homes = map home_history homes
 
 -- the n-th home has its queue and its number there by its place
 abbrev pub IsNumbered : ℕ → List HistoryValue → Type 0

@@ -10,7 +10,7 @@ ghost use Rattle.sq_model.specs.Matches.{HasItsEvent, InHome, InLedger, IsMatche
 ghost use Rattle.sq_steps.specs.Records.{value_of_record};
 ghost use Rattle.sq_steps.specs.Journals.{RecordsRiseAt, AreDistinct};
 ghost use Rattle.sq_audit.specs.HomeIds.{histories_of, home_id};
-ghost use Rattle.sq_audit.specs.Faults.{FaultHolds, IsWrong, RecordFits, DirectoryFits, LedgerFits, HomeFits, LedgerHas, HomeHas, IsWithoutPartner, unmatched, IsRecordFault, IsAt, IsThere, IsRecordedAt, IsEventFault, EventFits, HasEventFault};
+ghost use Rattle.sq_audit.specs.Faults.{FaultHolds, IsWrong, RecordFits, DirectoryFits, LedgerFits, HomeFits, LedgerHas, HomeHas, IsWithoutPartner, unmatched, IsRecordFault, IsAt, IsPartThere, IsRecordedAt, IsEventFault, EventFits, HasEventFault};
 
 use crate::homes::{Homes, home_index};
 use sq_base::ids::HomeId;
@@ -306,7 +306,7 @@ fn check_events<K, R>(
     part: Part,
     events: &[Event<K, R>],
 ) -> Result<(), AuditFault>
-    requires within { IsThere evidence.now.homes part }
+    requires within { IsPartThere evidence.now.homes part }
     ensures ok { OnOk result ((k : ℕ) → EventFits evidence.now.per_queue evidence.now.journals part events.now k) }
     ensures fault { IfErr result (HasEventFault evidence.now.per_queue evidence.now.journals part events.now) }
 {
@@ -326,7 +326,7 @@ fn check_event(
     part: Part,
     index: usize,
 ) -> Result<(), AuditFault>
-    requires within { IsThere evidence.now.homes part }
+    requires within { IsPartThere evidence.now.homes part }
     ensures ok { OnOk result (IsRecordedAt evidence.now.journals by.0 by.1 (IsAt evidence.now.per_queue part index)) }
     ensures fault { IfErr result (IsEventFault evidence.now.per_queue evidence.now.journals by.0 by.1 part index) }
 {
@@ -349,7 +349,7 @@ fn check_event(
 
 // Whether a record names this event of a part.
 fn is_at(evidence: &Evidence<'_>, part: Part, index: usize, kept: &Record<'_>) -> bool
-    requires within { IsThere evidence.now.homes part }
+    requires within { IsPartThere evidence.now.homes part }
     ensures { result ≡ true ↔ IsAt evidence.now.per_queue part index (value_of_record kept.now) }
 {
     match (part, kept) {

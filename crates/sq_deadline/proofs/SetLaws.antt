@@ -9,7 +9,7 @@ use Rattle.std.proofs.lemmas.List.Sorted.{All-permutation, Contains-permutation,
 use Rattle.std.proofs.lemmas.List.Sums.{length-filter, sum_by-cons}
 use Rattle.std.proofs.lemmas.Map.Keys.{IsDistinct-IsPermutation, IsDistinct-cons, IsDistinct-head}
 use Rattle.sq_deadline.specs.declared.deadline.Deadline.{Deadline}
-use Rattle.sq_deadline.specs.Deadlines.{Rise, if_due, is_due, is_other, is_same, is_this, key_of, with_deadline}
+use Rattle.sq_deadline.specs.Deadlines.{DeadlinesRise, if_due, is_due, is_other, is_same, is_this, key_of, with_deadline}
 use Rattle.sq_deadline.proofs.OrderLaws.{comes_in, counts_more, later, one_if, place_of, rise_without}
 
 -- ---- lists
@@ -131,18 +131,18 @@ flips : (a b : ℕ) → (a == b) ≡ (b == a)
 flips a b = grind (arith, common_steps)
 
 -- a lower one is none of them
-is_none_of : (d : Deadline) (low : ℕ) (ds : List Deadline) → key_of d < low → Rise low ds → AllByRecursion (λ e. is_same d e ≡ false) ds
+is_none_of : (d : Deadline) (low : ℕ) (ds : List Deadline) → key_of d < low → DeadlinesRise low ds → AllByRecursion (λ e. is_same d e ≡ false) ds
 is_none_of d low [] lt h = tt
 is_none_of d low (x ∷ ds) lt h = (not_same (key_of d) (key_of x) (omega (arith, lt, h.0)), is_none_of d (key_of x + 1) ds (omega (arith, lt, h.0)) h.2)
 
 -- each stands once
-pub stand_once : (low : ℕ) (ds : List Deadline) → Rise low ds → IsDistinct is_same ds
+pub stand_once : (low : ℕ) (ds : List Deadline) → DeadlinesRise low ds → IsDistinct is_same ds
 unfolding IsDistinct
 stand_once low [] h = tt
 stand_once low (x ∷ ds) h = IsDistinct-cons is_same x ds (is_none_of x (key_of x + 1) ds (omega arith) h.2) (stand_once (key_of x + 1) ds h.2)
 
 -- where they stand in order, the rest has no deadline that one of them is
-pub is_not_in_rest : (low : ℕ) (d : Deadline) (rest ds : List Deadline) → Rise low ds → IsPermutation (d ∷ rest) ds → list_any (is_same d) rest ≡ false
+pub is_not_in_rest : (low : ℕ) (d : Deadline) (rest ds : List Deadline) → DeadlinesRise low ds → IsPermutation (d ∷ rest) ds → list_any (is_same d) rest ≡ false
 is_not_in_rest low d rest ds h same =
     let once = IsDistinct-IsPermutation is_same (λ a b. flips (key_of b) (key_of a)) ds (d ∷ rest) (IsPermutation-sym _ _ same) (stand_once low ds h) in
     none_of rest (IsDistinct-head is_same d rest once)
@@ -152,7 +152,7 @@ is_not_in_rest low d rest ds h same =
     none_of (e ∷ es) h = or_from (is_same d e) (list_any (is_same d) es) h.0 (none_of es h.1)
 
 -- one that is there goes out, and no other
-pub goes_out : (low : ℕ) (d : Deadline) (rest ds : List Deadline) → Rise low ds → IsPermutation (d ∷ rest) ds → IsPermutation rest (filter (is_other d) ds)
+pub goes_out : (low : ℕ) (d : Deadline) (rest ds : List Deadline) → DeadlinesRise low ds → IsPermutation (d ∷ rest) ds → IsPermutation rest (filter (is_other d) ds)
 goes_out low d rest ds h same =
     let itself : is_same d d ≡ true = eq-eqb (key_of d) (key_of d) refl in
     let left : filter (is_other d) (d ∷ rest) ≡ rest = rw itself (stays_out d rest (is_not_in_rest low d rest ds h same)) in
@@ -168,7 +168,7 @@ slot_of : (x y s t : ℕ) → s < 4294967296 → t < 4294967296 → x * 42949672
 slot_of x y s t a b e = omega (arith, a, b, e)
 
 -- those of other slots are others
-pub is_of_no_slot : (low : ℕ) (d : Deadline) (ds : List Deadline) → Rise low ds → d.slot < 4294967296 → All (λ e. e.slot ≢ d.slot) ds → list_any (is_same d) ds ≡ false
+pub is_of_no_slot : (low : ℕ) (d : Deadline) (ds : List Deadline) → DeadlinesRise low ds → d.slot < 4294967296 → All (λ e. e.slot ≢ d.slot) ds → list_any (is_same d) ds ≡ false
 is_of_no_slot low d [] h fits others = refl
 is_of_no_slot low d (x ∷ ds) h fits others =
     or_from (is_same d x) (list_any (is_same d) ds) (other (is_same d x) refl) (is_of_no_slot (key_of x + 1) d ds h.2 fits (All-tail (λ e. e.slot ≢ d.slot) x ds others))
@@ -178,12 +178,12 @@ is_of_no_slot low d (x ∷ ds) h fits others =
     other true e = absurd (All-head (λ e. e.slot ≢ d.slot) x ds others (slot_of x.moment d.moment x.slot d.slot h.1 fits (eqb-true (key_of x) (key_of d) e)))
 
 -- where no row has its slot, a deadline is not there
-pub is_absent : {X : Type 0} (low : ℕ) (d : Deadline) (ds : List Deadline) (key : X → Deadline) (rows : List X) → Rise low ds → d.slot < 4294967296 → All (λ x. (key x).slot ≢ d.slot) rows → IsPermutation (map key rows) ds → list_any (is_same d) ds ≡ false
+pub is_absent : {X : Type 0} (low : ℕ) (d : Deadline) (ds : List Deadline) (key : X → Deadline) (rows : List X) → DeadlinesRise low ds → d.slot < 4294967296 → All (λ x. (key x).slot ≢ d.slot) rows → IsPermutation (map key rows) ds → list_any (is_same d) ds ≡ false
 is_absent low d ds key rows h fits others same =
     is_of_no_slot low d ds h fits (All-permutation (λ e. e.slot ≢ d.slot) (map key rows) ds same (All-map (λ e. e.slot ≢ d.slot) key rows others))
 
 -- one that is there goes out, and one of a slot that no other has comes in
-pub goes_out_for : (low : ℕ) (d e : Deadline) (rest ds : List Deadline) → Rise low ds → e.slot < 4294967296 → All (λ x. x.slot ≢ e.slot) rest → IsPermutation (d ∷ rest) ds
+pub goes_out_for : (low : ℕ) (d e : Deadline) (rest ds : List Deadline) → DeadlinesRise low ds → e.slot < 4294967296 → All (λ x. x.slot ≢ e.slot) rest → IsPermutation (d ∷ rest) ds
     → IsPermutation (e ∷ rest) (with_deadline e (filter (is_other d) ds))
 goes_out_for low d e rest ds h fits others same =
     let left = filter (is_other d) ds in
@@ -208,7 +208,7 @@ no_row_passes p ds key rows h same = none_passes (λ x. p (key x)) rows (none_fo
 -- ---- what is due
 
 -- where one is not due, none after it is
-pub none_due_after : (m : ℕ) (x : Deadline) (ds : List Deadline) → is_due m x ≡ false → Rise (key_of x + 1) ds → list_any (is_due m) ds ≡ false
+pub none_due_after : (m : ℕ) (x : Deadline) (ds : List Deadline) → is_due m x ≡ false → DeadlinesRise (key_of x + 1) ds → list_any (is_due m) ds ≡ false
 none_due_after m x [] late h = refl
 none_due_after m x (y ∷ ds) late h = let late_too = later m x.moment y.moment x.slot y.slot late h.1 h.0 in or_from (is_due m y) (list_any (is_due m) ds) late_too (none_due_after m y ds late_too h.2)
 
@@ -219,7 +219,7 @@ is_early : (m : ℕ) (d x : Deadline) → if_due m (Some x) ≡ Some d → is_du
 is_early m d x some = elim (is_due m x) as (λ b. (if b then Some x else None) ≡ Some d → b ≡ true) [ true ↦ (λ is. refl) | false ↦ (λ is. absurd cc) ] some
 
 -- where the one at a place is not due, none from there on is
-pub none_due_from : (m low : ℕ) (ds : List Deadline) (place : ℕ) → Rise low ds → if_due m (slice_get ds place) ≡ None → All (λ e. is_due m e ≡ false) (drop place ds)
+pub none_due_from : (m low : ℕ) (ds : List Deadline) (place : ℕ) → DeadlinesRise low ds → if_due m (slice_get ds place) ≡ None → All (λ e. is_due m e ≡ false) (drop place ds)
 none_due_from m low [] zero h none = All-nil (λ e. is_due m e ≡ false)
 none_due_from m low [] (suc place) h none = All-nil (λ e. is_due m e ≡ false)
 none_due_from m low (x ∷ ds) zero h none = let late = is_late m x none in All-cons (λ e. is_due m e ≡ false) x ds late (none_passes (is_due m) ds (none_due_after m x ds late h.2))
@@ -236,7 +236,7 @@ due_at m d (x ∷ ds) zero h =
 due_at m d (x ∷ ds) (suc place) h = due_at m d ds place h
 
 -- a place of one that is due is among the first so many as are due
-pub due_is_counted : (m low : ℕ) (d : Deadline) (ds : List Deadline) (place : ℕ) → Rise low ds → if_due m (slice_get ds place) ≡ Some d → place < count_by (is_due m) ds
+pub due_is_counted : (m low : ℕ) (d : Deadline) (ds : List Deadline) (place : ℕ) → DeadlinesRise low ds → if_due m (slice_get ds place) ≡ Some d → place < count_by (is_due m) ds
 due_is_counted m low d [] place h is = absurd cc
 due_is_counted m low d (x ∷ ds) zero h is = let one : one_if (is_due m x) ≡ 1 = ap one_if (is_early m d x is) in omega (arith, one, counts_more (is_due m) x ds)
 due_is_counted m low d (x ∷ ds) (suc place) h is =
@@ -251,7 +251,7 @@ at_most_one true = omega arith
 at_most_one false = omega arith
 
 -- a place of none that is due is past them
-pub none_due_is_past : (m low : ℕ) (ds : List Deadline) (place : ℕ) → Rise low ds → if_due m (slice_get ds place) ≡ None → count_by (is_due m) ds ≤ place
+pub none_due_is_past : (m low : ℕ) (ds : List Deadline) (place : ℕ) → DeadlinesRise low ds → if_due m (slice_get ds place) ≡ None → count_by (is_due m) ds ≤ place
 none_due_is_past m low [] place h none = omega arith
 none_due_is_past m low (x ∷ ds) zero h none =
     let late = is_late m x none in
@@ -261,7 +261,7 @@ none_due_is_past m low (x ∷ ds) (suc place) h none =
     omega (arith, none_due_is_past m (key_of x + 1) ds place h.2 none, counts_more (is_due m) x ds, at_most_one (is_due m x))
 
 -- what is due stands first
-pub due_first : (m low : ℕ) (ds : List Deadline) → Rise low ds → filter (is_due m) ds ≡ take (count_by (is_due m) ds) ds
+pub due_first : (m low : ℕ) (ds : List Deadline) → DeadlinesRise low ds → filter (is_due m) ds ≡ take (count_by (is_due m) ds) ds
 due_first m low [] h = refl
 due_first m low (x ∷ ds) h =
     elim (is_due m x) as (λ b. is_due m x ≡ b → cond b (x ∷ filter (is_due m) ds) (filter (is_due m) ds) ≡ take (count_by (is_due m) (x ∷ ds)) (x ∷ ds)) [

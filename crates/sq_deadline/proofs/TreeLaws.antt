@@ -7,7 +7,7 @@ use Rattle.std.proofs.lemmas.Grind.{common_steps}
 use Rattle.std.proofs.lemmas.List.{length-append}
 use Rattle.std.proofs.lemmas.List.Edits.{insert-append_right, remove-append_left, remove-append_right}
 use Rattle.sq_deadline.specs.declared.deadline.Deadline.{Deadline}
-use Rattle.sq_deadline.specs.Deadlines.{Rise, is_above, is_due, is_not_below, key_of}
+use Rattle.sq_deadline.specs.Deadlines.{DeadlinesRise, is_above, is_due, is_not_below, key_of}
 use Rattle.sq_deadline.specs.declared.tree.Tree.{Tree}
 use Rattle.sq_deadline.specs.declared.tree.Tree.TheVariants.{Empty, Full'}
 use Rattle.sq_deadline.specs.Trees.{depth, is_below, is_kept, is_level, listed, weight}
@@ -15,20 +15,20 @@ use Rattle.sq_deadline.proofs.OrderLaws.{counts_more, one_if, place_of, rise_lat
 
 -- ---- in order on either side
 
-pub rise_left : (low : ℕ) (left right : List Deadline) → Rise low (left ++ right) → Rise low left
+pub rise_left : (low : ℕ) (left right : List Deadline) → DeadlinesRise low (left ++ right) → DeadlinesRise low left
 rise_left low [] right h = tt
 rise_left low (x ∷ left) right h = (h.0, h.1, rise_left (key_of x + 1) left right h.2)
 
-rise_past : (low : ℕ) (left right : List Deadline) → Rise low (left ++ right) → Rise low right
+rise_past : (low : ℕ) (left right : List Deadline) → DeadlinesRise low (left ++ right) → DeadlinesRise low right
 rise_past low [] right h = h
 rise_past low (x ∷ left) right h = rise_later low (key_of x + 1) right (omega (arith, h.0)) (rise_past (key_of x + 1) left right h.2)
 
-pub rise_right : (low : ℕ) (left : List Deadline) (d : Deadline) (right : List Deadline) → Rise low (left ++ d ∷ right) → Rise 0 right
+pub rise_right : (low : ℕ) (left : List Deadline) (d : Deadline) (right : List Deadline) → DeadlinesRise low (left ++ d ∷ right) → DeadlinesRise 0 right
 rise_right low left d right h = rise_later 0 (key_of d + 1) right (omega arith) (rise_past low left (d ∷ right) h).2
 
 -- ---- how many are below a key
 
-from_low : (low : ℕ) (left : List Deadline) (d : Deadline) (right : List Deadline) → Rise low (left ++ d ∷ right) → low ≤ key_of d
+from_low : (low : ℕ) (left : List Deadline) (d : Deadline) (right : List Deadline) → DeadlinesRise low (left ++ d ∷ right) → low ≤ key_of d
 from_low low left d right h = (rise_past low left (d ∷ right) h).0
 
 below_too : (a b key : ℕ) → a + 1 ≤ b → nat_lt b key ≡ true → nat_lt a key ≡ true
@@ -44,12 +44,12 @@ none_more : (key : ℕ) (x : Deadline) (ds : List Deadline) → nat_lt (key_of x
 none_more key x ds h = let none : one_if (is_below key x) ≡ 0 = ap one_if h in omega (arith, none, counts_more (is_below key) x ds)
 
 -- none is, past one that is not
-none_past : (key low : ℕ) (x : Deadline) (ds : List Deadline) → nat_lt (key_of x) key ≡ false → Rise (key_of x + 1) ds → count_by (is_below key) ds ≡ 0
+none_past : (key low : ℕ) (x : Deadline) (ds : List Deadline) → nat_lt (key_of x) key ≡ false → DeadlinesRise (key_of x + 1) ds → count_by (is_below key) ds ≡ 0
 none_past key low x [] h rises = refl
 none_past key low x (y ∷ ds) h rises = let past = above_too (key_of x) (key_of y) key rises.0 h in none_more key y ds past ∙ none_past key low y ds past rises.2
 
 -- where the node is, all to its left are
-pub counts_past : (key low : ℕ) (left : List Deadline) (d : Deadline) (right : List Deadline) → nat_lt (key_of d) key ≡ true → Rise low (left ++ d ∷ right)
+pub counts_past : (key low : ℕ) (left : List Deadline) (d : Deadline) (right : List Deadline) → nat_lt (key_of d) key ≡ true → DeadlinesRise low (left ++ d ∷ right)
     → length left + 1 + count_by (is_below key) right ≡ count_by (is_below key) (left ++ d ∷ right)
 counts_past key low [] d right h rises = sym (one_more key d right h)
 counts_past key low (x ∷ left) d right h rises =
@@ -58,7 +58,7 @@ counts_past key low (x ∷ left) d right h rises =
     omega (arith, rest, one_more key x (left ++ d ∷ right) below)
 
 -- where it is not, none to its right is
-pub counts_before : (key low : ℕ) (left : List Deadline) (d : Deadline) (right : List Deadline) → nat_lt (key_of d) key ≡ false → Rise low (left ++ d ∷ right)
+pub counts_before : (key low : ℕ) (left : List Deadline) (d : Deadline) (right : List Deadline) → nat_lt (key_of d) key ≡ false → DeadlinesRise low (left ++ d ∷ right)
     → count_by (is_below key) left ≡ count_by (is_below key) (left ++ d ∷ right)
 counts_before key low [] d right h rises = sym (none_more key d right h ∙ none_past key low d right h rises.2)
 counts_before key low (x ∷ left) d right h rises =
@@ -89,7 +89,7 @@ pub ruleset goes_out = (remove-append_left, goes_out_between, goes_out_right)
 
 -- ---- where the first is that is not below a key
 
-first_not_below : (key low : ℕ) (p : Deadline → Bool) (ds : List Deadline) → ((e : Deadline) → p e ≡ not (is_below key e)) → Rise low ds → count_by (is_below key) ds ≡ position_or_len p ds
+first_not_below : (key low : ℕ) (p : Deadline → Bool) (ds : List Deadline) → ((e : Deadline) → p e ≡ not (is_below key e)) → DeadlinesRise low ds → count_by (is_below key) ds ≡ position_or_len p ds
 first_not_below key low p [] same h = refl
 first_not_below key low p (x ∷ ds) same h =
     elim (is_below key x) as (λ b. is_below key x ≡ b → count_by (is_below key) (x ∷ ds) ≡ position_or_len p (x ∷ ds)) [
@@ -103,17 +103,17 @@ is_not_below_key a b = grind (arith, common_steps)
 is_above_key : (a b : ℕ) → nat_lt a b ≡ not (nat_lt b (a + 1))
 is_above_key a b = grind (arith, common_steps)
 
-pub place_is : (low : ℕ) (d : Deadline) (ds : List Deadline) → Rise low ds → count_by (is_below (key_of d)) ds ≡ place_of d ds
+pub place_is : (low : ℕ) (d : Deadline) (ds : List Deadline) → DeadlinesRise low ds → count_by (is_below (key_of d)) ds ≡ place_of d ds
 place_is low d ds h = first_not_below (key_of d) low (is_not_below d) ds (λ e. is_not_below_key (key_of d) (key_of e)) h
 
-pub above_is : (low : ℕ) (d : Deadline) (ds : List Deadline) → Rise low ds → count_by (is_below (key_of d + 1)) ds ≡ position_or_len (is_above d) ds
+pub above_is : (low : ℕ) (d : Deadline) (ds : List Deadline) → DeadlinesRise low ds → count_by (is_below (key_of d + 1)) ds ≡ position_or_len (is_above d) ds
 above_is low d ds h = first_not_below (key_of d + 1) low (is_above d) ds (λ e. is_above_key (key_of d) (key_of e)) h
 
 -- due is what is below the first key of the next moment
 is_due_below : (m x s : ℕ) → s < 4294967296 → nat_lt (x * 4294967296 + s) ((m + 1) * 4294967296) ≡ nat_le x m
 is_due_below m x s slot = grind (arith, common_steps)
 
-pub due_is : (m low : ℕ) (ds : List Deadline) → Rise low ds → count_by (is_below ((m + 1) * 4294967296)) ds ≡ count_by (is_due m) ds
+pub due_is : (m low : ℕ) (ds : List Deadline) → DeadlinesRise low ds → count_by (is_below ((m + 1) * 4294967296)) ds ≡ count_by (is_due m) ds
 due_is m low [] h = refl
 due_is m low (x ∷ ds) h =
     let same : one_if (is_below ((m + 1) * 4294967296) x) ≡ one_if (is_due m x) = ap one_if (is_due_below m x.moment x.slot h.1) in

@@ -7,9 +7,9 @@ abbrev pub key_of : Deadline → ℕ
 key_of d = d.moment * 4294967296 + d.slot
 
 -- in rising order, each once, none below this key
-abbrev pub Rise : ℕ → List Deadline → Type 0
-Rise low [] = Unit {0}
-Rise low (d ∷ ds) = (low ≤ key_of d) × (d.slot < 4294967296) × Rise (key_of d + 1) ds
+abbrev pub DeadlinesRise : ℕ → List Deadline → Type 0
+DeadlinesRise low [] = Unit {0}
+DeadlinesRise low (d ∷ ds) = (low ≤ key_of d) × (d.slot < 4294967296) × DeadlinesRise (key_of d + 1) ds
 
 -- the deadlines, and for how many more there is memory
 pub record IndexValue : Type 0 where

@@ -1,7 +1,7 @@
 //! An ordered set of moments with slots.
 ghost use Rattle.std.specs.Prelude.{◌≡◌, ◌&&◌, ◌+◌, ◌<◌, ◌≤◌, [], true, OnOk, IfErr, count_by, filter, find, length, option_map, slice_get};
 ghost use Rattle.std.specs.List.{position_or_len};
-ghost use Rattle.sq_deadline.specs.Deadlines.{Rise, if_due, is_above, is_due, is_not_below, is_other, is_this, key_of, with_deadline};
+ghost use Rattle.sq_deadline.specs.Deadlines.{DeadlinesRise, if_due, is_above, is_due, is_not_below, is_other, is_this, key_of, with_deadline};
 
 use crate::deadline::Deadline;
 use crate::tree::{Node, Tree};
@@ -21,14 +21,14 @@ pub struct DeadlineIndex {
 impl Model for DeadlineIndex {
     ghost use Rattle.std.specs.Prelude.{◌≡◌, ◌+◌, ◌≤◌, length, true};
     ghost use Rattle.std.specs.Vec.{vec_capacity, vec_len};
-    ghost use Rattle.sq_deadline.specs.Deadlines.{IndexValue, Rise};
+    ghost use Rattle.sq_deadline.specs.Deadlines.{IndexValue, DeadlinesRise};
     ghost use Rattle.sq_deadline.specs.Trees.{is_kept, listed};
 
     ghost Value = { IndexValue };
 
     ghost view = { λ i. record { deadlines = listed i.tree; reserved = vec_len i.spare } };
 
-    ghost invariant = { λ i. Rise 0 (listed i.tree) × (is_kept i.tree ≡ true) × (length (listed i.tree) + vec_len i.spare ≤ vec_capacity i.spare) };
+    ghost invariant = { λ i. DeadlinesRise 0 (listed i.tree) × (is_kept i.tree ≡ true) × (length (listed i.tree) + vec_len i.spare ≤ vec_capacity i.spare) };
 }
 
 impl DeadlineIndex {
@@ -47,7 +47,7 @@ impl DeadlineIndex {
     /// How many deadlines there are, in no time that grows.
     pub fn len(&self) -> usize
         ensures len { result ≡ length self.now.deadlines }
-        ensures order { Rise 0 self.now.deadlines }
+        ensures order { DeadlinesRise 0 self.now.deadlines }
     {
         self.tree.len()
     }
@@ -86,7 +86,7 @@ impl DeadlineIndex {
         ensures deadlines { self.new.deadlines ≡ with_deadline deadline self.old.deadlines }
         ensures reserved { self.old.reserved ≤ self.new.reserved + 1 }
         ensures memory { length self.old.deadlines + self.old.reserved ≤ length self.new.deadlines + self.new.reserved }
-        ensures order { Rise 0 self.old.deadlines }
+        ensures order { DeadlinesRise 0 self.old.deadlines }
     {
         let place = self.place(&deadline);
         if self.is_there(place, &deadline) {
@@ -102,7 +102,7 @@ impl DeadlineIndex {
         ensures deadlines { self.new.deadlines ≡ filter (is_other deadline.now) self.old.deadlines }
         ensures reserved { self.old.reserved ≤ self.new.reserved }
         ensures memory { length self.old.deadlines + self.old.reserved ≤ length self.new.deadlines + self.new.reserved }
-        ensures order { Rise 0 self.old.deadlines }
+        ensures order { DeadlinesRise 0 self.old.deadlines }
     {
         let place = self.place(deadline);
         if self.is_there(place, deadline) {
@@ -122,7 +122,7 @@ impl DeadlineIndex {
     /// How many are due at a moment or before it.
     pub fn count_due(&self, moment: u64) -> usize
         ensures count { result ≡ count_by (is_due moment) self.now.deadlines }
-        ensures order { Rise 0 self.now.deadlines }
+        ensures order { DeadlinesRise 0 self.now.deadlines }
     {
         self.tree.count_below((moment as u128 + 1) * 4_294_967_296)
     }
@@ -130,7 +130,7 @@ impl DeadlineIndex {
     /// The first one that is due at a moment or before it.
     pub fn due(&self, moment: u64) -> Option<&Deadline>
         ensures due { option_map (λ deadline. deadline.now) result ≡ find (is_due moment) self.now.deadlines }
-        ensures order { Rise 0 self.now.deadlines }
+        ensures order { DeadlinesRise 0 self.now.deadlines }
     {
         self.nth_due(0, moment)
     }
@@ -138,7 +138,7 @@ impl DeadlineIndex {
     /// The one at a place, the least first.
     pub fn nth(&self, place: usize) -> Option<&Deadline>
         ensures nth { option_map (λ deadline. deadline.now) result ≡ slice_get self.now.deadlines place }
-        ensures order { Rise 0 self.now.deadlines }
+        ensures order { DeadlinesRise 0 self.now.deadlines }
     {
         self.tree.get(place)
     }
@@ -147,7 +147,7 @@ impl DeadlineIndex {
     /// from 0 on give all of it, up to the first that gives none.
     pub fn nth_due(&self, place: usize, moment: u64) -> Option<&Deadline>
         ensures due { option_map (λ deadline. deadline.now) result ≡ if_due moment (slice_get self.now.deadlines place) }
-        ensures order { Rise 0 self.now.deadlines }
+        ensures order { DeadlinesRise 0 self.now.deadlines }
     {
         let nth = self.nth(place)?;
         if nth.moment <= moment {
@@ -160,7 +160,7 @@ impl DeadlineIndex {
     /// The first one above a deadline that is due at a moment or before it.
     pub fn due_after(&self, deadline: &Deadline, moment: u64) -> Option<&Deadline>
         ensures due { option_map (λ deadline. deadline.now) result ≡ find (λ e. is_above deadline.now e && is_due moment e) self.now.deadlines }
-        ensures order { Rise 0 self.now.deadlines }
+        ensures order { DeadlinesRise 0 self.now.deadlines }
     {
         self.nth_due(self.tree.count_below(deadline.key() + 1), moment)
     }
@@ -179,7 +179,7 @@ impl DeadlineIndex {
     fn place(&self, deadline: &Deadline) -> usize
         ensures place { result ≡ position_or_len (is_not_below deadline.now) self.now.deadlines }
         ensures within { result ≤ length self.now.deadlines }
-        ensures order { Rise 0 self.now.deadlines }
+        ensures order { DeadlinesRise 0 self.now.deadlines }
     {
         self.tree.count_below(deadline.key())
     }

@@ -2,7 +2,7 @@
 ghost use Rattle.std.specs.Prelude.{◌≡◌, ◌+◌, ◌*◌, ◌^◌, ◌++◌, ◌∷◌, ◌<◌, ◌≤◌, [], true, count_by, length, option_map, slice_get};
 ghost use Rattle.std.specs.List.{insert, remove};
 ghost use Rattle.std.specs.Vec.{vec_capacity, vec_len};
-ghost use Rattle.sq_deadline.specs.Deadlines.{Rise};
+ghost use Rattle.sq_deadline.specs.Deadlines.{DeadlinesRise};
 ghost use Rattle.sq_deadline.specs.Trees.{IsLevel, IsNearlyLevel, IsTwiceOrMore, depth, is_below, is_kept, listed, weight};
 
 use crate::deadline::Deadline;
@@ -216,7 +216,7 @@ impl Tree {
     /// How many are below a key, where they rise.
     pub(crate) fn count_below(&self, key: u128) -> usize
         requires { is_kept self.now ≡ true }
-        ensures count { Rise 0 (listed self.now) → result ≡ count_by (is_below key) (listed self.now) }
+        ensures count { DeadlinesRise 0 (listed self.now) → result ≡ count_by (is_below key) (listed self.now) }
         ensures within { result ≤ length (listed self.now) }
     {
         match self {

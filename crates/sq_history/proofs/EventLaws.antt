@@ -15,7 +15,7 @@ use Rattle.sq_base.specs.Stamps.{Below, stamp_cmp}
 use Rattle.sq_base.proofs.StampLaws.{below_less, below_not_less, below_or, below_trans, stamps_total}
 use Rattle.sq_model.specs.declared.event.Event.{Event}
 use Rattle.sq_model.specs.Replays.{StampsRise}
-use Rattle.sq_history.specs.Events.{IsEventAt, Rises, is_before}
+use Rattle.sq_history.specs.Events.{IsEventAt, Rises, is_event_before}
 
 stamps_weak : IsStrictWeakOrder (λ a b. is_lt (stamp_cmp a b))
 stamps_weak = ranks_by stamps_total (λ s. s)
@@ -45,26 +45,26 @@ under_below a b h = elim (below_or a b) as (λ _. Below a b) [
 ]
 
 -- those under a stamp come first
-pub parted : {K R : Type 0} (es : List (Event K R)) (stamp : StampValue) → Rises es → IsPartitionedBy (is_before stamp) es
+pub parted : {K R : Type 0} (es : List (Event K R)) (stamp : StampValue) → Rises es → IsPartitionedBy (is_event_before stamp) es
 parted es stamp r i j d le lt h =
     let x = slice_index_or es i d in
     let y = slice_index_or es j d in
     let at_i : slice_get es i ≡ Some x = slice_get-get_or es i d (omega (arith, le, lt)) in
     let at_j : slice_get es j ≡ Some y = slice_get-get_or es j d lt in
-    elim (eqb_tells i j) as (λ _. is_before stamp x ≡ true) [
+    elim (eqb_tells i j) as (λ _. is_event_before stamp x ≡ true) [
       | inl p ↦ rw p.1 h
       | inr p ↦ (let ne : i ≢ j = p.1 in below_less x.stamp stamp (below_trans x.stamp y.stamp stamp (rises_at r.low es r.last r.rising i j x y (omega (arith, le)) at_i at_j) (under_below y.stamp stamp h)))
     ]
 
 -- and the event of the stamp is the first of the others
-at_point : {K R : Type 0} (es : List (Event K R)) (stamp : StampValue) (place : ℕ) → Rises es → IsPartitionPoint (λ e. is_before stamp e ≡ true) (λ e. is_before stamp e ≡ false) es place
+at_point : {K R : Type 0} (es : List (Event K R)) (stamp : StampValue) (place : ℕ) → Rises es → IsPartitionPoint (λ e. is_event_before stamp e ≡ true) (λ e. is_event_before stamp e ≡ false) es place
     → (e : Event K R) → IsEventAt es stamp e → slice_get es place ≡ Some e
 at_point es stamp place r point e h =
     let within : h.0 < length es = slice_get_within es h.0 e h.1 in
     let here : slice_index_or es h.0 e ≡ e = get_or_from_slice_get es h.0 e e h.1 in
     elim (cases_lt h.0 place) as (λ _. slice_get es place ≡ Some e) [
       | inl lt ↦ absurd (
-          let under : is_before stamp e ≡ true = subst (λ (x : Event _ _). is_before stamp x ≡ true) here (point.0 h.0 e (omega arith) lt) in
+          let under : is_event_before stamp e ≡ true = subst (λ (x : Event _ _). is_event_before stamp x ≡ true) here (point.0 h.0 e (omega arith) lt) in
           let not : is_lt (stamp_cmp e.stamp e.stamp) ≡ true = subst (λ (s : StampValue). is_lt (stamp_cmp e.stamp s) ≡ true) (sym h.2) under in
           let f = not_under e.stamp in
           cc)
@@ -86,7 +86,7 @@ read_is {X} {R} now xs place None h = sym (slice_get_past xs place h.3)
 read_is {X} {R} now xs place (Some x) h = sym (slice_get_read xs (length xs) place (now x) refl h.3.0 h.1)
 
 -- what is lent of the place is the event of the stamp
-pub lent_at : {K R L : Type 0} (now : L → Event K R) (es : List (Event K R)) (stamp : StampValue) (place : ℕ) (lent : Option L) → Rises es → IsPartitionPoint (λ e. is_before stamp e ≡ true) (λ e. is_before stamp e ≡ false) es place
+pub lent_at : {K R L : Type 0} (now : L → Event K R) (es : List (Event K R)) (stamp : StampValue) (place : ℕ) (lent : Option L) → Rises es → IsPartitionPoint (λ e. is_event_before stamp e ≡ true) (λ e. is_event_before stamp e ≡ false) es place
     → ItemBy now es place place lent → (e : Event K R) → IsEventAt es stamp e → option_map now lent ≡ Some e
 lent_at now es stamp place lent r point by e h = read_is now es place lent by ∙ at_point es stamp place r point e h
 

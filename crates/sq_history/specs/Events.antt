@@ -27,5 +27,5 @@ abbrev pub IsEventAt : {K R : Type 0} → List (Event K R) → StampValue → Ev
 IsEventAt {K} {R} events stamp e = (k : ℕ) × (slice_get events k ≡ Some e) × (e.stamp ≡ stamp)
 
 -- an event is before a stamp
-abbrev pub is_before : {K R : Type 0} → StampValue → Event K R → Bool
-is_before {K} {R} stamp e = is_lt (stamp_cmp e.stamp stamp)
+abbrev pub is_event_before : {K R : Type 0} → StampValue → Event K R → Bool
+is_event_before {K} {R} stamp e = is_lt (stamp_cmp e.stamp stamp)

@@ -1,7 +1,7 @@
 //! Whether a history has the event of a record.
 ghost use Rattle.std.specs.Prelude.{◌≡◌, ◌↔◌, true, IfSome, IsSome, Some, option_map};
 ghost use Rattle.sq_model.specs.declared.event.Event.{Event as Done};
-ghost use Rattle.sq_history.specs.Events.{IsEventOf, IsEventAt, Rises, HasHomeEvent, is_before};
+ghost use Rattle.sq_history.specs.Events.{IsEventOf, IsEventAt, Rises, HasHomeEvent, is_event_before};
 
 use crate::record::LentHomeRecord;
 use crate::recorded::Home;
@@ -32,7 +32,7 @@ pub fn event_of<'a, K, R>(
 
 // Whether an event is before a stamp.
 fn is_before<K, R>(event: &Event<K, R>, stamp: Stamp) -> bool
-    ensures { result ≡ is_before stamp event.now }
+    ensures { result ≡ is_event_before stamp event.now }
 {
     event.stamp < stamp
 }

@@ -44,13 +44,13 @@ abbrev pub hello_text : List ℕ
 hello_text = 104 ∷ 101 ∷ 108 ∷ 108 ∷ 111 ∷ []
 
 -- the id that queue 2 gives with a serial
-abbrev pub id_of : ℕ → MessageId
-id_of serial = record { queue = 2; home = 0; serial = serial }
+abbrev pub worked_id : ℕ → MessageId
+worked_id serial = record { queue = 2; home = 0; serial = serial }
 
 -- sent at 1000 to queue 2, with this serial and the slot of that number
 abbrev pub sent_as : ℕ → Row
 sent_as serial =
-    record { id = id_of serial; lineage = id_of serial; body = hello_text; serial = serial; slot = serial; enqueued = 1000; visible_from = 1000; receives = 0; last_receive = None; origin = None }
+    record { id = worked_id serial; lineage = worked_id serial; body = hello_text; serial = serial; slot = serial; enqueued = 1000; visible_from = 1000; receives = 0; last_receive = None; origin = None }
 
 abbrev pub hello : Row
 hello = sent_as 0
@@ -72,8 +72,8 @@ abbrev pub hello_late : Row
 hello_late = record hello { visible_from = 32000; receives = 1; last_receive = Some 2000 }
 
 -- the receipt of a receive of it
-abbrev pub receipt_of : ℕ → Receipt
-receipt_of receive = record { slot = 0; serial = 0; receive = receive }
+abbrev pub worked_receipt : ℕ → Receipt
+worked_receipt receive = record { slot = 0; serial = 0; receive = receive }
 
 -- a home that gave serials below next
 abbrev pub with_rows : Settings → ℕ → List Row → Home

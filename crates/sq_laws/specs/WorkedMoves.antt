@@ -24,18 +24,18 @@ abbrev pub letters_site : Site
 letters_site = site_of 1 1048576 120000
 
 -- a ledger of these items and tasks; an item more fits
-abbrev pub ledger_with : List Item → ℕ → List Task → ℕ → Ledger
-ledger_with items next_item tasks next_task = record { items = items; next_item = next_item; tasks = tasks; next_task = next_task; limit = 10 }
+abbrev pub worked_ledger : List Item → ℕ → List Task → ℕ → Ledger
+worked_ledger items next_item tasks next_task = record { items = items; next_item = next_item; tasks = tasks; next_task = next_task; limit = 10 }
 
 abbrev pub no_moves : Ledger
-no_moves = ledger_with [] 1 [] 1
+no_moves = worked_ledger [] 1 [] 1
 
 -- the dead message, on its way to queue 1, and on its way back
 abbrev pub dead_item : Bool → Item
 dead_item homeward = record dead_hello { homeward = homeward }
 
 abbrev pub with_dead_item : Bool → Ledger
-with_dead_item homeward = ledger_with (dead_item homeward ∷ []) 2 [] 1
+with_dead_item homeward = worked_ledger (dead_item homeward ∷ []) 2 [] 1
 
 -- no other item fits
 abbrev pub full_ledger : Ledger
@@ -61,17 +61,17 @@ abbrev pub letters_with : List Row → Home
 letters_with rows = Serving plain 1 1 rows
 
 abbrev pub with_task : ℕ → Task → Ledger
-with_task next_item task = ledger_with [] next_item (task ∷ []) 2
+with_task next_item task = worked_ledger [] next_item (task ∷ []) 2
 
 abbrev pub with_task_item : Task → Ledger
-with_task_item task = ledger_with (task_item ∷ []) 2 (task ∷ []) 2
+with_task_item task = worked_ledger (task_item ∷ []) 2 (task ∷ []) 2
 
 -- the same message, on its way back since its target is closed
 abbrev pub turned_task_item : Item
 turned_task_item = record task_item { homeward = true }
 
 abbrev pub with_turned_item : Task → Ledger
-with_turned_item task = ledger_with (turned_task_item ∷ []) 2 (task ∷ []) 2
+with_turned_item task = worked_ledger (turned_task_item ∷ []) 2 (task ∷ []) 2
 
 -- so many tasks that run, each of another source, from this number on
 abbrev pub running_tasks : ℕ → ℕ → List Task
@@ -79,4 +79,4 @@ running_tasks number zero = []
 running_tasks number (suc more) = record new_task_1 { number = number; source = record { number = number; name = codes "d" } } ∷ running_tasks (number + 1) more
 
 abbrev pub with_running : ℕ → Ledger
-with_running count = ledger_with [] 1 (running_tasks 1 count) (count + 1)
+with_running count = worked_ledger [] 1 (running_tasks 1 count) (count + 1)

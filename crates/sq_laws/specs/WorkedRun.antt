@@ -21,7 +21,7 @@ use Rattle.sq_model.specs.Homes.{Closed, Home, fresh_id}
 use Rattle.sq_model.specs.Ledgers.{Ledger, opening_ledger}
 use Rattle.sq_model.specs.Policies.{nothing_given}
 use Rattle.sq_model.specs.Systems.{IsRun, OfDirectory, OfHome, OfLedger, System, Tag}
-use Rattle.sq_laws.specs.Worked.{hello, hello_once, hello_text, narrow, plain, receipt_of, site_of, strict, wide, with_rows, worked_home}
+use Rattle.sq_laws.specs.Worked.{hello, hello_once, hello_text, narrow, plain, worked_receipt, site_of, strict, wide, with_rows, worked_home}
 use Rattle.sq_laws.specs.WorkedDirectory.{dead_to, letters_queue, redrive_given, source_queue}
 use Rattle.sq_laws.specs.WorkedMoves.{dead_item, letter, letters_site}
 
@@ -52,14 +52,14 @@ abbrev pub of_tasks : ℕ → ℕ → ℕ → ℕ → LedgerCall → LedgerReply
 of_tasks moment count actor place call reply = OfLedger (record { stamp = stamp moment count; actor = actor; place = place; component = part.Ledger; call = call; reply = reply })
 
 -- at the home of the queue after the i-th
-abbrev pub of_home : ℕ → ℕ → ℕ → ℕ → ℕ → HomeCall → HomeReply → Tag
-of_home i moment count actor place call reply = OfHome i (record { stamp = stamp moment count; actor = actor; place = place; component = part.Home (worked_home (suc i)); call = call; reply = reply })
+abbrev pub at_worked_home : ℕ → ℕ → ℕ → ℕ → ℕ → HomeCall → HomeReply → Tag
+at_worked_home i moment count actor place call reply = OfHome i (record { stamp = stamp moment count; actor = actor; place = place; component = part.Home (worked_home (suc i)); call = call; reply = reply })
 
 abbrev pub of_first : ℕ → ℕ → ℕ → ℕ → HomeCall → HomeReply → Tag
-of_first moment count actor place call reply = of_home 0 moment count actor place call reply
+of_first moment count actor place call reply = at_worked_home 0 moment count actor place call reply
 
 abbrev pub of_second : ℕ → ℕ → ℕ → ℕ → HomeCall → HomeReply → Tag
-of_second moment count actor place call reply = of_home 1 moment count actor place call reply
+of_second moment count actor place call reply = at_worked_home 1 moment count actor place call reply
 
 -- a row came in, with a serial and the slot of that number
 abbrev pub came_in : ℕ → HomeReply
@@ -210,7 +210,7 @@ letter_y = record letter { body = codes "y"; serial = 1; slot = 1 }
 abbrev pub full_run : List Tag
 full_run = until_full
     ++ of_first 31000 0 0 7 (Look 1 None) (Looked (once_received 31000 message_x ∷ []))
-    ∷ of_first 31000 1 0 8 (Delete (receipt_of 1)) Done
+    ∷ of_first 31000 1 0 8 (Delete (worked_receipt 1)) Done
     ∷ of_first 31000 3 1 1 (Enter item_y) (came_in 1)
     ∷ of_first 31000 4 0 9 (Look 1 None) (Looked (once_received 31000 letter_y ∷ []))
     ∷ []

@@ -23,10 +23,10 @@ use Rattle.sq_model.specs.Homes.{Closed, Home, fresh_id}
 use Rattle.sq_model.specs.Ledgers.{Ledger}
 use Rattle.sq_model.specs.Policies.{nothing_given}
 use Rattle.sq_model.specs.Systems.{System, Tag}
-use Rattle.sq_laws.specs.Worked.{hello, hello_text, id_of, plain, site_of, strict, with_rows, worked_home}
+use Rattle.sq_laws.specs.Worked.{hello, hello_text, worked_id, plain, site_of, strict, with_rows, worked_home}
 use Rattle.sq_laws.specs.WorkedDirectory.{dead_to, letters_queue, made_queue, redrive_given}
 use Rattle.sq_laws.specs.WorkedMoves.{letters, source, task_at, task_item}
-use Rattle.sq_laws.specs.WorkedRun.{both_made, both_opened, came_in, nothing_moves, of_first, of_home, of_queues, of_second, of_tasks, once_received, one_deleted, sent_to, system, until_entered}
+use Rattle.sq_laws.specs.WorkedRun.{both_made, both_opened, came_in, nothing_moves, of_first, at_worked_home, of_queues, of_second, of_tasks, once_received, one_deleted, sent_to, system, until_entered}
 
 -- a ledger of these items, and of task 1 alone
 abbrev pub task_ledger : List Item → ℕ → Task → Ledger
@@ -44,7 +44,7 @@ letter_moves serial = record task_item { number = suc serial; row = letter_sent 
 
 -- and as a new message of queue 2, from a moment on
 abbrev pub letter_moved : ℕ → ℕ → Row
-letter_moved serial moment = record (letter_sent serial) { id = id_of serial; enqueued = moment; visible_from = moment }
+letter_moved serial moment = record (letter_sent serial) { id = worked_id serial; enqueued = moment; visible_from = moment }
 
 -- task 1, to queue 2 at a rate of 2
 abbrev pub to_source : TaskStatus → ℕ → ℕ → ℕ → ℕ → Task
@@ -158,7 +158,7 @@ item_2 = record task_item { number = 2 }
 
 -- the letter as a new message of its queue, received
 abbrev pub letter_home : Row
-letter_home = once_received 31000 (record hello { id = id_of 1; serial = 1; slot = 1; enqueued = 31000 })
+letter_home = once_received 31000 (record hello { id = worked_id 1; serial = 1; slot = 1; enqueued = 31000 })
 
 abbrev pub origin_run : List Tag
 origin_run = until_entered
@@ -201,7 +201,7 @@ abbrev pub chain_made : List ℕ → List Tag
 chain_made [] = []
 chain_made (n ∷ more) =
     of_queues 0 (2 * n + 1) 0 (2 * n) (Create (chain_name n) (chain_given n)) (Made (settings_at (chain_queue n)))
-    ∷ of_home n 0 (2 * n + 2) 0 (2 * n + 1) (Configure (chain_queue n).settings 1) Done
+    ∷ at_worked_home n 0 (2 * n + 2) 0 (2 * n + 1) (Configure (chain_queue n).settings 1) Done
     ∷ chain_made more
 
 abbrev pub chain_task : ℕ → Task

@@ -9,11 +9,11 @@ ghost use Rattle.sq_model.specs.declared.calls.HomeCall.TheVariants.{Configure, 
 ghost use Rattle.sq_model.specs.declared.replies.HomeReply.TheVariants.{Done, Sent, Looked, Over};
 ghost use Rattle.sq_model.specs.Rows.{is_delayed, is_flying, is_dead, is_live, is_expired};
 ghost use Rattle.sq_model.specs.Homes.{Home, Serving, HomeStep, home_refusal, entered_row, moved};
-ghost use Rattle.sq_laws.specs.Worked.{plain, kept_for, strict, worked_home, wide, narrow, careful, hello_text, id_of, sent_as, hello, delayed_hello, hello_once, hello_twice, hello_late, receipt_of, with_rows, dead_hello, moved_hello};
+ghost use Rattle.sq_laws.specs.Worked.{plain, kept_for, strict, worked_home, wide, narrow, careful, hello_text, worked_id, sent_as, hello, delayed_hello, hello_once, hello_twice, hello_late, worked_receipt, with_rows, dead_hello, moved_hello};
 
 /// The first message of a home has serial 0, and may be received at its moment.
 pub fn a_sent_message_is_received_at_once()
-    ensures sent { HomeStep wide (with_rows plain 0 []) 1000 (Send hello_text None) (Sent (record { id = id_of 0; slot = 0 })) (with_rows plain 1 (hello ∷ [])) }
+    ensures sent { HomeStep wide (with_rows plain 0 []) 1000 (Send hello_text None) (Sent (record { id = worked_id 0; slot = 0 })) (with_rows plain 1 (hello ∷ [])) }
     ensures received { HomeStep wide (with_rows plain 1 (hello ∷ [])) 1000 (Look 1 None) (Looked (hello_once ∷ [])) (with_rows plain 1 (hello_once ∷ [])) }
 {}
 
@@ -35,15 +35,15 @@ pub fn a_second_receive_has_number_two()
 /// After the second receive the receipt of the first deletes nothing, and that of the second takes the message.
 /// A serial that was never given is refused.
 pub fn only_the_last_receipt_deletes()
-    ensures older { HomeStep wide (with_rows plain 1 (hello_twice ∷ [])) 31000 (Delete (receipt_of 1)) Done (with_rows plain 1 (hello_twice ∷ [])) }
-    ensures last { HomeStep wide (with_rows plain 1 (hello_twice ∷ [])) 31000 (Delete (receipt_of 2)) Done (with_rows plain 1 []) }
-    ensures again { HomeStep wide (with_rows plain 1 []) 31000 (Delete (receipt_of 2)) Done (with_rows plain 1 []) }
+    ensures older { HomeStep wide (with_rows plain 1 (hello_twice ∷ [])) 31000 (Delete (worked_receipt 1)) Done (with_rows plain 1 (hello_twice ∷ [])) }
+    ensures last { HomeStep wide (with_rows plain 1 (hello_twice ∷ [])) 31000 (Delete (worked_receipt 2)) Done (with_rows plain 1 []) }
+    ensures again { HomeStep wide (with_rows plain 1 []) 31000 (Delete (worked_receipt 2)) Done (with_rows plain 1 []) }
     ensures never_given { home_refusal wide (with_rows plain 1 (hello_twice ∷ [])) 31000 (Delete (record { slot = 0; serial = 1; receive = 2 })) ≡ Some ReceiptHandleIsInvalid }
 {}
 
 /// A message that is sent at 1000 with a delay of 900 seconds is delayed at 900,999 and live at 901,000.
 pub fn a_delayed_message_is_live_at_the_end_of_its_delay()
-    ensures sent { HomeStep wide (with_rows plain 0 []) 1000 (Send hello_text (Some 900)) (Sent (record { id = id_of 0; slot = 0 })) (with_rows plain 1 (delayed_hello ∷ [])) }
+    ensures sent { HomeStep wide (with_rows plain 0 []) 1000 (Send hello_text (Some 900)) (Sent (record { id = worked_id 0; slot = 0 })) (with_rows plain 1 (delayed_hello ∷ [])) }
     ensures delayed { is_delayed 900999 delayed_hello ≡ true }
     ensures hidden { is_live plain 900999 delayed_hello ≡ false }
     ensures live { is_live plain 901000 delayed_hello ≡ true }
@@ -83,17 +83,17 @@ pub fn a_full_home_refuses_a_send()
 
 /// A timeout changed to 0 at 2000 makes the message live at 2000; a further change is refused, since it is not in flight.
 pub fn a_change_to_zero_shows_the_message()
-    ensures changed { HomeStep wide (with_rows plain 1 (hello_once ∷ [])) 2000 (Change (receipt_of 1) 0) Done (with_rows plain 1 (record hello_once { visible_from = 2000 } ∷ [])) }
+    ensures changed { HomeStep wide (with_rows plain 1 (hello_once ∷ [])) 2000 (Change (worked_receipt 1) 0) Done (with_rows plain 1 (record hello_once { visible_from = 2000 } ∷ [])) }
     ensures live { is_live plain 2000 (record hello_once { visible_from = 2000 }) ≡ true }
-    ensures not_in_flight { home_refusal wide (with_rows plain 1 (record hello_once { visible_from = 2000 } ∷ [])) 2000 (Change (receipt_of 1) 5) ≡ Some MessageNotInflight }
-    ensures older_receipt { home_refusal wide (with_rows plain 1 (hello_twice ∷ [])) 31000 (Change (receipt_of 1) 10) ≡ Some MessageNotInflight }
+    ensures not_in_flight { home_refusal wide (with_rows plain 1 (record hello_once { visible_from = 2000 } ∷ [])) 2000 (Change (worked_receipt 1) 5) ≡ Some MessageNotInflight }
+    ensures older_receipt { home_refusal wide (with_rows plain 1 (hello_twice ∷ [])) 31000 (Change (worked_receipt 1) 10) ≡ Some MessageNotInflight }
 {}
 
 /// A message that was received at 2000 may be hidden for 12 hours from 2000 on, and not 1 ms longer.
 pub fn twelve_hours_count_from_the_last_receive()
-    ensures allowed { home_refusal wide (with_rows plain 1 (hello_late ∷ [])) 2000 (Change (receipt_of 1) 43200) ≡ None }
-    ensures changed { HomeStep wide (with_rows plain 1 (hello_late ∷ [])) 2000 (Change (receipt_of 1) 43200) Done (with_rows plain 1 (record hello_late { visible_from = 43202000 } ∷ [])) }
-    ensures late { home_refusal wide (with_rows plain 1 (hello_late ∷ [])) 2001 (Change (receipt_of 1) 43200) ≡ Some InvalidParameterValue }
+    ensures allowed { home_refusal wide (with_rows plain 1 (hello_late ∷ [])) 2000 (Change (worked_receipt 1) 43200) ≡ None }
+    ensures changed { HomeStep wide (with_rows plain 1 (hello_late ∷ [])) 2000 (Change (worked_receipt 1) 43200) Done (with_rows plain 1 (record hello_late { visible_from = 43202000 } ∷ [])) }
+    ensures late { home_refusal wide (with_rows plain 1 (hello_late ∷ [])) 2001 (Change (worked_receipt 1) 43200) ≡ Some InvalidParameterValue }
 {}
 
 /// With one receive allowed, a message that was received once is dead from the moment at which it would be visible.

@@ -14,17 +14,17 @@ ghost use Rattle.sq_model.specs.Homes.{Unopened, Closed};
 ghost use Rattle.sq_model.specs.Tasks.{may_leave};
 ghost use Rattle.sq_model.specs.Ledgers.{LedgerStep, ledger_refusal};
 ghost use Rattle.sq_model.specs.Shared.{IsUnrecorded, SharedStep, shared_refusal};
-ghost use Rattle.sq_laws.specs.Worked.{hello, hello_once, id_of, narrow, plain, strict, wide, with_rows};
-ghost use Rattle.sq_laws.specs.WorkedMoves.{dead_item, full_ledger, ledger_with, letter, letters, letters_site, letters_with, new_task_1, no_moves, source, task_at, task_item, turned_task_item, with_dead_item, with_running, with_task, with_task_item, with_turned_item};
+ghost use Rattle.sq_laws.specs.Worked.{hello, hello_once, worked_id, narrow, plain, strict, wide, with_rows};
+ghost use Rattle.sq_laws.specs.WorkedMoves.{dead_item, full_ledger, worked_ledger, letter, letters, letters_site, letters_with, new_task_1, no_moves, source, task_at, task_item, turned_task_item, with_dead_item, with_running, with_task, with_task_item, with_turned_item};
 
 /// A dead letter leaves at 31,000 and comes in with its id, its age and its source. Where its target is closed it goes back as it
 /// was, and comes in at its source anew; where that is closed too, it is given up.
 pub fn a_dead_letter_goes_there_or_back()
     ensures leaves { SharedStep wide (with_rows strict 1 (hello_once ∷ [])) no_moves 31000 asks.LeaveDead (Left (dead_item false)) (with_rows strict 1 []) (with_dead_item false) }
-    ensures enters { SharedStep letters_site (with_rows plain 0 []) (with_dead_item false) 31000 (asks.Enter (dead_item false)) (Entered (record { serial = 0; slot = 0 })) (letters_with (letter ∷ [])) (ledger_with [] 2 [] 1) }
+    ensures enters { SharedStep letters_site (with_rows plain 0 []) (with_dead_item false) 31000 (asks.Enter (dead_item false)) (Entered (record { serial = 0; slot = 0 })) (letters_with (letter ∷ [])) (worked_ledger [] 2 [] 1) }
     ensures turned { SharedStep letters_site Closed (with_dead_item false) 31000 (asks.TurnBack (dead_item false)) Done Closed (with_dead_item true) }
-    ensures returned { SharedStep wide (with_rows strict 1 []) (with_dead_item true) 40000 (asks.GiveBack (dead_item true)) (Entered (record { serial = 1; slot = 0 })) (with_rows strict 2 (record hello { serial = 1; visible_from = 40000 } ∷ [])) (ledger_with [] 2 [] 1) }
-    ensures given_up { SharedStep wide Closed (with_dead_item true) 40000 (asks.GiveUp (dead_item true)) Done Closed (ledger_with [] 2 [] 1) }
+    ensures returned { SharedStep wide (with_rows strict 1 []) (with_dead_item true) 40000 (asks.GiveBack (dead_item true)) (Entered (record { serial = 1; slot = 0 })) (with_rows strict 2 (record hello { serial = 1; visible_from = 40000 } ∷ [])) (worked_ledger [] 2 [] 1) }
+    ensures given_up { SharedStep wide Closed (with_dead_item true) 40000 (asks.GiveUp (dead_item true)) Done Closed (worked_ledger [] 2 [] 1) }
 {}
 
 /// A full ledger refuses a dead row, and not a home without one, which is no event then. An item is asked for after what the home refuses.
@@ -49,7 +49,7 @@ pub fn a_task_goes_at_its_rate()
     ensures throttled { IsUnrecorded letters_site (letters_with (letter ∷ [])) (with_task 3 (task_at Running 2 0 31 2)) 31999 (LeaveTask 1) }
     ensures next_second { may_leave 32000 (task_at Running 2 0 31 2) ≡ true }
     ensures enters { SharedStep wide (with_rows plain 1 []) (with_task_item (task_at Running 1 0 31 1)) 40000 (asks.Enter task_item) (Entered (record { serial = 1; slot = 0 }))
-        (with_rows plain 2 (record hello { id = id_of 1; serial = 1; enqueued = 40000; visible_from = 40000 } ∷ [])) (with_task 2 (task_at Running 1 1 31 1)) }
+        (with_rows plain 2 (record hello { id = worked_id 1; serial = 1; enqueued = 40000; visible_from = 40000 } ∷ [])) (with_task 2 (task_at Running 1 1 31 1)) }
     ensures no_origin { SharedStep letters_site (letters_with (record letter { origin = None } ∷ [])) (with_task 1 new_task_1) 31000 (asks.LeaveTask 1) (NoOrigin 0) (letters_with (record letter { origin = None } ∷ [])) (with_task 1 (task_at (Failed because.NoOrigin) 0 0 0 0)) }
     ensures turned { SharedStep wide Closed (with_task_item (task_at Running 1 0 31 1)) 32000 (asks.TurnBack task_item) Done Closed (with_turned_item (task_at (Failed because.DestinationClosed) 1 0 31 1)) }
     ensures returned { SharedStep letters_site (letters_with []) (with_turned_item (task_at (Failed because.DestinationClosed) 1 0 31 1)) 32000 (asks.GiveBack turned_task_item) (Entered (record { serial = 1; slot = 0 }))

@@ -10,7 +10,7 @@ ghost use Rattle.sq_model.specs.Lineages.{items_with};
 ghost use Rattle.sq_model.specs.Places.{homes_with, place_in, run_ends, run_sends};
 ghost use Rattle.sq_model.specs.Shared.{shared_refusal, shared_stamp};
 ghost use Rattle.sq_model.specs.Systems.{IsRun, opening};
-ghost use Rattle.sq_laws.specs.Worked.{id_of, plain, with_rows};
+ghost use Rattle.sq_laws.specs.Worked.{worked_id, plain, with_rows};
 ghost use Rattle.sq_laws.specs.WorkedRun.{IsWorked, after_all, after_back, after_drop, after_full, after_leave, after_receive, after_room, back_run, both_sites, dropped_run, full_run, message_x, narrow_letters, narrow_sites, stamp, until_dead, until_full, until_left, worked_run};
 
 /// Two queues are made and opened; a message is sent, received once, and is dead at 31,000. It leaves, comes in and is received again.
@@ -18,12 +18,12 @@ ghost use Rattle.sq_laws.specs.WorkedRun.{IsWorked, after_all, after_back, after
 pub fn a_dead_letter_moves_in_one_run()
     ensures run { IsWorked worked_run after_all }
     ensures until { IsWorked until_dead after_receive × IsWorked until_left after_leave }
-    ensures at_its_source { homes_with (id_of 0) after_receive.homes ≡ 1 }
-    ensures not_in_transit { items_with (id_of 0) after_receive.ledger.items ≡ 0 }
-    ensures in_no_home { homes_with (id_of 0) after_leave.homes ≡ 0 }
-    ensures in_transit { items_with (id_of 0) after_leave.ledger.items ≡ 1 }
-    ensures at_its_target { homes_with (id_of 0) after_all.homes ≡ 1 }
-    ensures arrived { items_with (id_of 0) after_all.ledger.items ≡ 0 }
+    ensures at_its_source { homes_with (worked_id 0) after_receive.homes ≡ 1 }
+    ensures not_in_transit { items_with (worked_id 0) after_receive.ledger.items ≡ 0 }
+    ensures in_no_home { homes_with (worked_id 0) after_leave.homes ≡ 0 }
+    ensures in_transit { items_with (worked_id 0) after_leave.ledger.items ≡ 1 }
+    ensures at_its_target { homes_with (worked_id 0) after_all.homes ≡ 1 }
+    ensures arrived { items_with (worked_id 0) after_all.ledger.items ≡ 0 }
     ensures leave { shared_stamp (stamp 31000 0) (stamp 0 0) (stamp 0 3) 31000 ≡ Ok (stamp 31000 2) }
     ensures no_clock { shared_stamp (stamp 0 2) (stamp 0 1) (stamp 0 3) 4611686018427387904 ≡ Err ClockRange }
     ensures last_count { shared_stamp (stamp 5 0) (stamp 5 4611686018427387903) (stamp 0 3) 5 ≡ Err Worn }
@@ -38,7 +38,7 @@ pub fn a_dead_letter_comes_back_from_a_deleted_queue()
 
 /// Both queues are deleted while the message is on its way: it is turned, and then dropped, and that is where it ends.
 pub fn a_dead_letter_without_a_queue_is_dropped()
-    ensures { (run : IsWorked dropped_run after_drop) × (place_in (id_of 0) (run_sends dropped_run) (run_ends (opening 64 10000 both_sites) dropped_run after_drop run.steps) after_drop.ledger.items ≡ Some Dropped) }
+    ensures { (run : IsWorked dropped_run after_drop) × (place_in (worked_id 0) (run_sends dropped_run) (run_ends (opening 64 10000 both_sites) dropped_run after_drop run.steps) after_drop.ledger.items ≡ Some Dropped) }
 {}
 
 /// Where a home holds one message at most, a dead letter does not come in while another one is there. Once that one is received and

@@ -29,7 +29,7 @@ use Rattle.sq_history.specs.LogValue.{LogValue}
 use Rattle.sq_history.specs.Rooms.{GrowingValue, KeepsRoom}
 use Rattle.sq_ledger.specs.LedgerHistory.{LedgerHistory, history_of, ledger_with}
 use Rattle.sq_ledger.specs.LedgerHistories.{IsLedgerKept, IsLedgerRefused, KeepsTaskRoom, LedgerRecords, MayStart, own_event, start_refusal}
-use Rattle.sq_ledger.specs.TaskIndexes.{MayChange, changed_by, newest, number_of}
+use Rattle.sq_ledger.specs.TaskIndexes.{MayChange, changed_by, newest, task_number}
 use Rattle.sq_ledger.proofs.LedgerLaws.{for_reason, holds, in_transit_of, next_is}
 
 -- ---- why a call is refused
@@ -109,7 +109,7 @@ refused_as h by now call stamp e stamped refused = inr (inr (stamp, stamped, inl
 
 -- a list is out of memory where there are tasks to copy
 pub list_out : (h : LedgerHistory) (by : Actor) (now source most : ℕ) (stamp : StampValue) (e : Refusal) → after h.last by.seen now ≡ Ok stamp → e ≡ NoMemory → (newest source h.ledger.tasks ≢ None) → IsLedgerRefused h by now (asks.ListTasks source most) e
-list_out h by now source most stamp e stamped out some = inr (inr (stamp, stamped, inr (out, list_passes h.ledger stamp.moment source most, λ none. some (ap (option_map number_of) none))))
+list_out h by now source most stamp e stamped out some = inr (inr (stamp, stamped, inr (out, list_passes h.ledger stamp.moment source most, λ none. some (ap (option_map task_number) none))))
 
 -- ---- what may be done to a task
 

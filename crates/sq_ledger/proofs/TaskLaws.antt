@@ -22,7 +22,7 @@ use Rattle.sq_laws.proofs.LedgerLists.{count_append, one_longer, some_same, task
 use Rattle.sq_ledger.specs.declared.tasks.TaskChange.{TaskChange}
 use Rattle.sq_ledger.specs.declared.tasks.TaskChange.TheVariants as to
 use Rattle.sq_ledger.specs.declared.tasks.TaskRow.{TaskRow}
-use Rattle.sq_ledger.specs.TaskIndexes.{AreTasks, MayChange, NamesBefore, changed_by, how_many_active, newest, number_of, task_in, tasks_from, tasks_in}
+use Rattle.sq_ledger.specs.TaskIndexes.{AreTasks, MayChange, NamesBefore, changed_by, how_many_active, newest, task_number, task_in, tasks_from, tasks_in}
 
 -- ---- where a task stands
 
@@ -128,15 +128,15 @@ keeps_source (to.Failed reason) task = refl
 
 -- ---- the most recent task of a source
 
-first_append : (ys : List Task) (t : Task) → option_map number_of (slice_get (ys ++ t ∷ []) 0) ≡ option_or (option_map number_of (slice_get ys 0)) (Some t.number)
+first_append : (ys : List Task) (t : Task) → option_map task_number (slice_get (ys ++ t ∷ []) 0) ≡ option_or (option_map task_number (slice_get ys 0)) (Some t.number)
 first_append [] t = refl
 first_append (y ∷ ys) t = refl
 
 reversed : (t : Task) (ts : List Task) → reverse (t ∷ ts) ≡ reverse ts ++ t ∷ []
 reversed t ts = reverse-append (t ∷ []) ts
 
-first_reversed : (t : Task) (ts : List Task) → option_map number_of (slice_get (reverse (t ∷ ts)) 0) ≡ option_or (option_map number_of (slice_get (reverse ts) 0)) (Some t.number)
-first_reversed t ts = ap (λ (l : List Task). option_map number_of (slice_get l 0)) (reversed t ts) ∙ first_append (reverse ts) t
+first_reversed : (t : Task) (ts : List Task) → option_map task_number (slice_get (reverse (t ∷ ts)) 0) ≡ option_or (option_map task_number (slice_get (reverse ts) 0)) (Some t.number)
+first_reversed t ts = ap (λ (l : List Task). option_map task_number (slice_get l 0)) (reversed t ts) ∙ first_append (reverse ts) t
 
 or_none : (o : Option ℕ) → option_or o None ≡ o
 or_none None = refl
@@ -147,7 +147,7 @@ number_if source t = if is_of_source source t then Some t.number else None
 
 newest_cons : (source : ℕ) (t : Task) (ts : List Task) → newest source (t ∷ ts) ≡ option_or (newest source ts) (if is_of_source source t then Some t.number else None)
 newest_cons source t ts =
-    elim (is_of_source source t) as (λ b. option_map number_of (slice_get (reverse (cond b (t ∷ filter (is_of_source source) ts) (filter (is_of_source source) ts))) 0) ≡ option_or (newest source ts) (if b then Some t.number else None)) [
+    elim (is_of_source source t) as (λ b. option_map task_number (slice_get (reverse (cond b (t ∷ filter (is_of_source source) ts) (filter (is_of_source source) ts))) 0) ≡ option_or (newest source ts) (if b then Some t.number else None)) [
       | true ↦ first_reversed t (filter (is_of_source source) ts)
       | false ↦ sym (or_none (newest source ts))
     ]
@@ -216,7 +216,7 @@ chain source tasks (suc k) number count le is =
     ] refl newer all
 
 -- where there is none, there are no tasks of the source
-pub none_left : (tasks : List Task) → option_map number_of (slice_get tasks 0) ≡ None → tasks ≡ []
+pub none_left : (tasks : List Task) → option_map task_number (slice_get tasks 0) ≡ None → tasks ≡ []
 none_left [] h = refl
 none_left (x ∷ tasks) h = absurd cc
 
@@ -410,7 +410,7 @@ pushed_length listed new task n is pushed = ap (λ (l : List Task). length l) pu
 
 -- ---- the most recent task of a source
 
-is_none : (o : Option Task) → option_map number_of o ≡ None → o ≡ None
+is_none : (o : Option Task) → option_map task_number o ≡ None → o ≡ None
 is_none None h = refl
 is_none (Some t) h = absurd cc
 

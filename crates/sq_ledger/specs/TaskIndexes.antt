@@ -12,8 +12,8 @@ use Rattle.sq_ledger.specs.declared.tasks.TaskChange.{TaskChange}
 use Rattle.sq_ledger.specs.declared.tasks.TaskChange.TheVariants.{Left, Entered, Back, Dropped, Cancelled, Finished, Failed}
 use Rattle.sq_ledger.specs.declared.tasks.TaskRow.{TaskRow}
 
-abbrev pub number_of : Task → ℕ
-number_of task = task.number
+abbrev pub task_number : Task → ℕ
+task_number task = task.number
 
 -- the tasks of a source, the most recent first
 abbrev pub tasks_from : ℕ → List Task → List Task
@@ -21,7 +21,7 @@ tasks_from source tasks = reverse (filter (is_of_source source) tasks)
 
 -- the number of the most recent one of a source
 abbrev pub newest : ℕ → List Task → Option ℕ
-newest source tasks = option_map number_of (slice_get (tasks_from source tasks) 0)
+newest source tasks = option_map task_number (slice_get (tasks_from source tasks) 0)
 
 abbrev pub how_many_active : List Task → ℕ
 how_many_active tasks = count_by (λ task. is_active task.status) tasks

@@ -13,7 +13,7 @@ use Rattle.sq_model.specs.declared.replies.HomeReply.{HomeReply}
 use Rattle.sq_history.specs.declared.act.HomeAct.{HomeAct}
 use Rattle.sq_history.specs.Acts.{call_of}
 use Rattle.sq_history.specs.HistoryValue.{HistoryValue}
-use Rattle.sq_client.specs.Asks.{Resolve, Directed, AtHome, Moving, Redriven, Ledgered, IsAnswerTo, IsReplyTo, IsToldTo, IsOfAnyStep, IsOfAct, IsOfMove, MayRefuse}
+use Rattle.sq_actions.specs.Asks.{Resolve, AskDirectory, AskHome, AskShared, Redriven, AskLedger, IsAnswerTo, IsReplyTo, IsToldTo, IsOfAnyStep, IsOfAct, IsOfMove, MayRefuse}
 use Rattle.sq_steps.specs.Journals.{journal_of}
 use Rattle.sq_model.specs.RecordValues.{Journal}
 use Rattle.sq_steps.specs.Journals.{IsHomeRefused}
@@ -21,7 +21,7 @@ use Rattle.sq_steps.specs.SharedSteps.{IsSharedRefused}
 use Rattle.sq_merge.specs.WorldValue.{WorldValue}
 use Rattle.sq_merge.specs.Worlds.{HomeStepped, HomeRefused, DirectoryStepped, DirectoryRefused, NameRefused, SharedRefused, LedgerStepped, LedgerRefused, EndsUnread, IsKnown}
 use Rattle.sq_directory.specs.Makers.{IsAnsweredByName, name_asked, queue_answered}
-use Rattle.sq_client.proofs.AskLaws as ask
+use Rattle.sq_actions.proofs.AskLaws as ask
 use Rattle.sq_merge.proofs.KnownLaws.{known_directed, known_stepped}
 use Rattle.sq_merge.proofs.StepLaws.{IsRefusedAt}
 
@@ -30,17 +30,17 @@ at_home_may : {P : Type 0} (w : WorldValue) (actor now : ℕ) (id : HomeId) (e :
     → ((h : HistoryValue) → Why h (journal_of actor w.journals) → IsOfAnyStep e ⊎ (e ≡ QueueDoesNotExist) ⊎ P) → IsOfAnyStep e ⊎ (e ≡ QueueDoesNotExist) ⊎ P
 at_home_may {P} w actor now id e Why h own = elim h [ inl no_such_home ↦ ask.nowhere_may {P = P} now e no_such_home.1 | inr in_list ↦ own in_list.1 in_list.3 ]
 
-pub moving_may : (w : WorldValue) (actor now : ℕ) (name : Option (List ℕ)) (id : HomeId) (what : SharedAct) (e : Refusal) → SharedRefused w actor now id what e → MayRefuse (Moving name id what) e
-moving_may w actor now name id what e h =
-    at_home_may {P = IsOfMove what e} w actor now id e (λ home mine. IsSharedRefused home w.ledger mine now what e) h (λ home refused. ask.moving_may home w.ledger (journal_of actor w.journals) now name id what e refused)
+pub shared_may : (w : WorldValue) (actor now : ℕ) (name : Option (List ℕ)) (id : HomeId) (what : SharedAct) (e : Refusal) → SharedRefused w actor now id what e → MayRefuse (AskShared name id what) e
+shared_may w actor now name id what e h =
+    at_home_may {P = IsOfMove what e} w actor now id e (λ home mine. IsSharedRefused home w.ledger mine now what e) h (λ home refused. ask.shared_may home w.ledger (journal_of actor w.journals) now name id what e refused)
 
 -- the same of an answer
-pub answered_moving : (w : WorldValue) (actor now : ℕ) (name : Option (List ℕ)) (id : HomeId) (what : SharedAct) (answered : Result (Option HomeReply) Refusal) → IfErr answered (SharedRefused w actor now id what) → IfErr answered (MayRefuse (Moving name id what))
-answered_moving w actor now name id what (Ok told) h = tt
-answered_moving w actor now name id what (Err e) h = moving_may w actor now name id what e h
+pub answered_shared : (w : WorldValue) (actor now : ℕ) (name : Option (List ℕ)) (id : HomeId) (what : SharedAct) (answered : Result (Option HomeReply) Refusal) → IfErr answered (SharedRefused w actor now id what) → IfErr answered (MayRefuse (AskShared name id what))
+answered_shared w actor now name id what (Ok told) h = tt
+answered_shared w actor now name id what (Err e) h = shared_may w actor now name id what e h
 
 -- why a step of a home is refused
-pub home_may : (w : WorldValue) (actor now : ℕ) (name : List ℕ) (id : HomeId) (a : HomeAct) (e : Refusal) → HomeRefused w actor now id (call_of a) e → MayRefuse (AtHome name id a) e
+pub home_may : (w : WorldValue) (actor now : ℕ) (name : List ℕ) (id : HomeId) (a : HomeAct) (e : Refusal) → HomeRefused w actor now id (call_of a) e → MayRefuse (AskHome name id a) e
 home_may w actor now name id a e h =
     at_home_may {P = IsOfAct a e} w actor now id e (λ home mine. IsHomeRefused home mine now (call_of a) e) h (λ home refused. ask.home_may home (journal_of actor w.journals) now name id a e refused)
 
@@ -60,11 +60,11 @@ pub answered_reply : (old new : WorldValue) (actor now : ℕ) (name : Option (Li
 answered_reply old new actor now name id a (Ok by) s = ask.home_reply s.before s.after (journal_of actor old.journals) s.recorded_in now name a by s.moves
 answered_reply old new actor now name id a (Err e) s = tt
 
-pub answered_home : (w : WorldValue) (actor now : ℕ) (name : List ℕ) (id : HomeId) (a : HomeAct) (answered : Result HomeReply Refusal) → IfErr answered (HomeRefused w actor now id (call_of a)) → IfErr answered (MayRefuse (AtHome name id a))
+pub answered_home : (w : WorldValue) (actor now : ℕ) (name : List ℕ) (id : HomeId) (a : HomeAct) (answered : Result HomeReply Refusal) → IfErr answered (HomeRefused w actor now id (call_of a)) → IfErr answered (MayRefuse (AskHome name id a))
 answered_home w actor now name id a (Ok by) h = tt
 answered_home w actor now name id a (Err e) h = home_may w actor now name id a e h
 
-pub answered_directory : (w : WorldValue) (actor now : ℕ) (call : DirectoryCall) (answered : Result DirectoryReply Refusal) → IfErr answered (DirectoryRefused w actor now call) → IfErr answered (MayRefuse (Directed call))
+pub answered_directory : (w : WorldValue) (actor now : ℕ) (call : DirectoryCall) (answered : Result DirectoryReply Refusal) → IfErr answered (DirectoryRefused w actor now call) → IfErr answered (MayRefuse (AskDirectory call))
 answered_directory w actor now call (Ok by) h = tt
 answered_directory w actor now call (Err e) h = ask.directory_may w.directory (journal_of actor w.journals) now call e h
 
@@ -80,7 +80,7 @@ answered_known old new actor now call (Err e) s made = tt
 
 -- ---- move tasks
 
-pub answered_ledgered : (w : WorldValue) (actor now : ℕ) (what : TaskAct) (answered : Result LedgerReply Refusal) → IfErr answered (LedgerRefused w actor now what) → IfErr answered (MayRefuse (Ledgered what))
+pub answered_ledgered : (w : WorldValue) (actor now : ℕ) (what : TaskAct) (answered : Result LedgerReply Refusal) → IfErr answered (LedgerRefused w actor now what) → IfErr answered (MayRefuse (AskLedger what))
 answered_ledgered w actor now what (Ok by) h = tt
 answered_ledgered w actor now what (Err e) h = ask.ledgered_may w.ledger (journal_of actor w.journals) now what e h
 

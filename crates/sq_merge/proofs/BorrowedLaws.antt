@@ -4,22 +4,22 @@ use Rattle.sq_base.specs.declared.refusal.Refusal.{Refusal}
 use Rattle.sq_steps.specs.Journals.{journal_of}
 use Rattle.sq_merge.specs.Acting.{ActorDoes, ActorStepped}
 use Rattle.sq_merge.specs.WorldValue.{WorldValue}
-use Rattle.sq_client.specs.Asks.{Ask, Resolve, Directed, AtHome, Moving, Peek, Redriven, Ledgered, ReadTask, Gave, Found, Answered, Replied, Nothing, Peeked, Ends, Told, TaskFound, Done}
-use Rattle.sq_client.specs.Performs.{Performs, LeavesRecords}
+use Rattle.sq_actions.specs.Asks.{Ask, Resolve, AskDirectory, AskHome, AskShared, Peek, Redriven, AskLedger, ReadTask, Gave, Found, Answered, Replied, Nothing, Peeked, Ends, Told, TaskFound, Done}
+use Rattle.sq_actions.specs.Performs.{Performs, LeavesRecords}
 use Rattle.sq_merge.specs.declared.acting.Acting.{Acting}
 use Rattle.sq_merge.specs.declared.progress.ActorProgress.{ActorProgress}
-use Rattle.sq_client.proofs.PathLaws.{path_inside}
+use Rattle.sq_actions.proofs.PathLaws.{path_inside}
 
 -- no step changes how far the turns of actors are
 does_progress : (actor now : ℕ) (s t : WorldValue) (ask : Ask) (gave : Gave) → ActorDoes actor now s ask gave t → t.progress ≡ s.progress
 does_progress actor now s t (Resolve name) (Found queue) h = ap (λ (v : WorldValue). v.progress) h.1
-does_progress actor now s t (Directed call) (Answered reply) h = ap (λ (v : WorldValue). v.progress) h.changed
-does_progress actor now s t (AtHome name id act) (Replied reply) h = ap (λ (v : WorldValue). v.progress) h.changed
-does_progress actor now s t (Moving name id what) (Replied reply) h = ap (λ (v : WorldValue). v.progress) h.changed
-does_progress actor now s t (Moving name id what) Nothing h = ap (λ (v : WorldValue). v.progress) h.unchanged
+does_progress actor now s t (AskDirectory call) (Answered reply) h = ap (λ (v : WorldValue). v.progress) h.changed
+does_progress actor now s t (AskHome name id act) (Replied reply) h = ap (λ (v : WorldValue). v.progress) h.changed
+does_progress actor now s t (AskShared name id what) (Replied reply) h = ap (λ (v : WorldValue). v.progress) h.changed
+does_progress actor now s t (AskShared name id what) Nothing h = ap (λ (v : WorldValue). v.progress) h.unchanged
 does_progress actor now s t (Peek number) (Peeked next) h = ap (λ (v : WorldValue). v.progress) h.1
 does_progress actor now s t (Redriven source destination) (Ends ends) h = ap (λ (v : WorldValue). v.progress) h.1
-does_progress actor now s t (Ledgered what) (Told reply) h = ap (λ (v : WorldValue). v.progress) h.changed
+does_progress actor now s t (AskLedger what) (Told reply) h = ap (λ (v : WorldValue). v.progress) h.changed
 does_progress actor now s t (ReadTask number) (TaskFound task) h = ap (λ (v : WorldValue). v.progress) h.1
 does_progress actor now s t ask gave h = elim h [ ]
 

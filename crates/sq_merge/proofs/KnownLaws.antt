@@ -10,14 +10,14 @@ use Rattle.sq_base.specs.declared.ids.HomeId.{HomeId}
 use Rattle.sq_directory.specs.Makers.{IsSeen, IsMadeBy}
 use Rattle.sq_steps.specs.Journals.{journal_of, having_seen}
 use Rattle.sq_merge.specs.WorldValue.{WorldValue}
-use Rattle.sq_merge.specs.Worlds.{HomeStepped, DirectoryStepped, having_read, IsKnown}
+use Rattle.sq_merge.specs.Worlds.{HomeStepped, DirectoryStepped, having_read_directory, IsKnown}
 use Rattle.sq_steps.proofs.JournalListLaws.{journal_own, journal_put}
 use Rattle.sq_steps.proofs.JournalLaws.{later_second}
 use Rattle.sq_directory.proofs.MakerLaws.{made_later}
 
 -- an actor that read the directory knows the queue that it found
 pub known_read : (w : WorldValue) (actor : ℕ) (name : List ℕ) (queue : ℕ) → IsMadeBy w.directory.events w.directory.last name queue
-    → IsKnown w.directory.events (journal_of actor (having_read w actor).journals) (Some name) queue
+    → IsKnown w.directory.events (journal_of actor (having_read_directory w actor).journals) (Some name) queue
 known_read w actor name queue made =
     let mine = having_seen (journal_of actor w.journals) w.directory.last in
     rw (journal_put actor mine w.journals (journal_own actor w.journals)) (made_later w.directory.events w.directory.last mine.seen name queue made (later_second (journal_of actor w.journals).seen w.directory.last))

@@ -11,14 +11,14 @@ use Rattle.sq_calls.specs.declared.turns.Turn.{Turn}
 use Rattle.sq_calls.specs.declared.turns.Turned.{Turned}
 use Rattle.sq_directory.proofs.ElementLaws.{some_same}
 use Rattle.sq_audit.proofs.ActorLaws.{same_number}
-use Rattle.sq_client.specs.declared.progress.Progress.{Progress}
-use Rattle.sq_client.specs.Performs.{Performs, LeavesRecords}
-use Rattle.sq_client.specs.Progresses.{no_progress}
-use Rattle.sq_client.specs.Turns.{TurnFits}
+use Rattle.sq_actions.specs.declared.progress.Progress.{Progress}
+use Rattle.sq_actions.specs.Performs.{Performs, LeavesRecords}
+use Rattle.sq_actions.specs.Progresses.{no_progress}
+use Rattle.sq_actions.specs.Turns.{TurnFits}
 use Rattle.sq_model.specs.RecordValues.{Journal}
 use Rattle.sq_merge.specs.declared.progress.ActorProgress.{ActorProgress}
 use Rattle.sq_merge.specs.Acting.{ActorStepped, TurnStepped}
-use Rattle.sq_merge.specs.Progresses.{is_progress_of, at_progress, progress_of, put_where, put_progress, placed_where, placed, place_in}
+use Rattle.sq_merge.specs.Progresses.{is_progress_of, at_progress, progress_of, put_where, put_progress, placed_where, with_progress, progress_place}
 use Rattle.sq_merge.specs.WorldValue.{WorldValue}
 
 -- where a test first passes, and where it never does
@@ -36,7 +36,7 @@ abbrev stands : ℕ → Option ActorProgress → Progress
 stands actor o = (unwrap_or o (at_progress actor no_progress)).progress
 
 -- what is read at the actor's place is how far it is
-read_there : (actor : ℕ) (ps : List ActorProgress) (p : ActorProgress) → p ≡ slice_index_or (placed actor ps) (place_in actor ps) p → p.progress ≡ progress_of actor ps
+read_there : (actor : ℕ) (ps : List ActorProgress) (p : ActorProgress) → p ≡ slice_index_or (with_progress actor ps) (progress_place actor ps) p → p.progress ≡ progress_of actor ps
 read_there actor ps p is =
     let test = is_progress_of actor in
     elim (position test ps) as (λ v. position test ps ≡ v → p ≡ slice_index_or (placed_where v actor ps) (unwrap_or v (length ps)) p → p.progress ≡ progress_of actor ps) [
@@ -48,7 +48,7 @@ read_there actor ps p is =
     ] refl is
 
 -- what is written there is put
-written_there : (actor : ℕ) (now : Progress) (ps : List ActorProgress) → slice_set (placed actor ps) (place_in actor ps) (at_progress actor now) ≡ put_progress actor now ps
+written_there : (actor : ℕ) (now : Progress) (ps : List ActorProgress) → slice_set (with_progress actor ps) (progress_place actor ps) (at_progress actor now) ≡ put_progress actor now ps
 written_there actor now ps =
     elim (position (is_progress_of actor) ps) as (λ v. slice_set (placed_where v actor ps) (unwrap_or v (length ps)) (at_progress actor now) ≡ put_where v (at_progress actor now) ps)
     [ None ↦ set-append_seam ps (at_progress actor no_progress) [] (at_progress actor now) | Some at ↦ refl ]
@@ -64,19 +64,19 @@ progress_put actor now ps =
     ] refl
 
 -- a turn whose actor's place was made, read, and written again
-module _ (actor now : ℕ) (turn : Turn) (old mid : WorldValue) (after : Progress) (p : ActorProgress) (answered : Result Turned Refusal) (read : p ≡ slice_index_or (placed actor old.progress) (place_in actor old.progress) p) (same : mid.progress ≡ placed actor old.progress) where
-  put_there : slice_set mid.progress (place_in actor old.progress) (at_progress actor after) ≡ put_progress actor after old.progress
-  put_there = ap (λ (ps : List ActorProgress). slice_set ps (place_in actor old.progress) (at_progress actor after)) same ∙ written_there actor after old.progress
+module _ (actor now : ℕ) (turn : Turn) (old mid : WorldValue) (after : Progress) (p : ActorProgress) (answered : Result Turned Refusal) (read : p ≡ slice_index_or (with_progress actor old.progress) (progress_place actor old.progress) p) (same : mid.progress ≡ with_progress actor old.progress) where
+  put_there : slice_set mid.progress (progress_place actor old.progress) (at_progress actor after) ≡ put_progress actor after old.progress
+  put_there = ap (λ (ps : List ActorProgress). slice_set ps (progress_place actor old.progress) (at_progress actor after)) same ∙ written_there actor after old.progress
 
-  pub turn_stepped : Performs (ActorStepped actor now) (TurnFits old.per_queue turn p.progress after) (record old { progress = placed actor old.progress }) answered mid
-      → TurnStepped actor now turn old answered (record mid { progress = slice_set mid.progress (place_in actor old.progress) (at_progress actor after) })
+  pub turn_stepped : Performs (ActorStepped actor now) (TurnFits old.per_queue turn p.progress after) (record old { progress = with_progress actor old.progress }) answered mid
+      → TurnStepped actor now turn old answered (record mid { progress = slice_set mid.progress (progress_place actor old.progress) (at_progress actor after) })
   turn_stepped steps = record {
     after = after;
     mid = mid;
-    steps = subst (λ (before : Progress). Performs (ActorStepped actor now) (TurnFits old.per_queue turn before after) (record old { progress = placed actor old.progress }) answered mid) (read_there actor old.progress p read) steps;
+    steps = subst (λ (before : Progress). Performs (ActorStepped actor now) (TurnFits old.per_queue turn before after) (record old { progress = with_progress actor old.progress }) answered mid) (read_there actor old.progress p read) steps;
     put = ap (λ (ps : List ActorProgress). record mid { progress = ps }) put_there;
   }
 
   pub turn_leaves : (a b : Journal) → LeavesRecords (TurnFits old.per_queue turn p.progress after) a answered b
-      → LeavesRecords (TurnFits old.per_queue turn (progress_of actor old.progress) (progress_of actor (slice_set mid.progress (place_in actor old.progress) (at_progress actor after)))) a answered b
+      → LeavesRecords (TurnFits old.per_queue turn (progress_of actor old.progress) (progress_of actor (slice_set mid.progress (progress_place actor old.progress) (at_progress actor after)))) a answered b
   turn_leaves a b leaves = rw (put_there, progress_put actor after old.progress, ← read_there actor old.progress p read) leaves

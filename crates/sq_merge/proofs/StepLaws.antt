@@ -27,9 +27,9 @@ use Rattle.sq_model.specs.RecordValues.{Journal, RecordValue}
 use Rattle.sq_model.specs.Matches.{HomeHistory, IsHomeEvent}
 use Rattle.sq_history.specs.HistoryValue.{HistoryValue}
 use Rattle.sq_directory.specs.DirectoryHistory.{DirectoryHistory}
-use Rattle.sq_steps.specs.Journals.{is_of, new_journal, journal_of, index_in, opened, having_seen, put_journal, with_record, last_place, HomeMoves, DirectoryMoves, LedgerMoves, IsNotReady}
+use Rattle.sq_steps.specs.Journals.{is_of_actor, new_journal, journal_of, index_in, opened, having_seen, put_journal, with_record, last_place, HomeMoves, DirectoryMoves, LedgerMoves, IsNotReady}
 use Rattle.sq_merge.specs.WorldValue.{WorldValue}
-use Rattle.sq_audit.specs.HomeIds.{history_of, histories_of, IsNumbered, home_index}
+use Rattle.sq_audit.specs.HomeIds.{home_history, histories_of, IsNumbered, home_index}
 use Rattle.sq_merge.specs.Worlds.{IsHomeOf, IsKeptWorld, HomeStepped, SharedStepped, NothingLeaves, DirectoryStepped, DirectoryRefused, LedgerStepped, LedgerRefused, having_seen_at}
 use Rattle.sq_opening.specs.declared.options.Options.{Options}
 use Rattle.sq_merge.specs.Openings.{new_world}
@@ -64,7 +64,7 @@ new_is_not_worn : (actor : ℕ) → (new_journal actor).next ≢ last_place
 new_is_not_worn actor e = omega (arith, e)
 
 -- no memory was found for a record of an actor that is new
-unmade : (actor now : ℕ) (journals : List Journal) → position (is_of actor) journals ≡ None → IsNotReady (journal_of actor journals) now NoMemory
+unmade : (actor now : ℕ) (journals : List Journal) → position (is_of_actor actor) journals ≡ None → IsNotReady (journal_of actor journals) now NoMemory
 unmade actor now journals pos = subst (λ (b : Journal). IsNotReady b now NoMemory) (sym (lost_there actor journals pos)) (inr (new_is_not_worn actor, refl, refl))
 
 -- some home is there
@@ -82,7 +82,7 @@ refused_nowhere old actor now id e Why numbered some none is = inl (λ at h home
 
 -- no memory was found for a new actor
 pub refused_unmade : (old : WorldValue) (actor now : ℕ) (id : HomeId) (place : ℕ) (Why : HistoryValue → Journal → Type 0) → IsNumbered old.per_queue old.homes → 1 ≤ id.queue → home_index old.per_queue (length old.homes) id ≡ Some place
-    → position (is_of actor) old.journals ≡ None → ((h : HistoryValue) (mine : Journal) → IsNotReady mine now NoMemory → Why h mine) → IsRefusedAt old actor now id NoMemory Why
+    → position (is_of_actor actor) old.journals ≡ None → ((h : HistoryValue) (mine : Journal) → IsNotReady mine now NoMemory → Why h mine) → IsRefusedAt old actor now id NoMemory Why
 refused_unmade old actor now id place Why numbered least found pos unready =
     let home = home_there old id place numbered least found in
     inr (home.0, home.1, home.2, unready home.1 (journal_of actor old.journals) (unmade actor now old.journals pos))
@@ -154,7 +154,7 @@ module _ {old : WorldValue} {actor : ℕ} {id : HomeId} {place : ℕ} {before : 
 
 -- ---- a step of the directory
 
-pub directed_unmade : (old : WorldValue) (actor now : ℕ) (call : DirectoryCall) → position (is_of actor) old.journals ≡ None → DirectoryRefused old actor now call NoMemory
+pub directed_unmade : (old : WorldValue) (actor now : ℕ) (call : DirectoryCall) → position (is_of_actor actor) old.journals ≡ None → DirectoryRefused old actor now call NoMemory
 directed_unmade old actor now call pos = inl (unmade actor now old.journals pos)
 
 pub directed_opened : (old : WorldValue) (actor now : ℕ) (call : DirectoryCall) (reply : DirectoryReply) (after : DirectoryHistory) (mine recorded_in : Journal) → mine ≡ journal_of actor old.journals
@@ -169,7 +169,7 @@ directed_opened old actor now call reply after mine recorded_in is moves = recor
 
 -- ---- a step of the ledger alone
 
-pub ledgered_unmade : (old : WorldValue) (actor now : ℕ) (what : TaskAct) → position (is_of actor) old.journals ≡ None → LedgerRefused old actor now what NoMemory
+pub ledgered_unmade : (old : WorldValue) (actor now : ℕ) (what : TaskAct) → position (is_of_actor actor) old.journals ≡ None → LedgerRefused old actor now what NoMemory
 ledgered_unmade old actor now what pos = inl (unmade actor now old.journals pos)
 
 pub ledgered_opened : (old : WorldValue) (actor now : ℕ) (what : TaskAct) (reply : LedgerReply) (after : LedgerHistory) (mine recorded_in : Journal) → mine ≡ journal_of actor old.journals
@@ -209,7 +209,7 @@ opened_at per_queue limits (suc n) at h in_list = elim (get_cases (never_opened_
 
 opening_empty : (per_queue : ℕ) (limits : Limits) (n j k : ℕ) (h : HomeHistory) (e : HomeEvent) → IsHomeEvent (histories_of (never_opened_homes per_queue limits n)) j k h e → ⊥
 opening_empty per_queue limits n j k h e at =
-    let t = get_mapped history_of (never_opened_homes per_queue limits n) j h at.in_homes in
+    let t = get_mapped home_history (never_opened_homes per_queue limits n) j h at.in_homes in
     let none : h.events ≡ [] = ap (λ (x : HomeHistory). x.events) t.2 ∙ ap (λ (x : HistoryValue). x.events) (opened_at per_queue limits n j t.0 t.1) in
     let k2 = rw none at at.in_events in cc
 

@@ -32,7 +32,7 @@ use Rattle.sq_directory.specs.DirectoryHistories.{directory_event}
 use Rattle.sq_steps.specs.Journals.{new_journal, journal_of, put_journal, with_record, having_seen}
 use Rattle.sq_merge.specs.WorldValue.{WorldValue}
 use Rattle.sq_merge.specs.declared.progress.ActorProgress.{ActorProgress}
-use Rattle.sq_audit.specs.HomeIds.{history_of, histories_of, home_id}
+use Rattle.sq_audit.specs.HomeIds.{home_history, histories_of, home_id}
 use Rattle.sq_merge.specs.Worlds.{IsKnown, IsKeptWorld, HomeStepped, SharedStepped, DirectoryStepped, LedgerStepped, having_seen_at}
 use Rattle.sq_directory.proofs.MakerLaws.{seen_below}
 use Rattle.sq_directory.proofs.ElementLaws.{get_old, get_new, get_cases, get_map, get_mapped, get_same, set_cases, set_kept}
@@ -174,24 +174,24 @@ module _ (old : WorldValue) (actor here : ℕ) (before after : HistoryValue) (na
 
   home_grown : (j : ℕ) (h : HomeHistory) → slice_get (histories_of old.homes) j ≡ Some h → Grown (histories_of homes) j h
   home_grown j h in_list =
-      let t = get_mapped history_of old.homes j h in_list in
+      let t = get_mapped home_history old.homes j h in_list in
       elim (set_kept old.homes here j before after t.0 s.in_list t.1) [
-        | inl k ↦ record { new = h; in_list = rw t.2 (get_map history_of homes j t.0 k.1); same = refl; more = λ n e g. g }
+        | inl k ↦ record { new = h; in_list = rw t.2 (get_map home_history homes j t.0 k.1); same = refl; more = λ n e g. g }
         | inr k ↦ record {
-          new = history_of after;
-          in_list = get_map history_of homes j after k.2;
+          new = home_history after;
+          in_list = get_map home_history homes j after k.2;
           same = rw (t.2, k.1) same_home;
-          more = λ n e g. rw s.events (get_old before.events event e n (subst (λ (x : HomeHistory). slice_get x.events n ≡ Some e) (t.2 ∙ ap history_of k.1) g));
+          more = λ n e g. rw s.events (get_old before.events event e n (subst (λ (x : HomeHistory). slice_get x.events n ≡ Some e) (t.2 ∙ ap home_history k.1) g));
         }
       ]
 
   new_has_event : HasItsEvent old.directory.events ledger.events (histories_of homes) actor (OfHome its_record)
   new_has_event = (
     here,
-    history_of after,
+    home_history after,
     event,
     record {
-      in_homes = get_map history_of homes here after (get_same old.homes here before after s.in_list);
+      in_homes = get_map home_history homes here after (get_same old.homes here before after s.in_list);
       in_events = subst (λ (es : List HomeEvent). slice_get es its_record.index ≡ Some event) (sym s.events)
           (subst (λ (k : ℕ). slice_get (before.events ++ event ∷ []) k ≡ Some event) (sym (ap (λ (n : HomeRecordValue). n.index) s.record_is)) (get_new before.events event));
     },
@@ -212,7 +212,7 @@ module _ (old : WorldValue) (actor here : ℕ) (before after : HistoryValue) (na
 
   of_after : (k : ℕ) (e : HomeEvent) → slice_get after.events k ≡ Some e → IsRecorded journals e.actor (IsOfHome after.site.home k e)
   of_after k e h = elim (get_cases before.events event e k (rw s.events at h)) [
-    | inl g ↦ subst (λ (x : HomeId). IsRecorded journals e.actor (IsOfHome x k e)) (sym same_home) (stays e.actor (IsOfHome before.site.home k e) (kept.homes_recorded here k (history_of before) e (record { in_homes = get_map history_of old.homes here before s.in_list; in_events = g })))
+    | inl g ↦ subst (λ (x : HomeId). IsRecorded journals e.actor (IsOfHome x k e)) (sym same_home) (stays e.actor (IsOfHome before.site.home k e) (kept.homes_recorded here k (home_history before) e (record { in_homes = get_map home_history old.homes here before s.in_list; in_events = g })))
     | inr g ↦ (
         let index : its_record.index ≡ k = ap (λ (n : HomeRecordValue). n.index) s.record_is ∙ sym g.0 in
         let is : IsOfHome after.site.home k event (OfHome its_record) = (its_record.name, ap OfHome (subst (λ (x : ℕ). its_record ≡ home_record_of after.site.home x its_record.name event) index (same_record its_record by before.site.home after.site.home (length before.events) call name s.record_is same_home))) in
@@ -221,10 +221,10 @@ module _ (old : WorldValue) (actor here : ℕ) (before after : HistoryValue) (na
 
   all_recorded : (j k : ℕ) (h : HomeHistory) (e : HomeEvent) → IsHomeEvent (histories_of homes) j k h e → IsRecorded journals e.actor (IsOfHome h.home k e)
   all_recorded j k h e at =
-      let t = get_mapped history_of homes j h at.in_homes in
+      let t = get_mapped home_history homes j h at.in_homes in
       let in_events : slice_get t.0.events k ≡ Some e = subst (λ (x : HomeHistory). slice_get x.events k ≡ Some e) t.2 at.in_events in
       elim (set_cases old.homes here j before after t.0 s.in_list t.1) [
-        | inl g ↦ rw t.2 (stays e.actor (IsOfHome t.0.site.home k e) (kept.homes_recorded j k (history_of t.0) e (record { in_homes = get_map history_of old.homes j t.0 g.1; in_events = in_events })))
+        | inl g ↦ rw t.2 (stays e.actor (IsOfHome t.0.site.home k e) (kept.homes_recorded j k (home_history t.0) e (record { in_homes = get_map home_history old.homes j t.0 g.1; in_events = in_events })))
         | inr g ↦ rw (t.2, g.1) (of_after k e (rw g.1 at in_events))
       ]
 
@@ -247,12 +247,12 @@ module _ (old : WorldValue) (actor here : ℕ) (before after : HistoryValue) (na
   pairs : (is_alone call ≡ false → InLedger ledger.events before.site.home event) → ((k : ℕ) (e : LedgerEvent) → slice_get ledger.events k ≡ Some e → (slice_get old.ledger.events k ≡ Some e) ⊎ (is_own e.call ≡ false → InHome (histories_of homes) e)) → IsPaired ledger.events (histories_of homes)
   pairs entered known = record {
     in_ledger = λ j k h e there shared. (
-        let t = get_mapped history_of homes j h there.in_homes in
+        let t = get_mapped home_history homes j h there.in_homes in
         let in_events : slice_get t.0.events k ≡ Some e = subst (λ (x : HomeHistory). slice_get x.events k ≡ Some e) t.2 there.in_events in
         elim (set_cases old.homes here j before after t.0 s.in_list t.1) [
-          | inl g ↦ rw t.2 (entry_stays t.0.site.home e (kept.paired.in_ledger j k (history_of t.0) e (record { in_homes = get_map history_of old.homes j t.0 g.1; in_events = in_events }) shared))
+          | inl g ↦ rw t.2 (entry_stays t.0.site.home e (kept.paired.in_ledger j k (home_history t.0) e (record { in_homes = get_map home_history old.homes j t.0 g.1; in_events = in_events }) shared))
           | inr g ↦ rw (t.2, g.1, same_home) (elim (get_cases before.events event e k (rw s.events at (rw g.1 at in_events))) [
-            | inl was ↦ entry_stays before.site.home e (kept.paired.in_ledger here k (history_of before) e (record { in_homes = get_map history_of old.homes here before s.in_list; in_events = was }) shared)
+            | inl was ↦ entry_stays before.site.home e (kept.paired.in_ledger here k (home_history before) e (record { in_homes = get_map home_history old.homes here before s.in_list; in_events = was }) shared)
             | inr new ↦ rw new.1 (entered (subst (λ (x : HomeEvent). is_alone x.call ≡ false) new.1 shared))
           ])
         ]);
@@ -260,9 +260,9 @@ module _ (old : WorldValue) (actor here : ℕ) (before after : HistoryValue) (na
   }
 
   -- the new event stands there
-  event_there : IsHomeEvent (histories_of homes) here (length before.events) (history_of after) event
+  event_there : IsHomeEvent (histories_of homes) here (length before.events) (home_history after) event
   event_there = record {
-    in_homes = get_map history_of homes here after (get_same old.homes here before after s.in_list);
+    in_homes = get_map home_history homes here after (get_same old.homes here before after s.in_list);
     in_events = subst (λ (es : List HomeEvent). slice_get es (length before.events) ≡ Some event) (sym s.events) (get_new before.events event);
   }
 
@@ -330,7 +330,7 @@ kept_shared old actor now name id what reply new kept known s =
     let entered : InLedger s.ledger.events s.before.site.home event = (length old.ledger.events, rw in_ledger.events (get_new old.ledger.events entry)) in
     let there = event_there old actor s.at s.before s.after name its_record.call its_record s.recorded_in.room s.ledger kept more in
     let same : s.after.site.home ≡ s.before.site.home = ap (λ (x : Site). x.home) at_home.site in
-    let partner : InHome (histories_of (slice_set old.homes s.at s.after)) entry = (s.at, length s.before.events, history_of s.after, event, there, at_home.shared, ap (λ (x : HomeId). as_ledger x event) (sym same)) in
+    let partner : InHome (histories_of (slice_set old.homes s.at s.after)) entry = (s.at, length s.before.events, home_history s.after, event, there, at_home.shared, ap (λ (x : HomeId). as_ledger x event) (sym same)) in
     let paired =
     pairs old actor s.at s.before s.after name its_record.call its_record s.recorded_in.room s.ledger kept more (λ shared. entered)
     (λ k e h. elim (get_cases old.ledger.events entry e k (rw in_ledger.events at h)) [ inl was ↦ inl was | inr new ↦ inr (λ shared. rw new.1 partner) ]) in

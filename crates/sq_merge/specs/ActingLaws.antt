@@ -6,9 +6,9 @@ use Rattle.sq_model.specs.RecordValues.{Journal, OfDirectory, OfLedger, OfHome, 
 use Rattle.sq_steps.specs.Journals.{journal_of, put_journal, having_seen, with_record}
 use Rattle.sq_steps.proofs.JournalListLaws.{journal_own, journal_put}
 use Rattle.sq_base.specs.StampValue.{StampValue}
-use Rattle.sq_client.proofs.LeaveLaws.{home_leaves, shared_leaves, directory_leaves, ledger_leaves}
+use Rattle.sq_actions.proofs.LeaveLaws.{home_leaves, shared_leaves, directory_leaves, ledger_leaves}
 use Rattle.sq_merge.specs.Acting.{ActorDoes, ActorStepped}
-use Rattle.sq_client.specs.Asks.{Ask, Resolve, Directed, AtHome, Moving, Peek, Redriven, Ledgered, ReadTask, Gave, Found, Answered, Replied, Nothing, Peeked, Ends, Told, TaskFound, LeavesOf}
+use Rattle.sq_actions.specs.Asks.{Ask, Resolve, AskDirectory, AskHome, AskShared, Peek, Redriven, AskLedger, ReadTask, Gave, Found, Answered, Replied, Nothing, Peeked, Ends, Told, TaskFound, LeavesOf}
 use Rattle.sq_merge.specs.WorldValue.{WorldValue}
 
 -- what an actor has after a change is the change
@@ -28,20 +28,20 @@ kept_is actor s t ask answered n b more journals left =
 
 does_leaves : (actor now : ℕ) (s t : WorldValue) (ask : Ask) (gave : Gave) → ActorDoes actor now s ask gave t → LeavesOf ask (Ok gave) (journal_of actor s.journals) (journal_of actor t.journals)
 does_leaves actor now s t (Resolve name) (Found queue) h = read_is actor s t s.directory.last (ap (λ (v : WorldValue). v.journals) h.1)
-does_leaves actor now s t (Directed call) (Answered reply) h =
-    kept_is actor s t (Directed call) (Ok (Answered reply)) (OfDirectory h.moves.its_record) h.recorded_in h.moves.recorded_as (ap (λ (v : WorldValue). v.journals) h.changed)
+does_leaves actor now s t (AskDirectory call) (Answered reply) h =
+    kept_is actor s t (AskDirectory call) (Ok (Answered reply)) (OfDirectory h.moves.its_record) h.recorded_in h.moves.recorded_as (ap (λ (v : WorldValue). v.journals) h.changed)
     (directory_leaves s.directory h.after (journal_of actor s.journals) h.recorded_in now call reply h.moves)
-does_leaves actor now s t (AtHome name id act) (Replied reply) h =
-    kept_is actor s t (AtHome name id act) (Ok (Replied reply)) (OfHome h.moves.its_record) h.recorded_in h.moves.recorded_as (ap (λ (v : WorldValue). v.journals) h.changed)
+does_leaves actor now s t (AskHome name id act) (Replied reply) h =
+    kept_is actor s t (AskHome name id act) (Ok (Replied reply)) (OfHome h.moves.its_record) h.recorded_in h.moves.recorded_as (ap (λ (v : WorldValue). v.journals) h.changed)
     (home_leaves h.before h.after (journal_of actor s.journals) h.recorded_in now name id act reply h.home.has_id h.moves)
-does_leaves actor now s t (Moving name id what) (Replied reply) h =
-    kept_is actor s t (Moving name id what) (Ok (Replied reply)) (OfHome h.moves.its_record) h.recorded_in h.moves.recorded_as (ap (λ (v : WorldValue). v.journals) h.changed)
+does_leaves actor now s t (AskShared name id what) (Replied reply) h =
+    kept_is actor s t (AskShared name id what) (Ok (Replied reply)) (OfHome h.moves.its_record) h.recorded_in h.moves.recorded_as (ap (λ (v : WorldValue). v.journals) h.changed)
     (shared_leaves h.before h.after s.ledger h.ledger (journal_of actor s.journals) h.recorded_in now name id what reply h.home.has_id h.moves)
-does_leaves actor now s t (Moving name id what) Nothing h = ap (λ (v : WorldValue). journal_of actor v.journals) h.unchanged
+does_leaves actor now s t (AskShared name id what) Nothing h = ap (λ (v : WorldValue). journal_of actor v.journals) h.unchanged
 does_leaves actor now s t (Peek number) (Peeked next) h = read_is actor s t s.ledger.last (ap (λ (v : WorldValue). v.journals) h.1)
 does_leaves actor now s t (Redriven source destination) (Ends ends) h = read_is actor s t s.directory.last (ap (λ (v : WorldValue). v.journals) h.1)
-does_leaves actor now s t (Ledgered what) (Told reply) h =
-    kept_is actor s t (Ledgered what) (Ok (Told reply)) (OfLedger h.moves.its_record) h.recorded_in h.moves.recorded_as (ap (λ (v : WorldValue). v.journals) h.changed)
+does_leaves actor now s t (AskLedger what) (Told reply) h =
+    kept_is actor s t (AskLedger what) (Ok (Told reply)) (OfLedger h.moves.its_record) h.recorded_in h.moves.recorded_as (ap (λ (v : WorldValue). v.journals) h.changed)
     (ledger_leaves s.ledger h.after (journal_of actor s.journals) h.recorded_in now what reply h.moves)
 does_leaves actor now s t (ReadTask number) (TaskFound task) h = read_is actor s t s.ledger.last (ap (λ (v : WorldValue). v.journals) h.1)
 does_leaves actor now s t ask gave h = elim h [ ]
@@ -49,12 +49,12 @@ does_leaves actor now s t ask gave h = elim h [ ]
 leaves_own : (actor now : ℕ) (s t : WorldValue) (ask : Ask) (answered : Result Gave Refusal) → ActorStepped actor now s ask answered t → LeavesOf ask answered (journal_of actor s.journals) (journal_of actor t.journals)
 leaves_own actor now s t ask (Ok gave) h = does_leaves actor now s t ask gave h
 leaves_own actor now s t (Resolve name) (Err e) h = ap (λ (v : WorldValue). journal_of actor v.journals) h.1
-leaves_own actor now s t (Directed call) (Err e) h = ap (λ (v : WorldValue). journal_of actor v.journals) h.1
-leaves_own actor now s t (AtHome name id act) (Err e) h = ap (λ (v : WorldValue). journal_of actor v.journals) h.1
-leaves_own actor now s t (Moving name id what) (Err e) h = ap (λ (v : WorldValue). journal_of actor v.journals) h.1
+leaves_own actor now s t (AskDirectory call) (Err e) h = ap (λ (v : WorldValue). journal_of actor v.journals) h.1
+leaves_own actor now s t (AskHome name id act) (Err e) h = ap (λ (v : WorldValue). journal_of actor v.journals) h.1
+leaves_own actor now s t (AskShared name id what) (Err e) h = ap (λ (v : WorldValue). journal_of actor v.journals) h.1
 leaves_own actor now s t (Peek number) (Err e) h = ap (λ (v : WorldValue). journal_of actor v.journals) h.1
 leaves_own actor now s t (Redriven source destination) (Err e) h = ap (λ (v : WorldValue). journal_of actor v.journals) h.1
-leaves_own actor now s t (Ledgered what) (Err e) h = ap (λ (v : WorldValue). journal_of actor v.journals) h.1
+leaves_own actor now s t (AskLedger what) (Err e) h = ap (λ (v : WorldValue). journal_of actor v.journals) h.1
 leaves_own actor now s t (ReadTask number) (Err e) h = ap (λ (v : WorldValue). journal_of actor v.journals) h.1
 
 -- the same of an actor that stays who it is

@@ -1,7 +1,7 @@
 -- How far the turns of each actor are. Own.
 use Rattle.std.specs.Prelude.{ℕ, Bool, ◌==◌, List, [], ◌∷◌, ◌++◌, length, find, Option, Some, None, position, slice_set, unwrap_or}
-use Rattle.sq_client.specs.declared.progress.Progress.{Progress}
-use Rattle.sq_client.specs.Progresses.{no_progress}
+use Rattle.sq_actions.specs.declared.progress.Progress.{Progress}
+use Rattle.sq_actions.specs.Progresses.{no_progress}
 use Rattle.sq_merge.specs.declared.progress.ActorProgress.{ActorProgress}
 
 abbrev pub is_progress_of : ℕ → ActorProgress → Bool
@@ -28,9 +28,9 @@ abbrev pub placed_where : Option ℕ → ℕ → List ActorProgress → List Act
 placed_where None actor ps = ps ++ at_progress actor no_progress ∷ []
 placed_where (Some at) actor ps = ps
 
-abbrev pub placed : ℕ → List ActorProgress → List ActorProgress
-placed actor ps = placed_where (position (is_progress_of actor) ps) actor ps
+abbrev pub with_progress : ℕ → List ActorProgress → List ActorProgress
+with_progress actor ps = placed_where (position (is_progress_of actor) ps) actor ps
 
 -- that place
-abbrev pub place_in : ℕ → List ActorProgress → ℕ
-place_in actor ps = unwrap_or (position (is_progress_of actor) ps) (length ps)
+abbrev pub progress_place : ℕ → List ActorProgress → ℕ
+progress_place actor ps = unwrap_or (position (is_progress_of actor) ps) (length ps)

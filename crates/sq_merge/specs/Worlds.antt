@@ -31,7 +31,7 @@ use Rattle.sq_steps.specs.declared.act.TaskAct.{TaskAct}
 use Rattle.sq_steps.specs.TaskActs.{task_call}
 use Rattle.sq_history.specs.declared.act.HomeAct.{HomeAct}
 use Rattle.sq_history.specs.Acts.{call_of, HasBytes}
-use Rattle.sq_steps.specs.Journals.{is_of, journal_of, put_journal, having_seen, HomeMoves, DirectoryMoves, LedgerMoves, IsHomeRefused, IsDirectoryStepRefused, IsLedgerStepRefused, AreDistinct}
+use Rattle.sq_steps.specs.Journals.{is_of_actor, journal_of, put_journal, having_seen, HomeMoves, DirectoryMoves, LedgerMoves, IsHomeRefused, IsDirectoryStepRefused, IsLedgerStepRefused, AreDistinct}
 use Rattle.sq_directory.specs.DirectoryHistory.{DirectoryHistory}
 use Rattle.sq_steps.specs.Reads.{next_of}
 use Rattle.sq_merge.specs.WorldValue.{WorldValue}
@@ -119,12 +119,12 @@ abbrev pub ItemRead : WorldValue → WorldValue → ℕ → ℕ → Option NextI
 ItemRead old new actor number next = (next ≡ option_map next_of (peek number old.ledger.ledger)) × (new ≡ having_peeked old actor)
 
 -- an actor has read the directory
-abbrev pub having_read : WorldValue → ℕ → WorldValue
-having_read w actor = having_seen_at w actor w.directory.last
+abbrev pub having_read_directory : WorldValue → ℕ → WorldValue
+having_read_directory w actor = having_seen_at w actor w.directory.last
 
 -- why a part is not read: the actor is new, and no memory was found for it
 abbrev pub IsUnread : WorldValue → ℕ → Refusal → Type 0
-IsUnread w actor e = (e ≡ NoMemory) × (position (is_of actor) w.journals ≡ None)
+IsUnread w actor e = (e ≡ NoMemory) × (position (is_of_actor actor) w.journals ≡ None)
 
 -- why the queues are not named: there are some, and no memory was found for their names; or the actor cannot read
 abbrev pub NamesUnread : WorldValue → ℕ → Refusal → Type 0
@@ -142,7 +142,7 @@ TaskUnread w actor number e =
 
 -- an actor has read between which queues messages may be moved
 abbrev pub EndsRead : WorldValue → WorldValue → ℕ → List ℕ → Option (List ℕ) → MoveEnds → Type 0
-EndsRead old new actor source destination ends = (can_redrive source destination old.directory.directory ≡ Ok ends) × (new ≡ having_read old actor)
+EndsRead old new actor source destination ends = (can_redrive source destination old.directory.directory ≡ Ok ends) × (new ≡ having_read_directory old actor)
 
 -- why it has not: they may not be moved between these; or they may, and the actor cannot read
 abbrev pub EndsUnread : WorldValue → ℕ → List ℕ → Option (List ℕ) → Refusal → Type 0
@@ -153,8 +153,8 @@ EndsUnread w actor source destination e =
 -- One step by an actor, and its outcome.
 abbrev pub StepDone : WorldValue → WorldValue → ℕ → ℕ → Act → Outcome → Type 0
 StepDone old new actor now (act.Directory call) (answered.Directory reply) = DirectoryStepped old new actor now call reply
-StepDone old new actor now (act.Resolve name) (answered.Resolved queue) = (number_named name old.directory.directory.queues ≡ Some queue) × (new ≡ having_read old actor)
-StepDone old new actor now act.Names (answered.Named names) = (names ≡ all_named old.directory.directory) × (new ≡ having_read old actor)
+StepDone old new actor now (act.Resolve name) (answered.Resolved queue) = (number_named name old.directory.directory.queues ≡ Some queue) × (new ≡ having_read_directory old actor)
+StepDone old new actor now act.Names (answered.Named names) = (names ≡ all_named old.directory.directory) × (new ≡ having_read_directory old actor)
 StepDone old new actor now (act.Home id what) (answered.Home reply) = HomeStepped old new actor now None id (call_of what) reply
 StepDone old new actor now (act.Shared id what) (answered.Home reply) = SharedStepped old new actor now None id what reply
 StepDone old new actor now (act.Shared id what) answered.Nothing = NothingLeaves old new actor now id what
@@ -169,7 +169,7 @@ StepDone old new actor now what outcome = ⊥
 abbrev pub NameRefused : WorldValue → ℕ → List ℕ → Refusal → Type 0
 NameRefused w actor name e =
     ((number_named name w.directory.directory.queues ≡ None) × (e ≡ QueueDoesNotExist))
-    ⊎ (((queue : ℕ) × (number_named name w.directory.directory.queues ≡ Some queue)) × (position (is_of actor) w.journals ≡ None) × (e ≡ NoMemory))
+    ⊎ (((queue : ℕ) × (number_named name w.directory.directory.queues ≡ Some queue)) × (position (is_of_actor actor) w.journals ≡ None) × (e ≡ NoMemory))
 
 -- a home that is there is sent a body; its copy takes memory
 abbrev pub IsSentTo : WorldValue → HomeId → HomeAct → Type 0

@@ -1,12 +1,12 @@
 //! An actor at a world that it borrows, with its clock reading.
 ghost use Rattle.std.specs.Prelude.{◌≡◌, Some};
-ghost use Rattle.sq_merge.specs.Acting.{counts_of, IsKnownTo, ActorStepped};
+ghost use Rattle.sq_merge.specs.Acting.{world_counts, IsKnownTo, ActorStepped};
 ghost use Rattle.sq_merge.specs.ActingLaws.{actor_leaves};
 ghost use Rattle.sq_steps.specs.Journals.{journal_of};
-ghost use Rattle.sq_client.specs.Fits.{CallFits};
-ghost use Rattle.sq_client.specs.Turns.{TurnFits};
-ghost use Rattle.sq_client.specs.Stops.{UntilFits};
-ghost use Rattle.sq_client.specs.Performs.{Performs, LeavesRecords};
+ghost use Rattle.sq_actions.specs.Fits.{CallFits};
+ghost use Rattle.sq_actions.specs.Turns.{TurnFits};
+ghost use Rattle.sq_actions.specs.Stops.{UntilFits};
+ghost use Rattle.sq_actions.specs.Performs.{Performs, LeavesRecords};
 
 use crate::world::World;
 use sq_base::ids::{HomeId, HomeNo, QueueNo};
@@ -14,10 +14,10 @@ use sq_base::name::QueueName;
 use sq_base::refusal::Refusal;
 use sq_calls::calls::{Answer, Call};
 use sq_calls::turns::{Turn, Turned};
-use sq_client::lock_steps::LockSteps;
-use sq_client::progress::Progress;
-use sq_client::until::call_until;
-use sq_client::{client, turns};
+use sq_actions::lock_steps::LockSteps;
+use sq_actions::progress::Progress;
+use sq_actions::until::call_until;
+use sq_actions::{client, turns};
 use sq_history::act::HomeAct;
 use sq_model::directory::{DirectoryCall, DirectoryReply};
 use sq_model::item::TaskNo;
@@ -43,7 +43,7 @@ impl<'a> LockSteps for Acting<'a> {
 
     ghost knows = { λ s name queue. IsKnownTo s.actor s.world.now (Some name) queue };
 
-    ghost counts = { λ s. counts_of s.world.now };
+    ghost counts = { λ s. world_counts s.world.now };
 
     ghost journal = { λ s. journal_of s.actor s.world.now.journals };
 
@@ -63,12 +63,12 @@ impl<'a> LockSteps for Acting<'a> {
         })
     }
 
-    fn directed(&mut self, call: &DirectoryCall) -> Result<DirectoryReply, Refusal> {
+    fn directory_step(&mut self, call: &DirectoryCall) -> Result<DirectoryReply, Refusal> {
         self.world
-            .directed(self.alloc, self.actor, self.clock, call)
+            .directory_step(self.alloc, self.actor, self.clock, call)
     }
 
-    fn at_home(
+    fn home_step(
         &mut self,
         of: &NamedQueue,
         home: HomeNo,
@@ -78,17 +78,17 @@ impl<'a> LockSteps for Acting<'a> {
             queue: of.number,
             home,
         };
-        self.world.at_home(self.alloc, self.actor, self.clock, Some(of.name), &id, act)
+        self.world.home_step(self.alloc, self.actor, self.clock, Some(of.name), &id, act)
     }
 
-    fn moving(
+    fn shared_step(
         &mut self,
         name: Option<QueueName>,
         home: &HomeId,
         what: SharedAct,
     ) -> Result<Option<HomeReply>, Refusal> {
         self.world
-            .shared(self.alloc, self.actor, self.clock, name, home, what)
+            .shared_step(self.alloc, self.actor, self.clock, name, home, what)
     }
 
     fn peek(&mut self, after: u64) -> Result<Option<NextItem>, Refusal> {
@@ -104,8 +104,8 @@ impl<'a> LockSteps for Acting<'a> {
             .can_redrive(self.alloc, self.actor, source, destination)
     }
 
-    fn ledgered(&mut self, act: &TaskAct) -> Result<LedgerReply, Refusal> {
-        self.world.ledgered(self.alloc, self.actor, self.clock, act)
+    fn ledger_step(&mut self, act: &TaskAct) -> Result<LedgerReply, Refusal> {
+        self.world.ledger_step(self.alloc, self.actor, self.clock, act)
     }
 
     fn read_task(&mut self, number: TaskNo) -> Result<Task, Refusal> {
@@ -126,8 +126,8 @@ impl<'a> LockSteps for Acting<'a> {
 // Does a client's call at the world that is borrowed.
 pub(crate) fn call_at(acting: &mut Acting<'_>, call: &Call) -> Result<Answer, Refusal>
     ensures same_reference { acting.new.world.ghost_name ≡ acting.old.world.ghost_name }
-    ensures answered { Performs (ActorStepped acting.old.actor acting.old.clock) (CallFits (counts_of acting.old.world.now) call.now) acting.old.world.now result acting.new.world.now }
-    ensures leaves_records { LeavesRecords (CallFits (counts_of acting.old.world.now) call.now) (journal_of acting.old.actor acting.old.world.now.journals) result (journal_of acting.old.actor acting.new.world.now.journals) }
+    ensures answered { Performs (ActorStepped acting.old.actor acting.old.clock) (CallFits (world_counts acting.old.world.now) call.now) acting.old.world.now result acting.new.world.now }
+    ensures leaves_records { LeavesRecords (CallFits (world_counts acting.old.world.now) call.now) (journal_of acting.old.actor acting.old.world.now.journals) result (journal_of acting.old.actor acting.new.world.now.journals) }
 {
     client::call(acting, call)
 }
@@ -139,8 +139,8 @@ pub(crate) fn call_until_at(
     limit: u64,
 ) -> Result<Option<Answer>, Refusal>
     ensures same_reference { acting.new.world.ghost_name ≡ acting.old.world.ghost_name }
-    ensures answered { Performs (ActorStepped acting.old.actor acting.old.clock) (UntilFits limit (CallFits (counts_of acting.old.world.now) call.now)) acting.old.world.now result acting.new.world.now }
-    ensures leaves_records { LeavesRecords (UntilFits limit (CallFits (counts_of acting.old.world.now) call.now)) (journal_of acting.old.actor acting.old.world.now.journals) result (journal_of acting.old.actor acting.new.world.now.journals) }
+    ensures answered { Performs (ActorStepped acting.old.actor acting.old.clock) (UntilFits limit (CallFits (world_counts acting.old.world.now) call.now)) acting.old.world.now result acting.new.world.now }
+    ensures leaves_records { LeavesRecords (UntilFits limit (CallFits (world_counts acting.old.world.now) call.now)) (journal_of acting.old.actor acting.old.world.now.journals) result (journal_of acting.old.actor acting.new.world.now.journals) }
 {
     call_until(acting, call, limit)
 }
@@ -153,8 +153,8 @@ pub(crate) fn turn_at(
 ) -> Result<Turned, Refusal>
     ensures same_reference { acting.new.world.ghost_name ≡ acting.old.world.ghost_name }
     ensures same_progress { acting.new.world.now.progress ≡ acting.old.world.now.progress }
-    ensures answered { Performs (ActorStepped acting.old.actor acting.old.clock) (TurnFits (counts_of acting.old.world.now).homes turn.now progress.old progress.new) acting.old.world.now result acting.new.world.now }
-    ensures leaves_records { LeavesRecords (TurnFits (counts_of acting.old.world.now).homes turn.now progress.old progress.new) (journal_of acting.old.actor acting.old.world.now.journals) result (journal_of acting.old.actor acting.new.world.now.journals) }
+    ensures answered { Performs (ActorStepped acting.old.actor acting.old.clock) (TurnFits (world_counts acting.old.world.now).homes turn.now progress.old progress.new) acting.old.world.now result acting.new.world.now }
+    ensures leaves_records { LeavesRecords (TurnFits (world_counts acting.old.world.now).homes turn.now progress.old progress.new) (journal_of acting.old.actor acting.old.world.now.journals) result (journal_of acting.old.actor acting.new.world.now.journals) }
 {
     turns::turn(acting, progress, turn)
 }

@@ -1,9 +1,9 @@
 //! How far the turns of each actor are.
 ghost use Rattle.std.specs.Prelude.{◌≡◌, ◌<◌, None, length, position, IfErr, IfOk, IfSome, OnErr, OnOk};
-ghost use Rattle.sq_merge.specs.Progresses.{is_progress_of, place_in, placed};
+ghost use Rattle.sq_merge.specs.Progresses.{is_progress_of, progress_place, with_progress};
 
 use sq_base::refusal::Refusal;
-use sq_client::progress::Progress;
+use sq_actions::progress::Progress;
 use sq_steps::capacity::push_within_capacity;
 
 /// How far the turns of an actor are.
@@ -16,8 +16,8 @@ pub struct ActorProgress {
 /// The place of this actor's progress, which is made where it is not there. Refused as NoMemory of an actor's first turn
 /// alone.
 pub(crate) fn place_of(all: &mut Vec<ActorProgress>, actor: u32) -> Result<usize, Refusal>
-    ensures index { IfOk result (λ at. at ≡ place_in actor all.old.items) }
-    ensures placed { OnOk result (all.new.items ≡ placed actor all.old.items) }
+    ensures index { IfOk result (λ at. at ≡ progress_place actor all.old.items) }
+    ensures placed { OnOk result (all.new.items ≡ with_progress actor all.old.items) }
     ensures within { IfOk result (λ at. at < length all.new.items) }
     ensures refused { IfErr result (λ e. (e ≡ Refusal.NoMemory) × (position (is_progress_of actor) all.old.items ≡ None)) }
     ensures err { OnErr result (all.new.items ≡ all.old.items) }

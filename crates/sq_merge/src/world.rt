@@ -5,16 +5,16 @@ ghost use Rattle.sq_model.specs.Directories.{all_named, number_named};
 ghost use Rattle.sq_directory.specs.MoveQueues.{as_ends};
 ghost use Rattle.sq_directory.specs.Makers.{IsAnsweredByName};
 ghost use Rattle.sq_history.specs.Acts.{call_of};
-ghost use Rattle.sq_steps.specs.Journals.{is_of, journal_of};
-ghost use Rattle.sq_merge.specs.Worlds.{SharedStepped, NothingLeaves, SharedRefused, having_peeked, ItemRead, LedgerStepped, LedgerRefused, IsUnread, NamesUnread, TaskRead, TaskUnread, EndsRead, EndsUnread, HomeStepped, HomeRefused, DirectoryStepped, DirectoryRefused, NameRefused, having_read, having_seen_at, StepDone, StepRefused, Schedule, IsKeptWorld};
+ghost use Rattle.sq_steps.specs.Journals.{is_of_actor, journal_of};
+ghost use Rattle.sq_merge.specs.Worlds.{SharedStepped, NothingLeaves, SharedRefused, having_peeked, ItemRead, LedgerStepped, LedgerRefused, IsUnread, NamesUnread, TaskRead, TaskUnread, EndsRead, EndsUnread, HomeStepped, HomeRefused, DirectoryStepped, DirectoryRefused, NameRefused, having_read_directory, having_seen_at, StepDone, StepRefused, Schedule, IsKeptWorld};
 ghost use Rattle.sq_steps.specs.Reads.{next_of};
 ghost use Rattle.sq_audit.specs.HomeIds.{histories_of};
-ghost use Rattle.sq_merge.specs.Acting.{counts_of, IsKnownTo, ActorStepped, TurnDone, UnlessNoPlace};
+ghost use Rattle.sq_merge.specs.Acting.{world_counts, IsKnownTo, ActorStepped, TurnDone, UnlessNoPlace};
 ghost use Rattle.sq_merge.specs.Progresses.{progress_of};
-ghost use Rattle.sq_client.specs.Fits.{CallFits};
-ghost use Rattle.sq_client.specs.Stops.{UntilFits};
-ghost use Rattle.sq_client.specs.Turns.{TurnFits};
-ghost use Rattle.sq_client.specs.Performs.{Performs, LeavesRecords};
+ghost use Rattle.sq_actions.specs.Fits.{CallFits};
+ghost use Rattle.sq_actions.specs.Stops.{UntilFits};
+ghost use Rattle.sq_actions.specs.Turns.{TurnFits};
+ghost use Rattle.sq_actions.specs.Performs.{Performs, LeavesRecords};
 ghost use Rattle.sq_merge.specs.Openings.{new_world};
 ghost use Rattle.sq_opening.specs.Openings.{IsServed};
 ghost use Rattle.sq_merge.specs.PartsValue.{ArePartsOf};
@@ -31,7 +31,7 @@ use sq_base::refusal::Refusal;
 use sq_base::stamp::Stamp;
 use sq_calls::calls::{Answer, Call};
 use sq_calls::turns::{Turn, Turned};
-use sq_client::progress::Progress;
+use sq_actions::progress::Progress;
 use sq_directory::directory::Directory;
 use sq_history::recorded::Home;
 use sq_ledger::ledger::TransitLedger;
@@ -113,7 +113,7 @@ impl World {
     {
         match &step.act {
             Act::Directory(call) => {
-                let reply = self.directed(alloc, step.actor, step.clock, call)?;
+                let reply = self.directory_step(alloc, step.actor, step.clock, call)?;
                 Ok(Outcome::Directory(reply))
             }
             Act::Resolve(name) => {
@@ -130,11 +130,11 @@ impl World {
                     return Err(no_such_home(step.clock));
                 };
                 let act = act.copy()?;
-                let reply = self.at_home(alloc, step.actor, step.clock, None, id, act)?;
+                let reply = self.home_step(alloc, step.actor, step.clock, None, id, act)?;
                 Ok(Outcome::Home(reply))
             }
             Act::Shared(id, act) => {
-                match self.shared(alloc, step.actor, step.clock, None, id, *act)? {
+                match self.shared_step(alloc, step.actor, step.clock, None, id, *act)? {
                     Some(reply) => Ok(Outcome::Home(reply)),
                     None => Ok(Outcome::Nothing),
                 }
@@ -144,7 +144,7 @@ impl World {
                 Ok(Outcome::Peeked(next))
             }
             Act::Ledger(act) => {
-                let reply = self.ledgered(alloc, step.actor, step.clock, act)?;
+                let reply = self.ledger_step(alloc, step.actor, step.clock, act)?;
                 Ok(Outcome::Ledger(reply))
             }
             Act::ReadTask(number) => {
@@ -181,8 +181,8 @@ impl World {
         now: u64,
         call: &Call,
     ) -> Result<Answer, Refusal>
-        ensures answered { Performs (ActorStepped actor now) (CallFits (counts_of self.old) call.now) self.old result self.new }
-        ensures leaves_records { LeavesRecords (CallFits (counts_of self.old) call.now) (journal_of actor self.old.journals) result (journal_of actor self.new.journals) }
+        ensures answered { Performs (ActorStepped actor now) (CallFits (world_counts self.old) call.now) self.old result self.new }
+        ensures leaves_records { LeavesRecords (CallFits (world_counts self.old) call.now) (journal_of actor self.old.journals) result (journal_of actor self.new.journals) }
     {
         let mut acting = Acting {
             alloc,
@@ -204,8 +204,8 @@ impl World {
         call: &Call,
         steps: u64,
     ) -> Result<Option<Answer>, Refusal>
-        ensures answered { Performs (ActorStepped actor now) (UntilFits steps (CallFits (counts_of self.old) call.now)) self.old result self.new }
-        ensures leaves_records { LeavesRecords (UntilFits steps (CallFits (counts_of self.old) call.now)) (journal_of actor self.old.journals) result (journal_of actor self.new.journals) }
+        ensures answered { Performs (ActorStepped actor now) (UntilFits steps (CallFits (world_counts self.old) call.now)) self.old result self.new }
+        ensures leaves_records { LeavesRecords (UntilFits steps (CallFits (world_counts self.old) call.now)) (journal_of actor self.old.journals) result (journal_of actor self.new.journals) }
     {
         let mut acting = Acting {
             alloc,
@@ -231,7 +231,7 @@ impl World {
         turn: &Turn,
     ) -> Result<Turned, Refusal>
         ensures answered { TurnDone actor now turn.now self.old result self.new }
-        ensures leaves_records { UnlessNoPlace actor self.old result self.new (LeavesRecords (TurnFits (counts_of self.old).homes turn.now (progress_of actor self.old.progress) (progress_of actor self.new.progress)) (journal_of actor self.old.journals) result (journal_of actor self.new.journals)) }
+        ensures leaves_records { UnlessNoPlace actor self.old result self.new (LeavesRecords (TurnFits (world_counts self.old).homes turn.now (progress_of actor self.old.progress) (progress_of actor self.new.progress)) (journal_of actor self.old.journals) result (journal_of actor self.new.journals)) }
     {
         let at = place_of(&mut self.progress, actor)?;
         let mut progress = self.progress[at].progress;
@@ -250,8 +250,8 @@ impl World {
         turn: &Turn,
     ) -> Result<Turned, Refusal>
         ensures same_progress { self.new.progress ≡ self.old.progress }
-        ensures answered { Performs (ActorStepped actor now) (TurnFits (counts_of self.old).homes turn.now progress.old progress.new) self.old result self.new }
-        ensures leaves_records { LeavesRecords (TurnFits (counts_of self.old).homes turn.now progress.old progress.new) (journal_of actor self.old.journals) result (journal_of actor self.new.journals) }
+        ensures answered { Performs (ActorStepped actor now) (TurnFits (world_counts self.old).homes turn.now progress.old progress.new) self.old result self.new }
+        ensures leaves_records { LeavesRecords (TurnFits (world_counts self.old).homes turn.now progress.old progress.new) (journal_of actor self.old.journals) result (journal_of actor self.new.journals) }
     {
         let mut acting = Acting {
             alloc,
@@ -328,7 +328,7 @@ impl World {
     }
 
     // A step of the directory.
-    pub(crate) fn directed(
+    pub(crate) fn directory_step(
         &mut self,
         alloc: Global,
         actor: u32,
@@ -354,7 +354,7 @@ impl World {
 
     // Reads the names and numbers of all queues. Refused as NoMemory, where there are any, or of a new actor.
     fn names(&mut self, alloc: Global, actor: u32) -> Result<Listed<NamedQueue>, Refusal>
-        ensures read { IfOk result (λ names. (names ≡ all_named self.old.directory.directory) × (self.new ≡ having_read self.old actor)) }
+        ensures read { IfOk result (λ names. (names ≡ all_named self.old.directory.directory) × (self.new ≡ having_read_directory self.old actor)) }
         ensures refusal { IfErr result (NamesUnread self.old actor) }
         ensures err { OnErr result (self.new ≡ self.old) }
     {
@@ -370,7 +370,7 @@ impl World {
         actor: u32,
         name: &QueueName,
     ) -> Result<QueueNo, Refusal>
-        ensures found { IfOk result (λ queue. (number_named name.now self.old.directory.directory.queues ≡ Some queue) × (self.new ≡ having_read self.old actor)) }
+        ensures found { IfOk result (λ queue. (number_named name.now self.old.directory.directory.queues ≡ Some queue) × (self.new ≡ having_read_directory self.old actor)) }
         ensures known { IfOk result (IsKnownTo actor self.new (Some name.now)) }
         ensures refusal { IfErr result (NameRefused self.old actor name.now) }
         ensures err { OnErr result (self.new ≡ self.old) }
@@ -401,7 +401,7 @@ impl World {
 
     // The actor has seen all that was done to the directory. Refused as NoMemory of a new actor alone.
     fn see_directory(&mut self, alloc: Global, actor: u32) -> Result<(), Refusal>
-        ensures read { OnOk result (self.new ≡ having_read self.old actor) }
+        ensures read { OnOk result (self.new ≡ having_read_directory self.old actor) }
         ensures refused { IfErr result (IsUnread self.old actor) }
         ensures err { OnErr result (self.new ≡ self.old) }
     {
@@ -421,7 +421,7 @@ impl World {
     }
 
     // A step of a home by an actor that used this name.
-    pub(crate) fn at_home(
+    pub(crate) fn home_step(
         &mut self,
         alloc: Global,
         actor: u32,
@@ -452,7 +452,7 @@ impl World {
     }
 
     // A step that a home shares with the ledger, by an actor that used this name; none where nothing is there to leave.
-    pub(crate) fn shared(
+    pub(crate) fn shared_step(
         &mut self,
         alloc: Global,
         actor: u32,
@@ -488,7 +488,7 @@ impl World {
     }
 
     // A step of the ledger alone.
-    pub(crate) fn ledgered(
+    pub(crate) fn ledger_step(
         &mut self,
         alloc: Global,
         actor: u32,

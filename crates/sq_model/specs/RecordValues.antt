@@ -44,10 +44,10 @@ place_of_record (OfDirectory n) = n.place
 place_of_record (OfLedger n) = n.place
 place_of_record (OfHome n) = n.place
 
-abbrev pub stamp_of : RecordValue → StampValue
-stamp_of (OfDirectory n) = n.stamp
-stamp_of (OfLedger n) = n.stamp
-stamp_of (OfHome n) = n.stamp
+abbrev pub record_stamp : RecordValue → StampValue
+record_stamp (OfDirectory n) = n.stamp
+record_stamp (OfLedger n) = n.stamp
+record_stamp (OfHome n) = n.stamp
 
 -- an actor: the number of its next step, what it has seen, its records in their order, and for how many more there was memory when the last one was kept
 pub record Journal : Type 0 where
@@ -63,7 +63,7 @@ actor_of journal = record { number = journal.actor; place = journal.next; seen =
 -- of two records the later one has the higher number and the higher stamp
 abbrev pub RecordsRise : List RecordValue → Type 0
 RecordsRise [] = Unit {0}
-RecordsRise (n ∷ ns) = AllByRecursion (λ m. (place_of_record n < place_of_record m) × Below (stamp_of n) (stamp_of m)) ns × RecordsRise ns
+RecordsRise (n ∷ ns) = AllByRecursion (λ m. (place_of_record n < place_of_record m) × Below (record_stamp n) (record_stamp m)) ns × RecordsRise ns
 
 -- the record of an event of the directory or of the ledger, the index-th of its history
 abbrev pub record_of : {K R : Type 0} → ℕ → Event K R → StepRecord K R

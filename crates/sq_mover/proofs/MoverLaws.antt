@@ -8,13 +8,13 @@ use Rattle.sq_calls.specs.declared.turns.Turn.TheVariants as turn
 use Rattle.sq_calls.specs.declared.turns.Turned.{Turned}
 use Rattle.sq_base.specs.declared.refusal.Refusal.{Refusal}
 use Rattle.std.specs.Prelude.{Result, Ok, Err, OnOk, OnErr, Some}
-use Rattle.sq_client.specs.declared.progress.Progress.{Progress}
-use Rattle.sq_client.specs.declared.walk.Walk.{Walk}
-use Rattle.sq_client.specs.Performs.{LeavesRecords}
-use Rattle.sq_client.specs.Progresses.{no_progress, with_walk}
-use Rattle.sq_client.specs.Turns.{TurnFits}
-use Rattle.sq_client.proofs.PathLaws.{no_gain, read_gain, gains_more}
-use Rattle.sq_client.proofs.TurnRecordLaws.{one_record}
+use Rattle.sq_actions.specs.declared.progress.Progress.{Progress}
+use Rattle.sq_actions.specs.declared.walk.Walk.{Walk}
+use Rattle.sq_actions.specs.Performs.{LeavesRecords}
+use Rattle.sq_actions.specs.Progresses.{no_progress, with_walk}
+use Rattle.sq_actions.specs.Turns.{TurnFits}
+use Rattle.sq_actions.proofs.PathLaws.{no_gain, read_gain, gains_more}
+use Rattle.sq_actions.proofs.TurnRecordLaws.{one_record}
 use Rattle.sq_queue.specs.Sections.{Surroundings}
 use Rattle.sq_queue.specs.SessionValue.{SessionValue}
 use Rattle.sq_queue.specs.Services.{HasRead}

@@ -1,8 +1,8 @@
 -- What contracts see of a mover, and what becomes of it.
 use Rattle.std.specs.Prelude.{ℕ, ◌+◌, ◌-◌, ◌^◌, ◌==◌, min, List, [], ◌∷◌, ◌++◌, if◌then◌else◌}
 use Rattle.sq_model.specs.declared.task.NamedQueue.{NamedQueue}
-use Rattle.sq_client.specs.declared.walk.Walk.{Walk}
-use Rattle.sq_client.specs.Walks.{new_walk}
+use Rattle.sq_actions.specs.declared.walk.Walk.{Walk}
+use Rattle.sq_actions.specs.Walks.{new_walk}
 use Rattle.sq_mover.specs.declared.mover.Stage.{Stage}
 use Rattle.sq_mover.specs.declared.mover.Stage.TheVariants.{Leave}
 

@@ -3,7 +3,7 @@ use Rattle.std.specs.Prelude.{ℕ, ◌≤◌, List, length, Option, Some, None, 
 use Rattle.sq_model.specs.declared.task.Task.{Task}
 use Rattle.sq_model.specs.Tasks.{is_active}
 use Rattle.sq_model.specs.RecordValues.{RecordValue, Journal}
-use Rattle.sq_client.specs.Asks.{Gains}
+use Rattle.sq_actions.specs.Asks.{Gains}
 
 -- an actor has so many records more, or fewer: with the next numbers, at rising stamps above all that it had seen before
 abbrev pub GainsAtMost : ℕ → Journal → Journal → Type 0

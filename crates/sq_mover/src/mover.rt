@@ -1,6 +1,6 @@
 //! A mover, turn after turn, over all queues.
 ghost use Rattle.std.specs.Prelude.{◌≡◌, ◌≤◌, Err, IfErr, IfOk, OnErr, OnOk, length, slice_get, vec_len};
-ghost use Rattle.sq_client.specs.Asks.{IsOfAnyStep};
+ghost use Rattle.sq_actions.specs.Asks.{IsOfAnyStep};
 ghost use Rattle.sq_queue.specs.Sections.{around};
 ghost use Rattle.sq_mover.specs.Movers.{GainsAtMost, active_of};
 ghost use Rattle.sq_mover.specs.MoverTurns.{BringsNext, EndsEarly, IsPassedOver, ServesFor, ServesSource, SweepsOn, TakesTurn, TakesTurns, TurnsAt};

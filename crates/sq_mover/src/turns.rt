@@ -1,16 +1,16 @@
 //! The turns of a mover: each is one step of moving messages at most, beside reads.
 ghost use Rattle.std.specs.Prelude.{◌≡◌, Some};
 ghost use Rattle.sq_calls.specs.declared.turns.Turn.TheVariants as turn;
-ghost use Rattle.sq_client.specs.Performs.{LeavesRecords};
-ghost use Rattle.sq_client.specs.Progresses.{no_progress, with_item, with_walk};
-ghost use Rattle.sq_client.specs.Turns.{TurnFits};
+ghost use Rattle.sq_actions.specs.Performs.{LeavesRecords};
+ghost use Rattle.sq_actions.specs.Progresses.{no_progress, with_item, with_walk};
+ghost use Rattle.sq_actions.specs.Turns.{TurnFits};
 ghost use Rattle.sq_mover.specs.Movers.{GainsAtMost};
 
 use sq_base::name::QueueName;
 use sq_base::refusal::Refusal;
 use sq_calls::turns::{Turn, Turned};
-use sq_client::progress::Progress;
-use sq_client::walk::Walk;
+use sq_actions::progress::Progress;
+use sq_actions::walk::Walk;
 use sq_queue::service::{Clock, Gate, Service};
 use sq_queue::session::Session;
 use std::sync::Wait;

@@ -3,7 +3,7 @@ ghost use Rattle.std.specs.Prelude.{◌≡◌, ◌<◌, ◌≤◌, [], ◌∷◌
 ghost use Rattle.sq_mover.specs.MoverValue.{walk_kept};
 
 use sq_base::refusal::Refusal;
-use sq_client::walk::Walk;
+use sq_actions::walk::Walk;
 use sq_model::item::TaskNo;
 use std::alloc::Global;
 use std::mem;

@@ -33,7 +33,7 @@ use Rattle.sq_places.specs.declared.state.RowState.{RowState}
 use Rattle.sq_places.specs.declared.state.Policy.{Policy}
 use Rattle.sq_places.specs.RowStates.{state_of, states_of, sent_state, Effect, Stays, Arrives, Looks, Leaves, Departs, Enters, Drops, effect_of, kept_states, past_states, states_after, ended_states, left_states, state_ends}
 use Rattle.sq_places.specs.HomeValues.{HomeValue, AuditValue}
-use Rattle.sq_places.specs.Audits.{no_states, put, rows_after, IsSameAudit, placed, placed_left, placed_rows, placed_moves, home_after, placed_ends, grown, no_audit, audit_step}
+use Rattle.sq_places.specs.Audits.{no_states, put, rows_after, IsSameAudit, placed, placed_left, placed_rows, placed_moves, home_after_event, placed_ends, grown, no_audit, audit_step}
 use Rattle.sq_places.specs.AllPlaces.{ArePlaces, after_send, after_move, sent_place, listed_place}
 use Rattle.sq_places.proofs.StateLaws.{GoesBy, mirrors}
 use Rattle.sq_places.proofs.MessageStateLaws.{sends_first}
@@ -161,8 +161,8 @@ audit_law before (OfHome i e ∷ ts) after r a all =
     let gone : placed_ends e v ≡ map placed_of leaving =
     ap (λ (rs : List RowState). placed at.Expired (past_states v.policy m rs) ++ placed_left effect (kept_states v.policy m rs)) fit.2
     ∙ sym (ends_placed v.policy m effect (states_of h.old.home)) ∙ ap (map placed_of) (sym mirror.ends) in
-    let next : MirroredAt h.new (home_after e v) = (mirror.rising, mirror.goes_by, rows) in
-    let rest = audit_law r.0 ts after r.2 (audit_step a (OfHome i e)) (rw h.homes (mirrored_set before.homes a.homes i h.old h.new (home_after e v) h.in_list all next)) in
+    let next : MirroredAt h.new (home_after_event e v) = (mirror.rising, mirror.goes_by, rows) in
+    let rest = audit_law r.0 ts after r.2 (audit_step a (OfHome i e)) (rw h.homes (mirrored_set before.homes a.homes i h.old h.new (home_after_event e v) h.in_list all next)) in
     record {
       all_sends = rest.all_sends ∙ append_assoc a.sends (home_sends e.reply) (run_sends ts);
       all_moves = rest.all_moves ∙ append_assoc a.moves (placed_moves e.call e.reply) (run_moves ts);

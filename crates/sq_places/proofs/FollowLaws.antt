@@ -30,7 +30,7 @@ use Rattle.sq_places.specs.declared.message_pass.MessageState.{MessageState}
 use Rattle.sq_places.specs.declared.message_pass.MessageState.TheVariants.{Unsent, Here, InTransit, Gone}
 use Rattle.sq_places.specs.declared.message_pass.MessagePass.{MessagePass}
 use Rattle.sq_places.specs.RowStates.{next_policy, states_of, Effect, Stays, Arrives, Looks, Leaves, Departs, Enters, Drops, effect_of, effect_sends, effect_outs, effect_ins}
-use Rattle.sq_places.specs.MessagePasses.{policy_step, policy_at, trimmed_state, state_after, is_in, known_policy, next_state, next_pass, pass_step, pass_from, start, answer}
+use Rattle.sq_places.specs.MessagePasses.{policy_step, policy_at, trimmed_state, state_after, is_state_in, known_policy, next_state, next_pass, pass_step, pass_from, pass_start, answer}
 use Rattle.sq_directory.proofs.ElementLaws.{get_same, get_other}
 use Rattle.sq_places.proofs.StateLaws.{GoesBy, Passes, mirrors, passes}
 use Rattle.sq_places.proofs.MessageStateLaws.{mine, rows_at, sent_at, going_at, place_from, place_now, same_home_row, FollowsEvent, follows_event}
@@ -51,12 +51,12 @@ pass_more x before k (u ∷ ts) t =
 
 -- the pass up to one event more
 pub pass_next : (x : MessageId) (ts : List Tagged) (i : ℕ) (t : Tagged) → i < length ts → t ≡ get_or ts i t
-    → pass_from x [] start (tags_of (take (i + 1) ts)) ≡ pass_step x (tags_of (take i ts)) (pass_from x [] start (tags_of (take i ts))) (tag_of t)
+    → pass_from x [] pass_start (tags_of (take (i + 1) ts)) ≡ pass_step x (tags_of (take i ts)) (pass_from x [] pass_start (tags_of (take i ts))) (tag_of t)
 pass_next x ts i t lt is =
-    ap (λ (us : List Tagged). pass_from x [] start (tags_of us)) (take_more ts i t lt)
-    ∙ ap (λ (u : Tagged). pass_from x [] start (tags_of (take i ts ++ u ∷ []))) (sym is)
-    ∙ ap (pass_from x [] start) (map-append tag_of (take i ts) (t ∷ []))
-    ∙ pass_more x [] start (tags_of (take i ts)) (tag_of t)
+    ap (λ (us : List Tagged). pass_from x [] pass_start (tags_of us)) (take_more ts i t lt)
+    ∙ ap (λ (u : Tagged). pass_from x [] pass_start (tags_of (take i ts ++ u ∷ []))) (sym is)
+    ∙ ap (pass_from x [] pass_start) (map-append tag_of (take i ts) (t ∷ []))
+    ∙ pass_more x [] pass_start (tags_of (take i ts)) (tag_of t)
 
 -- ---- one step of the system on the messages in transit
 
@@ -195,7 +195,7 @@ policy_there i j ts e ne =
     ∙ elim (eqb_tells i j) as (λ _. policy_step j (policy_at j ts) (OfHome i e) ≡ policy_at j ts) [ inl q ↦ absurd (ne q.1) | inr q ↦ ap (λ (v : Bool). if v then next_policy (policy_at j ts) e.call else policy_at j ts) q.0 ]
 
 -- a message that is not in the home stays
-trim_away : (i m : ℕ) (policy : Option Policy) (state : MessageState) → is_in i state ≡ false → trimmed_state i policy m state ≡ state
+trim_away : (i m : ℕ) (policy : Option Policy) (state : MessageState) → is_state_in i state ≡ false → trimmed_state i policy m state ≡ state
 trim_away i m None state away = refl
 trim_away i m (Some policy) Unsent away = refl
 trim_away i m (Some policy) (Here j row) away = rw away refl
@@ -213,7 +213,7 @@ trims_same i m ts policy (Here j row) h =
       | inr q ↦ trim_away i m policy (Here j row) q.0 ∙ sym (trim_away i m (policy_at i ts) (Here j row) q.0)
     ]
 
-kept_is : (i : ℕ) (ts : List Tag) (policy : Option Policy) (state : MessageState) → Knows ts policy state → is_in i state ≡ true → policy ≡ policy_at i ts
+kept_is : (i : ℕ) (ts : List Tag) (policy : Option Policy) (state : MessageState) → Knows ts policy state → is_state_in i state ≡ true → policy ≡ policy_at i ts
 kept_is i ts policy Unsent h e = absurd cc
 kept_is i ts policy InTransit h e = absurd cc
 kept_is i ts policy (Gone place) h e = absurd cc
@@ -222,7 +222,7 @@ kept_is i ts policy (Here j row) h e = elim (eqb_tells j i) as (λ _. policy ≡
 known_here : (i j : ℕ) (ts : List Tag) (call : HomeCall) (k : MessagePass) (row : RowState) → i ≡ j → Knows ts k.policy k.state → known_policy ts i k call (Here j row) ≡ next_policy (policy_at i ts) call
 known_here i j ts call k row same h =
     let there : (j == i) ≡ true = elim (eqb_tells j i) as (λ _. (j == i) ≡ true) [ inl q ↦ q.0 | inr q ↦ absurd (q.1 (sym same)) ] in
-    elim (is_in i k.state) as (λ v. is_in i k.state ≡ v → (if v then next_policy k.policy call else if j == i then next_policy (policy_at i ts) call else k.policy) ≡ next_policy (policy_at i ts) call) [
+    elim (is_state_in i k.state) as (λ v. is_state_in i k.state ≡ v → (if v then next_policy k.policy call else if j == i then next_policy (policy_at i ts) call else k.policy) ≡ next_policy (policy_at i ts) call) [
       | true ↦ (λ e. ap (λ (p : Option Policy). next_policy p call) (kept_is i ts k.policy k.state h e))
       | false ↦ (λ e. ap (λ (v : Bool). if v then next_policy (policy_at i ts) call else k.policy) there)
     ] refl
@@ -318,9 +318,9 @@ opened [] i h e = absurd cc
 opened (site ∷ sites) zero h e = let same : record { site = site; home = Unopened } ≡ h = cc in ap (λ (a : HomeAt). a.home) (sym same)
 opened (site ∷ sites) (suc i) h e = opened sites i h e
 
-fits_opening : (x : MessageId) (places limit : ℕ) (sites : List Site) → Fits x (opening places limit sites) [] start
+fits_opening : (x : MessageId) (places limit : ℕ) (sites : List Site) → Fits x (opening places limit sites) [] pass_start
 fits_opening x places limit sites = record {
-  homes = λ i h e. subst (λ (home : Home). FitsAt x i home [] start) (sym (opened sites i h e)) (tt, refl, refl);
+  homes = λ i h e. subst (λ (home : Home). FitsAt x i home [] pass_start) (sym (opened sites i h e)) (tt, refl, refl);
   knows = tt;
   going = refl;
   ledger = opens limit;
@@ -328,8 +328,8 @@ fits_opening x places limit sites = record {
 
 -- the pass gives the place
 pub place_law : (x : MessageId) (places limit : ℕ) (sites : List Site) (ts : List Tagged) (run : List Tag) → tags_of ts ≡ run → (after : System) (r : RunFrom (opening places limit sites) run after) → IsOnePlace sites
-    → place_in x (run_sends run) (run_ends (opening places limit sites) run after r) after.ledger.items ≡ answer (pass_from x [] start (tags_of ts)).state
+    → place_in x (run_sends run) (run_ends (opening places limit sites) run after r) after.ledger.items ≡ answer (pass_from x [] pass_start (tags_of ts)).state
 place_law x places limit sites ts run is after r one =
     let once = one_place x places limit sites run after r one in
-    follow_law x (opening places limit sites) run after r [] start (fits_opening x places limit sites) (omega (arith, once.1))
-    ∙ ap (λ (us : List Tag). answer (pass_from x [] start us).state) (sym is)
+    follow_law x (opening places limit sites) run after r [] pass_start (fits_opening x places limit sites) (omega (arith, once.1))
+    ∙ ap (λ (us : List Tag). answer (pass_from x [] pass_start us).state) (sym is)

@@ -22,7 +22,7 @@ use Rattle.sq_model.specs.declared.place.Place.{Place}
 use Rattle.sq_model.specs.declared.place.Place.TheVariants as at
 use Rattle.sq_model.specs.Lineages.{same_id}
 use Rattle.sq_places.specs.declared.state.RowState.{RowState}
-use Rattle.sq_places.specs.RowStates.{is_due, is_past, is_named, is_of, received, raised, looked, has_serial}
+use Rattle.sq_places.specs.RowStates.{is_past_retention, is_past, is_state_named, is_state_of, state_received, raised, looked, has_serial_of}
 use Rattle.sq_places.specs.RowIndexes.{age_cmp, age_of, HaveAges, AreIndexed}
 use Rattle.sq_places.specs.Audits.{taken, put, placed, AreSameEnds}
 use Rattle.sq_places.specs.AllPlaces.{after_move}
@@ -127,14 +127,14 @@ named_serial true true c h = refl
 named_serial true false c h = absurd cc
 named_serial false b c h = absurd cc
 
-pub only_named : (receipt : Receipt) (row : RowState) → is_named receipt row ≡ true → row.serial ≡ receipt.serial
+pub only_named : (receipt : Receipt) (row : RowState) → is_state_named receipt row ≡ true → row.serial ≡ receipt.serial
 only_named receipt row h = eqb-true _ _ (named_serial (row.slot == receipt.slot) (row.serial == receipt.serial) (row.receives == receipt.receive) h)
 
 second : (a b : Bool) → (a && b) ≡ true → b ≡ true
 second true b h = h
 second false b h = absurd cc
 
-pub only_of : (row : Row) (state : RowState) → is_of row state ≡ true → state.serial ≡ row.serial
+pub only_of : (row : Row) (state : RowState) → is_state_of row state ≡ true → state.serial ≡ row.serial
 only_of row state h = eqb-true _ _ (second (state.slot == row.slot) (state.serial == row.serial) h)
 
 -- ---- a row is put in
@@ -167,14 +167,14 @@ put_ages ages (e ∷ es) row age h =
 
 -- ---- a row is received
 
-received_age : (row : RowState) → age_of (received row) ≡ age_of row
+received_age : (row : RowState) → age_of (state_received row) ≡ age_of row
 received_age row = elim (nat_lt row.receives 4294967295) as (λ b. age_of (if b then record row { receives = row.receives + 1 } else row) ≡ age_of row) [ true ↦ refl | false ↦ refl ]
 
 raised_other : (k : ℕ) (row : RowState) → k ≢ row.serial → raised k row ≡ row
-raised_other k row ne = elim (eqb_tells row.serial k) as (λ _. raised k row ≡ row) [ inl p ↦ absurd (ne (sym p.1)) | inr p ↦ ap (λ (b : Bool). if b then received row else row) p.0 ]
+raised_other k row ne = elim (eqb_tells row.serial k) as (λ _. raised k row ≡ row) [ inl p ↦ absurd (ne (sym p.1)) | inr p ↦ ap (λ (b : Bool). if b then state_received row else row) p.0 ]
 
-raised_this : (k : ℕ) (row : RowState) → k ≡ row.serial → raised k row ≡ received row
-raised_this k row e = elim (eqb_tells row.serial k) as (λ _. raised k row ≡ received row) [ inl p ↦ ap (λ (b : Bool). if b then received row else row) p.0 | inr p ↦ absurd (p.1 (sym e)) ]
+raised_this : (k : ℕ) (row : RowState) → k ≡ row.serial → raised k row ≡ state_received row
+raised_this k row e = elim (eqb_tells row.serial k) as (λ _. raised k row ≡ state_received row) [ inl p ↦ ap (λ (b : Bool). if b then state_received row else row) p.0 | inr p ↦ absurd (p.1 (sym e)) ]
 
 raised_later : (k : ℕ) (ages : List (ℕ × ℕ)) (es : Rows) → HaveAges ages es → Above k es → map (raised k) (values_of es) ≡ values_of es
 raised_later k ages [] h a = refl
@@ -184,7 +184,7 @@ raised_later k ages (e ∷ es) h a =
 -- what a look-up of the serial says of the rows after, where a row is written in its place
 abbrev pub Raises : ℕ → Rows → (RowState → Rows) → Option RowState → Type 0
 Raises k es written None = values_of es ≡ map (raised k) (values_of es)
-Raises k es written (Some row) = values_of (written (received row)) ≡ map (raised k) (values_of es)
+Raises k es written (Some row) = values_of (written (state_received row)) ≡ map (raised k) (values_of es)
 
 pub raise_law : (k : ℕ) (ages : List (ℕ × ℕ)) (es : Rows) → IsStrictlySortedBy nat_cmp (keys_of es) → HaveAges ages es → Raises k es (set_value (is_at (nat_cmp k)) es) (lookup (is_at (nat_cmp k)) es)
 raise_law k ages [] s h = refl
@@ -201,17 +201,17 @@ raise_law k ages (e ∷ es) s h =
           subst (λ (at : Bool). Raises k (e ∷ es) (λ row. cond at ((e.0, row) ∷ es) (e ∷ written row)) (cond at (Some e.1) found)) (sym other.0)
           (elim found as (λ o. Raises k es written o → Raises k (e ∷ es) (λ row. e ∷ written row) o) [
             | None ↦ (λ q. ap (λ (row : RowState). row ∷ values_of es) (sym first) ∙ ap (λ (rows : List RowState). raised k e.1 ∷ rows) q)
-            | Some row ↦ (λ q. ap (λ (r : RowState). r ∷ values_of (written (received row))) (sym first) ∙ ap (λ (rows : List RowState). raised k e.1 ∷ rows) q)
+            | Some row ↦ (λ q. ap (λ (r : RowState). r ∷ values_of (written (state_received row))) (sym first) ∙ ap (λ (rows : List RowState). raised k e.1 ∷ rows) q)
           ] (raise_law k ages es (sorted_tail nat_cmp e.0 (keys_of es) s) h.2)))
     ]
 
-pub set_ages : (k : ℕ) (row : RowState) (ages : List (ℕ × ℕ)) (es : Rows) → lookup (is_at (nat_cmp k)) es ≡ Some row → HaveAges ages es → HaveAges ages (set_value (is_at (nat_cmp k)) es (received row))
+pub set_ages : (k : ℕ) (row : RowState) (ages : List (ℕ × ℕ)) (es : Rows) → lookup (is_at (nat_cmp k)) es ≡ Some row → HaveAges ages es → HaveAges ages (set_value (is_at (nat_cmp k)) es (state_received row))
 set_ages k row ages [] is h = tt
 set_ages k row ages (e ∷ es) is h =
-    elim (is_at (nat_cmp k) e.0) as (λ at. cond at (Some e.1) (lookup (is_at (nat_cmp k)) es) ≡ Some row → HaveAges ages (cond at ((e.0, received row) ∷ es) (e ∷ set_value (is_at (nat_cmp k)) es (received row)))) [
+    elim (is_at (nat_cmp k) e.0) as (λ at. cond at (Some e.1) (lookup (is_at (nat_cmp k)) es) ≡ Some row → HaveAges ages (cond at ((e.0, state_received row) ∷ es) (e ∷ set_value (is_at (nat_cmp k)) es (state_received row)))) [
       | true ↦ (λ q.
           let same : e.1 ≡ row = cc in
-          let age : age_of e.1 ≡ age_of (received row) = ap age_of same ∙ sym (received_age row) in
+          let age : age_of e.1 ≡ age_of (state_received row) = ap age_of same ∙ sym (received_age row) in
           (h.0 ∙ ap (λ (a : ℕ × ℕ). a.1) age, subst (λ (a : ℕ × ℕ). list_any (is_at (age_cmp a)) ages ≡ true) age h.1, h.2))
       | false ↦ (λ q. (h.0, h.1, set_ages k row ages es q h.2))
     ] is
@@ -223,13 +223,13 @@ looked_none [] = refl
 looked_none (row ∷ rows) = ap (λ (rs : List RowState). row ∷ rs) (looked_none rows)
 
 looked_serial : (picked : List Row) (row : RowState) → (looked picked row).serial ≡ row.serial
-looked_serial picked row = elim (has_serial row.serial picked) as (λ b. (if b then received row else row).serial ≡ row.serial) [ true ↦ ap (λ (a : ℕ × ℕ). a.1) (received_age row) | false ↦ refl ]
+looked_serial picked row = elim (has_serial_of row.serial picked) as (λ b. (if b then state_received row else row).serial ≡ row.serial) [ true ↦ ap (λ (a : ℕ × ℕ). a.1) (received_age row) | false ↦ refl ]
 
-looked_same : (few more : List Row) (row : RowState) → has_serial row.serial more ≡ has_serial row.serial few → looked few row ≡ looked more row
-looked_same few more row e = ap (λ (b : Bool). if b then received row else row) (sym e)
+looked_same : (few more : List Row) (row : RowState) → has_serial_of row.serial more ≡ has_serial_of row.serial few → looked few row ≡ looked more row
+looked_same few more row e = ap (λ (b : Bool). if b then state_received row else row) (sym e)
 
-has_more : (serial : ℕ) (picked : List Row) (i : ℕ) (d : Row) → i < length picked → d ≡ get_or picked i d → has_serial serial (take (i + 1) picked) ≡ (has_serial serial (take i picked) || (d.serial == serial))
-has_more serial picked i d lt is = list_any_more (λ (row : Row). row.serial == serial) picked i d lt ∙ ap (λ (row : Row). has_serial serial (take i picked) || (row.serial == serial)) (sym is)
+has_more : (serial : ℕ) (picked : List Row) (i : ℕ) (d : Row) → i < length picked → d ≡ get_or picked i d → has_serial_of serial (take (i + 1) picked) ≡ (has_serial_of serial (take i picked) || (d.serial == serial))
+has_more serial picked i d lt is = list_any_more (λ (row : Row). row.serial == serial) picked i d lt ∙ ap (λ (row : Row). has_serial_of serial (take i picked) || (row.serial == serial)) (sym is)
 
 or_false : (b : Bool) → (b || false) ≡ b
 or_false true = refl
@@ -240,37 +240,37 @@ or_true true = refl
 or_true false = refl
 
 -- one more of the rows that were given
-raised_more : (picked : List Row) (i : ℕ) (d : Row) → i < length picked → d ≡ get_or picked i d → has_serial d.serial (take i picked) ≡ false → (row : RowState) → raised d.serial (looked (take i picked) row) ≡ looked (take (i + 1) picked) row
+raised_more : (picked : List Row) (i : ℕ) (d : Row) → i < length picked → d ≡ get_or picked i d → has_serial_of d.serial (take i picked) ≡ false → (row : RowState) → raised d.serial (looked (take i picked) row) ≡ looked (take (i + 1) picked) row
 raised_more picked i d lt given none row =
     let s : ℕ = d.serial in
     let more = has_more row.serial picked i d lt given in
     elim (eqb_tells s row.serial) as (λ _. raised s (looked (take i picked) row) ≡ looked (take (i + 1) picked) row) [
       | inl same ↦ (
-          let out : has_serial row.serial (take i picked) ≡ false = subst (λ (n : ℕ). has_serial n (take i picked) ≡ false) same.1 none in
-          let now : has_serial row.serial (take (i + 1) picked) ≡ true = more ∙ ap (λ (b : Bool). has_serial row.serial (take i picked) || b) same.0 ∙ or_true _ in
-          ap (λ (b : Bool). raised s (if b then received row else row)) out ∙ raised_this s row same.1
-          ∙ sym (ap (λ (b : Bool). if b then received row else row) now))
+          let out : has_serial_of row.serial (take i picked) ≡ false = subst (λ (n : ℕ). has_serial_of n (take i picked) ≡ false) same.1 none in
+          let now : has_serial_of row.serial (take (i + 1) picked) ≡ true = more ∙ ap (λ (b : Bool). has_serial_of row.serial (take i picked) || b) same.0 ∙ or_true _ in
+          ap (λ (b : Bool). raised s (if b then state_received row else row)) out ∙ raised_this s row same.1
+          ∙ sym (ap (λ (b : Bool). if b then state_received row else row) now))
       | inr other ↦ raised_other s (looked (take i picked) row) (λ q. other.1 (q ∙ looked_serial (take i picked) row))
-          ∙ looked_same (take i picked) (take (i + 1) picked) row (more ∙ ap (λ (b : Bool). has_serial row.serial (take i picked) || b) other.0 ∙ or_false _)
+          ∙ looked_same (take i picked) (take (i + 1) picked) row (more ∙ ap (λ (b : Bool). has_serial_of row.serial (take i picked) || b) other.0 ∙ or_false _)
     ]
 
-pub look_more : (picked : List Row) (i : ℕ) (d : Row) → i < length picked → d ≡ get_or picked i d → has_serial d.serial (take i picked) ≡ false → (rows : List RowState) → map (raised d.serial) (map (looked (take i picked)) rows) ≡ map (looked (take (i + 1) picked)) rows
+pub look_more : (picked : List Row) (i : ℕ) (d : Row) → i < length picked → d ≡ get_or picked i d → has_serial_of d.serial (take i picked) ≡ false → (rows : List RowState) → map (raised d.serial) (map (looked (take i picked)) rows) ≡ map (looked (take (i + 1) picked)) rows
 look_more picked i d lt given none [] = refl
 look_more picked i d lt given none (row ∷ rows) = let first = raised_more picked i d lt given none row in let rest = look_more picked i d lt given none rows in cc
 
 -- a serial that was there already
-again : (picked : List Row) (i : ℕ) (d : Row) → i < length picked → d ≡ get_or picked i d → has_serial d.serial (take i picked) ≡ true → (row : RowState) → looked (take i picked) row ≡ looked (take (i + 1) picked) row
+again : (picked : List Row) (i : ℕ) (d : Row) → i < length picked → d ≡ get_or picked i d → has_serial_of d.serial (take i picked) ≡ true → (row : RowState) → looked (take i picked) row ≡ looked (take (i + 1) picked) row
 again picked i d lt given was row =
     let s : ℕ = d.serial in
     let more = has_more row.serial picked i d lt given in
-    looked_same (take i picked) (take (i + 1) picked) row (elim (eqb_tells s row.serial) as (λ _. has_serial row.serial (take (i + 1) picked) ≡ has_serial row.serial (take i picked)) [
+    looked_same (take i picked) (take (i + 1) picked) row (elim (eqb_tells s row.serial) as (λ _. has_serial_of row.serial (take (i + 1) picked) ≡ has_serial_of row.serial (take i picked)) [
       | inl same ↦ (
-          let is : has_serial row.serial (take i picked) ≡ true = subst (λ (n : ℕ). has_serial n (take i picked) ≡ true) same.1 was in
-          more ∙ ap (λ (b : Bool). has_serial row.serial (take i picked) || b) same.0 ∙ or_true _ ∙ sym is)
-      | inr other ↦ more ∙ ap (λ (b : Bool). has_serial row.serial (take i picked) || b) other.0 ∙ or_false _
+          let is : has_serial_of row.serial (take i picked) ≡ true = subst (λ (n : ℕ). has_serial_of n (take i picked) ≡ true) same.1 was in
+          more ∙ ap (λ (b : Bool). has_serial_of row.serial (take i picked) || b) same.0 ∙ or_true _ ∙ sym is)
+      | inr other ↦ more ∙ ap (λ (b : Bool). has_serial_of row.serial (take i picked) || b) other.0 ∙ or_false _
     ])
 
-pub look_again : (picked : List Row) (i : ℕ) (d : Row) → i < length picked → d ≡ get_or picked i d → has_serial d.serial (take i picked) ≡ true → (rows : List RowState) → map (looked (take i picked)) rows ≡ map (looked (take (i + 1) picked)) rows
+pub look_again : (picked : List Row) (i : ℕ) (d : Row) → i < length picked → d ≡ get_or picked i d → has_serial_of d.serial (take i picked) ≡ true → (rows : List RowState) → map (looked (take i picked)) rows ≡ map (looked (take (i + 1) picked)) rows
 look_again picked i d lt given was [] = refl
 look_again picked i d lt given was (row ∷ rows) = let first = again picked i d lt given was row in let rest = look_again picked i d lt given was rows in cc
 
@@ -343,7 +343,7 @@ later_ages age ages [] a h = tt
 later_ages age ages (e ∷ es) a h = (h.0, drop_age (age_of e.1) age ages (λ p q. omega (arith, q, h.0, a.0)) h.1, later_ages age ages es a.1 h.2)
 
 -- once the row of a due age is out, no row needs that age
-pub popped : (retention m : ℕ) (age : ℕ × ℕ) (ages : List (ℕ × ℕ)) (es : Rows) → is_due retention m age.0 ≡ true → IsStrictlySortedBy nat_cmp (keys_of es) → HaveAges (age ∷ ages) es → HaveAges ages (left_of (is_past retention m) age.1 es)
+pub popped : (retention m : ℕ) (age : ℕ × ℕ) (ages : List (ℕ × ℕ)) (es : Rows) → is_past_retention retention m age.0 ≡ true → IsStrictlySortedBy nat_cmp (keys_of es) → HaveAges (age ∷ ages) es → HaveAges ages (left_of (is_past retention m) age.1 es)
 popped retention m age ages [] due s h = tt
 popped retention m age ages (e ∷ es) due s h =
     let L : Option RowState = lookup (is_at (nat_cmp age.1)) es in
@@ -354,7 +354,7 @@ popped retention m age ages (e ∷ es) due s h =
           subst (λ (at : Bool). HaveAges ages (if is_some (taken (is_past retention m) (cond at (Some e.1) L)) then cond at es (e ∷ R) else e ∷ es)) (sym same.0)
           (elim (is_past retention m e.1) as (λ b. is_past retention m e.1 ≡ b → HaveAges ages (if is_some (if b then Some e.1 else None) then es else e ∷ es)) [
             | true ↦ (λ q. later)
-            | false ↦ (λ q. (h.0, drop_age (age_of e.1) age ages (λ p r. (let t : true ≡ false = sym due ∙ ap (λ (n : ℕ). is_due retention m n) (sym p) ∙ q in absurd cc)) h.1, later))
+            | false ↦ (λ q. (h.0, drop_age (age_of e.1) age ages (λ p r. (let t : true ≡ false = sym due ∙ ap (λ (n : ℕ). is_past_retention retention m n) (sym p) ∙ q in absurd cc)) h.1, later))
           ] refl))
       | inr other ↦ (
           let age_stays = drop_age (age_of e.1) age ages (λ p q. other.1 (sym (h.0 ∙ q))) h.1 in
@@ -365,16 +365,16 @@ popped retention m age ages (e ∷ es) due s h =
           ] (popped retention m age ages es due (sorted_tail nat_cmp e.0 (keys_of es) s) h.2)))
     ]
 
-not_due : (retention m : ℕ) (a : ℕ × ℕ) (ages : List (ℕ × ℕ)) → All (λ age. is_due retention m age.0 ≡ false) ages → list_any (is_at (age_cmp a)) ages ≡ true → is_due retention m a.0 ≡ false
+not_due : (retention m : ℕ) (a : ℕ × ℕ) (ages : List (ℕ × ℕ)) → All (λ age. is_past_retention retention m age.0 ≡ false) ages → list_any (is_at (age_cmp a)) ages ≡ true → is_past_retention retention m a.0 ≡ false
 not_due retention m a [] all h = absurd cc
 not_due retention m a (age ∷ ages) all h =
-    elim (is_at (age_cmp a) age) as (λ b. is_at (age_cmp a) age ≡ b → (b || list_any (is_at (age_cmp a)) ages) ≡ true → is_due retention m a.0 ≡ false) [
-      | true ↦ (λ q t. ap (λ (n : ℕ). is_due retention m n) (age_is a age q).0 ∙ All-head (λ (n : ℕ × ℕ). is_due retention m n.0 ≡ false) age ages all)
-      | false ↦ (λ q t. not_due retention m a ages (All-tail (λ (n : ℕ × ℕ). is_due retention m n.0 ≡ false) age ages all) t)
+    elim (is_at (age_cmp a) age) as (λ b. is_at (age_cmp a) age ≡ b → (b || list_any (is_at (age_cmp a)) ages) ≡ true → is_past_retention retention m a.0 ≡ false) [
+      | true ↦ (λ q t. ap (λ (n : ℕ). is_past_retention retention m n) (age_is a age q).0 ∙ All-head (λ (n : ℕ × ℕ). is_past_retention retention m n.0 ≡ false) age ages all)
+      | false ↦ (λ q t. not_due retention m a ages (All-tail (λ (n : ℕ × ℕ). is_past_retention retention m n.0 ≡ false) age ages all) t)
     ] refl h
 
 -- where no age is due, no row is past
-pub none_due : (retention m : ℕ) (ages : List (ℕ × ℕ)) (es : Rows) → All (λ age. is_due retention m age.0 ≡ false) ages → HaveAges ages es
+pub none_due : (retention m : ℕ) (ages : List (ℕ × ℕ)) (es : Rows) → All (λ age. is_past_retention retention m age.0 ≡ false) ages → HaveAges ages es
     → (filter (λ row. not (is_past retention m row)) (values_of es) ≡ values_of es) × (filter (is_past retention m) (values_of es) ≡ [])
 none_due retention m ages [] all h = (refl, refl)
 none_due retention m ages (e ∷ es) all h =
@@ -410,7 +410,7 @@ same_first retention m k es ends now =
           ∙ sym (fold-append (after_move x) place ends (placed at.Expired (filter (is_past retention m) (values_of es)))))
     ] refl
 
-pub trim_more : (retention m : ℕ) (old : List RowState) (was ends now : List (MessageId × Place)) (age : ℕ × ℕ) (ages : List (ℕ × ℕ)) (es left : Rows) (out : Option RowState) → is_due retention m age.0 ≡ true
+pub trim_more : (retention m : ℕ) (old : List RowState) (was ends now : List (MessageId × Place)) (age : ℕ × ℕ) (ages : List (ℕ × ℕ)) (es left : Rows) (out : Option RowState) → is_past_retention retention m age.0 ≡ true
     → out ≡ taken (is_past retention m) (lookup (is_at (nat_cmp age.1)) es) → left ≡ (if is_some out then remove_entry (is_at (nat_cmp age.1)) es else es) → IsStrictlySortedBy nat_cmp (keys_of left) → Reports ends now out
     → Trims retention m old was ends (age ∷ ages) es → Trims retention m old was now ages left
 trim_more retention m old was ends now age ages es left out due is left_is sorted reports t =
@@ -423,7 +423,7 @@ trim_more retention m old was ends now age ages es left out due is left_is sorte
     }
 
 -- nothing past is left
-pub trim_ends : (retention m : ℕ) (old : List RowState) (was ends : List (MessageId × Place)) (ages : List (ℕ × ℕ)) (es : Rows) → All (λ age. is_due retention m age.0 ≡ false) ages → Trims retention m old was ends ages es
+pub trim_ends : (retention m : ℕ) (old : List RowState) (was ends : List (MessageId × Place)) (ages : List (ℕ × ℕ)) (es : Rows) → All (λ age. is_past_retention retention m age.0 ≡ false) ages → Trims retention m old was ends ages es
     → (values_of es ≡ filter (λ row. not (is_past retention m row)) old) × AreSameEnds ends (was ++ placed at.Expired (filter (is_past retention m) old))
 trim_ends retention m old was ends ages es all t =
     let none = none_due retention m ages es all t.indexed.each in

@@ -19,7 +19,7 @@ use Rattle.sq_places.specs.declared.state.RowState.{RowState}
 use Rattle.sq_places.specs.declared.state.Policy.{Policy}
 use Rattle.sq_places.specs.declared.message_pass.MessageState.{MessageState}
 use Rattle.sq_places.specs.declared.message_pass.MessageState.TheVariants.{Unsent, Here, InTransit, Gone}
-use Rattle.sq_places.specs.RowStates.{is_past, state_of, sent_state, received, looked, Effect, Stays, Arrives, Looks, Leaves, Departs, Enters, Drops, effect_sends, effect_outs, effect_ins, kept_states, past_states, states_after, ended_states, left_states, state_ends}
+use Rattle.sq_places.specs.RowStates.{is_past, state_of, sent_state, state_received, looked, Effect, Stays, Arrives, Looks, Leaves, Departs, Enters, Drops, effect_sends, effect_outs, effect_ins, kept_states, past_states, states_after, ended_states, left_states, state_ends}
 use Rattle.sq_places.specs.MessagePasses.{leaves, changes, becomes, trimmed_state, state_after, answer}
 use Rattle.sq_places.proofs.StateLaws.{Splits}
 
@@ -213,7 +213,7 @@ place_change x i f (Here j row) sends ends items = elim (j == i) as (λ v. Some 
 
 looked_line : (picked : List Row) (row : RowState) → (looked picked row).lineage ≡ row.lineage
 looked_line picked row =
-    elim (has_serial row.serial picked) as (λ b. (if b then received row else row).lineage ≡ row.lineage) [
+    elim (has_serial row.serial picked) as (λ b. (if b then state_received row else row).lineage ≡ row.lineage) [
       | true ↦ elim (nat_lt row.receives 4294967295) as (λ b. (if b then record row { receives = row.receives + 1 } else row).lineage ≡ row.lineage) [ true ↦ refl | false ↦ refl ]
       | false ↦ refl
     ]

@@ -24,7 +24,7 @@ use Rattle.sq_model.specs.Lineages.{Cause, Expired, Deleted, Purged, ClosedAway,
 use Rattle.sq_model.proofs.RowLaws.{rises_filter, rises_trimmed, rises_push, rises_received, rises_changed, rises_without}
 use Rattle.sq_places.specs.declared.state.RowState.{RowState}
 use Rattle.sq_places.specs.declared.state.Policy.{Policy}
-use Rattle.sq_places.specs.RowStates.{state_of, states_of, is_past, is_named, is_of, enqueued_as, entered_state, returned_state, looked, next_policy, Effect, Stays, Arrives, Looks, Leaves, Departs, Enters, Drops, effect_of, effect_sends, effect_outs, effect_ins, kept_states, past_states, states_after, ended_states, state_ends}
+use Rattle.sq_places.specs.RowStates.{state_of, states_of, is_past, is_state_named, is_state_of, enqueued_as, entered_state, returned_state, looked, next_policy, Effect, Stays, Arrives, Looks, Leaves, Departs, Enters, Drops, effect_of, effect_sends, effect_outs, effect_ins, kept_states, past_states, states_after, ended_states, state_ends}
 
 -- membership by cases on the list
 abbrev Has : List Row → Row → Type 0
@@ -164,7 +164,7 @@ Splits Stays rows = Unit {0}
 Splits (Arrives sent) rows = Unit {0}
 Splits (Looks picked) rows = Unit {0}
 Splits (Leaves p cause) rows = Unit {0}
-Splits (Departs row) rows = (b : List RowState) × (a : List RowState) × (rows ≡ b ++ state_of row ∷ a) × (filter (λ state. not (is_of row state)) rows ≡ b ++ a)
+Splits (Departs row) rows = (b : List RowState) × (a : List RowState) × (rows ≡ b ++ state_of row ∷ a) × (filter (λ state. not (is_state_of row state)) rows ≡ b ++ a)
 Splits (Enters row) rows = Unit {0}
 Splits (Drops line) rows = Unit {0}
 
@@ -220,37 +220,37 @@ none_passes : (a b : Bool) → b ≡ false → (a && b) ≡ false
 none_passes true b e = e
 none_passes false b e = refl
 
-other_row : (row r : Row) → r.serial ≢ row.serial → is_of row (state_of r) ≡ false
-other_row row r ne = elim (eqb_tells r.serial row.serial) as (λ _. is_of row (state_of r) ≡ false) [ inl p ↦ absurd (ne p.1) | inr p ↦ none_passes (r.slot == row.slot) (r.serial == row.serial) p.0 ]
+other_row : (row r : Row) → r.serial ≢ row.serial → is_state_of row (state_of r) ≡ false
+other_row row r ne = elim (eqb_tells r.serial row.serial) as (λ _. is_state_of row (state_of r) ≡ false) [ inl p ↦ absurd (ne p.1) | inr p ↦ none_passes (r.slot == row.slot) (r.serial == row.serial) p.0 ]
 
 same_number : (n : ℕ) → (n == n) ≡ true
 same_number n = elim (eqb_tells n n) as (λ _. (n == n) ≡ true) [ inl p ↦ p.0 | inr p ↦ absurd (p.1 refl) ]
 
-this_row : (row : Row) → is_of row (state_of row) ≡ true
+this_row : (row : Row) → is_state_of row (state_of row) ≡ true
 this_row row = rw (same_number row.slot, same_number row.serial) refl
 
 -- none of these has the slot and serial of a row with a lower serial
-later_stay : (row : Row) (low : ℕ) (rows : List Row) (next : ℕ) → row.serial < low → RisesFrom low rows next → filter (λ r. not (is_of row (state_of r))) rows ≡ rows
+later_stay : (row : Row) (low : ℕ) (rows : List Row) (next : ℕ) → row.serial < low → RisesFrom low rows next → filter (λ r. not (is_state_of row (state_of r))) rows ≡ rows
 later_stay row low [] next lt h = refl
 later_stay row low (r ∷ rows) next lt h =
     let other = other_row row r (λ e. omega (arith, e, h.0, lt)) in
     let rest = later_stay row (r.serial + 1) rows next (omega (arith, h.0, lt)) h.1 in
-    subst (λ (v : Bool). cond (not v) (r ∷ filter (λ q. not (is_of row (state_of q))) rows) (filter (λ q. not (is_of row (state_of q))) rows) ≡ r ∷ rows) (sym other) (ap (λ (rs : List Row). r ∷ rs) rest)
+    subst (λ (v : Bool). cond (not v) (r ∷ filter (λ q. not (is_state_of row (state_of q))) rows) (filter (λ q. not (is_state_of row (state_of q))) rows) ≡ r ∷ rows) (sym other) (ap (λ (rs : List Row). r ∷ rs) rest)
 
 from_low : (low : ℕ) (before : List Row) (row : Row) (after : List Row) (next : ℕ) → RisesFrom low (before ++ row ∷ after) next → low ≤ row.serial
 from_low low [] row after next h = h.0
 from_low low (r ∷ before) row after next h = omega (arith, h.0, from_low (r.serial + 1) before row after next h.1)
 
 -- what has the slot and serial of one row is that row
-taken_row : (low : ℕ) (before : List Row) (row : Row) (after : List Row) (next : ℕ) → RisesFrom low (before ++ row ∷ after) next → filter (λ r. not (is_of row (state_of r))) (before ++ row ∷ after) ≡ before ++ after
+taken_row : (low : ℕ) (before : List Row) (row : Row) (after : List Row) (next : ℕ) → RisesFrom low (before ++ row ∷ after) next → filter (λ r. not (is_state_of row (state_of r))) (before ++ row ∷ after) ≡ before ++ after
 taken_row low [] row after next h =
     let rest = later_stay row (row.serial + 1) after next (omega arith) h.1 in
-    subst (λ (v : Bool). cond (not v) (row ∷ filter (λ q. not (is_of row (state_of q))) after) (filter (λ q. not (is_of row (state_of q))) after) ≡ after) (sym (this_row row)) rest
+    subst (λ (v : Bool). cond (not v) (row ∷ filter (λ q. not (is_state_of row (state_of q))) after) (filter (λ q. not (is_state_of row (state_of q))) after) ≡ after) (sym (this_row row)) rest
 taken_row low (r ∷ before) row after next h =
     let later = from_low (r.serial + 1) before row after next h.1 in
     let other = other_row row r (λ e. omega (arith, e, later)) in
     let rest = taken_row (r.serial + 1) before row after next h.1 in
-    subst (λ (v : Bool). cond (not v) (r ∷ filter (λ q. not (is_of row (state_of q))) (before ++ row ∷ after)) (filter (λ q. not (is_of row (state_of q))) (before ++ row ∷ after)) ≡ r ∷ before ++ after) (sym other) (ap (λ (rs : List Row). r ∷ rs) rest)
+    subst (λ (v : Bool). cond (not v) (r ∷ filter (λ q. not (is_state_of row (state_of q))) (before ++ row ∷ after)) (filter (λ q. not (is_state_of row (state_of q))) (before ++ row ∷ after)) ≡ r ∷ before ++ after) (sym other) (ap (λ (rs : List Row). r ∷ rs) rest)
 
 -- a row leaves for another queue
 departs : (s : Settings) (v n m : ℕ) (rows rest : List Row) (row : Row) → RisesFrom 0 rows n → Takes row (trimmed s m rows) rest
@@ -258,12 +258,12 @@ departs : (s : Settings) (v n m : ℕ) (rows rest : List Row) (row : Row) → Ri
 departs s v n m rows rest row rising t =
     let kept = trimmed s m rows in
     let kept_rising : RisesFrom 0 kept n = rises_trimmed s m 0 rows n rising in
-    let left : filter (λ r. not (is_of row (state_of r))) kept ≡ rest =
-    ap (filter (λ (r : Row). not (is_of row (state_of r)))) t.at ∙ taken_row 0 t.before row t.after n (subst (λ (rs : List Row). RisesFrom 0 rs n) t.at kept_rising) ∙ sym t.left in
-    let states : map state_of rest ≡ filter (λ state. not (is_of row state)) (kept_states (policy_of s v) m (map state_of rows)) =
-    ap (map state_of) (sym left) ∙ map_filter (λ state. not (is_of row state)) kept ∙ ap (filter (λ (state : RowState). not (is_of row state))) (kept_rows s v m rows) in
+    let left : filter (λ r. not (is_state_of row (state_of r))) kept ≡ rest =
+    ap (filter (λ (r : Row). not (is_state_of row (state_of r)))) t.at ∙ taken_row 0 t.before row t.after n (subst (λ (rs : List Row). RisesFrom 0 rs n) t.at kept_rising) ∙ sym t.left in
+    let states : map state_of rest ≡ filter (λ state. not (is_state_of row state)) (kept_states (policy_of s v) m (map state_of rows)) =
+    ap (map state_of) (sym left) ∙ map_filter (λ state. not (is_state_of row state)) kept ∙ ap (filter (λ (state : RowState). not (is_state_of row state))) (kept_rows s v m rows) in
     record {
-      rising = subst (λ (rs : List Row). RisesFrom 0 rs n) left (rises_filter (λ r. not (is_of row (state_of r))) 0 kept n kept_rising);
+      rising = subst (λ (rs : List Row). RisesFrom 0 rs n) left (rises_filter (λ r. not (is_state_of row (state_of r))) 0 kept n kept_rising);
       goes_by = refl;
       states = states;
       ends = only_past s v m rows;
@@ -352,8 +352,8 @@ serving_mirrors site s v n rows m (Delete receipt) Done after h rising =
     rw h.1 (record {
       rising = rises_without receipt 0 kept n (rises_trimmed s m 0 rows n rising);
       goes_by = refl;
-      states = map_filter (λ row. not (is_named receipt row)) kept ∙ ap (filter (λ (row : RowState). not (is_named receipt row))) (kept_rows s v m rows);
-      ends = past_left s v m (is_named receipt) Deleted rows;
+      states = map_filter (λ row. not (is_state_named receipt row)) kept ∙ ap (filter (λ (row : RowState). not (is_state_named receipt row))) (kept_rows s v m rows);
+      ends = past_left s v m (is_state_named receipt) Deleted rows;
       split = tt;
     })
 serving_mirrors site s v n rows m (Change receipt timeout) Done after h rising =

@@ -16,7 +16,7 @@ use Rattle.sq_model.specs.Systems.{Tag, OfDirectory, OfLedger, OfHome}
 use Rattle.sq_places.specs.declared.state.RowState.{RowState}
 use Rattle.sq_places.specs.declared.home_rows.Leaving.{Leaving}
 use Rattle.sq_places.specs.declared.home_rows.Leaving.TheVariants.{Past, Named, At}
-use Rattle.sq_places.specs.RowStates.{is_past, is_named, sent_state, next_policy, Effect, Stays, Arrives, Looks, Leaves, Departs, Enters, Drops, effect_of, kept_states, past_states, states_after}
+use Rattle.sq_places.specs.RowStates.{is_past, is_state_named, sent_state, next_policy, Effect, Stays, Arrives, Looks, Leaves, Departs, Enters, Drops, effect_of, kept_states, past_states, states_after}
 use Rattle.sq_places.specs.HomeValues.{HomeValue, AuditValue}
 use Rattle.sq_places.specs.AllPlaces.{after_move}
 
@@ -25,7 +25,7 @@ no_states = record { policy = None; rows = [] }
 
 abbrev pub passes : Leaving → RowState → Bool
 passes (Past retention m) row = is_past retention m row
-passes (Named receipt) row = is_named receipt row
+passes (Named receipt) row = is_state_named receipt row
 passes (At slot serial) row = (row.slot == slot) && (row.serial == serial)
 
 -- what is taken of the row that is there
@@ -58,8 +58,8 @@ placed_left (Departs row) rows = []
 placed_left (Enters row) rows = []
 placed_left (Drops line) rows = (line, at.Dropped) ∷ []
 
-abbrev pub home_after : HomeEvent → HomeValue → HomeValue
-home_after e h = record { policy = next_policy h.policy e.call; rows = rows_after e.stamp.moment (effect_of e.stamp.moment e.call e.reply) (kept_states h.policy e.stamp.moment h.rows) }
+abbrev pub home_after_event : HomeEvent → HomeValue → HomeValue
+home_after_event e h = record { policy = next_policy h.policy e.call; rows = rows_after e.stamp.moment (effect_of e.stamp.moment e.call e.reply) (kept_states h.policy e.stamp.moment h.rows) }
 
 -- who leaves in an event, and for which place
 abbrev pub placed_ends : HomeEvent → HomeValue → List (MessageId × Place)
@@ -91,7 +91,7 @@ abbrev pub audit_step : AuditValue → Tag → AuditValue
 audit_step a (OfDirectory e) = a
 audit_step a (OfLedger e) = a
 audit_step a (OfHome i e) = record {
-  homes = slice_set (grown (i + 1) a.homes) i (home_after e (get_or a.homes i no_states));
+  homes = slice_set (grown (i + 1) a.homes) i (home_after_event e (get_or a.homes i no_states));
   sends = a.sends ++ home_sends e.reply;
   moves = a.moves ++ placed_moves e.call e.reply;
   ends = a.ends ++ placed_ends e (get_or a.homes i no_states);

@@ -57,15 +57,15 @@ state_after x i m (Departs row) state = becomes x row.lineage InTransit state
 state_after x i m (Enters row) state = becomes x row.lineage (Here i row) state
 state_after x i m (Drops line) state = becomes x line (Gone at.Dropped) state
 
-abbrev pub is_in : ℕ → MessageState → Bool
-is_in i Unsent = false
-is_in i (Here j row) = j == i
-is_in i InTransit = false
-is_in i (Gone place) = false
+abbrev pub is_state_in : ℕ → MessageState → Bool
+is_state_in i Unsent = false
+is_state_in i (Here j row) = j == i
+is_state_in i InTransit = false
+is_state_in i (Gone place) = false
 
 -- What the home of the message goes by after a call of the home at an index, where the message was, came, or is not.
 abbrev pub known_policy : List Tag → ℕ → MessagePass → HomeCall → MessageState → Option Policy
-known_policy before i k call state = if is_in i k.state then next_policy k.policy call else if is_in i state then next_policy (policy_at i before) call else k.policy
+known_policy before i k call state = if is_state_in i k.state then next_policy k.policy call else if is_state_in i state then next_policy (policy_at i before) call else k.policy
 
 abbrev pub next_state : MessageId → ℕ → MessagePass → HomeEvent → MessageState
 next_state x i k e = state_after x i e.stamp.moment (effect_of e.stamp.moment e.call e.reply) (trimmed_state i k.policy e.stamp.moment k.state)
@@ -83,8 +83,8 @@ abbrev pub pass_from : MessageId → List Tag → MessagePass → List Tag → M
 pass_from x before k [] = k
 pass_from x before k (t ∷ ts) = pass_from x (before ++ t ∷ []) (pass_step x before k t) ts
 
-abbrev pub start : MessagePass
-start = record { policy = None; state = Unsent }
+abbrev pub pass_start : MessagePass
+pass_start = record { policy = None; state = Unsent }
 
 abbrev pub answer : MessageState → Option Place
 answer Unsent = None

@@ -25,14 +25,14 @@ abbrev pub states_of : Home → List RowState
 states_of home = map state_of (rows_of home)
 
 -- what was enqueued then is past the retention
-abbrev pub is_due : ℕ → ℕ → ℕ → Bool
-is_due retention m enqueued = nat_le (enqueued + rows.ms retention) m
+abbrev pub is_past_retention : ℕ → ℕ → ℕ → Bool
+is_past_retention retention m enqueued = nat_le (enqueued + rows.ms retention) m
 
 abbrev pub is_past : ℕ → ℕ → RowState → Bool
-is_past retention m row = is_due retention m row.enqueued
+is_past retention m row = is_past_retention retention m row.enqueued
 
-abbrev pub is_named : Receipt → RowState → Bool
-is_named receipt row = (row.slot == receipt.slot) && (row.serial == receipt.serial) && (row.receives == receipt.receive)
+abbrev pub is_state_named : Receipt → RowState → Bool
+is_state_named receipt row = (row.slot == receipt.slot) && (row.serial == receipt.serial) && (row.receives == receipt.receive)
 
 abbrev pub sent_state : SentMessage → ℕ → RowState
 sent_state sent m = record { lineage = sent.id; serial = sent.id.serial; slot = sent.slot; enqueued = m; receives = 0 }
@@ -51,23 +51,23 @@ abbrev pub returned_state : Item → EnteredRow → RowState
 returned_state item entered = record { lineage = item.row.lineage; serial = entered.serial; slot = entered.slot; enqueued = item.row.enqueued; receives = 0 }
 
 -- the row of this slot and serial
-abbrev pub is_of : Row → RowState → Bool
-is_of row state = (state.slot == row.slot) && (state.serial == row.serial)
+abbrev pub is_state_of : Row → RowState → Bool
+is_state_of row state = (state.slot == row.slot) && (state.serial == row.serial)
 
-abbrev pub has_serial : ℕ → List Row → Bool
-has_serial serial picked = rows.has_serial serial picked
+abbrev pub has_serial_of : ℕ → List Row → Bool
+has_serial_of serial picked = rows.has_serial serial picked
 
 -- received once more; the last receive number stays
-abbrev pub received : RowState → RowState
-received row = if nat_lt row.receives 4294967295 then record row { receives = row.receives + 1 } else row
+abbrev pub state_received : RowState → RowState
+state_received row = if nat_lt row.receives 4294967295 then record row { receives = row.receives + 1 } else row
 
 -- after a receive that gave the row of a serial
 abbrev pub raised : ℕ → RowState → RowState
-raised serial row = if row.serial == serial then received row else row
+raised serial row = if row.serial == serial then state_received row else row
 
 -- after a receive that gave these rows
 abbrev pub looked : List Row → RowState → RowState
-looked picked row = if has_serial row.serial picked then received row else row
+looked picked row = if has_serial_of row.serial picked then state_received row else row
 
 abbrev pub is_newer : Option Policy → ℕ → Bool
 is_newer None version = true
@@ -131,7 +131,7 @@ effect_of m (call.Configure settings version) reply = Stays
 effect_of m call.Close reply = Leaves (λ row. true) ClosedAway
 effect_of m (call.Send body delay) reply = reply_effect reply
 effect_of m (call.Look max timeout) reply = reply_effect reply
-effect_of m (call.Delete receipt) reply = Leaves (is_named receipt) Deleted
+effect_of m (call.Delete receipt) reply = Leaves (is_state_named receipt) Deleted
 effect_of m (call.Change receipt timeout) reply = Stays
 effect_of m call.Purge reply = Leaves (λ row. true) Purged
 effect_of m call.Count reply = Stays
@@ -201,7 +201,7 @@ states_after m Stays rows = rows
 states_after m (Arrives sent) rows = rows ++ sent_state sent m ∷ []
 states_after m (Looks picked) rows = map (looked picked) rows
 states_after m (Leaves p cause) rows = filter (λ row. not (p row)) rows
-states_after m (Departs row) rows = filter (λ state. not (is_of row state)) rows
+states_after m (Departs row) rows = filter (λ state. not (is_state_of row state)) rows
 states_after m (Enters row) rows = rows ++ row ∷ []
 states_after m (Drops line) rows = rows
 

@@ -4,7 +4,7 @@ ghost use Rattle.std.specs.List.{All};
 ghost use Rattle.std.specs.Map.{remove_entry};
 ghost use Rattle.std.specs.Ordering.{nat_cmp};
 ghost use Rattle.std.specs.BTreeMap.{get, is_at, IsOrdered};
-ghost use Rattle.sq_places.specs.RowStates.{is_due, is_named, is_of, is_past, looked, raised};
+ghost use Rattle.sq_places.specs.RowStates.{is_past_retention, is_state_named, is_state_of, is_past, looked, raised};
 ghost use Rattle.sq_model.specs.declared.place.Place.TheVariants as at;
 ghost use Rattle.sq_places.specs.Audits as audits;
 
@@ -73,15 +73,15 @@ impl HomeRows {
 
     /// Takes out the row that a receipt names, where it is there.
     pub fn take_named(&mut self, receipt: &Receipt) -> Option<RowState>
-        ensures rows { self.new ≡ filter (λ row. not (is_named receipt.now row)) self.old }
-        ensures taken { option_to_list result ≡ filter (is_named receipt.now) self.old }
+        ensures rows { self.new ≡ filter (λ row. not (is_state_named receipt.now row)) self.old }
+        ensures taken { option_to_list result ≡ filter (is_state_named receipt.now) self.old }
     {
         take(&mut self.rows, receipt.serial, &Leaving::Named(*receipt))
     }
 
     /// Takes out the row with the slot and serial of this one.
     pub fn take_out(&mut self, row: &Row)
-        ensures { self.new ≡ filter (λ state. not (is_of row.now state)) self.old }
+        ensures { self.new ≡ filter (λ state. not (is_state_of row.now state)) self.old }
     {
         take(
             &mut self.rows,
@@ -174,8 +174,8 @@ fn pop_due(
     retention: Retention,
     moment: u64,
 ) -> Option<(u64, Serial)>
-    ensures due { IfSome result (λ age. (ages.old.keys ≡ age ∷ ages.new.keys) × (is_due retention moment age.0 ≡ true)) }
-    ensures none { IfNone result ((ages.new.keys ≡ ages.old.keys) × All (λ age. is_due retention moment age.0 ≡ false) ages.old.keys) }
+    ensures due { IfSome result (λ age. (ages.old.keys ≡ age ∷ ages.new.keys) × (is_past_retention retention moment age.0 ≡ true)) }
+    ensures none { IfNone result ((ages.new.keys ≡ ages.old.keys) × All (λ age. is_past_retention retention moment age.0 ≡ false) ages.old.keys) }
 {
     let age = *ages.first()?;
     if !is_due(retention, moment, age.0) {

@@ -1,6 +1,6 @@
 //! What decides how the rows of a home leave it, for all rows of the home.
 ghost use Rattle.std.specs.Prelude.{◌≡◌, ◌∷◌, [], ◌++◌, ℕ, not, filter, OnOk, IfErr};
-ghost use Rattle.sq_places.specs.RowStates.{kept_states, past_states, effect_of, reply_effect, entry_effect, entered_state, returned_state, is_named};
+ghost use Rattle.sq_places.specs.RowStates.{kept_states, past_states, effect_of, reply_effect, entry_effect, entered_state, returned_state, is_state_named};
 ghost use Rattle.sq_model.specs.declared.place.Place.TheVariants as at;
 ghost use Rattle.sq_places.specs.Audits as audits;
 
@@ -47,7 +47,7 @@ impl HomeStates {
         event: &Event<HomeCall, HomeReply>,
         ends: &mut Vec<(MessageId, Place)>,
     ) -> Result<(), Refusal>
-        ensures home { OnOk result (self.new ≡ audits.home_after event.now self.old) }
+        ensures home { OnOk result (self.new ≡ audits.home_after_event event.now self.old) }
         ensures ends { OnOk result (audits.AreSameEnds ends.new.items (ends.old.items ++ audits.placed_ends event.now self.old)) }
         ensures err { IfErr result (λ e. e ≡ Refusal.NoMemory) }
     {
@@ -125,8 +125,8 @@ fn delete(
     receipt: &Receipt,
     ends: &mut Vec<(MessageId, Place)>,
 ) -> Result<(), Refusal>
-    ensures rows { OnOk result (rows.new ≡ filter (λ row. not (is_named receipt.now row)) rows.old) }
-    ensures ends { OnOk result (ends.new.items ≡ ends.old.items ++ audits.placed at.Deleted (filter (is_named receipt.now) rows.old)) }
+    ensures rows { OnOk result (rows.new ≡ filter (λ row. not (is_state_named receipt.now row)) rows.old) }
+    ensures ends { OnOk result (ends.new.items ≡ ends.old.items ++ audits.placed at.Deleted (filter (is_state_named receipt.now) rows.old)) }
     ensures err { IfErr result (λ e. e ≡ Refusal.NoMemory) }
 {
     if let Some(row) = rows.take_named(receipt) {

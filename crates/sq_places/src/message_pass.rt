@@ -6,7 +6,7 @@ ghost use Rattle.sq_model.specs.Systems.{System, RunFrom, opening, IsOnePlace};
 ghost use Rattle.sq_model.specs.Places.{run_ends, run_sends, place_in};
 ghost use Rattle.sq_model.specs.declared.place.Place.TheVariants as at;
 ghost use Rattle.sq_audit.specs.Tags.{tag_of, tags_of};
-ghost use Rattle.sq_places.specs.RowStates.{effect_of, reply_effect, entry_effect, entered_state, returned_state, is_named, is_past};
+ghost use Rattle.sq_places.specs.RowStates.{effect_of, reply_effect, entry_effect, entered_state, returned_state, is_state_named, is_past};
 ghost use Rattle.sq_places.specs.MessagePasses as tracks;
 ghost use Rattle.sq_places.specs.declared.message_pass.MessageState.TheVariants.{Gone};
 
@@ -109,7 +109,7 @@ fn known_policy(
 }
 
 fn is_in(index: u32, state: &MessageState) -> bool
-    ensures { result ≡ tracks.is_in index state.now }
+    ensures { result ≡ tracks.is_state_in index state.now }
 {
     match state {
         MessageState::Here(home, _) => *home == index,
@@ -215,7 +215,7 @@ fn answered(
 }
 
 fn deleted(index: u32, receipt: &Receipt, state: MessageState) -> MessageState
-    ensures { result ≡ tracks.leaves index (is_named receipt.now) at.Deleted state }
+    ensures { result ≡ tracks.leaves index (is_state_named receipt.now) at.Deleted state }
 {
     match state {
         MessageState::Here(home, row) if home == index && is_named(receipt, &row) => {

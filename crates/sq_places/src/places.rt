@@ -113,7 +113,7 @@ fn apply_at(
     event: &Event<HomeCall, HomeReply>,
     ends: &mut Vec<(MessageId, Place)>,
 ) -> Result<(), Refusal>
-    ensures homes { OnOk result (homes.new.items ≡ slice_set (audits.grown (index + 1) homes.old.items) index (audits.home_after event.now (get_or homes.old.items index audits.no_states))) }
+    ensures homes { OnOk result (homes.new.items ≡ slice_set (audits.grown (index + 1) homes.old.items) index (audits.home_after_event event.now (get_or homes.old.items index audits.no_states))) }
     ensures ends { OnOk result (audits.AreSameEnds ends.new.items (ends.old.items ++ audits.placed_ends event.now (get_or homes.old.items index audits.no_states))) }
     ensures err { IfErr result (λ e. e ≡ Refusal.NoMemory) }
 {

@@ -29,7 +29,7 @@ pub struct Policy {
 
 /// Whether a row that was enqueued then is past this retention.
 pub fn is_due(retention: Retention, moment: u64, enqueued: u64) -> bool
-    ensures { result ≡ states.is_due retention moment enqueued }
+    ensures { result ≡ states.is_past_retention retention moment enqueued }
 {
     let kept = retention.get() as u64 * 1000;
     kept <= moment && enqueued <= moment - kept
@@ -44,7 +44,7 @@ pub fn is_past(retention: Retention, moment: u64, row: &RowState) -> bool
 
 /// Whether slot, serial and receive number are those of the receipt.
 pub fn is_named(receipt: &Receipt, row: &RowState) -> bool
-    ensures { result ≡ states.is_named receipt.now row.now }
+    ensures { result ≡ states.is_state_named receipt.now row.now }
 {
     (row.slot, row.serial, row.receives) == (receipt.slot, receipt.serial, receipt.receive.get())
 }
@@ -105,7 +105,7 @@ pub fn looked(picked: &[Row], row: &RowState) -> RowState
 
 /// A row that is received once more.
 pub fn received(row: &RowState) -> RowState
-    ensures { result ≡ states.received row.now }
+    ensures { result ≡ states.state_received row.now }
 {
     let receives = if row.receives < u32::MAX {
         row.receives + 1
@@ -117,7 +117,7 @@ pub fn received(row: &RowState) -> RowState
 
 /// Whether one of these rows has this serial.
 pub fn has_serial(rows: &[Row], serial: Serial) -> bool
-    ensures { result ≡ states.has_serial serial rows.now }
+    ensures { result ≡ states.has_serial_of serial rows.now }
 {
     rows.iter().any(|row| row.serial == serial)
 }

@@ -19,20 +19,20 @@ amount_of (Some (negative z)) = Ok Other
 amount_of (Some (float x)) = Err InvalidRequest
 
 -- one that may be there
-abbrev pub received : Result Amount Refusal → Result (Option Amount) Refusal
-received read = read >>= λ amount. Ok (Some amount)
+abbrev pub some_amount : Result Amount Refusal → Result (Option Amount) Refusal
+some_amount read = read >>= λ amount. Ok (Some amount)
 
 -- a number from the least to the greatest
 abbrev pub within : ℕ → ℕ → ℕ → Option ℕ
 within least greatest n = if nat_le least n && nat_le n greatest then Some n else None
 
-abbrev pub in_range : ℕ → ℕ → Refusal → Amount → Result ℕ Refusal
-in_range least greatest refusal (Natural n) = ok_or (within least greatest n) refusal
-in_range least greatest refusal Other = Err refusal
+abbrev pub amount_in_range : ℕ → ℕ → Refusal → Amount → Result ℕ Refusal
+amount_in_range least greatest refusal (Natural n) = ok_or (within least greatest n) refusal
+amount_in_range least greatest refusal Other = Err refusal
 
 abbrev pub in_range_if : ℕ → ℕ → Refusal → Option Amount → Result (Option ℕ) Refusal
 in_range_if least greatest refusal None = Ok None
-in_range_if least greatest refusal (Some amount) = in_range least greatest refusal amount >>= λ n. Ok (Some n)
+in_range_if least greatest refusal (Some amount) = amount_in_range least greatest refusal amount >>= λ n. Ok (Some n)
 
 -- 1 to 20 ASCII digits
 unfoldable pub is_digits : List ℕ → Bool

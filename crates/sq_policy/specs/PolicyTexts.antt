@@ -12,7 +12,7 @@ use Rattle.sq_model.specs.declared.policy.AllowPolicy.{AllowPolicy}
 use Rattle.sq_model.specs.declared.policy.AllowPolicy.TheVariants.{AllowAll, DenyAll, ByQueue}
 use Rattle.sq_model.specs.declared.policy.RedrivePolicy.{RedrivePolicy}
 use Rattle.sq_policy.specs.Reading.{◌>>=◌}
-use Rattle.sq_policy.specs.Amounts.{in_range, attribute_of}
+use Rattle.sq_policy.specs.Amounts.{amount_in_range, attribute_of}
 use Rattle.sq_policy.specs.declared.amount.Amount.{Amount}
 
 -- ---- ARNs: a fixed text of 31 bytes, and the queue's name
@@ -48,7 +48,7 @@ target_in d = valid (option_and_then arn_in (get (codes "deadLetterTargetArn") d
 
 -- a whole number from 1 to 1000
 abbrev pub as_receives : Result Amount Refusal → Result ℕ Refusal
-as_receives (Ok amount) = in_range 1 1000 InvalidAttributeValue amount
+as_receives (Ok amount) = amount_in_range 1 1000 InvalidAttributeValue amount
 as_receives (Err e) = Err InvalidAttributeValue
 
 unfoldable pub receives_in : Data → Result ℕ Refusal

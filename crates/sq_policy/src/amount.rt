@@ -2,7 +2,7 @@
 ghost use Rattle.std.specs.Prelude.{◌≡◌};
 ghost use Rattle.serde_json.specs.Find.{as_number};
 ghost use Rattle.sq_json.specs.View.{view};
-ghost use Rattle.sq_policy.specs.Amounts.{amount_of, in_range, in_range_if, is_digits, amount_of_text, attribute_of};
+ghost use Rattle.sq_policy.specs.Amounts.{amount_of, amount_in_range, in_range_if, is_digits, amount_of_text, attribute_of};
 
 use sq_base::ranges::Within;
 use sq_base::refusal::Refusal;
@@ -32,7 +32,7 @@ pub fn in_range<const LEAST: u32, const GREATEST: u32>(
     amount: Amount,
     refusal: Refusal,
 ) -> Result<Within<LEAST, GREATEST>, Refusal>
-    ensures { result ≡ in_range LEAST GREATEST refusal amount }
+    ensures { result ≡ amount_in_range LEAST GREATEST refusal amount }
 {
     match amount {
         Amount::Natural(number) => Within::new(number).ok_or(refusal),

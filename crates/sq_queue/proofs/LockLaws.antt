@@ -18,8 +18,8 @@ use Rattle.sq_steps.specs.Journals.{HomeMoves, DirectoryMoves, LedgerMoves, IsHo
 use Rattle.sq_steps.specs.SharedSteps.{SharedMoves, IsUnmoved, IsSharedRefused}
 use Rattle.sq_steps.specs.declared.act.TaskAct.{TaskAct}
 use Rattle.sq_steps.specs.TaskActs.{task_call}
-use Rattle.sq_client.specs.Asks.{Directed, AtHome, Moving, Ledgered, moved_of, replied_of, IsAnswerTo, IsReplyTo, IsToldTo, MayRefuse}
-use Rattle.sq_client.proofs.AskLaws as ask
+use Rattle.sq_actions.specs.Asks.{AskDirectory, AskHome, AskShared, AskLedger, moved_of, replied_of, IsAnswerTo, IsReplyTo, IsToldTo, MayRefuse}
+use Rattle.sq_actions.proofs.AskLaws as ask
 use Rattle.sq_audit.specs.HomeIds.{home_index}
 use Rattle.sq_queue.specs.LockedParts.{AHome, TheLedger}
 use Rattle.sq_queue.specs.Sections.{Surroundings, IsSection}
@@ -29,19 +29,19 @@ pub answered_home : (old new : HistoryValue) (a b : Journal) (now : ℕ) (name :
 answered_home old new a b now name what (Ok by) moves = ask.home_reply old new a b now name what by moves
 answered_home old new a b now name what (Err e) moves = tt
 
-pub refused_home : (placed : HomeId) (h : HistoryValue) (b : Journal) (now : ℕ) (name : List ℕ) (id : HomeId) (a : HomeAct) (answered : Result HomeReply Refusal) → IfErr answered (λ e. ((placed ≡ id) × IsHomeRefused h b now (call_of a) e) ⊎ ((placed ≢ id) × (e ≡ QueueDoesNotExist))) → IfErr answered (MayRefuse (AtHome name id a))
+pub refused_home : (placed : HomeId) (h : HistoryValue) (b : Journal) (now : ℕ) (name : List ℕ) (id : HomeId) (a : HomeAct) (answered : Result HomeReply Refusal) → IfErr answered (λ e. ((placed ≡ id) × IsHomeRefused h b now (call_of a) e) ⊎ ((placed ≢ id) × (e ≡ QueueDoesNotExist))) → IfErr answered (MayRefuse (AskHome name id a))
 refused_home placed h b now name id a (Ok by) refused = tt
 refused_home placed h b now name id a (Err e) refused = elim refused [ inl own ↦ ask.home_may h b now name id a e own.1 | inr other ↦ inr (inl other.1) ]
 
-pub refused_moving : (placed : HomeId) (h : HistoryValue) (l : LedgerHistory) (b : Journal) (now : ℕ) (name : Option (List ℕ)) (id : HomeId) (what : SharedAct) (answered : Result (Option HomeReply) Refusal) → IfErr answered (λ e. ((placed ≡ id) × IsSharedRefused h l b now what e) ⊎ ((placed ≢ id) × (e ≡ QueueDoesNotExist))) → IfErr answered (MayRefuse (Moving name id what))
-refused_moving placed h l b now name id what (Ok told) refused = tt
-refused_moving placed h l b now name id what (Err e) refused = elim refused [ inl own ↦ ask.moving_may h l b now name id what e own.1 | inr other ↦ inr (inl other.1) ]
+pub refused_shared : (placed : HomeId) (h : HistoryValue) (l : LedgerHistory) (b : Journal) (now : ℕ) (name : Option (List ℕ)) (id : HomeId) (what : SharedAct) (answered : Result (Option HomeReply) Refusal) → IfErr answered (λ e. ((placed ≡ id) × IsSharedRefused h l b now what e) ⊎ ((placed ≢ id) × (e ≡ QueueDoesNotExist))) → IfErr answered (MayRefuse (AskShared name id what))
+refused_shared placed h l b now name id what (Ok told) refused = tt
+refused_shared placed h l b now name id what (Err e) refused = elim refused [ inl own ↦ ask.shared_may h l b now name id what e own.1 | inr other ↦ inr (inl other.1) ]
 
 pub answered_directory : (old new : DirectoryHistory) (a b : Journal) (now : ℕ) (call : DirectoryCall) (answered : Result DirectoryReply Refusal) → IfOk answered (λ by. DirectoryMoves old new a b now call by) → IfOk answered (IsAnswerTo call)
 answered_directory old new a b now call (Ok by) moves = ask.directory_told old new a b now call by moves
 answered_directory old new a b now call (Err e) moves = tt
 
-pub refused_directory : (d : DirectoryHistory) (b : Journal) (now : ℕ) (call : DirectoryCall) (answered : Result DirectoryReply Refusal) → IfErr answered (IsDirectoryStepRefused d b now call) → IfErr answered (MayRefuse (Directed call))
+pub refused_directory : (d : DirectoryHistory) (b : Journal) (now : ℕ) (call : DirectoryCall) (answered : Result DirectoryReply Refusal) → IfErr answered (IsDirectoryStepRefused d b now call) → IfErr answered (MayRefuse (AskDirectory call))
 refused_directory d b now call (Ok by) refused = tt
 refused_directory d b now call (Err e) refused = ask.directory_may d b now call e refused
 
@@ -49,7 +49,7 @@ pub answered_ledger : (old new : LedgerHistory) (a b : Journal) (now : ℕ) (wha
 answered_ledger old new a b now what (Ok by) moves = ask.ledger_told old new a b now what by moves
 answered_ledger old new a b now what (Err e) moves = tt
 
-pub refused_ledger : (l : LedgerHistory) (b : Journal) (now : ℕ) (what : TaskAct) (answered : Result LedgerReply Refusal) → IfErr answered (IsLedgerStepRefused l b now (task_call what)) → IfErr answered (MayRefuse (Ledgered what))
+pub refused_ledger : (l : LedgerHistory) (b : Journal) (now : ℕ) (what : TaskAct) (answered : Result LedgerReply Refusal) → IfErr answered (IsLedgerStepRefused l b now (task_call what)) → IfErr answered (MayRefuse (AskLedger what))
 refused_ledger l b now what (Ok by) refused = tt
 refused_ledger l b now what (Err e) refused = ask.ledgered_may l b now what e refused
 
@@ -57,7 +57,7 @@ pub home_section : (at : Surroundings) (now : ℕ) (old new : HistoryValue) (s t
     → at.IsReading now → at.Saw (AHome old) → old.site.home ≡ placed → home_index at.per_queue at.homes id ≡ Some index
     → IfOk answered (λ by. HomeMoves old new s.journal t.journal now (Some name) (call_of what) by) → OnOk answered (placed ≡ id)
     → IfErr answered (λ e. ((placed ≡ id) × IsHomeRefused old s.journal now (call_of what) e) ⊎ ((placed ≢ id) × (e ≡ QueueDoesNotExist)))
-    → OnErr answered (t ≡ s) → IsSection at s (AtHome name id what) (replied_of answered) t
+    → OnErr answered (t ≡ s) → IsSection at s (AskHome name id what) (replied_of answered) t
 home_section at now old new s t name placed id what index (Ok by) told saw own there moves here refused err = (now, old, new, told, saw, own ∙ here, moves)
 home_section at now old new s t name placed id what index (Err e) told saw own there moves here refused err =
     ((now, told, elim refused [ inl cause ↦ inr (inr (old, saw, own ∙ cause.0, cause.1)) | inr other ↦ inr (inl (index, old, saw, there, (λ same. other.0 (sym own ∙ same)), other.1)) ]), err)
@@ -67,7 +67,7 @@ pub moving_section : (at : Surroundings) (now : ℕ) (old new : HistoryValue) (l
     → IfOk answered (λ told. IfSome told (SharedMoves old new l m s.journal t.journal now name what)) → OnOk answered (placed ≡ id)
     → IfOk answered (λ told. IfNone told (IsUnmoved old l s.journal now what)) → IfOk answered (λ told. IfNone told (t ≡ s))
     → IfErr answered (λ e. ((placed ≡ id) × IsSharedRefused old l s.journal now what e) ⊎ ((placed ≢ id) × (e ≡ QueueDoesNotExist)))
-    → OnErr answered (t ≡ s) → IsSection at s (Moving name id what) (moved_of answered) t
+    → OnErr answered (t ≡ s) → IsSection at s (AskShared name id what) (moved_of answered) t
 moving_section at now old new l m s t name placed id what index (Ok (Some by)) told saw held own there moves here unmoved none refused err = (now, old, new, l, m, told, saw, held, own ∙ here, moves)
 moving_section at now old new l m s t name placed id what index (Ok None) told saw held own there moves here unmoved none refused err = (now, old, l, told, saw, held, own ∙ here, unmoved, none)
 moving_section at now old new l m s t name placed id what index (Err e) told saw held own there moves here unmoved none refused err =

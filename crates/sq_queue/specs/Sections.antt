@@ -16,7 +16,7 @@ use Rattle.sq_steps.specs.Reads.{next_of}
 use Rattle.sq_steps.specs.SharedSteps.{SharedMoves, IsUnmoved, IsSharedRefused}
 use Rattle.sq_steps.specs.TaskActs.{task_call}
 use Rattle.sq_audit.specs.HomeIds.{home_index}
-use Rattle.sq_client.specs.Asks.{Ask, Resolve, Directed, AtHome, Moving, Peek, Redriven, Ledgered, ReadTask, Gave, Found, Answered, Replied, Nothing, Peeked, Ends, Told, TaskFound}
+use Rattle.sq_actions.specs.Asks.{Ask, Resolve, AskDirectory, AskHome, AskShared, Peek, Redriven, AskLedger, ReadTask, Gave, Found, Answered, Replied, Nothing, Peeked, Ends, Told, TaskFound}
 use Rattle.sq_queue.specs.LockedParts.{LockedPart, AHome, TheDirectory, TheLedger}
 use Rattle.sq_queue.specs.SessionValue.{SessionValue, having_read}
 
@@ -33,20 +33,20 @@ around IsReading Saw per_queue homes = record { IsReading = IsReading; Saw = Saw
 -- A section that is not refused: the gate saw its part so, and the step is one of that part.
 abbrev pub SectionDone : Surroundings → Ask → Gave → SessionValue → SessionValue → Type 0
 SectionDone at (Resolve name) (Found queue) before after = (part : DirectoryHistory) × at.Saw (TheDirectory part) × (number_named name part.directory.queues ≡ Some queue) × (after ≡ having_read before part.last)
-SectionDone at (Directed call) (Answered reply) before after =
+SectionDone at (AskDirectory call) (Answered reply) before after =
     (now : ℕ) × (part : DirectoryHistory) × (left : DirectoryHistory) × at.IsReading now × at.Saw (TheDirectory part) × DirectoryMoves part left before.journal after.journal now call reply
-SectionDone at (AtHome name id act) (Replied reply) before after =
+SectionDone at (AskHome name id act) (Replied reply) before after =
     (now : ℕ) × (part : HistoryValue) × (left : HistoryValue) × at.IsReading now × at.Saw (AHome part) × (part.site.home ≡ id)
     × HomeMoves part left before.journal after.journal now (Some name) (call_of act) reply
-SectionDone at (Moving name id what) (Replied reply) before after =
+SectionDone at (AskShared name id what) (Replied reply) before after =
     (now : ℕ) × (part : HistoryValue) × (left : HistoryValue) × (ledger : LedgerHistory) × (ledger_left : LedgerHistory) × at.IsReading now × at.Saw (AHome part) × at.Saw (TheLedger ledger) × (part.site.home ≡ id)
     × SharedMoves part left ledger ledger_left before.journal after.journal now name what reply
-SectionDone at (Moving name id what) Nothing before after =
+SectionDone at (AskShared name id what) Nothing before after =
     (now : ℕ) × (part : HistoryValue) × (ledger : LedgerHistory) × at.IsReading now × at.Saw (AHome part) × at.Saw (TheLedger ledger) × (part.site.home ≡ id)
     × IsUnmoved part ledger before.journal now what × (after ≡ before)
 SectionDone at (Peek number) (Peeked next) before after = (part : LedgerHistory) × at.Saw (TheLedger part) × (next ≡ option_map next_of (peek number part.ledger)) × (after ≡ having_read before part.last)
 SectionDone at (Redriven source destination) (Ends ends) before after = (part : DirectoryHistory) × at.Saw (TheDirectory part) × (can_redrive source destination part.directory ≡ Ok ends) × (after ≡ having_read before part.last)
-SectionDone at (Ledgered what) (Told reply) before after =
+SectionDone at (AskLedger what) (Told reply) before after =
     (now : ℕ) × (part : LedgerHistory) × (left : LedgerHistory) × at.IsReading now × at.Saw (TheLedger part) × LedgerMoves part left before.journal after.journal now (task_call what) reply
 SectionDone at (ReadTask number) (TaskFound task) before after = (part : LedgerHistory) × at.Saw (TheLedger part) × (task_of number part.ledger ≡ Some task) × (after ≡ having_read before part.last)
 SectionDone at ask gave before after = ⊥
@@ -62,16 +62,16 @@ IsMisplaced at id e = (index : ℕ) × (part : HistoryValue) × at.Saw (AHome pa
 -- Why a section is refused: the cause was there, in its part, as the gate saw it.
 abbrev pub SectionRefused : Surroundings → Ask → Refusal → Journal → Type 0
 SectionRefused at (Resolve name) e journal = (part : DirectoryHistory) × at.Saw (TheDirectory part) × (number_named name part.directory.queues ≡ None) × (e ≡ QueueDoesNotExist)
-SectionRefused at (Directed call) e journal = (now : ℕ) × (part : DirectoryHistory) × at.IsReading now × at.Saw (TheDirectory part) × IsDirectoryStepRefused part journal now call e
-SectionRefused at (AtHome name id act) e journal =
+SectionRefused at (AskDirectory call) e journal = (now : ℕ) × (part : DirectoryHistory) × at.IsReading now × at.Saw (TheDirectory part) × IsDirectoryStepRefused part journal now call e
+SectionRefused at (AskHome name id act) e journal =
     (now : ℕ) × at.IsReading now
     × (HasNoLock at now id e ⊎ IsMisplaced at id e ⊎ ((part : HistoryValue) × at.Saw (AHome part) × (part.site.home ≡ id) × IsHomeRefused part journal now (call_of act) e))
-SectionRefused at (Moving name id what) e journal =
+SectionRefused at (AskShared name id what) e journal =
     (now : ℕ) × at.IsReading now
     × (HasNoLock at now id e ⊎ IsMisplaced at id e ⊎ ((part : HistoryValue) × (ledger : LedgerHistory) × at.Saw (AHome part) × at.Saw (TheLedger ledger) × (part.site.home ≡ id) × IsSharedRefused part ledger journal now what e))
 SectionRefused at (Peek number) e journal = ⊥
 SectionRefused at (Redriven source destination) e journal = (part : DirectoryHistory) × at.Saw (TheDirectory part) × (can_redrive source destination part.directory ≡ Err e)
-SectionRefused at (Ledgered what) e journal = (now : ℕ) × (part : LedgerHistory) × at.IsReading now × at.Saw (TheLedger part) × IsLedgerStepRefused part journal now (task_call what) e
+SectionRefused at (AskLedger what) e journal = (now : ℕ) × (part : LedgerHistory) × at.IsReading now × at.Saw (TheLedger part) × IsLedgerStepRefused part journal now (task_call what) e
 SectionRefused at (ReadTask number) e journal = (part : LedgerHistory) × at.Saw (TheLedger part) × (task_of number part.ledger ≡ None) × (e ≡ ResourceNotFoundException)
 
 -- A section under a lock, with its answer, and what it leaves with the session; what is refused leaves nothing.

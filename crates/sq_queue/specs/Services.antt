@@ -7,13 +7,13 @@ use Rattle.sq_model.specs.Directories.{all_named}
 use Rattle.sq_model.specs.Ledgers.{last_task}
 use Rattle.sq_directory.specs.DirectoryHistory.{DirectoryHistory}
 use Rattle.sq_ledger.specs.LedgerHistory.{LedgerHistory}
-use Rattle.sq_client.specs.Asks.{HomeCounts}
+use Rattle.sq_actions.specs.Asks.{HomeCounts}
 use Rattle.sq_queue.specs.LockedParts.{LockedPart, TheDirectory, TheLedger}
 use Rattle.sq_queue.specs.SessionValue.{SessionValue, having_read}
 
 -- how many homes a queue of a service has, and how many of them a receive asks
-abbrev pub counts_of : ℕ → ℕ → HomeCounts
-counts_of homes sample = record { homes = homes; sample = sample }
+abbrev pub service_counts : ℕ → ℕ → HomeCounts
+service_counts homes sample = record { homes = homes; sample = sample }
 
 -- a session has read a part, whose last stamp it has seen then, and nothing else of it changed
 abbrev pub HasRead : SessionValue → SessionValue → Type 0

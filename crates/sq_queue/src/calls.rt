@@ -1,11 +1,11 @@
 //! The calls of a session.
 ghost use Rattle.std.specs.Prelude.{◌≡◌, vec_len};
-ghost use Rattle.sq_client.specs.Fits.{CallFits};
-ghost use Rattle.sq_client.specs.Stops.{UntilFits};
-ghost use Rattle.sq_client.specs.Turns.{TurnFits};
-ghost use Rattle.sq_client.specs.Performs.{LeavesRecords, Performs};
+ghost use Rattle.sq_actions.specs.Fits.{CallFits};
+ghost use Rattle.sq_actions.specs.Stops.{UntilFits};
+ghost use Rattle.sq_actions.specs.Turns.{TurnFits};
+ghost use Rattle.sq_actions.specs.Performs.{LeavesRecords, Performs};
 ghost use Rattle.sq_queue.specs.Sections.{IsSection, around};
-ghost use Rattle.sq_queue.specs.Services.{counts_of};
+ghost use Rattle.sq_queue.specs.Services.{service_counts};
 
 use crate::locked::{Locked, call_in, call_until_in, turn_in};
 use crate::service::{Clock, Gate, Serving};
@@ -13,7 +13,7 @@ use crate::session::Session;
 use sq_base::refusal::Refusal;
 use sq_calls::calls::{Answer, Call};
 use sq_calls::turns::{Turn, Turned};
-use sq_client::progress::Progress;
+use sq_actions::progress::Progress;
 use sq_shard::slots::SlotStore;
 use std::sync::Wait;
 use std::sync::ledger::Ledger;
@@ -29,8 +29,8 @@ impl<C: Clock + Drop, G: Gate + Drop, D: Ledger, T: Ledger> Serving<C, G, D, T, 
         session: &mut Session<D, T>,
         call: &Call,
     ) -> Result<Answer, Refusal>
-        ensures sections { Performs (IsSection (around (C.tells self.now.clock) (G.saw self.now.gate) self.now.per_queue (vec_len self.now.homes))) (CallFits (counts_of self.now.per_queue self.now.sample) call.now) session.old result session.new }
-        ensures leaves_records { LeavesRecords (CallFits (counts_of self.now.per_queue self.now.sample) call.now) session.old.journal result session.new.journal }
+        ensures sections { Performs (IsSection (around (C.tells self.now.clock) (G.saw self.now.gate) self.now.per_queue (vec_len self.now.homes))) (CallFits (service_counts self.now.per_queue self.now.sample) call.now) session.old result session.new }
+        ensures leaves_records { LeavesRecords (CallFits (service_counts self.now.per_queue self.now.sample) call.now) session.old.journal result session.new.journal }
     {
         let mut locked = Locked {
             rt,
@@ -50,8 +50,8 @@ impl<C: Clock + Drop, G: Gate + Drop, D: Ledger, T: Ledger> Serving<C, G, D, T, 
         call: &Call,
         steps: u64,
     ) -> Result<Option<Answer>, Refusal>
-        ensures sections { Performs (IsSection (around (C.tells self.now.clock) (G.saw self.now.gate) self.now.per_queue (vec_len self.now.homes))) (UntilFits steps (CallFits (counts_of self.now.per_queue self.now.sample) call.now)) session.old result session.new }
-        ensures leaves_records { LeavesRecords (UntilFits steps (CallFits (counts_of self.now.per_queue self.now.sample) call.now)) session.old.journal result session.new.journal }
+        ensures sections { Performs (IsSection (around (C.tells self.now.clock) (G.saw self.now.gate) self.now.per_queue (vec_len self.now.homes))) (UntilFits steps (CallFits (service_counts self.now.per_queue self.now.sample) call.now)) session.old result session.new }
+        ensures leaves_records { LeavesRecords (UntilFits steps (CallFits (service_counts self.now.per_queue self.now.sample) call.now)) session.old.journal result session.new.journal }
     {
         let mut locked = Locked {
             rt,

@@ -1,11 +1,11 @@
 //! The steps of a session's calls, each under the lock of its part.
 ghost use Rattle.std.specs.Prelude.{◌≡◌, vec_len};
-ghost use Rattle.sq_client.specs.Fits.{CallFits};
-ghost use Rattle.sq_client.specs.Stops.{UntilFits};
-ghost use Rattle.sq_client.specs.Turns.{TurnFits};
-ghost use Rattle.sq_client.specs.Performs.{LeavesRecords, Performs};
+ghost use Rattle.sq_actions.specs.Fits.{CallFits};
+ghost use Rattle.sq_actions.specs.Stops.{UntilFits};
+ghost use Rattle.sq_actions.specs.Turns.{TurnFits};
+ghost use Rattle.sq_actions.specs.Performs.{LeavesRecords, Performs};
 ghost use Rattle.sq_queue.specs.Sections.{IsSection, around};
-ghost use Rattle.sq_queue.specs.Services.{counts_of};
+ghost use Rattle.sq_queue.specs.Services.{service_counts};
 
 use crate::service::{Clock, Gate, Service, held};
 use crate::session::Session;
@@ -15,10 +15,10 @@ use sq_base::name::QueueName;
 use sq_base::refusal::Refusal;
 use sq_calls::calls::{Answer, Call};
 use sq_calls::turns::{Turn, Turned};
-use sq_client::lock_steps::LockSteps;
-use sq_client::progress::Progress;
-use sq_client::until::call_until;
-use sq_client::{client, turns};
+use sq_actions::lock_steps::LockSteps;
+use sq_actions::progress::Progress;
+use sq_actions::until::call_until;
+use sq_actions::{client, turns};
 use sq_history::act::HomeAct;
 use sq_model::directory::{DirectoryCall, DirectoryReply};
 use sq_model::item::TaskNo;
@@ -55,7 +55,7 @@ impl<'a, C: Clock + Drop, G: Gate + Drop, D: Ledger, T: Ledger, R: Wait> LockSte
 
     ghost knows = { λ s name queue. Unit {0} };
 
-    ghost counts = { λ s. counts_of s.service.now.per_queue s.service.now.sample };
+    ghost counts = { λ s. service_counts s.service.now.per_queue s.service.now.sample };
 
     ghost journal = { λ s. s.session.now.journal };
 
@@ -78,7 +78,7 @@ impl<'a, C: Clock + Drop, G: Gate + Drop, D: Ledger, T: Ledger, R: Wait> LockSte
         })
     }
 
-    fn directed(&mut self, call: &DirectoryCall) -> Result<DirectoryReply, Refusal> {
+    fn directory_step(&mut self, call: &DirectoryCall) -> Result<DirectoryReply, Refusal> {
         let now = self.service.clock.now();
         let mut part = held(self.rt, &self.service.directory);
         self.service.gate.at_directory(&part.directory);
@@ -86,7 +86,7 @@ impl<'a, C: Clock + Drop, G: Gate + Drop, D: Ledger, T: Ledger, R: Wait> LockSte
         part.step(self.service.alloc, session, now, call)
     }
 
-    fn at_home(
+    fn home_step(
         &mut self,
         of: &NamedQueue,
         home: HomeNo,
@@ -107,7 +107,7 @@ impl<'a, C: Clock + Drop, G: Gate + Drop, D: Ledger, T: Ledger, R: Wait> LockSte
         part.step(self.service.alloc, session, now, Some(of.name), &id, act)
     }
 
-    fn moving(
+    fn shared_step(
         &mut self,
         name: Option<QueueName>,
         home: &HomeId,
@@ -154,7 +154,7 @@ impl<'a, C: Clock + Drop, G: Gate + Drop, D: Ledger, T: Ledger, R: Wait> LockSte
         part.can_redrive(session, source, destination)
     }
 
-    fn ledgered(&mut self, act: &TaskAct) -> Result<LedgerReply, Refusal> {
+    fn ledger_step(&mut self, act: &TaskAct) -> Result<LedgerReply, Refusal> {
         let now = self.service.clock.now();
         let mut part = held(self.rt, &self.service.ledger);
         self.service.gate.at_ledger(&part.ledger);
@@ -199,8 +199,8 @@ pub(crate) fn call_in<C: Clock + Drop, G: Gate + Drop, D: Ledger, T: Ledger, R: 
     call: &Call,
 ) -> Result<Answer, Refusal>
     ensures same_reference { locked.new.session.ghost_name ≡ locked.old.session.ghost_name }
-    ensures sections { Performs (IsSection (around (C.tells locked.old.service.now.clock) (G.saw locked.old.service.now.gate) locked.old.service.now.per_queue (vec_len locked.old.service.now.homes))) (CallFits (counts_of locked.old.service.now.per_queue locked.old.service.now.sample) call.now) locked.old.session.now result locked.new.session.now }
-    ensures leaves_records { LeavesRecords (CallFits (counts_of locked.old.service.now.per_queue locked.old.service.now.sample) call.now) locked.old.session.now.journal result locked.new.session.now.journal }
+    ensures sections { Performs (IsSection (around (C.tells locked.old.service.now.clock) (G.saw locked.old.service.now.gate) locked.old.service.now.per_queue (vec_len locked.old.service.now.homes))) (CallFits (service_counts locked.old.service.now.per_queue locked.old.service.now.sample) call.now) locked.old.session.now result locked.new.session.now }
+    ensures leaves_records { LeavesRecords (CallFits (service_counts locked.old.service.now.per_queue locked.old.service.now.sample) call.now) locked.old.session.now.journal result locked.new.session.now.journal }
 {
     client::call(locked, call)
 }
@@ -212,8 +212,8 @@ pub(crate) fn call_until_in<C: Clock + Drop, G: Gate + Drop, D: Ledger, T: Ledge
     limit: u64,
 ) -> Result<Option<Answer>, Refusal>
     ensures same_reference { locked.new.session.ghost_name ≡ locked.old.session.ghost_name }
-    ensures sections { Performs (IsSection (around (C.tells locked.old.service.now.clock) (G.saw locked.old.service.now.gate) locked.old.service.now.per_queue (vec_len locked.old.service.now.homes))) (UntilFits limit (CallFits (counts_of locked.old.service.now.per_queue locked.old.service.now.sample) call.now)) locked.old.session.now result locked.new.session.now }
-    ensures leaves_records { LeavesRecords (UntilFits limit (CallFits (counts_of locked.old.service.now.per_queue locked.old.service.now.sample) call.now)) locked.old.session.now.journal result locked.new.session.now.journal }
+    ensures sections { Performs (IsSection (around (C.tells locked.old.service.now.clock) (G.saw locked.old.service.now.gate) locked.old.service.now.per_queue (vec_len locked.old.service.now.homes))) (UntilFits limit (CallFits (service_counts locked.old.service.now.per_queue locked.old.service.now.sample) call.now)) locked.old.session.now result locked.new.session.now }
+    ensures leaves_records { LeavesRecords (UntilFits limit (CallFits (service_counts locked.old.service.now.per_queue locked.old.service.now.sample) call.now)) locked.old.session.now.journal result locked.new.session.now.journal }
 {
     call_until(locked, call, limit)
 }

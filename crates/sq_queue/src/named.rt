@@ -1,8 +1,8 @@
 //! Each call of a session by its name, as `call` does it.
 ghost use Rattle.sq_calls.specs.declared.calls.Call.TheVariants as asks;
-ghost use Rattle.sq_client.specs.Fits.{CallFits};
-ghost use Rattle.sq_client.specs.Performs.{LeavesRecords};
-ghost use Rattle.sq_queue.specs.Services.{counts_of};
+ghost use Rattle.sq_actions.specs.Fits.{CallFits};
+ghost use Rattle.sq_actions.specs.Performs.{LeavesRecords};
+ghost use Rattle.sq_queue.specs.Services.{service_counts};
 
 use crate::service::{Clock, Gate, Serving};
 use crate::session::Session;
@@ -27,7 +27,7 @@ impl<C: Clock + Drop, G: Gate + Drop, D: Ledger, T: Ledger> Serving<C, G, D, T, 
         session: &mut Session<D, T>,
         request: SendMessage,
     ) -> Result<Answer, Refusal>
-        ensures { LeavesRecords (CallFits (counts_of self.now.per_queue self.now.sample) (asks.SendMessage request)) session.old.journal result session.new.journal }
+        ensures { LeavesRecords (CallFits (service_counts self.now.per_queue self.now.sample) (asks.SendMessage request)) session.old.journal result session.new.journal }
     {
         self.call(rt, session, &Call::SendMessage(request))
     }
@@ -39,7 +39,7 @@ impl<C: Clock + Drop, G: Gate + Drop, D: Ledger, T: Ledger> Serving<C, G, D, T, 
         session: &mut Session<D, T>,
         request: ReceiveMessage,
     ) -> Result<Answer, Refusal>
-        ensures { LeavesRecords (CallFits (counts_of self.now.per_queue self.now.sample) (asks.ReceiveMessage request)) session.old.journal result session.new.journal }
+        ensures { LeavesRecords (CallFits (service_counts self.now.per_queue self.now.sample) (asks.ReceiveMessage request)) session.old.journal result session.new.journal }
     {
         self.call(rt, session, &Call::ReceiveMessage(request))
     }
@@ -51,7 +51,7 @@ impl<C: Clock + Drop, G: Gate + Drop, D: Ledger, T: Ledger> Serving<C, G, D, T, 
         session: &mut Session<D, T>,
         request: DeleteMessage,
     ) -> Result<Answer, Refusal>
-        ensures { LeavesRecords (CallFits (counts_of self.now.per_queue self.now.sample) (asks.DeleteMessage request)) session.old.journal result session.new.journal }
+        ensures { LeavesRecords (CallFits (service_counts self.now.per_queue self.now.sample) (asks.DeleteMessage request)) session.old.journal result session.new.journal }
     {
         self.call(rt, session, &Call::DeleteMessage(request))
     }
@@ -63,7 +63,7 @@ impl<C: Clock + Drop, G: Gate + Drop, D: Ledger, T: Ledger> Serving<C, G, D, T, 
         session: &mut Session<D, T>,
         request: ChangeMessageVisibility,
     ) -> Result<Answer, Refusal>
-        ensures { LeavesRecords (CallFits (counts_of self.now.per_queue self.now.sample) (asks.ChangeMessageVisibility request)) session.old.journal result session.new.journal }
+        ensures { LeavesRecords (CallFits (service_counts self.now.per_queue self.now.sample) (asks.ChangeMessageVisibility request)) session.old.journal result session.new.journal }
     {
         self.call(rt, session, &Call::ChangeMessageVisibility(request))
     }
@@ -75,7 +75,7 @@ impl<C: Clock + Drop, G: Gate + Drop, D: Ledger, T: Ledger> Serving<C, G, D, T, 
         session: &mut Session<D, T>,
         request: CreateQueue,
     ) -> Result<Answer, Refusal>
-        ensures { LeavesRecords (CallFits (counts_of self.now.per_queue self.now.sample) (asks.CreateQueue request)) session.old.journal result session.new.journal }
+        ensures { LeavesRecords (CallFits (service_counts self.now.per_queue self.now.sample) (asks.CreateQueue request)) session.old.journal result session.new.journal }
     {
         self.call(rt, session, &Call::CreateQueue(request))
     }
@@ -87,7 +87,7 @@ impl<C: Clock + Drop, G: Gate + Drop, D: Ledger, T: Ledger> Serving<C, G, D, T, 
         session: &mut Session<D, T>,
         request: SetQueueAttributes,
     ) -> Result<Answer, Refusal>
-        ensures { LeavesRecords (CallFits (counts_of self.now.per_queue self.now.sample) (asks.SetQueueAttributes request)) session.old.journal result session.new.journal }
+        ensures { LeavesRecords (CallFits (service_counts self.now.per_queue self.now.sample) (asks.SetQueueAttributes request)) session.old.journal result session.new.journal }
     {
         self.call(rt, session, &Call::SetQueueAttributes(request))
     }
@@ -99,7 +99,7 @@ impl<C: Clock + Drop, G: Gate + Drop, D: Ledger, T: Ledger> Serving<C, G, D, T, 
         session: &mut Session<D, T>,
         request: GetQueueAttributes,
     ) -> Result<Answer, Refusal>
-        ensures { LeavesRecords (CallFits (counts_of self.now.per_queue self.now.sample) (asks.GetQueueAttributes request)) session.old.journal result session.new.journal }
+        ensures { LeavesRecords (CallFits (service_counts self.now.per_queue self.now.sample) (asks.GetQueueAttributes request)) session.old.journal result session.new.journal }
     {
         self.call(rt, session, &Call::GetQueueAttributes(request))
     }
@@ -111,7 +111,7 @@ impl<C: Clock + Drop, G: Gate + Drop, D: Ledger, T: Ledger> Serving<C, G, D, T, 
         session: &mut Session<D, T>,
         name: QueueName,
     ) -> Result<Answer, Refusal>
-        ensures { LeavesRecords (CallFits (counts_of self.now.per_queue self.now.sample) (asks.GetQueueUrl name)) session.old.journal result session.new.journal }
+        ensures { LeavesRecords (CallFits (service_counts self.now.per_queue self.now.sample) (asks.GetQueueUrl name)) session.old.journal result session.new.journal }
     {
         self.call(rt, session, &Call::GetQueueUrl(name))
     }
@@ -123,7 +123,7 @@ impl<C: Clock + Drop, G: Gate + Drop, D: Ledger, T: Ledger> Serving<C, G, D, T, 
         session: &mut Session<D, T>,
         prefix: NamePrefix,
     ) -> Result<Answer, Refusal>
-        ensures { LeavesRecords (CallFits (counts_of self.now.per_queue self.now.sample) (asks.ListQueues prefix)) session.old.journal result session.new.journal }
+        ensures { LeavesRecords (CallFits (service_counts self.now.per_queue self.now.sample) (asks.ListQueues prefix)) session.old.journal result session.new.journal }
     {
         self.call(rt, session, &Call::ListQueues(prefix))
     }
@@ -135,7 +135,7 @@ impl<C: Clock + Drop, G: Gate + Drop, D: Ledger, T: Ledger> Serving<C, G, D, T, 
         session: &mut Session<D, T>,
         name: QueueName,
     ) -> Result<Answer, Refusal>
-        ensures { LeavesRecords (CallFits (counts_of self.now.per_queue self.now.sample) (asks.PurgeQueue name)) session.old.journal result session.new.journal }
+        ensures { LeavesRecords (CallFits (service_counts self.now.per_queue self.now.sample) (asks.PurgeQueue name)) session.old.journal result session.new.journal }
     {
         self.call(rt, session, &Call::PurgeQueue(name))
     }
@@ -147,7 +147,7 @@ impl<C: Clock + Drop, G: Gate + Drop, D: Ledger, T: Ledger> Serving<C, G, D, T, 
         session: &mut Session<D, T>,
         name: QueueName,
     ) -> Result<Answer, Refusal>
-        ensures { LeavesRecords (CallFits (counts_of self.now.per_queue self.now.sample) (asks.DeleteQueue name)) session.old.journal result session.new.journal }
+        ensures { LeavesRecords (CallFits (service_counts self.now.per_queue self.now.sample) (asks.DeleteQueue name)) session.old.journal result session.new.journal }
     {
         self.call(rt, session, &Call::DeleteQueue(name))
     }
@@ -159,7 +159,7 @@ impl<C: Clock + Drop, G: Gate + Drop, D: Ledger, T: Ledger> Serving<C, G, D, T, 
         session: &mut Session<D, T>,
         name: QueueName,
     ) -> Result<Answer, Refusal>
-        ensures { LeavesRecords (CallFits (counts_of self.now.per_queue self.now.sample) (asks.ListDeadLetterSourceQueues name)) session.old.journal result session.new.journal }
+        ensures { LeavesRecords (CallFits (service_counts self.now.per_queue self.now.sample) (asks.ListDeadLetterSourceQueues name)) session.old.journal result session.new.journal }
     {
         self.call(rt, session, &Call::ListDeadLetterSourceQueues(name))
     }
@@ -171,7 +171,7 @@ impl<C: Clock + Drop, G: Gate + Drop, D: Ledger, T: Ledger> Serving<C, G, D, T, 
         session: &mut Session<D, T>,
         request: StartMessageMoveTask,
     ) -> Result<Answer, Refusal>
-        ensures { LeavesRecords (CallFits (counts_of self.now.per_queue self.now.sample) (asks.StartMessageMoveTask request)) session.old.journal result session.new.journal }
+        ensures { LeavesRecords (CallFits (service_counts self.now.per_queue self.now.sample) (asks.StartMessageMoveTask request)) session.old.journal result session.new.journal }
     {
         self.call(rt, session, &Call::StartMessageMoveTask(request))
     }
@@ -183,7 +183,7 @@ impl<C: Clock + Drop, G: Gate + Drop, D: Ledger, T: Ledger> Serving<C, G, D, T, 
         session: &mut Session<D, T>,
         task: Option<TaskNo>,
     ) -> Result<Answer, Refusal>
-        ensures { LeavesRecords (CallFits (counts_of self.now.per_queue self.now.sample) (asks.CancelMessageMoveTask task)) session.old.journal result session.new.journal }
+        ensures { LeavesRecords (CallFits (service_counts self.now.per_queue self.now.sample) (asks.CancelMessageMoveTask task)) session.old.journal result session.new.journal }
     {
         self.call(rt, session, &Call::CancelMessageMoveTask(task))
     }
@@ -195,7 +195,7 @@ impl<C: Clock + Drop, G: Gate + Drop, D: Ledger, T: Ledger> Serving<C, G, D, T, 
         session: &mut Session<D, T>,
         request: ListMessageMoveTasks,
     ) -> Result<Answer, Refusal>
-        ensures { LeavesRecords (CallFits (counts_of self.now.per_queue self.now.sample) (asks.ListMessageMoveTasks request)) session.old.journal result session.new.journal }
+        ensures { LeavesRecords (CallFits (service_counts self.now.per_queue self.now.sample) (asks.ListMessageMoveTasks request)) session.old.journal result session.new.journal }
     {
         self.call(rt, session, &Call::ListMessageMoveTasks(request))
     }
@@ -207,7 +207,7 @@ impl<C: Clock + Drop, G: Gate + Drop, D: Ledger, T: Ledger> Serving<C, G, D, T, 
         session: &mut Session<D, T>,
         batch: Batch,
     ) -> Result<Answer, Refusal>
-        ensures { LeavesRecords (CallFits (counts_of self.now.per_queue self.now.sample) (asks.Batch batch)) session.old.journal result session.new.journal }
+        ensures { LeavesRecords (CallFits (service_counts self.now.per_queue self.now.sample) (asks.Batch batch)) session.old.journal result session.new.journal }
     {
         self.call(rt, session, &Call::Batch(batch))
     }
@@ -219,7 +219,7 @@ impl<C: Clock + Drop, G: Gate + Drop, D: Ledger, T: Ledger> Serving<C, G, D, T, 
         session: &mut Session<D, T>,
         batch: Batch,
     ) -> Result<Answer, Refusal>
-        ensures { LeavesRecords (CallFits (counts_of self.now.per_queue self.now.sample) (asks.Batch batch)) session.old.journal result session.new.journal }
+        ensures { LeavesRecords (CallFits (service_counts self.now.per_queue self.now.sample) (asks.Batch batch)) session.old.journal result session.new.journal }
     {
         self.call(rt, session, &Call::Batch(batch))
     }
@@ -231,7 +231,7 @@ impl<C: Clock + Drop, G: Gate + Drop, D: Ledger, T: Ledger> Serving<C, G, D, T, 
         session: &mut Session<D, T>,
         batch: Batch,
     ) -> Result<Answer, Refusal>
-        ensures { LeavesRecords (CallFits (counts_of self.now.per_queue self.now.sample) (asks.Batch batch)) session.old.journal result session.new.journal }
+        ensures { LeavesRecords (CallFits (service_counts self.now.per_queue self.now.sample) (asks.Batch batch)) session.old.journal result session.new.journal }
     {
         self.call(rt, session, &Call::Batch(batch))
     }

@@ -9,7 +9,7 @@ use Rattle.sq_base.specs.declared.refusal.Refusal.TheVariants.{InvalidParameterV
 use Rattle.sq_calls.specs.BodyTexts.{is_too_small_or_large}
 use Rattle.sq_calls.specs.TaskHandles.{task_handle_at}
 use Rattle.sq_calls.specs.declared.calls.Call.TheVariants as call
-use Rattle.sq_policy.specs.Amounts.{in_range}
+use Rattle.sq_policy.specs.Amounts.{amount_in_range}
 use Rattle.sq_policy.specs.Reading.{◌>>=◌, Reads}
 use Rattle.sq_policy.specs.declared.amount.Amount.{Amount}
 use Rattle.sq_requests.specs.Actions.{addressed, body_text, change_of, has_attributes_at, send_members, send_of}
@@ -52,7 +52,7 @@ refuses_body body e f (inl h) = rw (h.0, h.1) refl
 refuses_body body e f (inr h) = rw (h.0, h.1) tt
 
 pub changes : (d : Data) (queue : List ℕ) (handle : Option Handle) (amount : Amount) (timeout : ℕ)
-    → Ok (Some queue) ≡ url_at d → Ok handle ≡ receipt_handle_at d → Ok amount ≡ amount_at (codes "VisibilityTimeout") d → Ok timeout ≡ in_range 0 43200 InvalidParameterValue amount
+    → Ok (Some queue) ≡ url_at d → Ok handle ≡ receipt_handle_at d → Ok amount ≡ amount_at (codes "VisibilityTimeout") d → Ok timeout ≡ amount_in_range 0 43200 InvalidParameterValue amount
     → Ok (call.ChangeMessageVisibility (record { queue = queue; handle = handle; timeout = timeout })) ≡ change_of d
 unfolding change_of
 changes d queue handle amount timeout a b c e = rw (← a, ← b, ← c, ← e) refl

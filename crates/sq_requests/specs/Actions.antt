@@ -5,7 +5,7 @@ use Rattle.serde_json.specs.Data.{Data}
 use Rattle.sq_base.specs.declared.refusal.Refusal.{Refusal}
 use Rattle.sq_base.specs.declared.refusal.Refusal.TheVariants.{InvalidParameterValue, InvalidAddress, UnsupportedOperation}
 use Rattle.sq_policy.specs.Reading.{◌>>=◌}
-use Rattle.sq_policy.specs.Amounts.{in_range, in_range_if}
+use Rattle.sq_policy.specs.Amounts.{amount_in_range, in_range_if}
 use Rattle.sq_requests.specs.Members.{text_at, url_at, receipt_handle_at, has_members_at, amount_at, amount_if_at}
 use Rattle.sq_requests.specs.Asked.{asked_at}
 use Rattle.sq_requests.specs.declared.actions.SendMembers.{SendMembers}
@@ -80,5 +80,5 @@ change_of d = do
   handle ← receipt_handle_at d
   amount ← amount_at (codes "VisibilityTimeout") d
   queue ← ok_or url InvalidAddress
-  timeout ← in_range 0 43200 InvalidParameterValue amount
+  timeout ← amount_in_range 0 43200 InvalidParameterValue amount
   Ok (call.ChangeMessageVisibility (record { queue = queue; handle = handle; timeout = timeout }))

@@ -8,7 +8,7 @@ use Rattle.sq_base.specs.declared.refusal.Refusal.{Refusal}
 use Rattle.sq_base.specs.declared.refusal.Refusal.TheVariants.{InvalidRequest, InvalidAttributeName, InvalidAttributeValue}
 use Rattle.sq_json.specs.View.{names_of}
 use Rattle.sq_policy.specs.Reading.{◌>>=◌}
-use Rattle.sq_policy.specs.Amounts.{attribute_of, received, in_range_if}
+use Rattle.sq_policy.specs.Amounts.{attribute_of, some_amount, in_range_if}
 use Rattle.sq_policy.specs.PolicyTexts.{redrive_of, allow_of}
 use Rattle.sq_policy.specs.declared.amount.Amount.{Amount}
 use Rattle.sq_requests.specs.Members.{text_if_at}
@@ -20,7 +20,7 @@ use Rattle.sq_model.specs.declared.directory.Attributes.{Attributes}
 
 abbrev pub attribute_in : Option Data → Result (Option Amount) Refusal
 attribute_in None = Ok None
-attribute_in (Some d) = received (attribute_of d)
+attribute_in (Some d) = some_amount (attribute_of d)
 
 -- the numeric attribute of a name, where it is given
 unfoldable pub attribute_at : List ℕ → Data → Result (Option Amount) Refusal
@@ -42,12 +42,12 @@ is_settable name =
     || bytes_eq name (codes "RedrivePolicy") || bytes_eq name (codes "VisibilityTimeout")
 
 -- another than these
-abbrev pub is_other : List ℕ → Bool
-is_other name = not (is_settable name)
+abbrev pub is_unsettable : List ℕ → Bool
+is_unsettable name = not (is_settable name)
 
 -- whether one is among the names
 abbrev pub has_other : Members → Bool
-has_other members = list_any is_other (names_of members)
+has_other members = list_any is_unsettable (names_of members)
 
 -- what is given, a policy as its text
 pub record GivenTexts : Type 0 where
@@ -56,8 +56,8 @@ pub record GivenTexts : Type 0 where
   pub allow : Option (List ℕ)
   pub has_other : Bool
 
-abbrev pub texts_of : Given → GivenTexts
-texts_of given = record {
+abbrev pub given_texts : Given → GivenTexts
+given_texts given = record {
   amounts = given.amounts;
   redrive = option_map (λ t. t.now) given.redrive;
   allow = option_map (λ t. t.now) given.allow;

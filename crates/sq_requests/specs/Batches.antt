@@ -10,7 +10,7 @@ use Rattle.sq_base.specs.declared.handle.Handle.{Handle}
 use Rattle.sq_base.specs.declared.refusal.Refusal.{Refusal}
 use Rattle.sq_base.specs.declared.refusal.Refusal.TheVariants.{InvalidRequest, InvalidParameterValue, InvalidAddress, EmptyBatchRequest, TooManyEntriesInBatchRequest, InvalidBatchEntryId, BatchEntryIdsNotDistinct, BatchRequestTooLong, UnsupportedOperation}
 use Rattle.sq_policy.specs.Reading.{◌>>=◌}
-use Rattle.sq_policy.specs.Amounts.{in_range, in_range_if}
+use Rattle.sq_policy.specs.Amounts.{amount_in_range, in_range_if}
 use Rattle.sq_policy.specs.declared.amount.Amount.{Amount}
 use Rattle.sq_requests.specs.Members.{text_at, url_at, receipt_handle_at, amount_at, amount_if_at}
 use Rattle.sq_requests.specs.Asked.{any_item, all_items}
@@ -41,7 +41,7 @@ send_ask has_attributes delay body =
 
 abbrev pub change_ask : Option Handle → Amount → Result EntryAsk Refusal
 change_ask handle amount = do
-  timeout ← in_range 0 43200 InvalidParameterValue amount
+  timeout ← amount_in_range 0 43200 InvalidParameterValue amount
   Ok (ask.Change handle timeout)
 
 -- the members of an entry are those of the action on one message, without its URL

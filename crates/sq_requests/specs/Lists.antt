@@ -6,10 +6,10 @@ use Rattle.serde_json.specs.Find.{as_array}
 use Rattle.sq_json.specs.View.{view}
 
 -- those of a value; none where it is no list
-abbrev pub listed : List Token → Items
-listed ts = unwrap_or (as_array (view ts)) no_items
+abbrev pub listed_items : List Token → Items
+listed_items ts = unwrap_or (as_array (view ts)) no_items
 
 -- those of a list that may be there
 abbrev pub listed_if : Option (List Token) → Items
 listed_if None = no_items
-listed_if (Some ts) = listed ts
+listed_if (Some ts) = listed_items ts

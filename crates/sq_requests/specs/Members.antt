@@ -8,7 +8,7 @@ use Rattle.sq_base.specs.declared.refusal.Refusal.{Refusal}
 use Rattle.sq_base.specs.declared.refusal.Refusal.TheVariants.{InvalidRequest}
 use Rattle.sq_json.specs.View.{has_any}
 use Rattle.sq_policy.specs.Reading.{◌>>=◌}
-use Rattle.sq_policy.specs.Amounts.{amount_of, received}
+use Rattle.sq_policy.specs.Amounts.{amount_of, some_amount}
 use Rattle.sq_policy.specs.PolicyTexts.{name_behind, arn_name}
 use Rattle.sq_policy.specs.declared.amount.Amount.{Amount}
 use Rattle.sq_calls.specs.TaskHandles.{task_handle_at}
@@ -83,7 +83,7 @@ amount_at name d = amount_in (get name d)
 -- and of one that may be there
 abbrev pub amount_if_in : Option Data → Result (Option Amount) Refusal
 amount_if_in None = Ok None
-amount_if_in (Some d) = received (amount_of (as_number d))
+amount_if_in (Some d) = some_amount (amount_of (as_number d))
 
 unfoldable pub amount_if_at : List ℕ → Data → Result (Option Amount) Refusal
 amount_if_at name d = amount_if_in (get name d)

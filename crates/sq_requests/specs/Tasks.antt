@@ -25,9 +25,9 @@ destination_of (Some None) = Err InvalidAddress
 destination_of (Some (Some name)) = Ok (Some name)
 
 -- the source is the destination too
-abbrev pub is_destination : List ℕ → Option (List ℕ) → Bool
-is_destination source None = false
-is_destination source (Some name) = bytes_eq source name
+abbrev pub is_own_destination : List ℕ → Option (List ℕ) → Bool
+is_own_destination source None = false
+is_own_destination source (Some name) = bytes_eq source name
 
 unfoldable pub start_move_of : Data → Result Call Refusal
 start_move_of d = do
@@ -35,7 +35,7 @@ start_move_of d = do
   source ← ok_or members.source InvalidAddress
   destination ← destination_of members.destination
   rate ← in_range_if 1 500 InvalidParameterValue members.rate
-  if is_destination source destination then Err InvalidParameterValue else Ok (call.StartMessageMoveTask (record { source = source; destination = destination; rate = rate }))
+  if is_own_destination source destination then Err InvalidParameterValue else Ok (call.StartMessageMoveTask (record { source = source; destination = destination; rate = rate }))
 
 unfoldable pub cancel_move_of : Data → Result Call Refusal
 cancel_move_of d = named_task d >>= λ task. Ok (call.CancelMessageMoveTask task)

@@ -6,7 +6,7 @@ ghost use Rattle.sq_policy.specs.Reading.{ReadsText, seen_as};
 ghost use Rattle.sq_policy.specs.PolicyTexts.{redrive_of, allow_of};
 ghost use Rattle.sq_base.specs.declared.refusal.Refusal.{Refusal};
 ghost use Rattle.sq_requests.specs.Memory.{ReadsAsking};
-ghost use Rattle.sq_requests.specs.Attributes.{attribute_at, amounts_in, is_settable, is_other, texts_of, given_in, given_at, given_if_at, numbers_of, named_numbers, if_given, has_text, attributes_of, attributes_ask};
+ghost use Rattle.sq_requests.specs.Attributes.{attribute_at, amounts_in, is_settable, is_unsettable, given_texts, given_in, given_at, given_if_at, numbers_of, named_numbers, if_given, has_text, attributes_of, attributes_ask};
 
 use crate::members::text_if_at;
 use sq_base::refusal::Refusal;
@@ -76,7 +76,7 @@ pub fn is_settable(name: &str) -> bool
 
 // Whether an attribute is among these that cannot be set.
 fn has_other(names: Names<'_, '_>) -> bool
-    ensures { result ≡ list_any is_other (names_view names.entry) }
+    ensures { result ≡ list_any is_unsettable (names_view names.entry) }
 {
     let mut names = names;
     'names: while let Some(name) = names.next() {
@@ -89,7 +89,7 @@ fn has_other(names: Names<'_, '_>) -> bool
 
 #[tactic(auto, unfolding(crate::specs::Attributes::given_in))]
 fn given_in<'a>(attributes: &Value<'_, 'a>) -> Result<Given<'a>, Refusal>
-    ensures { seen_as texts_of result ≡ given_in (view attributes.now) }
+    ensures { seen_as given_texts result ≡ given_in (view attributes.now) }
 {
     let Some(names) = attributes.names() else {
         return Err(Refusal::InvalidRequest);
@@ -109,7 +109,7 @@ fn given_in<'a>(attributes: &Value<'_, 'a>) -> Result<Given<'a>, Refusal>
 /// it is no object, a numeric attribute neither a text nor a whole number, or a policy no text.
 #[tactic(auto, unfolding(crate::specs::Attributes::given_at))]
 pub fn given_at<'a>(value: &Value<'_, 'a>) -> Result<Given<'a>, Refusal>
-    ensures { seen_as texts_of result ≡ given_at (view value.now) }
+    ensures { seen_as given_texts result ≡ given_at (view value.now) }
 {
     match value.get("Attributes") {
         Some(attributes) => given_in(&attributes),
@@ -120,7 +120,7 @@ pub fn given_at<'a>(value: &Value<'_, 'a>) -> Result<Given<'a>, Refusal>
 /// The same where it may be missing (SQS API Reference, CreateQueue).
 #[tactic(auto, unfolding(crate::specs::Attributes::given_if_at))]
 pub fn given_if_at<'a>(value: &Value<'_, 'a>) -> Result<Given<'a>, Refusal>
-    ensures { seen_as texts_of result ≡ given_if_at (view value.now) }
+    ensures { seen_as given_texts result ≡ given_if_at (view value.now) }
 {
     match value.get("Attributes") {
         Some(attributes) => given_in(&attributes),
@@ -155,7 +155,7 @@ fn numbers_of(amounts: &Amounts) -> Result<Attributes, Refusal>
 // The numeric attributes, where each name is that of an attribute and each number is in its range.
 #[tactic(auto, unfolding(crate::specs::Attributes::named_numbers))]
 fn named_numbers(given: &Given<'_>) -> Result<Attributes, Refusal>
-    ensures { result ≡ named_numbers (texts_of given.now) }
+    ensures { result ≡ named_numbers (given_texts given.now) }
 {
     if given.has_other {
         return Err(Refusal::InvalidAttributeName);
@@ -203,7 +203,7 @@ fn policy_if<P: Policy>(alloc: Global, text: Option<&str>) -> Result<Option<Opti
 /// Reference, SetQueueAttributes).
 #[tactic(auto, unfolding(crate::specs::Attributes::attributes_of, crate::specs::Attributes::attributes_ask))]
 pub fn attributes_of(alloc: Global, given: &Given<'_>) -> Result<Attributes, Refusal>
-    ensures { let given = texts_of given.now in
+    ensures { let given = given_texts given.now in
         ReadsAsking (attributes_ask given) result (attributes_of given) }
 {
     let numbers = named_numbers(given)?;

@@ -3,7 +3,7 @@ ghost use Rattle.std.specs.Prelude.{◌≡◌, ◌≢◌, ◌⊎◌, ◌<◌, is
 ghost use Rattle.sq_json.specs.View.{view};
 ghost use Rattle.sq_policy.specs.Reading.{seen_as, Reads};
 ghost use Rattle.sq_requests.specs.Memory.{ReadsAsking};
-ghost use Rattle.sq_requests.specs.Lists.{listed};
+ghost use Rattle.sq_requests.specs.Lists.{listed_items};
 ghost use Rattle.sq_requests.specs.Asked.{all_items, any_item};
 ghost use Rattle.sq_requests.specs.Members.{receipt_handle_at};
 ghost use Rattle.sq_requests.specs.Batches.{as_ask, send_ask, change_ask, send_of_entry, change_of_entry, ask_of, ask_asks, entry_asks, how_many, behind, entry_id, is_entry, has_id, have_same_id, repeat_an_id, body_length, bodies_length, items_at, batch_check, entry_of, entries_of, batch_of};
@@ -137,7 +137,7 @@ fn is_entry(kind: BatchKind, value: &Value<'_, '_>) -> bool
 
 // Whether each of these is one.
 fn are_entries(kind: BatchKind, entries: &Value<'_, '_>) -> bool
-    ensures { result ≡ all_items (is_entry kind) (listed entries.now) }
+    ensures { result ≡ all_items (is_entry kind) (listed_items entries.now) }
 {
     let Some(mut items) = entries.items() else {
         return true;
@@ -161,7 +161,7 @@ fn has_id(value: &Value<'_, '_>) -> bool
 }
 
 fn have_ids(entries: &Value<'_, '_>) -> bool
-    ensures { result ≡ all_items has_id (listed entries.now) }
+    ensures { result ≡ all_items has_id (listed_items entries.now) }
 {
     let Some(mut items) = entries.items() else {
         return true;
@@ -185,7 +185,7 @@ fn have_same_id(one: &Value<'_, '_>, other: &Value<'_, '_>) -> bool
 
 // Whether an entry has the same id as one of those behind the first `passed`.
 fn is_repeated(one: &Value<'_, '_>, entries: &Value<'_, '_>, passed: usize) -> bool
-    ensures { result ≡ any_item (have_same_id (view one.now)) (behind passed (listed entries.now)) }
+    ensures { result ≡ any_item (have_same_id (view one.now)) (behind passed (listed_items entries.now)) }
 {
     let Some(mut items) = entries.items() else {
         return false;
@@ -203,8 +203,8 @@ fn is_repeated(one: &Value<'_, '_>, entries: &Value<'_, '_>, passed: usize) -> b
 
 // Whether two of so many entries have the same id.
 fn repeat_an_id(entries: &Value<'_, '_>, count: usize) -> bool
-    requires { count ≡ how_many (listed entries.now) }
-    ensures { result ≡ repeat_an_id (listed entries.now) }
+    requires { count ≡ how_many (listed_items entries.now) }
+    ensures { result ≡ repeat_an_id (listed_items entries.now) }
 {
     let Some(mut items) = entries.items() else {
         return false;
@@ -236,7 +236,7 @@ fn body_length(kind: BatchKind, value: &Value<'_, '_>) -> usize
 
 // Whether the bodies have more bytes together than one may have.
 fn are_too_long(kind: BatchKind, entries: &Value<'_, '_>) -> bool
-    ensures { result ≡ nat_lt 262144 (bodies_length kind (listed entries.now)) }
+    ensures { result ≡ nat_lt 262144 (bodies_length kind (listed_items entries.now)) }
 {
     let Some(mut items) = entries.items() else {
         return false;
@@ -255,7 +255,7 @@ fn are_too_long(kind: BatchKind, entries: &Value<'_, '_>) -> bool
 // The list of a member that must be there.
 #[tactic(auto, unfolding(crate::specs::Batches::items_at))]
 fn items_at<'t, 'a>(value: &Value<'t, 'a>, name: &str) -> Result<Value<'t, 'a>, Refusal>
-    ensures { seen_as listed result ≡ items_at name.now (view value.now) }
+    ensures { seen_as listed_items result ≡ items_at name.now (view value.now) }
 {
     let Some(member) = value.get(name) else {
         return Err(Refusal::InvalidRequest);
@@ -269,7 +269,7 @@ fn items_at<'t, 'a>(value: &Value<'t, 'a>, name: &str) -> Result<Value<'t, 'a>, 
 
 // How many entries there are, where there are ten at most.
 fn count_of(entries: &Value<'_, '_>) -> Option<usize>
-    ensures { let count = how_many (listed entries.now) in
+    ensures { let count = how_many (listed_items entries.now) in
         result ≡ (if nat_lt 10 count then None else Some count) }
 {
     let Some(mut items) = entries.items() else {
@@ -286,8 +286,8 @@ fn count_of(entries: &Value<'_, '_>) -> Option<usize>
 // How many entries a batch has, or the first reason in order why it is refused.
 #[tactic(auto, unfolding(crate::specs::Batches::batch_check))]
 fn batch_check(kind: BatchKind, entries: &Value<'_, '_>) -> Result<usize, Refusal>
-    ensures check { seen_as (λ count. tt) result ≡ batch_check kind (listed entries.now) }
-    ensures count { IfOk result (λ count. count ≡ how_many (listed entries.now)) }
+    ensures check { seen_as (λ count. tt) result ≡ batch_check kind (listed_items entries.now) }
+    ensures count { IfOk result (λ count. count ≡ how_many (listed_items entries.now)) }
 {
     let Some(count) = count_of(entries) else {
         return Err(Refusal::TooManyEntriesInBatchRequest);
@@ -325,10 +325,10 @@ fn entries_of(
     entries: &Value<'_, '_>,
     count: usize,
 ) -> Result<Listed<Entry>, Refusal>
-    requires count { count ≡ how_many (listed entries.now) }
-    requires ids { all_items has_id (listed entries.now) ≡ true }
-    ensures ok { IfOk result (λ read. entries_of kind (listed entries.now) ≡ Ok read) }
-    ensures err { IfErr result (λ e. (e ≡ Refusal.NoMemory) ⊎ (entries_of kind (listed entries.now) ≡ Err e)) }
+    requires count { count ≡ how_many (listed_items entries.now) }
+    requires ids { all_items has_id (listed_items entries.now) ≡ true }
+    ensures ok { IfOk result (λ read. entries_of kind (listed_items entries.now) ≡ Ok read) }
+    ensures err { IfErr result (λ e. (e ≡ Refusal.NoMemory) ⊎ (entries_of kind (listed_items entries.now) ≡ Err e)) }
 {
     let mut read = Vec::with_capacity(alloc, count)?;
     let Some(mut items) = entries.items() else {

@@ -1,7 +1,7 @@
 //! What the actions on message move tasks ask.
 ghost use Rattle.std.specs.Prelude.{◌≡◌};
 ghost use Rattle.sq_json.specs.View.{view};
-ghost use Rattle.sq_requests.specs.Tasks.{move_members, destination_of, is_destination, start_move_of, cancel_move_of, list_moves_of};
+ghost use Rattle.sq_requests.specs.Tasks.{move_members, destination_of, is_own_destination, start_move_of, cancel_move_of, list_moves_of};
 
 use crate::members::{amount_if_at, arn_at, arn_if_at, named_task};
 use sq_base::name::QueueName;
@@ -45,7 +45,7 @@ fn destination_of(destination: Option<Option<QueueName>>) -> Result<Option<Queue
 
 // Whether a queue is the destination.
 fn is_destination(source: &QueueName, destination: &Option<QueueName>) -> bool
-    ensures { result ≡ is_destination source.now destination.now }
+    ensures { result ≡ is_own_destination source.now destination.now }
 {
     match destination {
         Some(name) => source.as_bytes() == name.as_bytes(),

@@ -1,11 +1,11 @@
 //! A service in a box, and its sessions: a function that has one on its own stack is proved with all that it is made of.
 ghost use Rattle.std.specs.Prelude.{◌≡◌, ◌⊎◌, ◌<◌, [], ℕ, IfErr, IfOk, IfSome, IsTrue, OnOk, length};
-ghost use Rattle.sq_client.specs.Fits.{CallFits};
-ghost use Rattle.sq_client.specs.Performs.{LeavesRecords};
+ghost use Rattle.sq_actions.specs.Fits.{CallFits};
+ghost use Rattle.sq_actions.specs.Performs.{LeavesRecords};
 ghost use Rattle.sq_lines.specs.Lines.{lines_left};
 ghost use Rattle.sq_mover.specs.Movers.{GainsAtMost};
 ghost use Rattle.sq_opening.specs.Openings.{IsServed};
-ghost use Rattle.sq_queue.specs.Services.{counts_of};
+ghost use Rattle.sq_queue.specs.Services.{service_counts};
 ghost use Rattle.sq_queue.specs.SessionValue.{new_session};
 ghost use Rattle.sq_wire.specs.Runs.{IsOfCall, StopsAt, Writes};
 ghost use Rattle.sq_wire.specs.Serves.{ServedReplies, ServedUnanswered};
@@ -108,7 +108,7 @@ impl<'a, R: Clock + Wait, D: Ledger, T: Ledger> Served<'a, R, D, T, SlotStore> {
 
     /// Does what a client asks.
     pub fn call(&self, rt: &R, client: &mut Client<D, T>, call: &Call) -> Result<Answer, Refusal>
-        ensures leaves_records { LeavesRecords (CallFits (counts_of self.now.service.value.per_queue self.now.service.value.sample) call.now) client.old.journal result client.new.journal }
+        ensures leaves_records { LeavesRecords (CallFits (service_counts self.now.service.value.per_queue self.now.service.value.sample) call.now) client.old.journal result client.new.journal }
     {
         self.service.call(rt, &mut client.session, call)
     }
@@ -123,10 +123,10 @@ impl<'a, R: Clock + Wait, D: Ledger, T: Ledger> Served<'a, R, D, T, SlotStore> {
         writer: &mut Counted<O>,
     ) -> Result<u64, ServeFault>
         ensures ok { IfOk result (λ n. IfSome (lines_left [] (I.remaining reader.old.inner)) (λ lines.
-            (n ≡ length lines) × Writes (ServedReplies (counts_of self.now.service.value.per_queue self.now.service.value.sample)) (O.contents writer.old.inner) (O.contents writer.new.inner) client.old.journal lines client.new.journal)) }
+            (n ≡ length lines) × Writes (ServedReplies (service_counts self.now.service.value.per_queue self.now.service.value.sample)) (O.contents writer.old.inner) (O.contents writer.new.inner) client.old.journal lines client.new.journal)) }
         ensures err { IfErr result (λ f. ((f ≡ ServeFault.NoMemory 0) × (reader.new ≡ reader.old) × (writer.new ≡ writer.old) × (client.new ≡ client.old))
             ⊎ IfSome (lines_left [] (I.remaining reader.old.inner)) (λ lines.
-            StopsAt (ServedReplies (counts_of self.now.service.value.per_queue self.now.service.value.sample)) (ServedUnanswered (counts_of self.now.service.value.per_queue self.now.service.value.sample)) f lines (I.remaining reader.new.inner) (O.contents writer.old.inner) (O.contents writer.new.inner) client.old.journal client.new.journal)) }
+            StopsAt (ServedReplies (service_counts self.now.service.value.per_queue self.now.service.value.sample)) (ServedUnanswered (service_counts self.now.service.value.per_queue self.now.service.value.sample)) f lines (I.remaining reader.new.inner) (O.contents writer.old.inner) (O.contents writer.new.inner) client.old.journal client.new.journal)) }
         ensures no_failure { OnOk result ((reader.new.failed ≡ reader.old.failed) × (writer.new.failed ≡ writer.old.failed)) }
         ensures count { IfErr result (λ f. IsOfCall f reader.old.failed reader.new.failed writer.old.failed writer.new.failed) }
     {

@@ -14,7 +14,7 @@ use Rattle.std.proofs.lemmas.Option.{get_or_from_slice_get, slice_get_within}
 use Rattle.sq_base.specs.declared.row.Row.{Row}
 use Rattle.sq_base.specs.declared.settings.Settings.{Settings}
 use Rattle.sq_deadline.specs.declared.deadline.Deadline.{Deadline}
-use Rattle.sq_deadline.specs.Deadlines.{Rise, if_due, is_due}
+use Rattle.sq_deadline.specs.Deadlines.{DeadlinesRise, if_due, is_due}
 use Rattle.sq_deadline.proofs.OrderLaws.{one_if}
 use Rattle.sq_deadline.proofs.SetLaws.{along_permutation, due_first, due_is_counted, find_passes, none_due_is_past, permutation_filter}
 use Rattle.sq_model.specs.Rows.{is_delayed, is_expired, is_flying, is_visible, trimmed}
@@ -253,23 +253,23 @@ pub passed_over : (p : Row → Bool) (rows : List Row) (ds : List Deadline) (pla
 passed_over p rows ds place d at fails none = rw (found_more p rows ds place d at, none, fails) refl
 
 -- where all that is due is walked over, it is what is found
-pub found_all : (p : Row → Bool) (rows : List Row) (m : ℕ) (ds : List Deadline) (place : ℕ) → Rise 0 ds → place ≤ count_by (is_due m) ds → count_by (is_due m) ds ≤ place
+pub found_all : (p : Row → Bool) (rows : List Row) (m : ℕ) (ds : List Deadline) (place : ℕ) → DeadlinesRise 0 ds → place ≤ count_by (is_due m) ds → count_by (is_due m) ds ≤ place
     → found_due p rows m ds ≡ found p rows (take place ds)
 found_all p rows m ds place rise low high =
     let same : count_by (is_due m) ds ≡ place = omega (arith, low, high) in
     ap (found p rows) (due_first m 0 ds rise ∙ ap (λ (n : ℕ). take n ds) same)
 
 -- where one is due at a place, it is due at as many places as up to there
-pub walks_on : (m : ℕ) (ds : List Deadline) (place : ℕ) (d : Deadline) → Rise 0 ds → if_due m (slice_get ds place) ≡ Some d → place + 1 ≤ count_by (is_due m) ds
+pub walks_on : (m : ℕ) (ds : List Deadline) (place : ℕ) (d : Deadline) → DeadlinesRise 0 ds → if_due m (slice_get ds place) ≡ Some d → place + 1 ≤ count_by (is_due m) ds
 walks_on m ds place d rise at = omega (arith, due_is_counted m 0 d ds place rise at)
 
 -- where none is due at a place, all that is due is walked over
-pub found_before : (p : Row → Bool) (rows : List Row) (m : ℕ) (ds : List Deadline) (place : ℕ) → Rise 0 ds → place ≤ count_by (is_due m) ds → if_due m (slice_get ds place) ≡ None
+pub found_before : (p : Row → Bool) (rows : List Row) (m : ℕ) (ds : List Deadline) (place : ℕ) → DeadlinesRise 0 ds → place ≤ count_by (is_due m) ds → if_due m (slice_get ds place) ≡ None
     → found_due p rows m ds ≡ found p rows (take place ds)
 found_before p rows m ds place rise low none = found_all p rows m ds place rise low (none_due_is_past m 0 ds place rise none)
 
 -- and so it is where the walk is at the end
-pub found_at_end : (p : Row → Bool) (rows : List Row) (m : ℕ) (ds : List Deadline) (place : ℕ) → Rise 0 ds → place ≤ count_by (is_due m) ds → length ds ≤ place
+pub found_at_end : (p : Row → Bool) (rows : List Row) (m : ℕ) (ds : List Deadline) (place : ℕ) → DeadlinesRise 0 ds → place ≤ count_by (is_due m) ds → length ds ≤ place
     → found_due p rows m ds ≡ found p rows (take place ds)
 found_at_end p rows m ds place rise low end = found_all p rows m ds place rise low (omega (arith, end, count_by-le-length (is_due m) ds))
 

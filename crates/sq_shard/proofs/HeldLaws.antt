@@ -9,7 +9,7 @@ use Rattle.std.proofs.lemmas.List.Elements.{filter-append}
 use Rattle.std.proofs.lemmas.List.Sorted.{IsPermutation-trans, IsPermutation-sym, IsPermutation-middle, IsPermutation-cons, length_permutation}
 use Rattle.sq_base.specs.declared.row.Row.{Row}
 use Rattle.sq_deadline.specs.declared.deadline.Deadline.{Deadline}
-use Rattle.sq_deadline.specs.Deadlines.{Rise, is_same}
+use Rattle.sq_deadline.specs.Deadlines.{DeadlinesRise, is_same}
 use Rattle.sq_deadline.proofs.SetLaws.{comes_in_once, goes_out}
 use Rattle.sq_shard.specs.Due.{Holds, with_if, without_if}
 
@@ -36,7 +36,7 @@ module _ (class : Row → Bool) (key : Row → Deadline) (before : List Row) (ro
   held_in true is ds absent held = IsPermutation-trans _ _ _ (among is) (IsPermutation-trans _ _ _ (IsPermutation-cons (key row) _ ds held) (comes_in_once (key row) ds (absent refl)))
   held_in false is ds absent held = subst (λ (es : List Deadline). IsPermutation es ds) (sym (apart is)) held
 
-  pub held_out : (b : Bool) → class row ≡ b → (ds : List Deadline) → (b ≡ true → Rise 0 ds)
+  pub held_out : (b : Bool) → class row ≡ b → (ds : List Deadline) → (b ≡ true → DeadlinesRise 0 ds)
       → Holds class key (before ++ row ∷ after) ds → Holds class key (before ++ after) (without_if b (key row) ds)
   held_out true is ds rise held = goes_out 0 (key row) (map key (filter class (before ++ after))) ds (rise refl) (IsPermutation-trans _ _ _ (IsPermutation-sym _ _ (among is)) held)
   held_out false is ds rise held = subst (λ (es : List Deadline). IsPermutation es ds) (apart is) held

@@ -10,7 +10,7 @@ use Rattle.std.proofs.lemmas.List.Sorted.{Contains-permutation, IsPermutation-ma
 use Rattle.sq_base.specs.declared.row.Row.{Row}
 use Rattle.sq_deadline.specs.declared.deadline.Deadline.{Deadline}
 use Rattle.sq_deadline.proofs.SetLaws.{find_passes, permutation_filter}
-use Rattle.sq_deadline.specs.Deadlines.{Rise, key_of}
+use Rattle.sq_deadline.specs.Deadlines.{DeadlinesRise, key_of}
 use Rattle.sq_slots.proofs.RowLists.{Contains-cons, Contains-cons_cases, contains_first, is_same}
 use Rattle.sq_model.specs.Rows.{is_distinct, serials_of}
 use Rattle.sq_model.proofs.RowLaws.{rises_distinct}
@@ -135,7 +135,7 @@ none_is_past [] k h = omega arith
 none_is_past (d ∷ ds) zero h = absurd cc
 none_is_past (d ∷ ds) (suc k) h = let rest = none_is_past ds k h in omega (arith, rest)
 
-pub slot_fits : (low : ℕ) (ds : List Deadline) (k : ℕ) (d : Deadline) → Rise low ds → slice_get ds k ≡ Some d → d.slot < 4294967296
+pub slot_fits : (low : ℕ) (ds : List Deadline) (k : ℕ) (d : Deadline) → DeadlinesRise low ds → slice_get ds k ≡ Some d → d.slot < 4294967296
 slot_fits low [] k d rise h = absurd cc
 slot_fits low (x ∷ ds) zero d rise h = let one : x ≡ d = cc in subst (λ (e : Deadline). e.slot < 4294967296) one rise.1
 slot_fits low (x ∷ ds) (suc k) d rise h = slot_fits (key_of x + 1) ds k d rise.2 h

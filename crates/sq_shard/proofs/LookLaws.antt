@@ -11,7 +11,7 @@ use Rattle.sq_model.specs.declared.place.Site.{Site}
 use Rattle.sq_model.specs.declared.replies.HomeReply.TheVariants.{Looked}
 use Rattle.sq_model.specs.Homes.{Serving, HomeStep}
 use Rattle.sq_model.specs.Rows.{is_live, received, trimmed, IsLook, RisesFrom}
-use Rattle.sq_slots.specs.Slots.{Rise}
+use Rattle.sq_slots.specs.Slots.{SerialsRise}
 use Rattle.sq_slots.proofs.RowLists.{same_serial}
 use Rattle.sq_shard.specs.Looks.{look_after, AreTheirs, HasItsSlot}
 
@@ -33,7 +33,7 @@ pub nothing_given : (site : Site) (s : Settings) (v n m max : ℕ) (timeout : Op
 unfolding HomeStep
 nothing_given site s v n m max timeout rows none = ((λ live. let k : true ≡ false = sym live ∙ none in cc), empty_look s m _ _ (trimmed s m rows) none, refl)
 
-pub rises_rise : (low : ℕ) (rows : List Row) (next : ℕ) → RisesFrom low rows next → Rise low rows
+pub rises_rise : (low : ℕ) (rows : List Row) (next : ℕ) → RisesFrom low rows next → SerialsRise low rows
 rises_rise low [] next h = tt
 rises_rise low (row ∷ rows) next h = (h.0, rises_rise (row.serial + 1) rows next h.1)
 

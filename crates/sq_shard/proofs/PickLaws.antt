@@ -12,11 +12,11 @@ use Rattle.std.proofs.lemmas.List.Sums.{length-filter}
 use Rattle.sq_base.specs.declared.row.Row.{Row}
 use Rattle.sq_base.specs.declared.settings.Settings.{Settings}
 use Rattle.sq_deadline.specs.declared.deadline.Deadline.{Deadline}
-use Rattle.sq_deadline.specs.Deadlines.{IndexValue, Rise as InOrder, is_due}
+use Rattle.sq_deadline.specs.Deadlines.{IndexValue, DeadlinesRise as InOrder, is_due}
 use Rattle.sq_deadline.proofs.SetLaws.{along_permutation, due_first}
 use Rattle.sq_model.specs.Rows.{IsLook, RisesFrom, is_distinct, is_expired, is_live, received, serials_of, trimmed}
 use Rattle.sq_model.proofs.RowLaws.{rises_distinct, rises_filter, rises_trimmed}
-use Rattle.sq_slots.specs.Slots.{AreApart, Rise}
+use Rattle.sq_slots.specs.Slots.{AreApart, SerialsRise}
 use Rattle.sq_shard.specs.Due.{most_under}
 use Rattle.sq_shard.specs.Found.{found, found_due, is_kept_and, row_of}
 use Rattle.sq_shard.specs.SlotStores.{AreVisible}
@@ -69,7 +69,7 @@ distinct_taken (suc n) (x ∷ xs) once =
 
 -- ---- a look
 
-pub rise_rises : (low : ℕ) (rows : List Row) → Rise low rows → (next : ℕ) × RisesFrom low rows next
+pub rise_rises : (low : ℕ) (rows : List Row) → SerialsRise low rows → (next : ℕ) × RisesFrom low rows next
 rise_rises low [] h = (low, omega arith)
 rise_rises low (row ∷ rows) h = let rest = rise_rises (row.serial + 1) rows h.1 in (rest.0, (h.0, rest.1))
 
@@ -81,7 +81,7 @@ received_serials m until [] = refl
 received_serials m until (row ∷ rows) = ap (λ (ns : List ℕ). row.serial ∷ ns) (received_serials m until rows)
 
 -- the first so many of the live rows are a look, in whatever order they stand
-pub first_are_look : (s : Settings) (m until n : ℕ) (rows live : List Row) → Rise 0 rows → IsPermutation (filter (is_live s m) (trimmed s m rows)) live
+pub first_are_look : (s : Settings) (m until n : ℕ) (rows live : List Row) → SerialsRise 0 rows → IsPermutation (filter (is_live s m) (trimmed s m rows)) live
     → IsLook s m until n (trimmed s m rows) (take n (map (received m until) live))
 first_are_look s m until n rows live rise same =
     let kept = trimmed s m rows in

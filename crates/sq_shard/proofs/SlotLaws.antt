@@ -6,11 +6,11 @@ use Rattle.std.proofs.lemmas.List.{append-nil, length-append}
 use Rattle.std.proofs.lemmas.List.Elements.{All-filter, All-weaker}
 use Rattle.sq_base.specs.declared.row.Row.{Row}
 use Rattle.sq_deadline.specs.declared.deadline.Deadline.{Deadline}
-use Rattle.sq_deadline.specs.Deadlines.{IndexValue, Rise, with_deadline, is_other, is_same}
+use Rattle.sq_deadline.specs.Deadlines.{IndexValue, DeadlinesRise, with_deadline, is_other, is_same}
 use Rattle.sq_deadline.proofs.SetLaws.{is_absent, none_passes}
 use Rattle.sq_slots.specs.Slots.{is_in, updated}
 use Rattle.sq_slots.proofs.RowLists.{is_this}
-use Rattle.sq_shard.specs.Due.{Holds, enqueued_at, is_again, is_fresh, is_spent, space, visible_at}
+use Rattle.sq_shard.specs.Due.{Holds, enqueued_at, is_again, is_fresh, is_spent_by, space, visible_at}
 use Rattle.sq_shard.specs.declared.visible.VisibleFrom.{VisibleFrom}
 use Rattle.sq_shard.specs.Visible.{HasSpace, IsCleared, IsOrdered, IsSet}
 use Rattle.sq_shard.specs.SlotStores.{AreVisible, IsIndexed, again_row, any_row, fresh_row, spent_row}
@@ -20,7 +20,7 @@ use Rattle.sq_shard.proofs.MemoryLaws.{HasRoom, has_more, has_room}
 module _ (before : List Row) (row : Row) (after : List Row) where
   -- no row of this slot stands in a list
   pub absent : (class : Row → Bool) (key : Row → Deadline) → ((r : Row) → (key r).slot ≡ r.slot) → row.slot < 4294967296 → All (λ (r : Row). r.slot ≢ row.slot) (before ++ after)
-      → (b : Bool) (ds : List Deadline) → (b ≡ true → Rise 0 ds) → Holds class key (before ++ after) ds → b ≡ true → list_any (is_same (key row)) ds ≡ false
+      → (b : Bool) (ds : List Deadline) → (b ≡ true → DeadlinesRise 0 ds) → Holds class key (before ++ after) ds → b ≡ true → list_any (is_same (key row)) ds ≡ false
   absent class key slots fits others b ds rise held is =
       let here : (key row).slot ≡ row.slot = slots row in
       let apart : (r : Row) → r.slot ≢ row.slot → (key r).slot ≢ (key row).slot = λ r other same. other (sym (slots r) ∙ same ∙ here) in
@@ -34,7 +34,7 @@ module _ (before : List Row) (row : Row) (after : List Row) where
       record {
         fresh = rw set.fresh (held_in fresh_row visible_at before row after (is_fresh row.receives) refl old.fresh.deadlines (absent fresh_row visible_at (λ r. refl) fits others (is_fresh row.receives) old.fresh.deadlines ordered.fresh held.fresh) held.fresh);
         again = rw (set.most, set.again) (held_in (again_row most) visible_at before row after (is_again most row.receives) refl old.again.deadlines (absent (again_row most) visible_at (λ r. refl) fits others (is_again most row.receives) old.again.deadlines ordered.again held.again) held.again);
-        spent = rw (set.most, set.spent) (held_in (spent_row most) visible_at before row after (is_spent most row.receives) refl old.spent.deadlines (absent (spent_row most) visible_at (λ r. refl) fits others (is_spent most row.receives) old.spent.deadlines ordered.spent held.spent) held.spent);
+        spent = rw (set.most, set.spent) (held_in (spent_row most) visible_at before row after (is_spent_by most row.receives) refl old.spent.deadlines (absent (spent_row most) visible_at (λ r. refl) fits others (is_spent_by most row.receives) old.spent.deadlines ordered.spent held.spent) held.spent);
       }
 
   pub goes_out : (old new : VisibleFrom) → IsOrdered row.receives old → IsCleared row.receives (visible_at row) old new → AreVisible (before ++ row ∷ after) old → AreVisible (before ++ after) new
@@ -43,14 +43,14 @@ module _ (before : List Row) (row : Row) (after : List Row) where
       record {
         fresh = rw cleared.fresh (held_out fresh_row visible_at before row after (is_fresh row.receives) refl old.fresh.deadlines ordered.fresh held.fresh);
         again = rw (cleared.most, cleared.again) (held_out (again_row most) visible_at before row after (is_again most row.receives) refl old.again.deadlines ordered.again held.again);
-        spent = rw (cleared.most, cleared.spent) (held_out (spent_row most) visible_at before row after (is_spent most row.receives) refl old.spent.deadlines ordered.spent held.spent);
+        spent = rw (cleared.most, cleared.spent) (held_out (spent_row most) visible_at before row after (is_spent_by most row.receives) refl old.spent.deadlines ordered.spent held.spent);
       }
 
-  pub ages_in : (ages : List Deadline) → row.slot < 4294967296 → All (λ (r : Row). r.slot ≢ row.slot) (before ++ after) → Rise 0 ages
+  pub ages_in : (ages : List Deadline) → row.slot < 4294967296 → All (λ (r : Row). r.slot ≢ row.slot) (before ++ after) → DeadlinesRise 0 ages
       → Holds any_row enqueued_at (before ++ after) ages → Holds any_row enqueued_at (before ++ row ∷ after) (with_deadline (enqueued_at row) ages)
   ages_in ages fits others rise held = held_in any_row enqueued_at before row after true refl ages (absent any_row enqueued_at (λ r. refl) fits others true ages (λ is. rise) held) held
 
-  pub ages_out : (ages : List Deadline) → Rise 0 ages → Holds any_row enqueued_at (before ++ row ∷ after) ages → Holds any_row enqueued_at (before ++ after) (filter (is_other (enqueued_at row)) ages)
+  pub ages_out : (ages : List Deadline) → DeadlinesRise 0 ages → Holds any_row enqueued_at (before ++ row ∷ after) ages → Holds any_row enqueued_at (before ++ after) (filter (is_other (enqueued_at row)) ages)
   ages_out ages rise held = held_out any_row enqueued_at before row after true refl ages (λ is. rise) held
 
 -- none has a slot that is free
@@ -60,7 +60,7 @@ free_is_none slot rows h = All-weaker (λ (r : Row). is_in slot r ≡ false) (λ
 -- a row comes last
 pub indexed_last : (rows : List Row) (row : Row) (old new : VisibleFrom) (ages after : IndexValue) → row.slot < 4294967296 → All (λ (r : Row). r.slot ≢ row.slot) rows
     → HasSpace (length rows + 1) new → length rows + 1 ≤ space after
-    → IsOrdered row.receives old → IsSet row.receives (visible_at row) old new → Rise 0 ages.deadlines → after.deadlines ≡ with_deadline (enqueued_at row) ages.deadlines
+    → IsOrdered row.receives old → IsSet row.receives (visible_at row) old new → DeadlinesRise 0 ages.deadlines → after.deadlines ≡ with_deadline (enqueued_at row) ages.deadlines
     → IsIndexed rows old ages → IsIndexed (rows ++ row ∷ []) new after
 indexed_last rows row old new ages after fits others memory age_memory ordered set rise aged h =
     let whole : rows ++ [] ≡ rows = append-nil rows in
@@ -79,7 +79,7 @@ module _ (before : List Row) (row : Row) (after : List Row) where
 
   -- a row goes out
   pub indexed_out : (old new : VisibleFrom) (ages later : IndexValue) → IsOrdered row.receives old → IsCleared row.receives (visible_at row) old new
-      → Rise 0 ages.deadlines → later.deadlines ≡ filter (is_other (enqueued_at row)) ages.deadlines → space ages ≤ space later
+      → DeadlinesRise 0 ages.deadlines → later.deadlines ≡ filter (is_other (enqueued_at row)) ages.deadlines → space ages ≤ space later
       → IsIndexed (before ++ row ∷ after) old ages → IsIndexed (before ++ after) new later
   indexed_out old new ages later ordered cleared rise aged kept h = record {
     held = goes_out before row after old new ordered cleared h.held;

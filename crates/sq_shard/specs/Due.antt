@@ -23,8 +23,8 @@ abbrev pub is_again : ℕ → ℕ → Bool
 is_again most receives = nat_lt 0 receives && nat_lt receives most
 
 -- received as often as makes it spent
-abbrev pub is_spent : ℕ → ℕ → Bool
-is_spent most receives = nat_lt 0 receives && nat_le most receives
+abbrev pub is_spent_by : ℕ → ℕ → Bool
+is_spent_by most receives = nat_lt 0 receives && nat_le most receives
 
 -- how often a row is received until a look gives it no more: as the policy says, or as often as can be counted
 abbrev pub most_under : Option Redrive → ℕ

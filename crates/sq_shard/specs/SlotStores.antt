@@ -6,7 +6,7 @@ use Rattle.sq_deadline.specs.Deadlines.{IndexValue}
 use Rattle.sq_model.specs.Rows.{is_live, received}
 use Rattle.sq_slots.specs.Slots.{IsBetween, TableValue, is_at}
 use Rattle.sq_shard.specs.declared.visible.VisibleFrom.{VisibleFrom}
-use Rattle.sq_shard.specs.Due.{Holds, enqueued_at, is_again, is_fresh, is_spent, space, visible_at}
+use Rattle.sq_shard.specs.Due.{Holds, enqueued_at, is_again, is_fresh, is_spent_by, space, visible_at}
 use Rattle.sq_shard.specs.Visible.{HasSpace}
 
 -- what a store is seen as: its rows in slots, from when they are visible, and since when they are in the queue
@@ -26,7 +26,7 @@ abbrev pub again_row : ℕ → Row → Bool
 again_row most row = is_again most row.receives
 
 abbrev pub spent_row : ℕ → Row → Bool
-spent_row most row = is_spent most row.receives
+spent_row most row = is_spent_by most row.receives
 
 -- each row stands once, in the list of its class
 pub record AreVisible (rows : List Row) (v : VisibleFrom) : Type 0 where

@@ -1,9 +1,9 @@
 -- The moments from when rows are visible, and memory for them. Own.
 use Rattle.std.specs.Prelude.{◌≡◌, ℕ, ◌≤◌, ◌<◌, ◌⊎◌, Bool, true, false, find, nat_lt, Option, Some, None, if◌then◌else◌}
 use Rattle.sq_deadline.specs.declared.deadline.Deadline.{Deadline}
-use Rattle.sq_deadline.specs.Deadlines.{IndexValue, Rise, is_due}
+use Rattle.sq_deadline.specs.Deadlines.{IndexValue, DeadlinesRise, is_due}
 use Rattle.sq_shard.specs.declared.visible.VisibleFrom.{VisibleFrom}
-use Rattle.sq_shard.specs.Due.{is_again, is_fresh, is_spent, space, with_if, without_if}
+use Rattle.sq_shard.specs.Due.{is_again, is_fresh, is_spent_by, space, with_if, without_if}
 
 -- for so many rows, of whatever class
 pub record HasSpace (count : ℕ) (v : VisibleFrom) : Type 0 where
@@ -22,15 +22,15 @@ pub record KeepsSpace (old new : VisibleFrom) : Type 0 where
 
 -- the list of the class of this receive number, if of any, is in order
 pub record IsOrdered (receives : ℕ) (v : VisibleFrom) : Type 0 where
-  pub fresh : is_fresh receives ≡ true → Rise 0 v.fresh.deadlines
-  pub again : is_again v.most receives ≡ true → Rise 0 v.again.deadlines
-  pub spent : is_spent v.most receives ≡ true → Rise 0 v.spent.deadlines
+  pub fresh : is_fresh receives ≡ true → DeadlinesRise 0 v.fresh.deadlines
+  pub again : is_again v.most receives ≡ true → DeadlinesRise 0 v.again.deadlines
+  pub spent : is_spent_by v.most receives ≡ true → DeadlinesRise 0 v.spent.deadlines
 
 -- a moment came into the list of its class
 pub record IsSet (receives : ℕ) (d : Deadline) (old new : VisibleFrom) : Type 0 where
   pub fresh : new.fresh.deadlines ≡ with_if (is_fresh receives) d old.fresh.deadlines
   pub again : new.again.deadlines ≡ with_if (is_again old.most receives) d old.again.deadlines
-  pub spent : new.spent.deadlines ≡ with_if (is_spent old.most receives) d old.spent.deadlines
+  pub spent : new.spent.deadlines ≡ with_if (is_spent_by old.most receives) d old.spent.deadlines
   pub most : new.most ≡ old.most
   pub space : KeepsSpace old new
 
@@ -38,7 +38,7 @@ pub record IsSet (receives : ℕ) (d : Deadline) (old new : VisibleFrom) : Type 
 pub record IsCleared (receives : ℕ) (d : Deadline) (old new : VisibleFrom) : Type 0 where
   pub fresh : new.fresh.deadlines ≡ without_if (is_fresh receives) d old.fresh.deadlines
   pub again : new.again.deadlines ≡ without_if (is_again old.most receives) d old.again.deadlines
-  pub spent : new.spent.deadlines ≡ without_if (is_spent old.most receives) d old.spent.deadlines
+  pub spent : new.spent.deadlines ≡ without_if (is_spent_by old.most receives) d old.spent.deadlines
   pub most : new.most ≡ old.most
   pub space : KeepsSpace old new
 

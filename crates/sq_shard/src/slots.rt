@@ -1,7 +1,7 @@
 //! Rows in slots, found by what is due.
 ghost use Rattle.std.specs.Prelude.{◌≡◌, ◌+◌, ◌++◌, ◌∷◌, ◌==◌, ◌<◌, ◌≤◌, [], false, filter, find, length, map, IfSome};
 ghost use Rattle.std.specs.List.{All, list_any};
-ghost use Rattle.sq_deadline.specs.Deadlines.{Rise, is_other};
+ghost use Rattle.sq_deadline.specs.Deadlines.{DeadlinesRise, is_other};
 ghost use Rattle.sq_slots.specs.Slots.{IsBetween, in_slot, is_at, is_away, updated_at};
 ghost use Rattle.sq_shard.specs.Due.{enqueued_at, visible_at};
 ghost use Rattle.sq_shard.specs.SlotStores.{reserved_in};
@@ -131,7 +131,7 @@ fn unlist(row: &Row, visible: &mut VisibleFrom, ages: &mut DeadlineIndex)
     ensures ordered { IsOrdered row.now.receives visible.old }
     ensures ages { ages.new.deadlines ≡ filter (is_other (enqueued_at row.now)) ages.old.deadlines }
     ensures memory { length ages.old.deadlines + ages.old.reserved ≤ length ages.new.deadlines + ages.new.reserved }
-    ensures rise { Rise 0 ages.old.deadlines }
+    ensures rise { DeadlinesRise 0 ages.old.deadlines }
 {
     visible.clear(
         row.receives,

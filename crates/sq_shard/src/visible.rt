@@ -1,7 +1,7 @@
 //! From when the rows of a home are visible.
 ghost use Rattle.std.specs.Prelude.{◌≡◌, ◌<◌, [], true, min, OnOk, IfErr};
 ghost use Rattle.sq_shard.specs.Visible.{first_list, AreBoth, HasSpace, IsCleared, IsOrdered, IsSet, KeepsSpace, LacksSpace};
-ghost use Rattle.sq_shard.specs.Due.{is_again, is_fresh, is_spent, space};
+ghost use Rattle.sq_shard.specs.Due.{is_again, is_fresh, is_spent_by, space};
 
 use sq_base::refusal::Refusal;
 use sq_deadline::deadline::Deadline;
@@ -64,7 +64,7 @@ impl VisibleFrom {
     pub(crate) fn set(&mut self, receives: u32, deadline: Deadline)
         requires fresh { is_fresh receives ≡ true → 0 < self.old.fresh.reserved }
         requires again { is_again self.old.most receives ≡ true → 0 < self.old.again.reserved }
-        requires spent { is_spent self.old.most receives ≡ true → 0 < self.old.spent.reserved }
+        requires spent { is_spent_by self.old.most receives ≡ true → 0 < self.old.spent.reserved }
         ensures set { IsSet receives deadline self.old self.new }
         ensures ordered { IsOrdered receives self.old }
     {

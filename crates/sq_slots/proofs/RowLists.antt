@@ -6,7 +6,7 @@ use Rattle.std.proofs.lemmas.Grind.{common_steps}
 use Rattle.std.proofs.lemmas.List.Elements.{All-head, All-tail}
 pub use Rattle.slab.proofs.SlabLemmas.{Contains-cons, Contains-cons_cases}
 use Rattle.sq_base.specs.declared.row.Row.{Row}
-use Rattle.sq_slots.specs.Slots.{HaveOwnSlots, Rise, is_in, with_row}
+use Rattle.sq_slots.specs.Slots.{HaveOwnSlots, SerialsRise, is_in, with_row}
 
 pub contains_first : {X : Type 0} (x : X) (xs : List X) → Contains (x ∷ xs) x
 contains_first x xs = (0, omega arith, refl)
@@ -82,7 +82,7 @@ there_is_kept {X} h (z ∷ zs) y there =
 
 -- ---- rising serials
 
-pub not_below : (low : ℕ) (rows : List Row) (row : Row) → Rise low rows → Contains rows row → low ≤ row.serial
+pub not_below : (low : ℕ) (rows : List Row) (row : Row) → SerialsRise low rows → Contains rows row → low ≤ row.serial
 not_below low [] row h there = absurd (omega (arith, there.1))
 not_below low (r ∷ rs) row h there = elim (Contains-cons_cases r row rs there) [
   | inl same ↦ subst (λ (x : Row). low ≤ x.serial) same h.0
@@ -90,7 +90,7 @@ not_below low (r ∷ rs) row h there = elim (Contains-cons_cases r row rs there)
 ]
 
 -- rows of one serial are one row
-pub same_serial : (low : ℕ) (rows : List Row) → Rise low rows → (row other : Row) → Contains rows row → Contains rows other → row.serial ≡ other.serial → row ≡ other
+pub same_serial : (low : ℕ) (rows : List Row) → SerialsRise low rows → (row other : Row) → Contains rows row → Contains rows other → row.serial ≡ other.serial → row ≡ other
 same_serial low [] h row other there too e = absurd (omega (arith, there.1))
 same_serial low (r ∷ rs) h row other there too e = elim (Contains-cons_cases r row rs there) [
   | inl same ↦ elim (Contains-cons_cases r other rs too) [
@@ -104,7 +104,7 @@ same_serial low (r ∷ rs) h row other there too e = elim (Contains-cons_cases r
 ]
 
 -- rising lists of the same rows are one list
-pub same_rows : (low least : ℕ) (xs ys : List Row) → Rise low xs → Rise least ys → ((row : Row) → Contains xs row → Contains ys row) → ((row : Row) → Contains ys row → Contains xs row) → xs ≡ ys
+pub same_rows : (low least : ℕ) (xs ys : List Row) → SerialsRise low xs → SerialsRise least ys → ((row : Row) → Contains xs row → Contains ys row) → ((row : Row) → Contains ys row → Contains xs row) → xs ≡ ys
 same_rows low least [] [] h g there back = refl
 same_rows low least [] (y ∷ ys) h g there back = absurd (omega (arith, (back y (contains_first y ys)).1))
 same_rows low least (x ∷ xs) [] h g there back = absurd (omega (arith, (there x (contains_first x xs)).1))
@@ -127,23 +127,23 @@ same_rows low least (x ∷ xs) (y ∷ ys) h g there back =
     ] in
     rw first (ap (λ rs. y ∷ rs) (same_rows (x.serial + 1) (y.serial + 1) xs ys h.1 g.1 forth home))
 
-pub rise_from : (low least : ℕ) (rows : List Row) → least ≤ low → Rise low rows → Rise least rows
+pub rise_from : (low least : ℕ) (rows : List Row) → least ≤ low → SerialsRise low rows → SerialsRise least rows
 rise_from low least [] le h = tt
 rise_from low least (r ∷ rs) le h = (omega (arith, le, h.0), h.1)
 
 -- a row of the highest serial comes last
-pub rise_last : (low : ℕ) (rows : List Row) (row : Row) → Rise low rows → low ≤ row.serial → All (λ r. r.serial < row.serial) rows → Rise low (rows ++ row ∷ [])
+pub rise_last : (low : ℕ) (rows : List Row) (row : Row) → SerialsRise low rows → low ≤ row.serial → All (λ r. r.serial < row.serial) rows → SerialsRise low (rows ++ row ∷ [])
 rise_last low [] row h le below = (le, tt)
 rise_last low (r ∷ rs) row h le below =
     let first = All-head (λ (x : Row). x.serial < row.serial) r rs below in
     (h.0, rise_last (r.serial + 1) rs row h.1 (omega (arith, first)) (All-tail (λ (x : Row). x.serial < row.serial) r rs below))
 
 -- rows that are kept keep their order
-pub rise_kept : (h : Row → Option Row) → ((row new : Row) → h row ≡ Some new → new.serial ≡ row.serial) → (low : ℕ) (rows : List Row) → Rise low rows → Rise low (filter_map h rows)
+pub rise_kept : (h : Row → Option Row) → ((row new : Row) → h row ≡ Some new → new.serial ≡ row.serial) → (low : ℕ) (rows : List Row) → SerialsRise low rows → SerialsRise low (filter_map h rows)
 rise_kept h same low [] rises = tt
 rise_kept h same low (r ∷ rs) rises =
     let rest = rise_kept h same (r.serial + 1) rs rises.1 in
-    elim (h r) as (λ o. h r ≡ o → Rise low (cons_option o (filter_map h rs))) [
+    elim (h r) as (λ o. h r ≡ o → SerialsRise low (cons_option o (filter_map h rs))) [
       | Some new ↦ (λ e. let serial = same r new e in (omega (arith, serial, rises.0), rise_from (r.serial + 1) (new.serial + 1) (filter_map h rs) (omega (arith, serial)) rest))
       | None ↦ (λ e. rise_from (r.serial + 1) low (filter_map h rs) (omega (arith, rises.0)) rest)
     ] refl
@@ -186,10 +186,10 @@ is_below a b h = grind (arith, common_steps, h)
 is_from : (a b : ℕ) → nat_lt a b ≡ false → b ≤ a
 is_from a b h = grind (arith, common_steps, h)
 
-pub rise_with : (low : ℕ) (row : Row) (rows : List Row) → low ≤ row.serial → Rise low rows → ((other : Row) → Contains rows other → other.serial ≢ row.serial) → Rise low (with_row row rows)
+pub rise_with : (low : ℕ) (row : Row) (rows : List Row) → low ≤ row.serial → SerialsRise low rows → ((other : Row) → Contains rows other → other.serial ≢ row.serial) → SerialsRise low (with_row row rows)
 rise_with low row [] le h new = (le, tt)
 rise_with low row (r ∷ rs) le h new =
-    elim (nat_lt row.serial r.serial) as (λ b. nat_lt row.serial r.serial ≡ b → Rise low (if b then row ∷ r ∷ rs else r ∷ with_row row rs)) [
+    elim (nat_lt row.serial r.serial) as (λ b. nat_lt row.serial r.serial ≡ b → SerialsRise low (if b then row ∷ r ∷ rs else r ∷ with_row row rs)) [
       | true ↦ (λ e. (le, (is_below row.serial r.serial e, h.1)))
       | false ↦ (λ e. let from = is_from row.serial r.serial e in let other : r.serial ≢ row.serial = new r (contains_first r rs) in
           (h.0, rise_with (r.serial + 1) row rs (omega arith) h.1 (λ x later. new x (Contains-cons r x rs later))))
@@ -197,11 +197,11 @@ rise_with low row (r ∷ rs) le h new =
 
 -- ---- rows of a table, the first and those after it
 
-pub own_serial : (low : ℕ) (row : Row) (rows : List Row) → Rise low (row ∷ rows) → list_any (λ r. r.serial == row.serial) rows ≡ false
+pub own_serial : (low : ℕ) (row : Row) (rows : List Row) → SerialsRise low (row ∷ rows) → list_any (λ r. r.serial == row.serial) rows ≡ false
 own_serial low row rows h = any_is_found (λ (r : Row). r.serial == row.serial) rows ∙ ap is_some (none_found (λ (r : Row). r.serial == row.serial) rows
     (λ r there. is_other r.serial row.serial (λ same. let above = not_below (row.serial + 1) rows r h.1 there in absurd (omega (arith, above, same)))))
 
-pub own_slot : (low : ℕ) (row : Row) (rows : List Row) → Rise low (row ∷ rows) → HaveOwnSlots (row ∷ rows) → list_any (is_in row.slot) rows ≡ false
+pub own_slot : (low : ℕ) (row : Row) (rows : List Row) → SerialsRise low (row ∷ rows) → HaveOwnSlots (row ∷ rows) → list_any (is_in row.slot) rows ≡ false
 own_slot low row rows h own = any_is_found (is_in row.slot) rows ∙ ap is_some (none_found (is_in row.slot) rows (λ r there. is_other r.slot row.slot (λ same.
     let above = not_below (row.serial + 1) rows r h.1 there in
     let one = own r row (Contains-cons row r rows there) (contains_first row rows) same in

@@ -6,7 +6,7 @@ use Rattle.std.proofs.lemmas.Grind.{common_steps}
 use Rattle.std.proofs.lemmas.List.Elements.{All-contains_itself, All-cons, All-weaker}
 use Rattle.slab.proofs.SlabLemmas.{Contains-cons}
 use Rattle.sq_base.specs.declared.row.Row.{Row}
-use Rattle.sq_slots.specs.Slots.{HaveOwnSlots, IsBetween, Rise, is_at, is_away, updated, updated_at}
+use Rattle.sq_slots.specs.Slots.{HaveOwnSlots, IsBetween, SerialsRise, is_at, is_away, updated, updated_at}
 use Rattle.sq_slots.proofs.RowLists.{contains_first, is_other, not_below}
 
 not_at : (slot serial : ℕ) (row : Row) → row.slot ≢ slot → is_at slot serial row ≡ false
@@ -33,7 +33,7 @@ all_of : (P : Row → Type 0) (rows : List Row) → ((r : Row) → Contains rows
 all_of P rows h = All-weaker (Contains rows) P h rows (All-contains_itself rows)
 
 -- where the first row is it
-first_is_it : (slot serial low : ℕ) (r : Row) (rs : List Row) → Rise low (r ∷ rs) → HaveOwnSlots (r ∷ rs) → is_at slot serial r ≡ true → IsBetween slot serial (r ∷ rs) r
+first_is_it : (slot serial low : ℕ) (r : Row) (rs : List Row) → SerialsRise low (r ∷ rs) → HaveOwnSlots (r ∷ rs) → is_at slot serial r ≡ true → IsBetween slot serial (r ∷ rs) r
 first_is_it slot serial low r rs rise own is =
     let here : r.slot ≡ slot = at_slot slot serial r is in
     let others : (x : Row) → Contains rs x → x.slot ≢ slot = λ x there same.
@@ -68,7 +68,7 @@ one_before slot serial r rs row other s =
       changed = λ receives visible_from last_receive. rw no (ap (λ (xs : List Row). r ∷ xs) (s.changed receives visible_from last_receive));
     }
 
-pub stands_between : (slot serial low : ℕ) (rows : List Row) (row : Row) → Rise low rows → HaveOwnSlots rows → find (is_at slot serial) rows ≡ Some row → IsBetween slot serial rows row
+pub stands_between : (slot serial low : ℕ) (rows : List Row) (row : Row) → SerialsRise low rows → HaveOwnSlots rows → find (is_at slot serial) rows ≡ Some row → IsBetween slot serial rows row
 stands_between slot serial low [] row rise own h = absurd cc
 stands_between slot serial low (r ∷ rs) row rise own h =
     elim (is_at slot serial r) as (λ b. is_at slot serial r ≡ b → cond b (Some r) (find (is_at slot serial) rs) ≡ Some row → IsBetween slot serial (r ∷ rs) row) [

@@ -8,7 +8,7 @@ use Rattle.std.proofs.lemmas.List.Sums.{sum_by-cons}
 use Rattle.slab.proofs.SlabLemmas.{Contains-cons, Updates-with_value}
 use Rattle.slab.specs.Slab.{ContainsKey, Slab, Updates, get, slab_len, values, with_value}
 use Rattle.sq_base.specs.declared.row.Row.{Row}
-use Rattle.sq_slots.specs.Slots.{AreApart, HaveOwnSlots, IsTable, Rise, by_serial, in_slot, is_at, is_away, is_in, updated, updated_at}
+use Rattle.sq_slots.specs.Slots.{AreApart, HaveOwnSlots, IsTable, SerialsRise, by_serial, in_slot, is_at, is_away, is_in, updated, updated_at}
 use Rattle.sq_slots.proofs.RowLists.{any_is_found, contains_first, filter_is_kept, is_other, is_same, is_this, kept_is_there, length-with_row, map_is_kept, none_found, one_found, rise_kept, rise_last, rise_with, same_rows, there_is_kept, with_row_cases, with_row_has}
 
 -- the rows of a slab by rising serial
@@ -46,7 +46,7 @@ OneEach slots = (k j : ℕ) (row it : Row) → at_place slots k ≡ Some row →
 one_each_later : (o : Option Row) (rest : List (Option Row)) → OneEach (o ∷ rest) → OneEach rest
 one_each_later o rest one k j row it found other e = let next = one (suc k) (suc j) row it found other e in omega (arith, next)
 
-sorted_rise : (slots : List (Option Row)) → OneEach slots → Rise 0 (sorted slots)
+sorted_rise : (slots : List (Option Row)) → OneEach slots → SerialsRise 0 (sorted slots)
 sorted_rise [] one = tt
 sorted_rise (None ∷ rest) one = sorted_rise rest (one_each_later None rest one)
 sorted_rise (Some r ∷ rest) one = rise_with 0 r (sorted rest) (omega arith) (sorted_rise rest (one_each_later (Some r) rest one))
@@ -60,7 +60,7 @@ sorted_len (Some r ∷ rest) = omega (arith, sorted_len rest, length-with_row r 
 pub rows_counted : (table : Slab Row) → length (rows_of table) ≡ slab_len table
 rows_counted table = sorted_len table.slots
 
-pub rows_rise : (table : Slab Row) → IsTable table → Rise 0 (rows_of table)
+pub rows_rise : (table : Slab Row) → IsTable table → SerialsRise 0 (rows_of table)
 rows_rise table h = sorted_rise table.slots h.serials
 
 -- ---- a row is there where its slot has it

@@ -21,9 +21,9 @@ by_serial [] = []
 by_serial (r ∷ rs) = with_row r (by_serial rs)
 
 -- the serials rise without repeats, and none is below this one
-abbrev pub Rise : ℕ → List Row → Type 0
-Rise low [] = Unit {0}
-Rise low (r ∷ rs) = (low ≤ r.serial) × Rise (r.serial + 1) rs
+abbrev pub SerialsRise : ℕ → List Row → Type 0
+SerialsRise low [] = Unit {0}
+SerialsRise low (r ∷ rs) = (low ≤ r.serial) × SerialsRise (r.serial + 1) rs
 
 -- rows of one slot are one row
 abbrev pub HaveOwnSlots : List Row → Type 0
@@ -31,7 +31,7 @@ HaveOwnSlots rows = (row other : Row) → Contains rows row → Contains rows ot
 
 -- each row has a slot and a serial of its own
 pub record AreApart (rows : List Row) : Type 0 where
-  pub rise : Rise 0 rows
+  pub rise : SerialsRise 0 rows
   pub slots : HaveOwnSlots rows
 
 -- a row as it stands in a slot

@@ -5,10 +5,10 @@ use Rattle.std.specs.List.{AllByRecursion, position_or_len, list_any}
 use Rattle.std.proofs.lemmas.Bool.{eqb-true}
 use Rattle.std.proofs.lemmas.Grind.{common_steps}
 use Rattle.sq_base.specs.Stamps.{Below}
-use Rattle.sq_model.specs.RecordValues.{RecordValue, place_of_record, stamp_of, Journal, RecordsRise}
+use Rattle.sq_model.specs.RecordValues.{RecordValue, place_of_record, record_stamp, Journal, RecordsRise}
 use Rattle.sq_model.specs.Matches.{IsRecorded}
 use Rattle.sq_directory.specs.Makers.{IsSeen}
-use Rattle.sq_steps.specs.Journals.{IsJournal, is_of, journal_of, without_record, without, AreDistinct}
+use Rattle.sq_steps.specs.Journals.{IsJournal, is_of_actor, journal_of, without_record, without_record_of, AreDistinct}
 use Rattle.sq_steps.proofs.JournalListLaws.{journal_own, found_there, differ, journal_once, same_place}
 use Rattle.sq_directory.proofs.ElementLaws.{all_get, some_same}
 use Rattle.sq_steps.proofs.FilterLaws.{all_filter}
@@ -17,7 +17,7 @@ rise_filter : (p : RecordValue → Bool) (ns : List RecordValue) → RecordsRise
 rise_filter p [] rise = rise
 rise_filter p (n ∷ ns) rise =
     elim (p n) as (λ v. RecordsRise (cond v (n ∷ filter p ns) (filter p ns)))
-    [ true ↦ (all_filter (λ m. (place_of_record n < place_of_record m) × Below (stamp_of n) (stamp_of m)) p ns rise.0, rise_filter p ns rise.1) | false ↦ rise_filter p ns rise.1 ]
+    [ true ↦ (all_filter (λ m. (place_of_record n < place_of_record m) × Below (record_stamp n) (record_stamp m)) p ns rise.0, rise_filter p ns rise.1) | false ↦ rise_filter p ns rise.1 ]
 
 -- what is left is a journal
 pub journal_less : (journal : Journal) (place : ℕ) → IsJournal journal → IsJournal (without_record place journal)
@@ -26,7 +26,7 @@ journal_less journal place is =
     record {
       rise = rise_filter p journal.records is.rise;
       below = all_filter (λ n. place_of_record n < journal.next) p journal.records is.below;
-      saw = all_filter (λ n. IsSeen (stamp_of n) journal.seen) p journal.records is.saw;
+      saw = all_filter (λ n. IsSeen (record_stamp n) journal.seen) p journal.records is.saw;
     }
 
 -- where no element passes, none is found; and the other way round
@@ -46,25 +46,25 @@ any_map f p [] = refl
 any_map f p (x ∷ xs) = ap (λ (v : Bool). p (f x) || v) (any_map f p xs)
 
 -- where an actor is not found, all are others
-all_lost : (actor : ℕ) (journals : List Journal) → length journals ≤ position_or_len (is_of actor) journals → AllByRecursion (λ y. y.actor ≢ actor) journals
+all_lost : (actor : ℕ) (journals : List Journal) → length journals ≤ position_or_len (is_of_actor actor) journals → AllByRecursion (λ y. y.actor ≢ actor) journals
 all_lost actor [] le = tt
 all_lost actor (x ∷ xs) le =
-    elim (x.actor == actor) as (λ v. x.actor == actor ≡ v → length (x ∷ xs) ≤ cond (not v) (1 + position_or_len (is_of actor) xs) 0 → AllByRecursion (λ y. y.actor ≢ actor) (x ∷ xs))
+    elim (x.actor == actor) as (λ v. x.actor == actor ≡ v → length (x ∷ xs) ≤ cond (not v) (1 + position_or_len (is_of_actor actor) xs) 0 → AllByRecursion (λ y. y.actor ≢ actor) (x ∷ xs))
     [ true ↦ (λ e l. absurd (omega (arith, l))) | false ↦ (λ e l. (λ same. differ x.actor actor e (sym same), all_lost actor xs (omega (arith, l)))) ] refl le
 
-lost_others : (actor : ℕ) (journals : List Journal) → position (is_of actor) journals ≡ None → AllByRecursion (λ y. y.actor ≢ actor) journals
+lost_others : (actor : ℕ) (journals : List Journal) → position (is_of_actor actor) journals ≡ None → AllByRecursion (λ y. y.actor ≢ actor) journals
 lost_others actor journals h =
-    elim (nat_lt (position_or_len (is_of actor) journals) (length journals)) as (λ v. nat_lt (position_or_len (is_of actor) journals) (length journals) ≡ v → cond v (Some (position_or_len (is_of actor) journals)) None ≡ None → AllByRecursion (λ y. y.actor ≢ actor) journals)
+    elim (nat_lt (position_or_len (is_of_actor actor) journals) (length journals)) as (λ v. nat_lt (position_or_len (is_of_actor actor) journals) (length journals) ≡ v → cond v (Some (position_or_len (is_of_actor actor) journals)) None ≡ None → AllByRecursion (λ y. y.actor ≢ actor) journals)
     [ true ↦ (λ e k. absurd cc) | false ↦ (λ e k. all_lost actor journals (grind (arith, common_steps, e))) ] refl h
 
 other_number : (x y : ℕ) → x ≢ y → nat_eq x y ≡ false
 other_number x y ne = grind (arith, common_steps)
 
-without_others : (actor place : ℕ) (journals : List Journal) → AllByRecursion (λ y. y.actor ≢ actor) journals → without actor place journals ≡ journals
+without_others : (actor place : ℕ) (journals : List Journal) → AllByRecursion (λ y. y.actor ≢ actor) journals → without_record_of actor place journals ≡ journals
 without_others actor place [] all = refl
 without_others actor place (x ∷ xs) all = rw (other_number x.actor actor all.0) (ap (λ (ys : List Journal). x ∷ ys) (without_others actor place xs all.1))
 
-without_at : (actor place : ℕ) (journals : List Journal) → AreDistinct journals → (at : ℕ) (journal : Journal) → slice_get journals at ≡ Some journal → journal.actor ≡ actor → slice_set journals at (without_record place journal) ≡ without actor place journals
+without_at : (actor place : ℕ) (journals : List Journal) → AreDistinct journals → (at : ℕ) (journal : Journal) → slice_get journals at ≡ Some journal → journal.actor ≡ actor → slice_set journals at (without_record place journal) ≡ without_record_of actor place journals
 without_at actor place [] distinct at journal h own = absurd cc
 without_at actor place (x ∷ xs) distinct zero journal h own =
     let here : x.actor ≡ actor = ap (λ (b : Journal). b.actor) (some_same h) ∙ own in
@@ -75,26 +75,26 @@ without_at actor place (x ∷ xs) distinct (suc at) journal h own =
     rw (other_number x.actor actor other) (ap (λ (ys : List Journal). x ∷ ys) (without_at actor place xs distinct.1 at journal h own))
 
 -- each actor is there once, also without a record
-all_without : (actor place other : ℕ) (journals : List Journal) → AllByRecursion (λ y. y.actor ≢ other) journals → AllByRecursion (λ y. y.actor ≢ other) (without actor place journals)
+all_without : (actor place other : ℕ) (journals : List Journal) → AllByRecursion (λ y. y.actor ≢ other) journals → AllByRecursion (λ y. y.actor ≢ other) (without_record_of actor place journals)
 all_without actor place other [] all = tt
 all_without actor place other (x ∷ xs) all = (elim (x.actor == actor) as (λ v. (if v then without_record place x else x).actor ≢ other) [ true ↦ all.0 | false ↦ all.0 ], all_without actor place other xs all.1)
 
-pub without_distinct : (actor place : ℕ) (journals : List Journal) → AreDistinct journals → AreDistinct (without actor place journals)
+pub without_distinct : (actor place : ℕ) (journals : List Journal) → AreDistinct journals → AreDistinct (without_record_of actor place journals)
 without_distinct actor place [] distinct = tt
 without_distinct actor place (x ∷ xs) distinct = (
-  elim (x.actor == actor) as (λ v. AllByRecursion (λ y. y.actor ≢ (if v then without_record place x else x).actor) (without actor place xs)) [ true ↦ all_without actor place x.actor xs distinct.0 | false ↦ all_without actor place x.actor xs distinct.0 ],
+  elim (x.actor == actor) as (λ v. AllByRecursion (λ y. y.actor ≢ (if v then without_record place x else x).actor) (without_record_of actor place xs)) [ true ↦ all_without actor place x.actor xs distinct.0 | false ↦ all_without actor place x.actor xs distinct.0 ],
   without_distinct actor place xs distinct.1,
 )
 
 -- the actor that is found is changed, and no other
-pub without_found : (actor place : ℕ) (journals : List Journal) (at : ℕ) → AreDistinct journals → position (is_of actor) journals ≡ Some at → slice_set journals at (without_record place (journal_of actor journals)) ≡ without actor place journals
+pub without_found : (actor place : ℕ) (journals : List Journal) (at : ℕ) → AreDistinct journals → position (is_of_actor actor) journals ≡ Some at → slice_set journals at (without_record place (journal_of actor journals)) ≡ without_record_of actor place journals
 without_found actor place journals at distinct pos = without_at actor place journals distinct at (journal_of actor journals) (found_there actor journals at pos) (journal_own actor journals)
 
-pub without_lost : (actor place : ℕ) (journals : List Journal) → position (is_of actor) journals ≡ None → without actor place journals ≡ journals
+pub without_lost : (actor place : ℕ) (journals : List Journal) → position (is_of_actor actor) journals ≡ None → without_record_of actor place journals ≡ journals
 without_lost actor place journals pos = without_others actor place journals (lost_others actor journals pos)
 
 -- whether the actor that is found has the record
-pub recorded_found : (actor place : ℕ) (journals : List Journal) (at : ℕ) → AreDistinct journals → position (is_of actor) journals ≡ Some at → list_any (λ n. place_of_record n == place) (journal_of actor journals).records ≡ true ↔ IsRecorded journals actor (λ n. place_of_record n ≡ place)
+pub recorded_found : (actor place : ℕ) (journals : List Journal) (at : ℕ) → AreDistinct journals → position (is_of_actor actor) journals ≡ Some at → list_any (λ n. place_of_record n == place) (journal_of actor journals).records ≡ true ↔ IsRecorded journals actor (λ n. place_of_record n ≡ place)
 recorded_found actor place journals at distinct pos =
     let own = journal_own actor journals in
     let in_list = found_there actor journals at pos in (
@@ -106,5 +106,5 @@ recorded_found actor place journals at distinct pos =
           at_any (λ n. place_of_record n == place) (journal_of actor journals).records x.index x.its_record (subst (λ (b : Journal). slice_get b.records x.index ≡ Some x.its_record) same x.in_list.in_records) (same_place (place_of_record x.its_record) place x.of_event)),
     )
 
-pub recorded_lost : (actor : ℕ) (journals : List Journal) (P : RecordValue → Type 0) → position (is_of actor) journals ≡ None → IsRecorded journals actor P → ⊥
+pub recorded_lost : (actor : ℕ) (journals : List Journal) (P : RecordValue → Type 0) → position (is_of_actor actor) journals ≡ None → IsRecorded journals actor P → ⊥
 recorded_lost actor journals P pos x = all_get _ journals (lost_others actor journals pos) x.at x.journal x.in_list.in_journals x.of_actor

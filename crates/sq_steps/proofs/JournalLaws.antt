@@ -11,7 +11,7 @@ use Rattle.sq_base.proofs.StampLaws.{stamps_total, after_above_second, below_or,
 use Rattle.sq_model.specs.declared.calls.HomeCall.{HomeCall}
 use Rattle.sq_model.specs.declared.directory.DirectoryCall.{DirectoryCall}
 use Rattle.sq_model.specs.declared.ledger.LedgerCall.{LedgerCall}
-use Rattle.sq_model.specs.RecordValues.{HomeRecordValue, DirectoryRecordValue, LedgerRecordValue, RecordValue, OfDirectory, OfLedger, OfHome, place_of_record, stamp_of, Journal, actor_of, RecordsRise}
+use Rattle.sq_model.specs.RecordValues.{HomeRecordValue, DirectoryRecordValue, LedgerRecordValue, RecordValue, OfDirectory, OfLedger, OfHome, place_of_record, record_stamp, Journal, actor_of, RecordsRise}
 use Rattle.sq_history.specs.HistoryValue.{HistoryValue}
 use Rattle.sq_history.specs.Histories.{RecordsStep}
 use Rattle.sq_directory.specs.DirectoryHistory.{DirectoryHistory}
@@ -37,9 +37,9 @@ pub all_push : {X : Type 0} (P : X → Type 0) (xs : List X) (x : X) → AllByRe
 all_push P [] x h p = (p, tt)
 all_push P (y ∷ ys) x h p = (h.0, all_push P ys x h.1 p)
 
-rise_push : (ns : List RecordValue) (n : RecordValue) → RecordsRise ns → AllByRecursion (λ m. (place_of_record m < place_of_record n) × Below (stamp_of m) (stamp_of n)) ns → RecordsRise (ns ++ n ∷ [])
+rise_push : (ns : List RecordValue) (n : RecordValue) → RecordsRise ns → AllByRecursion (λ m. (place_of_record m < place_of_record n) × Below (record_stamp m) (record_stamp n)) ns → RecordsRise (ns ++ n ∷ [])
 rise_push [] n rise low = (tt, tt)
-rise_push (m ∷ ms) n rise low = (all_push (λ k. (place_of_record m < place_of_record k) × Below (stamp_of m) (stamp_of k)) ms n rise.0 low.0, rise_push ms n rise.1 low.1)
+rise_push (m ∷ ms) n rise low = (all_push (λ k. (place_of_record m < place_of_record k) × Below (record_stamp m) (record_stamp k)) ms n rise.0 low.0, rise_push ms n rise.1 low.1)
 
 stamps_weak : IsStrictWeakOrder (λ a b. is_lt (stamp_cmp a b))
 stamps_weak = ranks_by stamps_total (λ s. s)
@@ -56,14 +56,14 @@ less_below a b less = elim (below_or a b) [
   ]
 ]
 
-pub journal_more : (b : Journal) (n : RecordValue) (room : ℕ) → IsJournal b → place_of_record n ≡ b.next → Below b.seen (stamp_of n) → IsJournal (with_record b n room)
+pub journal_more : (b : Journal) (n : RecordValue) (room : ℕ) → IsJournal b → place_of_record n ≡ b.next → Below b.seen (record_stamp n) → IsJournal (with_record b n room)
 journal_more b n room is place above =
     let low = all_weaken (λ m. place_of_record m < b.next) (λ m. place_of_record m < place_of_record n) b.records (λ m lt. omega (arith, lt, place)) is.below in
-    let under = all_weaken (λ m. IsSeen (stamp_of m) b.seen) (λ m. Below (stamp_of m) (stamp_of n)) b.records (λ m s. seen_below (stamp_of m) b.seen (stamp_of n) s above) is.saw in
+    let under = all_weaken (λ m. IsSeen (record_stamp m) b.seen) (λ m. Below (record_stamp m) (record_stamp n)) b.records (λ m s. seen_below (record_stamp m) b.seen (record_stamp n) s above) is.saw in
     record {
-      rise = rise_push b.records n is.rise (all_both (λ m. place_of_record m < place_of_record n) (λ m. Below (stamp_of m) (stamp_of n)) b.records low under);
+      rise = rise_push b.records n is.rise (all_both (λ m. place_of_record m < place_of_record n) (λ m. Below (record_stamp m) (record_stamp n)) b.records low under);
       below = all_push (λ m. place_of_record m < b.next + 1) b.records n (all_weaken (λ m. place_of_record m < b.next) (λ m. place_of_record m < b.next + 1) b.records (λ m lt. omega (arith, lt)) is.below) (omega (arith, place));
-      saw = all_push (λ m. IsSeen (stamp_of m) (stamp_of n)) b.records n (all_weaken (λ m. Below (stamp_of m) (stamp_of n)) (λ m. IsSeen (stamp_of m) (stamp_of n)) b.records (λ m h. inr h) under) (inl refl);
+      saw = all_push (λ m. IsSeen (record_stamp m) (record_stamp n)) b.records n (all_weaken (λ m. Below (record_stamp m) (record_stamp n)) (λ m. IsSeen (record_stamp m) (record_stamp n)) b.records (λ m h. inr h) under) (inl refl);
     }
 
 -- it has read what is above what it had seen
@@ -71,7 +71,7 @@ pub journal_above : (b : Journal) (stamp : StampValue) → IsJournal b → is_lt
 journal_above b stamp is less = record {
   rise = is.rise;
   below = is.below;
-  saw = all_weaken (λ m. IsSeen (stamp_of m) b.seen) (λ m. IsSeen (stamp_of m) stamp) b.records (λ m h. inr (seen_below (stamp_of m) b.seen stamp h (less_below b.seen stamp less))) is.saw;
+  saw = all_weaken (λ m. IsSeen (record_stamp m) b.seen) (λ m. IsSeen (record_stamp m) stamp) b.records (λ m h. inr (seen_below (record_stamp m) b.seen stamp h (less_below b.seen stamp less))) is.saw;
 }
 
 -- the record of a step of a home is above what its actor has

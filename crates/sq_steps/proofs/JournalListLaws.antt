@@ -5,7 +5,7 @@ use Rattle.std.specs.List.{AllByRecursion, position_or_len, slice_index_or}
 use Rattle.std.proofs.lemmas.Bool.{eqb-true}
 use Rattle.std.proofs.lemmas.Grind.{common_steps}
 use Rattle.sq_model.specs.RecordValues.{Journal}
-use Rattle.sq_steps.specs.Journals.{is_of, new_journal, journal_of, index_in, opened, put_journal, AreDistinct}
+use Rattle.sq_steps.specs.Journals.{is_of_actor, new_journal, journal_of, index_in, opened, put_journal, AreDistinct}
 use Rattle.sq_directory.proofs.ElementLaws.{some_same, all_get}
 use Rattle.std.proofs.Math.Seq.{take-length}
 use Rattle.std.proofs.lemmas.Option.{slice_get_read}
@@ -24,50 +24,50 @@ journal_own actor (x ∷ xs) =
     elim (x.actor == actor) as (λ v. x.actor == actor ≡ v → (if v then x else journal_of actor xs).actor ≡ actor)
     [ true ↦ (λ e. eqb-true _ _ e) | false ↦ (λ e. journal_own actor xs) ] refl
 
-first_there : (actor : ℕ) (journals : List Journal) → position_or_len (is_of actor) journals < length journals → slice_get journals (position_or_len (is_of actor) journals) ≡ Some (journal_of actor journals)
+first_there : (actor : ℕ) (journals : List Journal) → position_or_len (is_of_actor actor) journals < length journals → slice_get journals (position_or_len (is_of_actor actor) journals) ≡ Some (journal_of actor journals)
 first_there actor [] lt = absurd (omega (arith, lt))
 first_there actor (x ∷ xs) lt =
-    elim (x.actor == actor) as (λ v. cond (not v) (1 + position_or_len (is_of actor) xs) 0 < length (x ∷ xs) → slice_get (x ∷ xs) (cond (not v) (1 + position_or_len (is_of actor) xs) 0) ≡ Some (if v then x else journal_of actor xs))
-    [ true ↦ (λ l. refl) | false ↦ (λ l. let next : 1 + position_or_len (is_of actor) xs ≡ suc (position_or_len (is_of actor) xs) = omega arith in rw next (first_there actor xs (omega (arith, l)))) ] lt
+    elim (x.actor == actor) as (λ v. cond (not v) (1 + position_or_len (is_of_actor actor) xs) 0 < length (x ∷ xs) → slice_get (x ∷ xs) (cond (not v) (1 + position_or_len (is_of_actor actor) xs) 0) ≡ Some (if v then x else journal_of actor xs))
+    [ true ↦ (λ l. refl) | false ↦ (λ l. let next : 1 + position_or_len (is_of_actor actor) xs ≡ suc (position_or_len (is_of_actor actor) xs) = omega arith in rw next (first_there actor xs (omega (arith, l)))) ] lt
 
-first_put : (b : Journal) (journals : List Journal) → position_or_len (is_of b.actor) journals < length journals → slice_set journals (position_or_len (is_of b.actor) journals) b ≡ put_journal b journals
+first_put : (b : Journal) (journals : List Journal) → position_or_len (is_of_actor b.actor) journals < length journals → slice_set journals (position_or_len (is_of_actor b.actor) journals) b ≡ put_journal b journals
 first_put b [] lt = absurd (omega (arith, lt))
 first_put b (x ∷ xs) lt =
-    elim (x.actor == b.actor) as (λ v. cond (not v) (1 + position_or_len (is_of b.actor) xs) 0 < length (x ∷ xs) → slice_set (x ∷ xs) (cond (not v) (1 + position_or_len (is_of b.actor) xs) 0) b ≡ (if v then b ∷ xs else x ∷ put_journal b xs))
-    [ true ↦ (λ l. refl) | false ↦ (λ l. let next : 1 + position_or_len (is_of b.actor) xs ≡ suc (position_or_len (is_of b.actor) xs) = omega arith in rw next (ap (λ ys. x ∷ ys) (first_put b xs (omega (arith, l))))) ] lt
+    elim (x.actor == b.actor) as (λ v. cond (not v) (1 + position_or_len (is_of_actor b.actor) xs) 0 < length (x ∷ xs) → slice_set (x ∷ xs) (cond (not v) (1 + position_or_len (is_of_actor b.actor) xs) 0) b ≡ (if v then b ∷ xs else x ∷ put_journal b xs))
+    [ true ↦ (λ l. refl) | false ↦ (λ l. let next : 1 + position_or_len (is_of_actor b.actor) xs ≡ suc (position_or_len (is_of_actor b.actor) xs) = omega arith in rw next (ap (λ ys. x ∷ ys) (first_put b xs (omega (arith, l))))) ] lt
 
-none_there : (actor : ℕ) (journals : List Journal) → length journals ≤ position_or_len (is_of actor) journals → journal_of actor journals ≡ new_journal actor
+none_there : (actor : ℕ) (journals : List Journal) → length journals ≤ position_or_len (is_of_actor actor) journals → journal_of actor journals ≡ new_journal actor
 none_there actor [] le = refl
 none_there actor (x ∷ xs) le =
-    elim (x.actor == actor) as (λ v. length (x ∷ xs) ≤ cond (not v) (1 + position_or_len (is_of actor) xs) 0 → (if v then x else journal_of actor xs) ≡ new_journal actor)
+    elim (x.actor == actor) as (λ v. length (x ∷ xs) ≤ cond (not v) (1 + position_or_len (is_of_actor actor) xs) 0 → (if v then x else journal_of actor xs) ≡ new_journal actor)
     [ true ↦ (λ l. absurd (omega (arith, l))) | false ↦ (λ l. none_there actor xs (omega (arith, l))) ] le
 
-none_put : (b : Journal) (journals : List Journal) → length journals ≤ position_or_len (is_of b.actor) journals → put_journal b journals ≡ journals ++ b ∷ []
+none_put : (b : Journal) (journals : List Journal) → length journals ≤ position_or_len (is_of_actor b.actor) journals → put_journal b journals ≡ journals ++ b ∷ []
 none_put b [] le = refl
 none_put b (x ∷ xs) le =
-    elim (x.actor == b.actor) as (λ v. length (x ∷ xs) ≤ cond (not v) (1 + position_or_len (is_of b.actor) xs) 0 → (if v then b ∷ xs else x ∷ put_journal b xs) ≡ x ∷ (xs ++ b ∷ []))
+    elim (x.actor == b.actor) as (λ v. length (x ∷ xs) ≤ cond (not v) (1 + position_or_len (is_of_actor b.actor) xs) 0 → (if v then b ∷ xs else x ∷ put_journal b xs) ≡ x ∷ (xs ++ b ∷ []))
     [ true ↦ (λ l. absurd (omega (arith, l))) | false ↦ (λ l. ap (λ ys. x ∷ ys) (none_put b xs (omega (arith, l)))) ] le
 
 -- where its test first passes
-pub found_there : (actor : ℕ) (journals : List Journal) (at : ℕ) → position (is_of actor) journals ≡ Some at → slice_get journals at ≡ Some (journal_of actor journals)
+pub found_there : (actor : ℕ) (journals : List Journal) (at : ℕ) → position (is_of_actor actor) journals ≡ Some at → slice_get journals at ≡ Some (journal_of actor journals)
 found_there actor journals at h =
-    elim (nat_lt (position_or_len (is_of actor) journals) (length journals)) as (λ v. nat_lt (position_or_len (is_of actor) journals) (length journals) ≡ v → cond v (Some (position_or_len (is_of actor) journals)) None ≡ Some at → slice_get journals at ≡ Some (journal_of actor journals))
+    elim (nat_lt (position_or_len (is_of_actor actor) journals) (length journals)) as (λ v. nat_lt (position_or_len (is_of_actor actor) journals) (length journals) ≡ v → cond v (Some (position_or_len (is_of_actor actor) journals)) None ≡ Some at → slice_get journals at ≡ Some (journal_of actor journals))
     [ true ↦ (λ e k. subst (λ (n : ℕ). slice_get journals n ≡ Some (journal_of actor journals)) (some_same k) (first_there actor journals (grind (arith, common_steps, e)))) | false ↦ (λ e k. absurd cc) ] refl h
 
-pub found_put : (b : Journal) (journals : List Journal) (at : ℕ) → position (is_of b.actor) journals ≡ Some at → slice_set journals at b ≡ put_journal b journals
+pub found_put : (b : Journal) (journals : List Journal) (at : ℕ) → position (is_of_actor b.actor) journals ≡ Some at → slice_set journals at b ≡ put_journal b journals
 found_put b journals at h =
-    elim (nat_lt (position_or_len (is_of b.actor) journals) (length journals)) as (λ v. nat_lt (position_or_len (is_of b.actor) journals) (length journals) ≡ v → cond v (Some (position_or_len (is_of b.actor) journals)) None ≡ Some at → slice_set journals at b ≡ put_journal b journals)
+    elim (nat_lt (position_or_len (is_of_actor b.actor) journals) (length journals)) as (λ v. nat_lt (position_or_len (is_of_actor b.actor) journals) (length journals) ≡ v → cond v (Some (position_or_len (is_of_actor b.actor) journals)) None ≡ Some at → slice_set journals at b ≡ put_journal b journals)
     [ true ↦ (λ e k. subst (λ (n : ℕ). slice_set journals n b ≡ put_journal b journals) (some_same k) (first_put b journals (grind (arith, common_steps, e)))) | false ↦ (λ e k. absurd cc) ] refl h
 
 -- and where it never does
-pub lost_there : (actor : ℕ) (journals : List Journal) → position (is_of actor) journals ≡ None → journal_of actor journals ≡ new_journal actor
+pub lost_there : (actor : ℕ) (journals : List Journal) → position (is_of_actor actor) journals ≡ None → journal_of actor journals ≡ new_journal actor
 lost_there actor journals h =
-    elim (nat_lt (position_or_len (is_of actor) journals) (length journals)) as (λ v. nat_lt (position_or_len (is_of actor) journals) (length journals) ≡ v → cond v (Some (position_or_len (is_of actor) journals)) None ≡ None → journal_of actor journals ≡ new_journal actor)
+    elim (nat_lt (position_or_len (is_of_actor actor) journals) (length journals)) as (λ v. nat_lt (position_or_len (is_of_actor actor) journals) (length journals) ≡ v → cond v (Some (position_or_len (is_of_actor actor) journals)) None ≡ None → journal_of actor journals ≡ new_journal actor)
     [ true ↦ (λ e k. absurd cc) | false ↦ (λ e k. none_there actor journals (grind (arith, common_steps, e))) ] refl h
 
-pub lost_put : (b : Journal) (journals : List Journal) → position (is_of b.actor) journals ≡ None → put_journal b journals ≡ journals ++ b ∷ []
+pub lost_put : (b : Journal) (journals : List Journal) → position (is_of_actor b.actor) journals ≡ None → put_journal b journals ≡ journals ++ b ∷ []
 lost_put b journals h =
-    elim (nat_lt (position_or_len (is_of b.actor) journals) (length journals)) as (λ v. nat_lt (position_or_len (is_of b.actor) journals) (length journals) ≡ v → cond v (Some (position_or_len (is_of b.actor) journals)) None ≡ None → put_journal b journals ≡ journals ++ b ∷ [])
+    elim (nat_lt (position_or_len (is_of_actor b.actor) journals) (length journals)) as (λ v. nat_lt (position_or_len (is_of_actor b.actor) journals) (length journals) ≡ v → cond v (Some (position_or_len (is_of_actor b.actor) journals)) None ≡ None → put_journal b journals ≡ journals ++ b ∷ [])
     [ true ↦ (λ e k. absurd cc) | false ↦ (λ e k. none_put b journals (grind (arith, common_steps, e))) ] refl h
 
 -- what is among all after a change was there before, or is the change
@@ -116,7 +116,7 @@ put_distinct b (y ∷ ys) d =
       | false ↦ (λ e. (all_put y.actor b ys d.0 (differ y.actor b.actor e), put_distinct b ys d.1))
     ] refl
 
-pub found_is : (journals : List Journal) (actor at : ℕ) (mine : Journal) → position (is_of actor) journals ≡ Some at → at < length journals → mine ≡ slice_index_or journals at mine → mine ≡ journal_of actor journals
+pub found_is : (journals : List Journal) (actor at : ℕ) (mine : Journal) → position (is_of_actor actor) journals ≡ Some at → at < length journals → mine ≡ slice_index_or journals at mine → mine ≡ journal_of actor journals
 found_is journals actor at mine pos lt own = some_same (sym (slice_get_read journals (length journals) at mine refl lt own) ∙ found_there actor journals at pos)
 
 -- an actor is there once
@@ -194,12 +194,12 @@ past_opened actor (x ∷ xs) le =
     ] le
 
 -- an actor that is found is in its place, and one that is not is made
-pub found_opened : (actor : ℕ) (journals : List Journal) (at : ℕ) → position (is_of actor) journals ≡ Some at → (at ≡ index_in actor journals) × (opened actor journals ≡ journals)
+pub found_opened : (actor : ℕ) (journals : List Journal) (at : ℕ) → position (is_of_actor actor) journals ≡ Some at → (at ≡ index_in actor journals) × (opened actor journals ≡ journals)
 found_opened actor journals at h =
     elim (nat_lt (index_in actor journals) (length journals)) as (λ v. nat_lt (index_in actor journals) (length journals) ≡ v → cond v (Some (index_in actor journals)) None ≡ Some at → (at ≡ index_in actor journals) × (opened actor journals ≡ journals))
     [ true ↦ (λ e k. (sym (some_same k), within_opened actor journals (grind (arith, common_steps, e)))) | false ↦ (λ e k. absurd cc) ] refl h
 
-pub lost_opened : (actor : ℕ) (journals : List Journal) → position (is_of actor) journals ≡ None → (index_in actor journals ≡ length journals) × (opened actor journals ≡ journals ++ new_journal actor ∷ [])
+pub lost_opened : (actor : ℕ) (journals : List Journal) → position (is_of_actor actor) journals ≡ None → (index_in actor journals ≡ length journals) × (opened actor journals ≡ journals ++ new_journal actor ∷ [])
 lost_opened actor journals h =
     elim (nat_lt (index_in actor journals) (length journals)) as (λ v. nat_lt (index_in actor journals) (length journals) ≡ v → cond v (Some (index_in actor journals)) None ≡ None → (index_in actor journals ≡ length journals) × (opened actor journals ≡ journals ++ new_journal actor ∷ []))
     [ true ↦ (λ e k. absurd cc) | false ↦ (λ e k. past_opened actor journals (grind (arith, common_steps, e))) ] refl h

@@ -12,7 +12,7 @@ use Rattle.sq_model.specs.declared.directory.DirectoryCall.{DirectoryCall}
 use Rattle.sq_model.specs.declared.directory.DirectoryReply.{DirectoryReply}
 use Rattle.sq_model.specs.declared.ledger.LedgerCall.{LedgerCall}
 use Rattle.sq_model.specs.declared.ledger.LedgerReply.{LedgerReply}
-use Rattle.sq_model.specs.RecordValues.{HomeRecordValue, DirectoryRecordValue, LedgerRecordValue, RecordValue, OfDirectory, OfLedger, OfHome, place_of_record, stamp_of, Journal, actor_of, RecordsRise}
+use Rattle.sq_model.specs.RecordValues.{HomeRecordValue, DirectoryRecordValue, LedgerRecordValue, RecordValue, OfDirectory, OfLedger, OfHome, place_of_record, record_stamp, Journal, actor_of, RecordsRise}
 use Rattle.sq_history.specs.Rooms.{KeepsRoom}
 use Rattle.sq_history.specs.HistoryValue.{HistoryValue}
 use Rattle.sq_history.specs.Histories as home
@@ -34,7 +34,7 @@ new_journal actor = record { actor = actor; next = 0; seen = start; records = []
 pub record IsJournal (journal : Journal) : Type 0 where
   pub rise : RecordsRise journal.records
   pub below : AllByRecursion (λ n. place_of_record n < journal.next) journal.records
-  pub saw : AllByRecursion (λ n. IsSeen (stamp_of n) journal.seen) journal.records
+  pub saw : AllByRecursion (λ n. IsSeen (record_stamp n) journal.seen) journal.records
 
 -- the records of the actor at a place rise
 abbrev pub RecordsRiseAt : List Journal → ℕ → Type 0
@@ -42,7 +42,7 @@ RecordsRiseAt journals b = (journal : Journal) → slice_get journals b ≡ Some
 
 -- one step more, with its record, and room for so many more
 abbrev pub with_record : Journal → RecordValue → ℕ → Journal
-with_record journal n room = record { actor = journal.actor; next = journal.next + 1; seen = stamp_of n; records = journal.records ++ n ∷ []; room = room }
+with_record journal n room = record { actor = journal.actor; next = journal.next + 1; seen = record_stamp n; records = journal.records ++ n ∷ []; room = room }
 
 -- the greater of two stamps
 abbrev pub later : StampValue → StampValue → StampValue
@@ -97,8 +97,8 @@ abbrev pub IsLedgerStepRefused : LedgerHistory → Journal → ℕ → LedgerCal
 IsLedgerStepRefused old journal now call e = IsNotReady journal now e ⊎ ((journal.next ≢ last_place) × ledger.IsLedgerRefused old (actor_of journal) now call e)
 
 -- this is the actor's of this number
-abbrev pub is_of : ℕ → Journal → Bool
-is_of actor journal = journal.actor == actor
+abbrev pub is_of_actor : ℕ → Journal → Bool
+is_of_actor actor journal = journal.actor == actor
 
 -- what the actor of this number has
 abbrev pub journal_of : ℕ → List Journal → Journal
@@ -107,7 +107,7 @@ journal_of actor (journal ∷ journals) = if journal.actor == actor then journal
 
 -- where an actor stands among all, or would as the last
 abbrev pub index_in : ℕ → List Journal → ℕ
-index_in actor journals = position_or_len (is_of actor) journals
+index_in actor journals = position_or_len (is_of_actor actor) journals
 
 -- all actors, with this one, which did nothing yet where it was not there
 abbrev pub opened : ℕ → List Journal → List Journal
@@ -124,8 +124,8 @@ abbrev pub without_record : ℕ → Journal → Journal
 without_record place journal = record journal { records = filter (λ n. not (place_of_record n == place)) journal.records }
 
 -- the same actors in the same order, where this one has no record of this number
-abbrev pub without : ℕ → ℕ → List Journal → List Journal
-without actor place journals = map (λ b. if b.actor == actor then without_record place b else b) journals
+abbrev pub without_record_of : ℕ → ℕ → List Journal → List Journal
+without_record_of actor place journals = map (λ b. if b.actor == actor then without_record place b else b) journals
 
 -- each actor is there once
 abbrev pub AreDistinct : List Journal → Type 0

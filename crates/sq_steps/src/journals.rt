@@ -2,7 +2,7 @@
 ghost use Rattle.std.specs.Prelude.{◌≡◌, ◌↔◌, ◌<◌, None, true, length, position, IfOk, IfErr, IfSome, OnOk, OnErr};
 ghost use Rattle.sq_model.specs.RecordValues.{place_of_record};
 ghost use Rattle.sq_model.specs.Matches.{IsRecorded};
-ghost use Rattle.sq_steps.specs.Journals.{is_of, index_in, opened, without, AreDistinct};
+ghost use Rattle.sq_steps.specs.Journals.{is_of_actor, index_in, opened, without_record_of, AreDistinct};
 
 use crate::capacity::push_within_capacity;
 use crate::journal::Journal;
@@ -48,7 +48,7 @@ impl Journals {
     /// Takes out the record of this actor's step of this number, and tells whether it was there.
     pub fn drop_record(&mut self, actor: u32, place: u64) -> bool
         ensures answered { result ≡ true ↔ IsRecorded self.old actor (λ n. place_of_record n ≡ place) }
-        ensures dropped { self.new ≡ without actor place self.old }
+        ensures dropped { self.new ≡ without_record_of actor place self.old }
     {
         match journal_at(&self.journals, actor) {
             Some(at) => self.journals[at].drop_record(place),
@@ -59,7 +59,7 @@ impl Journals {
 
 /// Where what an actor has stands.
 pub fn journal_at(journals: &[Journal], actor: u32) -> Option<usize>
-    ensures index { result ≡ position (is_of actor) journals.now }
+    ensures index { result ≡ position (is_of_actor actor) journals.now }
     ensures within { IfSome result (λ at. at < length journals.now) }
 {
     journals.iter().position(|journal| journal.actor() == actor)
@@ -83,7 +83,7 @@ pub fn open(journals: &mut Vec<Journal>, alloc: Global, actor: u32) -> Result<us
     ensures index { IfOk result (λ at. at ≡ index_in actor journals.old.items) }
     ensures opened { OnOk result (journals.new.items ≡ opened actor journals.old.items) }
     ensures within { IfOk result (λ at. at < length journals.new.items) }
-    ensures refused { IfErr result (λ e. (e ≡ Refusal.NoMemory) × (position (is_of actor) journals.old.items ≡ None)) }
+    ensures refused { IfErr result (λ e. (e ≡ Refusal.NoMemory) × (position (is_of_actor actor) journals.old.items ≡ None)) }
     ensures err { OnErr result (journals.new.items ≡ journals.old.items) }
 {
     if let Some(at) = journal_at(journals, actor) {

@@ -1,6 +1,6 @@
 //! What an actor keeps of its steps.
 ghost use Rattle.std.specs.Prelude.{◌≡◌};
-ghost use Rattle.sq_model.specs.RecordValues.{place_of_record, stamp_of};
+ghost use Rattle.sq_model.specs.RecordValues.{place_of_record, record_stamp};
 ghost use Rattle.sq_steps.specs.Records.{value_of_record};
 
 use sq_base::stamp::Stamp;
@@ -31,7 +31,7 @@ impl<'a> Record<'a> {
 
     /// The stamp of its event.
     pub fn stamp(&self) -> Stamp
-        ensures { result ≡ stamp_of (value_of_record self.now) }
+        ensures { result ≡ record_stamp (value_of_record self.now) }
     {
         match self {
             Record::Directory(record) => record.step().stamp,

@@ -4,7 +4,7 @@ use Rattle.std.specs.Prelude.{IsOk, OnErr, IfSome}
 use Rattle.sq_base.specs.declared.refusal.Refusal.{Refusal}
 use Rattle.sq_calls.specs.declared.calls.Answered.{Answered}
 use Rattle.sq_calls.specs.declared.calls.Answered.TheVariants.{Call, Turn}
-use Rattle.sq_client.specs.Asks.{HomeCounts}
+use Rattle.sq_actions.specs.Asks.{HomeCounts}
 use Rattle.sq_model.specs.RecordValues.{Journal}
 use Rattle.sq_replies.specs.Replies.{OnTurned}
 use Rattle.sq_wire.specs.Runs.{Writes, StopsAt}

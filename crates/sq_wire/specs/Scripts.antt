@@ -4,9 +4,9 @@ use Rattle.sq_base.specs.declared.refusal.Refusal.{Refusal}
 use Rattle.sq_base.specs.declared.refusal.Refusal.TheVariants.{NoMemory}
 use Rattle.sq_merge.specs.WorldValue.{WorldValue}
 use Rattle.sq_requests.specs.Requests.{line_request}
-use Rattle.sq_merge.specs.Acting.{counts_of, ActorStepped, TurnDone}
-use Rattle.sq_client.specs.Fits.{CallFits}
-use Rattle.sq_client.specs.Performs.{Performs}
+use Rattle.sq_merge.specs.Acting.{world_counts, ActorStepped, TurnDone}
+use Rattle.sq_actions.specs.Fits.{CallFits}
+use Rattle.sq_actions.specs.Performs.{Performs}
 use Rattle.sq_replies.specs.Replies.{reply_text_of}
 use Rattle.sq_calls.specs.declared.calls.Answer.{Answer}
 use Rattle.sq_calls.specs.declared.calls.Answered.{Answered}
@@ -35,7 +35,7 @@ turn_answered (Err e) = Err e
 
 -- a call or a turn was done by an actor at a clock reading
 abbrev pub IsDoneAt : ℕ → ℕ → WorldValue → Asked → Result Answered Refusal → WorldValue → Type 0
-IsDoneAt actor now w (asked.Call call) by after = (got : Result Answer Refusal) × (by ≡ call_answered got) × Performs (ActorStepped actor now) (CallFits (counts_of w) call) w got after
+IsDoneAt actor now w (asked.Call call) by after = (got : Result Answer Refusal) × (by ≡ call_answered got) × Performs (ActorStepped actor now) (CallFits (world_counts w) call) w got after
 IsDoneAt actor now w (asked.Turn turn) by after = (got : Result Turned Refusal) × (by ≡ turn_answered got) × TurnDone actor now turn w got after
 
 -- A line that is no request is refused, and one that is has its call or turn done by its actor at its reading, or at the last one. One that has a byte is refused as well where no memory was found to read it.

@@ -4,9 +4,9 @@ use Rattle.sq_base.specs.declared.refusal.Refusal.{Refusal}
 use Rattle.sq_base.specs.declared.refusal.Refusal.TheVariants.{NoMemory, UnsupportedOperation}
 use Rattle.sq_model.specs.RecordValues.{Journal}
 use Rattle.sq_requests.specs.Requests.{line_request}
-use Rattle.sq_client.specs.Asks.{HomeCounts}
-use Rattle.sq_client.specs.Fits.{CallFits}
-use Rattle.sq_client.specs.Performs.{LeavesRecords}
+use Rattle.sq_actions.specs.Asks.{HomeCounts}
+use Rattle.sq_actions.specs.Fits.{CallFits}
+use Rattle.sq_actions.specs.Performs.{LeavesRecords}
 use Rattle.sq_replies.specs.Replies.{reply_text_of}
 use Rattle.sq_calls.specs.declared.calls.Answer.{Answer}
 use Rattle.sq_calls.specs.declared.calls.Answered.{Answered}

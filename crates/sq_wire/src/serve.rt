@@ -2,7 +2,7 @@
 ghost use Rattle.std.proofs.Common.{◌∙◌};
 ghost use Rattle.std.specs.Prelude.{◌≡◌, ◌⊎◌, [], refl, OnOk, OnErr, IfOk, IfErr, IfSome, length};
 ghost use Rattle.sq_lines.specs.Lines.{lines_left};
-ghost use Rattle.sq_queue.specs.Services.{counts_of};
+ghost use Rattle.sq_queue.specs.Services.{service_counts};
 ghost use Rattle.sq_wire.specs.Runs.{Writes, StopsAt, IsOfCall};
 ghost use Rattle.sq_wire.specs.Serves.{CallServed, LineServed, ServedReplies, ServedUnanswered};
 
@@ -38,7 +38,7 @@ fn do_asked<C: Clock + Drop, G: Gate + Drop, D: Ledger, T: Ledger, X: Wait>(
     session: &mut Session<D, T>,
     asked: &Asked,
 ) -> Result<Answered, Refusal>
-    ensures { CallServed (counts_of service.now.per_queue service.now.sample) session.old.journal asked.now result session.new.journal }
+    ensures { CallServed (service_counts service.now.per_queue service.now.sample) session.old.journal asked.now result session.new.journal }
 {
     match asked {
         Asked::Call(call) => {
@@ -58,7 +58,7 @@ fn tell<C: Clock + Drop, G: Gate + Drop, D: Ledger, T: Ledger, X: Wait>(
     session: &mut Session<D, T>,
     line: &[u8],
 ) -> Result<Answered, Refusal>
-    ensures { LineServed (counts_of service.now.per_queue service.now.sample) session.old.journal line.now result session.new.journal }
+    ensures { LineServed (service_counts service.now.per_queue service.now.sample) session.old.journal line.now result session.new.journal }
 {
     let request = read_request(alloc, scratch, line)?;
     do_asked(rt, service, session, &request.asked)
@@ -75,8 +75,8 @@ fn answer<C: Clock + Drop, G: Gate + Drop, D: Ledger, T: Ledger, X: Wait>(
     session: &mut Session<D, T>,
     line: &[u8],
 ) -> Result<Text, AllocError>
-    ensures ok { IfOk result (λ text. ServedReplies (counts_of service.now.per_queue service.now.sample) session.old.journal line.now text session.new.journal) }
-    ensures err { OnErr result (ServedUnanswered (counts_of service.now.per_queue service.now.sample) session.old.journal line.now session.new.journal) }
+    ensures ok { IfOk result (λ text. ServedReplies (service_counts service.now.per_queue service.now.sample) session.old.journal line.now text session.new.journal) }
+    ensures err { OnErr result (ServedUnanswered (service_counts service.now.per_queue service.now.sample) session.old.journal line.now session.new.journal) }
 {
     let answered = tell(rt, alloc, scratch, service, session, line);
     reply_text(alloc, &answered)
@@ -85,10 +85,10 @@ fn answer<C: Clock + Drop, G: Gate + Drop, D: Ledger, T: Ledger, X: Wait>(
 impl<'a, C: Clock + Drop, G: Gate + Drop, D: Ledger, T: Ledger, X: Wait> Answering
     for Served<'a, C, G, D, T, X> {
     ghost replies = { λ s line text t.
-        ServedReplies (counts_of s.service.now.per_queue s.service.now.sample) s.session.now.journal line text t.session.now.journal × (counts_of t.service.now.per_queue t.service.now.sample ≡ counts_of s.service.now.per_queue s.service.now.sample) };
+        ServedReplies (service_counts s.service.now.per_queue s.service.now.sample) s.session.now.journal line text t.session.now.journal × (service_counts t.service.now.per_queue t.service.now.sample ≡ service_counts s.service.now.per_queue s.service.now.sample) };
 
     ghost unanswered = { λ s line t.
-        ServedUnanswered (counts_of s.service.now.per_queue s.service.now.sample) s.session.now.journal line t.session.now.journal × (counts_of t.service.now.per_queue t.service.now.sample ≡ counts_of s.service.now.per_queue s.service.now.sample) };
+        ServedUnanswered (service_counts s.service.now.per_queue s.service.now.sample) s.session.now.journal line t.session.now.journal × (service_counts t.service.now.per_queue t.service.now.sample ≡ service_counts s.service.now.per_queue s.service.now.sample) };
 
     ghost keeps = { λ s t. t.session.ghost_name ≡ s.session.ghost_name };
 
@@ -117,10 +117,10 @@ fn serve_at<R: Read, W: Write, C: Clock + Drop, G: Gate + Drop, D: Ledger, T: Le
 ) -> Result<u64, ServeFault>
     ensures same_reference { served.new.session.ghost_name ≡ served.old.session.ghost_name }
     ensures ok { IfOk result (λ n. IfSome (lines_left [] (R.remaining reader.old.inner)) (λ lines.
-        (n ≡ length lines) × Writes (ServedReplies (counts_of served.old.service.now.per_queue served.old.service.now.sample)) (W.contents writer.old.inner) (W.contents writer.new.inner) served.old.session.now.journal lines served.new.session.now.journal)) }
+        (n ≡ length lines) × Writes (ServedReplies (service_counts served.old.service.now.per_queue served.old.service.now.sample)) (W.contents writer.old.inner) (W.contents writer.new.inner) served.old.session.now.journal lines served.new.session.now.journal)) }
     ensures err { IfErr result (λ f. ((f ≡ ServeFault.NoMemory 0) × (reader.new ≡ reader.old) × (writer.new ≡ writer.old) × (served.new.session.now ≡ served.old.session.now))
         ⊎ IfSome (lines_left [] (R.remaining reader.old.inner)) (λ lines.
-        StopsAt (ServedReplies (counts_of served.old.service.now.per_queue served.old.service.now.sample)) (ServedUnanswered (counts_of served.old.service.now.per_queue served.old.service.now.sample)) f lines (R.remaining reader.new.inner) (W.contents writer.old.inner) (W.contents writer.new.inner) served.old.session.now.journal served.new.session.now.journal)) }
+        StopsAt (ServedReplies (service_counts served.old.service.now.per_queue served.old.service.now.sample)) (ServedUnanswered (service_counts served.old.service.now.per_queue served.old.service.now.sample)) f lines (R.remaining reader.new.inner) (W.contents writer.old.inner) (W.contents writer.new.inner) served.old.session.now.journal served.new.session.now.journal)) }
     ensures no_failure { OnOk result ((reader.new.failed ≡ reader.old.failed) × (writer.new.failed ≡ writer.old.failed)) }
     ensures count { IfErr result (λ f. IsOfCall f reader.old.failed reader.new.failed writer.old.failed writer.new.failed) }
 {
@@ -139,11 +139,11 @@ pub fn serve<R: Read, W: Write, C: Clock + Drop, G: Gate + Drop, D: Ledger, T: L
 ) -> Result<u64, ServeFault>
     // For each line in order one reply, made of the next of the session's new records, and nothing else.
     ensures ok { IfOk result (λ n. IfSome (lines_left [] (R.remaining reader.old.inner)) (λ lines.
-        (n ≡ length lines) × Writes (ServedReplies (counts_of service.now.per_queue service.now.sample)) (W.contents writer.old.inner) (W.contents writer.new.inner) session.old.journal lines session.new.journal)) }
+        (n ≡ length lines) × Writes (ServedReplies (service_counts service.now.per_queue service.now.sample)) (W.contents writer.old.inner) (W.contents writer.new.inner) session.old.journal lines session.new.journal)) }
     // Up to a fault; or there was no memory to begin, and nothing was touched.
     ensures err { IfErr result (λ f. ((f ≡ ServeFault.NoMemory 0) × (reader.new ≡ reader.old) × (writer.new ≡ writer.old) × (session.new ≡ session.old))
         ⊎ IfSome (lines_left [] (R.remaining reader.old.inner)) (λ lines.
-        StopsAt (ServedReplies (counts_of service.now.per_queue service.now.sample)) (ServedUnanswered (counts_of service.now.per_queue service.now.sample)) f lines (R.remaining reader.new.inner) (W.contents writer.old.inner) (W.contents writer.new.inner) session.old.journal session.new.journal)) }
+        StopsAt (ServedReplies (service_counts service.now.per_queue service.now.sample)) (ServedUnanswered (service_counts service.now.per_queue service.now.sample)) f lines (R.remaining reader.new.inner) (W.contents writer.old.inner) (W.contents writer.new.inner) session.old.journal session.new.journal)) }
     // No failed call goes unnoticed.
     ensures no_failure { OnOk result ((reader.new.failed ≡ reader.old.failed) × (writer.new.failed ≡ writer.old.failed)) }
     // A fault of reading or writing is one failed call.

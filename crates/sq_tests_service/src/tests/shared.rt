@@ -7,7 +7,7 @@ use sq_audit::parts::Parts;
 use sq_base::refusal::Refusal;
 use sq_calls::calls::{Answer, Call};
 use sq_calls::turns::{Turn, Turned};
-use sq_client::progress::Progress;
+use sq_actions::progress::Progress;
 use sq_directory::directory::Directory;
 use sq_history::recorded::Home;
 use sq_ledger::ledger::TransitLedger;

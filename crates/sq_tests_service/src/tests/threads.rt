@@ -5,7 +5,7 @@ use super::stories::{Scene, Story, tell};
 use sq_base::ranges::MaxResults;
 use sq_calls::calls::{Call, ListMessageMoveTasks, StartMessageMoveTask};
 use sq_calls::turns::Turn;
-use sq_client::progress::Progress;
+use sq_actions::progress::Progress;
 use sq_model::item::TaskNo;
 use sq_tests_values::choices::Choices;
 use std::process::Abort;

@@ -2,7 +2,7 @@ use Rattle.std.proofs.Common.{rules, ◌≡◌, ◌<◌, length, Err, Some, slic
 use Rattle.std.proofs.lemmas.Option.{slice_get_within}
 use Rattle.std.proofs.lemmas.List.{length-map}
 use Rattle.sq_model.specs.Matches.{HomeHistory}
-use Rattle.sq_audit.specs.HomeIds.{history_of, histories_of}
+use Rattle.sq_audit.specs.HomeIds.{home_history, histories_of}
 use Rattle.sq_audit.specs.Faults.{LedgerHas}
 use Rattle.sq_directory.proofs.ElementLaws.{below_more, read_at, some_same}
 use Rattle.sq_audit.proofs.CheckLaws.{ledger_has, ledger_lacks, read_home}
@@ -10,7 +10,7 @@ use Rattle.sq_audit.proofs.check.check_shared_of.Goals.{After-events-events, Aft
 use Rattle.sq_audit.proofs.check.check_shared_of.Goals as goal
 
 -- the home at the index, and the event of it that is looked at
-in_homes : (c : After-events-events) → slice_get (histories_of c.evidence.inside.homes.now) c.args.at ≡ Some (history_of c.index-homes-at.result)
+in_homes : (c : After-events-events) → slice_get (histories_of c.evidence.inside.homes.now) c.args.at ≡ Some (home_history c.index-homes-at.result)
 in_homes c =
     let within : c.args.at < length c.evidence.inside.homes.now = rw length-map at (rw (← c.evidence.view_is) at c.requires.within) in
     read_home c.evidence.inside.homes.now c.args.at c.index-homes-at.result within c.index-homes-at.is
@@ -38,7 +38,7 @@ pub returns-clause-ok : goal.returns-clause-ok
 returns-clause-ok c =
     let home = c.index-homes-at.result in
     rw (← c.evidence.view_is) (λ k h e there. (rw (← c.evidence.view_is) at c.loop-event.invariant) k (
-    let same : h ≡ history_of home = some_same (sym there.in_homes ∙ in_homes (goal.at.returns-clause-ok c).After-events-events) in
+    let same : h ≡ home_history home = some_same (sym there.in_homes ∙ in_homes (goal.at.returns-clause-ok c).After-events-events) in
     let lt : k < length home.events = slice_get_within home.events k e (subst (λ (y : HomeHistory). slice_get y.events k ≡ Some e) same there.in_events) in
     let lt2 : k < length c.events-events.result.now = rw c.events-events.ensures.items lt in
     search rules) h e there)

@@ -1,5 +1,5 @@
 use Rattle.std.specs.Prelude.{vec_len}
-use Rattle.sq_client.proofs.PathLaws.{path_inside}
+use Rattle.sq_actions.proofs.PathLaws.{path_inside}
 use Rattle.sq_queue.specs.Sections.{IsSection, around}
 use Rattle.sq_queue.proofs.locked.call_until_in.Goals as goal
 

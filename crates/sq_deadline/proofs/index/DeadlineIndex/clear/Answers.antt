@@ -2,7 +2,7 @@ use Rattle.std.proofs.Common.{rules, ◌≡◌, ◌∙◌, ◌<◌, true, false,
 use Rattle.std.proofs.lemmas.List.Edits.{length-remove}
 use Rattle.std.specs.Prelude.{slice_get}
 use Rattle.std.specs.List.{remove}
-use Rattle.sq_deadline.specs.Deadlines.{Rise, is_other, is_this}
+use Rattle.sq_deadline.specs.Deadlines.{DeadlinesRise, is_other, is_this}
 use Rattle.sq_deadline.specs.Trees.{listed}
 use Rattle.sq_deadline.proofs.OrderLaws.{goes_out, is_not_there, place_of, rise_without, there_within}
 use Rattle.sq_deadline.proofs.index.DeadlineIndex.clear.Goals as goal
@@ -28,7 +28,7 @@ returns-else-is_there-clause-deadlines c =
 pub invariant_of-self : goal.invariant_of-self
 invariant_of-self c =
     let ds = c.args.self.now.deadlines in
-    let rises : Rise 0 (listed c.remove.new.self) = rw (went (goal.at.invariant_of-self c).After-remove) (rise_without 0 c.args.deadline.now ds c.place-place.ensures.order) in
+    let rises : DeadlinesRise 0 (listed c.remove.new.self) = rw (went (goal.at.invariant_of-self c).After-remove) (rise_without 0 c.args.deadline.now ds c.place-place.ensures.order) in
     let there : is_this c.args.deadline.now (slice_get ds c.place-place.result) ≡ true = search rules in
     let before = there_within c.args.deadline.now ds c.place-place.result there in
     let within : c.place-place.result < length (listed c.self.inside.tree) = rw (← c.self.view_is) at before in

@@ -1,0 +1,19 @@
+use Rattle.std.proofs.Common.{rules, ◌≡◌, Err}
+use Rattle.sq_calls.specs.declared.batches.EntryAsk.TheVariants.{Send}
+use Rattle.sq_actions.specs.Entries.{OneFits}
+use Rattle.sq_actions.proofs.ClientLaws.{answered_found, answered_lost}
+use Rattle.sq_actions.proofs.EntryLaws.{answered_as_entry}
+use Rattle.sq_actions.proofs.client.send_message.Goals as goal
+
+pub returns-in_err-of : goal.returns-in_err-of
+returns-in_err-of g c =
+    let is : c.from_residual.result ≡ Err c.in_err-of.field-0.0 = search rules in
+    answered_lost _ _ _ _ _ _ _ is c.in_err-of.ensures.refusal c.in_err-of.ensures.did
+
+pub returns : goal.returns
+returns g c =
+    let name = c.args.call.now.queue in
+    let asked = Send c.args.call.now.body c.args.call.now.delay in
+    rw c.one_answered.ensures
+    (answered_found _ g.S.LockSteps.counts (λ n. OneFits n.homes name asked) _ _ _ _ name _ _ c.in_ok-of.ensures.did c.resolve.ensures.same_counts
+    (answered_as_entry _ _ _ name asked _ _ _ _ c.send.ensures.did (λ ds fits. rw c.in_ok-of.ensures.named at fits)) (λ ds fits. fits))

@@ -1,0 +1,43 @@
+-- A call that is stopped: some of its first steps are done, and nothing else. Own.
+use Rattle.std.specs.Prelude.{◌≡◌, ◌⊎◌, ◌≤◌, ℕ, ◌+◌, Bool, true, false, List, ◌∷◌, ◌++◌, length, Option, Some, None, Result, Ok, Err}
+use Rattle.std.specs.List.{AllByRecursion}
+use Rattle.sq_base.specs.declared.refusal.Refusal.{Refusal}
+use Rattle.sq_base.specs.declared.refusal.Refusal.TheVariants.{NoMemory}
+use Rattle.sq_actions.specs.Asks.{Ask, Gave, Done}
+
+-- a step that was due and was not done; to the call it is as one that finds no memory
+abbrev pub IsNotDone : Done → Type 0
+IsNotDone d = d.answered ≡ Err NoMemory
+
+-- Just so many steps of a call were done, reads among them. A further one was due, which was not done, nor any after it.
+pub record IsStopped {A : Type 0} (Fits : List Done → Result A Refusal → Type 0) (limit : ℕ) (trace : List Done) : Type 0 where
+  pub exact : length trace ≡ limit
+  pub due : Done
+  pub rest : List Done
+  pub not_done : AllByRecursion IsNotDone (due ∷ rest)
+  pub answered : Result A Refusal
+  pub fits : Fits (trace ++ due ∷ rest) answered
+
+-- The steps of a call that may do so many of them, and what it tells: nothing where a further step was due; else what the call answers.
+abbrev pub UntilFits : {A : Type 0} → ℕ → (List Done → Result A Refusal → Type 0) → List Done → Result (Option A) Refusal → Type 0
+UntilFits limit Fits trace (Ok None) = IsStopped Fits limit trace
+UntilFits limit Fits trace (Ok (Some a)) = Fits trace (Ok a) × (length trace ≤ limit)
+UntilFits limit Fits trace (Err e) = Fits trace (Err e) × (length trace ≤ limit)
+
+-- what a call tells that may do so many steps, by whether a further one was due and by what it answers without it
+abbrev pub told_until : {A : Type 0} → Bool → Result A Refusal → Result (Option A) Refusal
+told_until true answered = Ok None
+told_until false (Ok a) = Ok (Some a)
+told_until false (Err e) = Err e
+
+-- steps that may be done this often yet; whether one more was due
+pub record Limited (S : Type 0) : Type 0 where
+  pub steps : S
+  pub left : ℕ
+  pub stopped : Bool
+
+-- a step is done where one is left; past that it is refused, and nothing is done
+abbrev pub LimitedStep : {S : Type 0} → (S → Ask → Result Gave Refusal → S → Type 0) → Limited S → Ask → Result Gave Refusal → Limited S → Type 0
+LimitedStep stepped s ask answered t =
+    ((s.left ≡ 0) × (answered ≡ Err NoMemory) × (t.steps ≡ s.steps) × (t.left ≡ 0) × (t.stopped ≡ true))
+    ⊎ ((s.left ≡ t.left + 1) × stepped s.steps ask answered t.steps × (t.stopped ≡ s.stopped))

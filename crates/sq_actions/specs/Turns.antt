@@ -1,0 +1,182 @@
+-- Which steps a turn does, its word, up to a refusal, and what it makes of how far its actor is; nothing here speaks of states. Own.
+use Rattle.std.specs.Prelude.{◌≡◌, ◌⊎◌, ℕ, ◌<◌, Bool, true, false, ◌&&◌, nat_lt, List, [], ◌∷◌, if◌then◌else◌, Option, Some, None, Result, Ok, Err}
+use Rattle.sq_base.specs.declared.ids.HomeId.{HomeId}
+use Rattle.sq_base.specs.declared.refusal.Refusal.{Refusal}
+use Rattle.sq_base.specs.declared.refusal.Refusal.TheVariants.{NoMemory, ClockRange, Worn, QueueDoesNotExist, OverLimit, ResourceNotFoundException, UnsupportedOperation}
+use Rattle.sq_model.specs.declared.replies.HomeReply.{HomeReply}
+use Rattle.sq_model.specs.declared.replies.HomeReply.TheVariants.{NoLiveRow}
+use Rattle.sq_model.specs.declared.replies.HomeReply.TheVariants as reply
+use Rattle.sq_model.specs.declared.ledger.LedgerReply.{LedgerReply}
+use Rattle.sq_model.specs.declared.task.Task.{Task}
+use Rattle.sq_model.specs.Tasks.{is_active, is_running}
+use Rattle.sq_calls.specs.declared.turns.Turn.{Turn}
+use Rattle.sq_calls.specs.declared.turns.Turn.TheVariants as turn
+use Rattle.sq_calls.specs.declared.turns.Turned.{Turned}
+use Rattle.sq_calls.specs.declared.turns.Turned.TheVariants as word
+use Rattle.sq_model.specs.declared.shared.SharedAct.{SharedAct}
+use Rattle.sq_model.specs.declared.shared.SharedAct.TheVariants.{LeaveDead, LeaveTask, Enter, TurnBack, GiveBack, GiveUp}
+use Rattle.sq_steps.specs.declared.act.NextItem.{NextItem}
+use Rattle.sq_steps.specs.declared.act.TaskAct.TheVariants.{Finish}
+use Rattle.sq_actions.specs.declared.progress.Progress.{Progress}
+use Rattle.sq_actions.specs.declared.walk.Walk.{Walk}
+use Rattle.sq_actions.specs.Asks.{Resolve, AskShared, Peek, ReadTask, Gave, Found, Replied, Nothing, Peeked, TaskFound, Done, IsOfAnyStep, MayRefuse}
+use Rattle.sq_actions.specs.Calls.{home_numbered}
+use Rattle.sq_actions.specs.Steps.{ledger_step, named}
+use Rattle.sq_actions.specs.Walks.{after_nothing, after_other, row_again}
+use Rattle.sq_actions.specs.Progresses.{walk_for, with_item, with_walk}
+
+-- a home and the ledger are asked; the item after a number is read; a task is read
+abbrev pub shared_step : Option (List ℕ) → HomeId → SharedAct → Result Gave Refusal → Done
+shared_step name home what answered = record { ask = AskShared name home what; answered = answered }
+
+abbrev pub peeking : ℕ → Result Gave Refusal → Done
+peeking after answered = record { ask = Peek after; answered = answered }
+
+abbrev pub task_read : ℕ → Result Gave Refusal → Done
+task_read number answered = record { ask = ReadTask number; answered = answered }
+
+-- The word for a leave for a task: no message was live; the task failed, since a message has no queue to go to, or its source is closed; or a message left. What such a leave never replies counts as that.
+abbrev pub left_word : HomeReply → Turned
+left_word reply.Done = word.Left
+left_word (reply.Sent sent) = word.Left
+left_word (reply.Looked rows) = word.Left
+left_word reply.Over = word.Left
+left_word (reply.Counted counts) = word.Left
+left_word (reply.Left item) = word.Left
+left_word reply.NoLiveRow = word.Nothing
+left_word (reply.NoOrigin serial) = word.Failed
+left_word reply.SourceClosed = word.Failed
+left_word (reply.Entered entered) = word.Left
+
+-- the word for a step that was done
+abbrev pub word_of : SharedAct → HomeReply → Turned
+word_of LeaveDead reply = word.Left
+word_of (LeaveTask number) reply = left_word reply
+word_of (Enter number) reply = word.Entered
+word_of (TurnBack number) reply = word.Turned
+word_of (GiveBack number) reply = word.Back
+word_of (GiveUp number) reply = word.Dropped
+
+-- Two words of a step: where nothing was done and nothing is wrong, since the task is at its rate, or no dead letter is there to leave; and where it cannot be done any more, since the task takes no messages now, or the item is not there for it.
+abbrev pub words_apart : SharedAct → Turned × Turned
+words_apart LeaveDead = (word.Nothing, word.Nothing)
+words_apart (LeaveTask number) = (word.Throttled, word.Ended)
+words_apart (Enter number) = (word.Nothing, word.Nothing)
+words_apart (TurnBack number) = (word.Nothing, word.Nothing)
+words_apart (GiveBack number) = (word.Nothing, word.Nothing)
+words_apart (GiveUp number) = (word.Nothing, word.Nothing)
+
+abbrev pub none_word : SharedAct → Turned
+none_word what = (words_apart what).0
+
+abbrev pub over_word : SharedAct → Turned
+over_word what = (words_apart what).1
+
+-- what is refused as it is: what each step may be refused as, and a task that is not there
+abbrev pub IsTold : SharedAct → Refusal → Type 0
+IsTold LeaveDead e = IsOfAnyStep e
+IsTold (LeaveTask number) e = IsOfAnyStep e ⊎ (e ≡ ResourceNotFoundException)
+IsTold (Enter number) e = IsOfAnyStep e
+IsTold (TurnBack number) e = IsOfAnyStep e
+IsTold (GiveBack number) e = IsOfAnyStep e
+IsTold (GiveUp number) e = IsOfAnyStep e
+
+-- The word for a step that moves a message: its own where it was done, the one for nothing, `full` where there is no room, and the one for a step that cannot be done any more.
+abbrev pub WordFor : SharedAct → Result Gave Refusal → Result Turned Refusal → Type 0
+WordFor what by answered =
+    ((reply : HomeReply) × (by ≡ Ok (Replied reply)) × (answered ≡ Ok (word_of what reply)))
+    ⊎ ((by ≡ Ok Nothing) × (answered ≡ Ok (none_word what)))
+    ⊎ ((by ≡ Err OverLimit) × (answered ≡ Ok word.Full))
+    ⊎ ((by ≡ Err UnsupportedOperation) × (answered ≡ Ok (over_word what)))
+    ⊎ ((e : Refusal) × IsTold what e × (by ≡ Err e) × (answered ≡ Err e))
+
+-- DeadTurn: the queue is looked up by its name, and a dead letter leaves one of its homes, by that name.
+abbrev pub LeaveFits : ℕ → List ℕ → List Done → Result Turned Refusal → Type 0
+LeaveFits homes name trace answered =
+    ((e : Refusal) × MayRefuse (Resolve name) e × (trace ≡ named name (Err e) ∷ []) × (answered ≡ Err e))
+    ⊎ ((queue : ℕ) × (home : ℕ) × (by : Result Gave Refusal) × (home < homes)
+    × (trace ≡ named name (Ok (Found queue)) ∷ shared_step (Some name) (home_numbered queue home) LeaveDead by ∷ [])
+    × (WordFor LeaveDead by answered ⊎ ((by ≡ Err QueueDoesNotExist) × (answered ≡ Err QueueDoesNotExist))))
+
+-- a home of the queue that an item goes to
+abbrev pub home_ahead : NextItem → ℕ → HomeId
+home_ahead next home = home_numbered (if next.homeward then next.source else next.target) home
+
+-- how it comes in there, and what becomes of it where that home is closed
+abbrev pub comes_in : NextItem → SharedAct
+comes_in next = if next.homeward then GiveBack next.number else Enter next.number
+
+abbrev pub goes_back : NextItem → SharedAct
+goes_back next = if next.homeward then GiveUp next.number else TurnBack next.number
+
+-- An item comes in at a home. A home that refuses it as not serving is asked to send it back, or to give it up; one that refuses this so as well was never opened, or is not there.
+abbrev pub Brings : NextItem → HomeId → List Done → Result Turned Refusal → Type 0
+Brings next home trace answered =
+    ((by : Result Gave Refusal) × (trace ≡ shared_step None home (comes_in next) by ∷ []) × WordFor (comes_in next) by answered)
+    ⊎ ((by : Result Gave Refusal) × (trace ≡ shared_step None home (comes_in next) (Err QueueDoesNotExist) ∷ shared_step None home (goes_back next) by ∷ [])
+    × (WordFor (goes_back next) by answered ⊎ ((by ≡ Err QueueDoesNotExist) × (answered ≡ Ok word.Full))))
+
+-- EnterTurn: the item after the one that was tried last is brought to one of the homes of the queue that it goes to. It counts as tried whatever is answered then.
+abbrev pub BringFits : ℕ → Progress → Progress → List Done → Result Turned Refusal → Type 0
+BringFits homes before after trace answered =
+    ((e : Refusal) × MayRefuse (Peek before.item) e × (trace ≡ peeking before.item (Err e) ∷ []) × (answered ≡ Err e) × (after ≡ before))
+    ⊎ ((trace ≡ peeking before.item (Ok (Peeked None)) ∷ []) × (answered ≡ Ok word.Nothing) × (after ≡ before))
+    ⊎ ((next : NextItem) × (home : ℕ) × (rest : List Done) × (home < homes) × (trace ≡ peeking before.item (Ok (Peeked (Some next))) ∷ rest) × Brings next (home_ahead next home) rest answered
+    × (after ≡ with_item next.number before))
+
+-- A walk after a home was asked for a message. It stays where the task is at its rate, and where memory, the clock or a count refused the step; a home that has none counts in the row; and
+-- any other answer ends the row.
+abbrev pub walk_after : ℕ → Walk → Result Gave Refusal → Walk
+walk_after homes walk (Ok Nothing) = walk
+walk_after homes walk (Ok (Replied NoLiveRow)) = after_nothing homes walk
+walk_after homes walk (Err NoMemory) = walk
+walk_after homes walk (Err ClockRange) = walk
+walk_after homes walk (Err Worn) = walk
+walk_after homes walk other = after_other homes walk
+
+-- A message leaves the home of the task's source that the walk is at.
+abbrev pub LeavesFor : ℕ → ℕ → Task → Walk → Walk → List Done → Result Turned Refusal → Type 0
+LeavesFor homes number task before after trace answered =
+    (by : Result Gave Refusal) × (trace ≡ shared_step None (home_numbered task.source.number before.home) (LeaveTask number) by ∷ []) × (after ≡ walk_after homes before by)
+    × (WordFor (LeaveTask number) by answered ⊎ ((by ≡ Err QueueDoesNotExist) × (answered ≡ Err QueueDoesNotExist)))
+
+-- the walk after the task was to finish: where it waits, the row starts again
+abbrev pub walk_waiting : Walk → Result LedgerReply Refusal → Walk
+walk_waiting walk (Err UnsupportedOperation) = row_again walk
+walk_waiting walk other = walk
+
+-- the word for a task that was to finish: messages of it may be in transit
+abbrev pub finish_word : Result LedgerReply Refusal → Result Turned Refusal
+finish_word (Ok reply) = Ok word.Finished
+finish_word (Err UnsupportedOperation) = Ok word.Waiting
+finish_word (Err e) = Err e
+
+-- The task is to finish.
+abbrev pub Finishes : ℕ → Walk → Walk → List Done → Result Turned Refusal → Type 0
+Finishes number before after trace answered =
+    (by : Result LedgerReply Refusal) × (trace ≡ ledger_step (Finish number) by ∷ []) × (after ≡ walk_waiting before by) × (answered ≡ finish_word by)
+
+-- the task takes messages, and not each home in a row had none
+abbrev pub goes_on : ℕ → Task → Walk → Bool
+goes_on homes task walk = is_running task.status && nat_lt walk.nothings homes
+
+-- What is done for a task that was read, by a walk for it, and the walk after that. A task that is over has ended.
+abbrev pub ServesTask : ℕ → ℕ → Task → Walk → Walk → List Done → Result Turned Refusal → Type 0
+ServesTask homes number task before after trace answered =
+    ((is_active task.status ≡ false) × (trace ≡ []) × (answered ≡ Ok word.Ended) × (after ≡ before))
+    ⊎ ((goes_on homes task before ≡ true) × LeavesFor homes number task before after trace answered)
+    ⊎ ((is_active task.status ≡ true) × (goes_on homes task before ≡ false) × Finishes number before after trace answered)
+
+-- TaskTurn: the task is read, and then served by the walk for it, which is kept from then on. A text that is no handle names no task.
+abbrev pub TaskFits : ℕ → Option ℕ → Progress → Progress → List Done → Result Turned Refusal → Type 0
+TaskFits homes None before after trace answered = (trace ≡ []) × (answered ≡ Err ResourceNotFoundException) × (after ≡ before)
+TaskFits homes (Some number) before after trace answered =
+    ((e : Refusal) × MayRefuse (ReadTask number) e × (trace ≡ task_read number (Err e) ∷ []) × (answered ≡ Err e) × (after ≡ before))
+    ⊎ ((task : Task) × (walk : Walk) × (rest : List Done) × (trace ≡ task_read number (Ok (TaskFound task)) ∷ rest) × ServesTask homes number task (walk_for number before.walk) walk rest answered
+    × (after ≡ with_walk walk before))
+
+-- These steps are the turn's, and its word and how far its actor is after it are made of them.
+abbrev pub TurnFits : ℕ → Turn → Progress → Progress → List Done → Result Turned Refusal → Type 0
+TurnFits homes (turn.DeadTurn name) before after trace answered = LeaveFits homes name trace answered × (after ≡ before)
+TurnFits homes turn.EnterTurn before after trace answered = BringFits homes before after trace answered
+TurnFits homes (turn.TaskTurn number) before after trace answered = TaskFits homes number before after trace answered

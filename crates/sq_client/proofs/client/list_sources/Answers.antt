@@ -1,9 +1,0 @@
-use Rattle.std.proofs.Common.{rules, refl}
-use Rattle.sq_client.proofs.ClientLaws.{answered_refused, answered_told}
-use Rattle.sq_client.proofs.client.list_sources.Goals as goal
-
-pub returns-in_err-names : goal.returns-in_err-names
-returns-in_err-names g c = answered_refused _ _ _ _ _ _ _ (search rules) c.in_err-names.ensures.refusal c.in_err-names.ensures.did
-
-pub returns : goal.returns
-returns g c = answered_told _ _ _ _ _ _ _ (rw c.in-Sources.is at c.in_ok-names.ensures.did) (rw c.in-Sources.is at c.in_ok-names.ensures.reply) (refl, refl)

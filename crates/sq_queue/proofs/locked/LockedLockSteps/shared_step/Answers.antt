@@ -1,0 +1,23 @@
+use Rattle.std.proofs.Common.{refl, rules}
+use Rattle.std.specs.Prelude.{vec_len}
+use Rattle.sq_queue.specs.Sections.{around}
+use Rattle.sq_queue.proofs.LockLaws.{refused_shared, moving_section}
+use Rattle.sq_queue.proofs.locked.LockedLockSteps.shared_step.Goals as goal
+
+pub returns-clause-did : goal.returns-clause-did
+returns-clause-did g c =
+    let at = around (g.C.Clock.tells c.args.self.now.service.now.clock) (g.G.Gate.saw c.args.self.now.service.now.gate) c.args.self.now.service.now.per_queue (vec_len c.args.self.now.service.now.homes) in
+    let ledger = c.deref_mut.result.now in
+    let placed = c.deref_mut-2.result.now in
+    let told = c.share-told in (
+      moving_section at c.now-now.result placed.home told.new.placed.home ledger.ledger.history told.new.self.ledger.history c.args.self.now.session.now told.new.session c.args.name placed.id c.args.home.now c.args.what c.in-Some.index told.result c.now-now.ensures (search rules) (search rules) placed.own (search rules)
+          told.ensures.step told.ensures.at told.ensures.none told.ensures.none_session told.ensures.refusal told.ensures.session_err,
+      refl,
+      refl,
+    )
+
+pub returns-clause-refusal : goal.returns-clause-refusal
+returns-clause-refusal g c =
+    let ledger = c.deref_mut.result.now in
+    let placed = c.deref_mut-2.result.now in
+    refused_shared placed.id placed.home ledger.ledger.history c.args.self.now.session.now.journal c.now-now.result c.args.name c.args.home.now c.args.what c.share-told.result c.share-told.ensures.refusal
