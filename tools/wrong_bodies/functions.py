@@ -21,7 +21,8 @@ def owner_of(impl):
     given = [it for it in (arguments or "").split(", ") if it and not it.startswith("'")]
     if not trait and any(it not in parameters for it in given):
         owner = "+".join([owner, *given])
-    return owner + "".join(re.findall(r"[A-Z]\w+", trait or "")), bool(trait)
+    words = re.findall(r"(?<!')\b[A-Za-z]\w+\b(?!::)", trait or "")
+    return owner + "".join(it[0].upper() + it[1:] for it in words), bool(trait)
 
 
 def functions_of(path, text):
@@ -77,12 +78,15 @@ def proof_of(crate, path):
 
 
 def place_of_proof(crate, path):
-    """The folder in which a check looks for a function's proof, whether one is written or not; None where that is not known."""
+    """The folder in which a check looks for a function's proof, whether one is written or not: of a type's own method where the type
+    stands, of any other where it stands itself; None where two types have the name."""
     *module, owner, name = ["", *path.split("::")]
     if not owner[:1].isupper():
         return f"proofs/{path.replace('::', '/')}"
     declared = re.compile(rf"(?m)^(?:pub(?:\([\w ]+\))? )?(?:struct|enum) {owner}\b")
     files = [it for it, text in crate.files.items() if it.startswith("src/") and declared.search(text)]
+    if not files:
+        return f"proofs/{path.replace('::', '/')}"
     return f"proofs/{files[0][len('src/') : -len('.rt')]}/{owner}/{name}" if len(files) == 1 else None
 
 

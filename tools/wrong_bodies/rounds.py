@@ -1,7 +1,7 @@
 """Which edits are tried by one check: a contract is all that a caller knows of a function, so one copy of a crate can hold many."""
 from collections import namedtuple
 
-from .functions import has_answer, proof_of
+from .functions import has_answer, is_in_a_cycle, proof_of
 
 # An edit, or none, in a function; with a suffix it is in a copy of the function. Where its body is the function's own it is a control.
 # The stored answers to some of its goals may be left out. What is tried in brief is not told how to go on where it is not proved.
@@ -33,9 +33,10 @@ def rounds_of(crate, edits, most):
     copied, placed = [], []
     for function, its in groups.items():
         if not function.is_copied:
+            in_brief = not is_in_a_cycle(crate, function.path)
             for at, it in enumerate(its):
                 placed += [[]] if at == len(placed) else []
-                placed[at].append(Try(it, function, it.body, ""))
+                placed[at].append(Try(it, function, it.body, "", in_brief=in_brief))
             continue
         tries = [Try(it, function, it.body, f"_w{at}", in_brief=True) for at, it in enumerate(its, 1)]
         with_answer = [it for it in tries if has_answer(crate, function.path, it.edit.last_goal)]
