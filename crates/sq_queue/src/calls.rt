@@ -10,10 +10,10 @@ ghost use Rattle.sq_queue.specs.Services.{service_counts};
 use crate::locked::{Locked, call_in, call_until_in, turn_in};
 use crate::service::{Clock, Gate, Serving};
 use crate::session::Session;
+use sq_actions::progress::Progress;
 use sq_base::refusal::Refusal;
 use sq_calls::calls::{Answer, Call};
 use sq_calls::turns::{Turn, Turned};
-use sq_actions::progress::Progress;
 use sq_shard::slots::SlotStore;
 use std::sync::Wait;
 use std::sync::ledger::Ledger;
@@ -21,8 +21,8 @@ use std::sync::ledger::Ledger;
 impl<C: Clock + Drop, G: Gate + Drop, D: Ledger, T: Ledger> Serving<C, G, D, T, SlotStore> {
     /// What a client asks, step by step, each under the lock of its part. The steps, the answer and each refusal are as those
     /// of `World::call` in `sq_merge`; other sessions may step between any two of them. What it leaves with the session are just
-    /// the records of its steps, numbered on, at rising stamps above all that the session had seen. Each step is one of the part
-    /// that it asks, as that lies under its lock at that moment, and a refusal has its cause there.
+    /// the records of its steps, numbered on, at rising stamps above all that the session had seen. Each step is one of a part that
+    /// the gate saw, and a refusal has its cause there: the part that lies under its lock at that moment.
     pub fn call<R: Wait>(
         &self,
         rt: &R,

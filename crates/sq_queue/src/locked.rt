@@ -7,18 +7,18 @@ ghost use Rattle.sq_actions.specs.Performs.{LeavesRecords, Performs};
 ghost use Rattle.sq_queue.specs.Sections.{IsSection, around};
 ghost use Rattle.sq_queue.specs.Services.{service_counts};
 
-use crate::service::{Clock, Gate, Service, held};
+use crate::service::{Clock, Gate, Service, take_lock};
 use crate::session::Session;
+use sq_actions::lock_steps::LockSteps;
+use sq_actions::progress::Progress;
+use sq_actions::until::call_until;
+use sq_actions::{client, turns};
 use sq_audit::homes::home_index;
 use sq_base::ids::{HomeId, HomeNo};
 use sq_base::name::QueueName;
 use sq_base::refusal::Refusal;
 use sq_calls::calls::{Answer, Call};
 use sq_calls::turns::{Turn, Turned};
-use sq_actions::lock_steps::LockSteps;
-use sq_actions::progress::Progress;
-use sq_actions::until::call_until;
-use sq_actions::{client, turns};
 use sq_history::act::HomeAct;
 use sq_model::directory::{DirectoryCall, DirectoryReply};
 use sq_model::item::TaskNo;
@@ -68,7 +68,7 @@ impl<'a, C: Clock + Drop, G: Gate + Drop, D: Ledger, T: Ledger, R: Wait> LockSte
     }
 
     fn resolve(&mut self, name: &QueueName) -> Result<NamedQueue, Refusal> {
-        let part = held(self.rt, &self.service.directory);
+        let part = take_lock(self.rt, &self.service.directory);
         self.service.gate.at_directory(&part.directory);
         let session = &mut *self.session;
         let number = part.resolve(session, name)?;
@@ -80,7 +80,7 @@ impl<'a, C: Clock + Drop, G: Gate + Drop, D: Ledger, T: Ledger, R: Wait> LockSte
 
     fn directory_step(&mut self, call: &DirectoryCall) -> Result<DirectoryReply, Refusal> {
         let now = self.service.clock.now();
-        let mut part = held(self.rt, &self.service.directory);
+        let mut part = take_lock(self.rt, &self.service.directory);
         self.service.gate.at_directory(&part.directory);
         let session = &mut *self.session;
         part.step(self.service.alloc, session, now, call)
@@ -101,7 +101,7 @@ impl<'a, C: Clock + Drop, G: Gate + Drop, D: Ledger, T: Ledger, R: Wait> LockSte
         let Some(index) = home_index(self.service.per_queue, count, &id) else {
             return Err(no_such_home(now));
         };
-        let mut part = held(self.rt, &self.service.homes[index]);
+        let mut part = take_lock(self.rt, &self.service.homes[index]);
         self.service.gate.inside(&part.home);
         let session = &mut *self.session;
         part.step(self.service.alloc, session, now, Some(of.name), &id, act)
@@ -118,10 +118,10 @@ impl<'a, C: Clock + Drop, G: Gate + Drop, D: Ledger, T: Ledger, R: Wait> LockSte
         let Some(index) = home_index(self.service.per_queue, count, home) else {
             return Err(no_such_home(now));
         };
-        let mut part = held(self.rt, &self.service.homes[index]);
+        let mut part = take_lock(self.rt, &self.service.homes[index]);
         self.service.gate.inside(&part.home);
         let session = &mut *self.session;
-        let mut ledger = held(self.rt, &self.service.ledger);
+        let mut ledger = take_lock(self.rt, &self.service.ledger);
         self.service.gate.at_ledger(&ledger.ledger);
         let told = ledger.share(
             self.service.alloc,
@@ -137,7 +137,7 @@ impl<'a, C: Clock + Drop, G: Gate + Drop, D: Ledger, T: Ledger, R: Wait> LockSte
     }
 
     fn peek(&mut self, after: u64) -> Result<Option<NextItem>, Refusal> {
-        let part = held(self.rt, &self.service.ledger);
+        let part = take_lock(self.rt, &self.service.ledger);
         self.service.gate.at_ledger(&part.ledger);
         let session = &mut *self.session;
         Ok(part.peek(session, after))
@@ -148,7 +148,7 @@ impl<'a, C: Clock + Drop, G: Gate + Drop, D: Ledger, T: Ledger, R: Wait> LockSte
         source: &QueueName,
         destination: &Option<QueueName>,
     ) -> Result<(NamedQueue, Option<NamedQueue>), Refusal> {
-        let part = held(self.rt, &self.service.directory);
+        let part = take_lock(self.rt, &self.service.directory);
         self.service.gate.at_directory(&part.directory);
         let session = &mut *self.session;
         part.can_redrive(session, source, destination)
@@ -156,14 +156,14 @@ impl<'a, C: Clock + Drop, G: Gate + Drop, D: Ledger, T: Ledger, R: Wait> LockSte
 
     fn ledger_step(&mut self, act: &TaskAct) -> Result<LedgerReply, Refusal> {
         let now = self.service.clock.now();
-        let mut part = held(self.rt, &self.service.ledger);
+        let mut part = take_lock(self.rt, &self.service.ledger);
         self.service.gate.at_ledger(&part.ledger);
         let session = &mut *self.session;
         part.step(self.service.alloc, session, now, act)
     }
 
     fn read_task(&mut self, number: TaskNo) -> Result<Task, Refusal> {
-        let part = held(self.rt, &self.service.ledger);
+        let part = take_lock(self.rt, &self.service.ledger);
         self.service.gate.at_ledger(&part.ledger);
         let session = &mut *self.session;
         part.read_task(session, number)

@@ -5,7 +5,7 @@ ghost use Rattle.sq_directory.specs.DirectoryHistory.{DirectoryHistory};
 ghost use Rattle.sq_queue.specs.LockedParts.{TheDirectory};
 ghost use Rattle.sq_queue.specs.Services.{HasRead, LastTaskRead, NamesRead};
 
-use crate::service::{Clock, Gate, Serving, held};
+use crate::service::{Clock, Gate, Serving, take_lock};
 use crate::session::Session;
 use sq_base::ids::QueueNo;
 use sq_base::refusal::Refusal;
@@ -28,7 +28,7 @@ impl<C: Clock + Drop, G: Gate + Drop, D: Ledger, T: Ledger> Serving<C, G, D, T, 
         ensures refused { IfErr result (λ e. (e ≡ Refusal.NoMemory) × ((part : DirectoryHistory) × G.saw self.now.gate (TheDirectory part) × (0 < length part.directory.queues))) }
         ensures err { OnErr result (session.new ≡ session.old) }
     {
-        let part = held(rt, &self.directory);
+        let part = take_lock(rt, &self.directory);
         self.gate.at_directory(&part.directory);
         part.names(self.alloc, session)
     }
@@ -44,7 +44,7 @@ impl<C: Clock + Drop, G: Gate + Drop, D: Ledger, T: Ledger> Serving<C, G, D, T, 
         ensures source { IfSome result (λ task. is_of_source source task ≡ true) }
         ensures read { HasRead session.old session.new }
     {
-        let part = held(rt, &self.ledger);
+        let part = take_lock(rt, &self.ledger);
         self.gate.at_ledger(&part.ledger);
         part.last_task(session, source)
     }

@@ -82,7 +82,7 @@ const LOOKS: u32 = 8;
 
 /// Takes a lock. What is done under one takes less time than to sleep and to be woken, so it is tried for a while first, with
 /// rests that double.
-pub(crate) fn held<'a, T, R: Wait>(rt: &R, lock: &'a Lock<T>) -> MutexGuard<'a, T> {
+pub(crate) fn take_lock<'a, T, R: Wait>(rt: &R, lock: &'a Lock<T>) -> MutexGuard<'a, T> {
     for look in 0..LOOKS {
         if let Some(guard) = lock.try_lock() {
             return guard;
@@ -162,7 +162,7 @@ impl<C: Clock + Drop, G: Gate + Drop, D: Ledger, T: Ledger> Serving<C, G, D, T, 
         ensures made { IfOk result (λ s. (actor : ℕ) × (s ≡ new_session actor)) }
         ensures refused { IfErr result (λ e. e ≡ Refusal.Worn) }
     {
-        held(rt, &self.actors).make(self.alloc)
+        take_lock(rt, &self.actors).make(self.alloc)
     }
 
     /// Takes a session back, and keeps it whole until the service ends. Refused as NoMemory, with the session.
@@ -173,7 +173,7 @@ impl<C: Clock + Drop, G: Gate + Drop, D: Ledger, T: Ledger> Serving<C, G, D, T, 
     ) -> Result<(), (Refusal, Session<D, T>)>
         ensures refused { IfErr result (λ r. (r.0 ≡ Refusal.NoMemory) × (r.1 ≡ session)) }
     {
-        held(rt, &self.actors).keep(session)
+        take_lock(rt, &self.actors).keep(session)
     }
 }
 
