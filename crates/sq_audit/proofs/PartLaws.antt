@@ -1,14 +1,16 @@
 -- The parts of a list of events, and the list that has one part after another.
-use Rattle.std.specs.Prelude.{◌≡◌, ℕ, ◌+◌, ◌<◌, ◌≤◌, Bool, true, false, ◌==◌, cond, List, [], ◌∷◌, ◌++◌, length, map, filter, take, nat_eq, refl}
+use Rattle.std.specs.Prelude.{◌≡◌, ℕ, ◌+◌, ◌<◌, ◌≤◌, Bool, true, false, ◌==◌, cond, List, [], ◌∷◌, ◌++◌, length, map, filter, slice_get, take, nat_eq, refl, Some}
 use Rattle.std.specs.List.{AllByRecursion, flat_map}
 use Rattle.std.specs.Ordering.{nat_cmp, is_lt}
 use Rattle.std.proofs.Common.{zero, suc, arith, sym, ap, ◌∙◌, subst, inl, inr, append_assoc, get_or}
 use Rattle.std.proofs.lemmas.Grind.{common_steps}
 use Rattle.std.proofs.lemmas.Bool.Decides.{eqb_tells}
-use Rattle.std.proofs.lemmas.List.{append-nil, take_more, length-take-le, length-map, map-append}
+use Rattle.std.proofs.lemmas.List.{append-nil, take_more, length-append, length-take-le, length-map, map-append}
 use Rattle.std.proofs.lemmas.List.Concat.{flat_map-append}
+use Rattle.std.proofs.lemmas.List.Elements.{filter-append}
+use Rattle.std.proofs.lemmas.Option.{get_or_from_slice_get, slice_get_within}
 use Rattle.sq_model.specs.Replays.{HomeEvent}
-use Rattle.sq_model.specs.Ledgers.{LedgerEvent}
+use Rattle.sq_model.specs.Ledgers.{LedgerEvent, is_own}
 use Rattle.sq_model.specs.Systems.{DirectoryEvent, Tag, OfDirectory, OfLedger, OfHome}
 use Rattle.sq_model.specs.Merges.{of_directory, of_home, history_at, rank_of, InOrder}
 use Rattle.sq_history.specs.HistoryValue.{HistoryValue}
@@ -178,6 +180,29 @@ home_tags_append c (x ∷ xs) ys =
     let e : (c + 1) + length xs ≡ c + length (x ∷ xs) = omega arith in
     let first = map (λ e. OfHome c e) x in
     ap (λ ts. first ++ ts) (home_tags_append (c + 1) xs ys ∙ ap (λ k. home_tags (c + 1) xs ++ home_tags k ys) e) ∙ sym (append_assoc first (home_tags (c + 1) xs) (home_tags (c + length (x ∷ xs)) ys))
+
+-- one element further
+pub take_next : {X : Type 0} (xs : List X) (i : ℕ) (x : X) → slice_get xs i ≡ Some x → take (i + 1) xs ≡ take i xs ++ x ∷ []
+take_next xs i x at = rw (take_more xs i x (slice_get_within xs i x at), get_or_from_slice_get xs i x x at) refl
+
+-- what is made of one element more comes last
+pub grown : {A B E : Type 0} (f : A → B) (of : E → B) (xs new : List A) (x : A) (front : List B) (before after : List E) (e : E) → new ≡ xs ++ x ∷ [] → f x ≡ of e → map f xs ≡ front ++ map of before → after ≡ before ++ e ∷ []
+    → map f new ≡ front ++ map of after
+grown f of xs new x front before after e pushed is was more =
+    rw (pushed, map-append f xs (x ∷ []), was, more, map-append of before (e ∷ []), is) (append_assoc front (map of before) (of e ∷ []))
+
+-- the events of the ledger alone, one element further
+pub own_next : (es : List LedgerEvent) (i : ℕ) (e : LedgerEvent) → slice_get es i ≡ Some e → own_events (take (i + 1) es) ≡ own_events (take i es) ++ cond (is_own e.call) (e ∷ []) []
+own_next es i e at = rw (take_next es i e at) (filter-append (λ (x : LedgerEvent). is_own x.call) (take i es) (e ∷ []))
+
+pub own_adds : (es : List LedgerEvent) (i : ℕ) (e : LedgerEvent) → slice_get es i ≡ Some e → is_own e.call ≡ true → own_events (take (i + 1) es) ≡ own_events (take i es) ++ e ∷ []
+own_adds es i e at own = rw (own_next es i e at, own) refl
+
+pub own_counts : (es : List LedgerEvent) (i : ℕ) (e : LedgerEvent) → slice_get es i ≡ Some e → is_own e.call ≡ true → length (own_events (take (i + 1) es)) ≡ length (own_events (take i es)) + 1
+own_counts es i e at own = rw (own_adds es i e at own) (length-append (own_events (take i es)) (e ∷ []))
+
+pub own_stays : (es : List LedgerEvent) (i : ℕ) (e : LedgerEvent) → slice_get es i ≡ Some e → is_own e.call ≡ false → own_events (take (i + 1) es) ≡ own_events (take i es)
+own_stays es i e at not_own = rw (own_next es i e at, not_own) (append-nil (own_events (take i es)))
 
 pub by_part_more : (directory : List DirectoryEvent) (ledger : List LedgerEvent) (hs : List HistoryValue) (i : ℕ) (h : HistoryValue) → i < length hs → h ≡ get_or hs i h
     → by_part directory ledger (events_of (take (i + 1) hs)) ≡ by_part directory ledger (events_of (take i hs)) ++ map (λ e. OfHome i e) h.events

@@ -82,8 +82,10 @@ fn count_own(ledger: &TransitLedger) -> usize
 {
     let events = ledger.events();
     let mut count = 0;
-    for event in events {
-        count += is_own(&event.call) as usize;
+    for place in 0..events.len() {
+        if is_own(&events[place].call) {
+            count += 1;
+        }
     }
     count
 }
@@ -106,8 +108,8 @@ fn add_directory<'a>(all: &mut Vec<Tagged<'a>>, directory: &'a Directory) -> Res
     ensures kept { OnOk result (IsDirectoryKept directory.now) }
 {
     let events = directory.events();
-    for event in events {
-        all.push(Tagged::Directory(event))?;
+    for place in 0..events.len() {
+        all.push(Tagged::Directory(&events[place]))?;
     }
     Ok(())
 }
@@ -118,7 +120,8 @@ fn add_ledger<'a>(all: &mut Vec<Tagged<'a>>, ledger: &'a TransitLedger) -> Resul
     ensures kept { OnOk result (IsLedgerKept ledger.now.history) }
 {
     let events = ledger.events();
-    for event in events {
+    for place in 0..events.len() {
+        let event = &events[place];
         if is_own(&event.call) {
             all.push(Tagged::Ledger(event))?;
         }
@@ -131,8 +134,8 @@ fn add_home<'a>(all: &mut Vec<Tagged<'a>>, index: u32, home: &'a Home) -> Result
     ensures kept { OnOk result (IsKept home.now) }
 {
     let events = home.events();
-    for event in events {
-        all.push(Tagged::Home(index, event))?;
+    for place in 0..events.len() {
+        all.push(Tagged::Home(index, &events[place]))?;
     }
     Ok(())
 }

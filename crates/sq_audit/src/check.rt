@@ -23,6 +23,7 @@ use sq_history::record::LentHomeRecord;
 use sq_history::recorded::Home;
 use sq_ledger::events::{has_ledger_event, has_shared_event, is_alone, is_leave, is_shared_event};
 use sq_ledger::ledger::TransitLedger;
+use sq_log::blocks::Blocks;
 use sq_model::calls::HomeCall;
 use sq_model::event::Event;
 use sq_model::ledger::{LedgerCall, LedgerReply};
@@ -304,11 +305,11 @@ fn check_homes(evidence: &Evidence<'_>) -> Result<(), AuditFault>
 fn check_events<K, R>(
     evidence: &Evidence<'_>,
     part: Part,
-    events: &[Event<K, R>],
+    events: &Blocks<Event<K, R>>,
 ) -> Result<(), AuditFault>
     requires within { IsPartThere evidence.now.homes part }
-    ensures ok { OnOk result ((k : ℕ) → EventFits evidence.now.per_queue evidence.now.journals part events.now k) }
-    ensures fault { IfErr result (HasEventFault evidence.now.per_queue evidence.now.journals part events.now) }
+    ensures ok { OnOk result ((k : ℕ) → EventFits evidence.now.per_queue evidence.now.journals part events.now.items k) }
+    ensures fault { IfErr result (HasEventFault evidence.now.per_queue evidence.now.journals part events.now.items) }
 {
     for index in 0..events.len() {
         let event = &events[index];
@@ -394,8 +395,8 @@ fn check_shared_of(evidence: &Evidence<'_>, at: usize) -> Result<(), AuditFault>
     let homes = evidence.homes;
     let home = &homes[at];
     let events = home.events();
-    for event in events {
-        check_partner(evidence.ledger, event)?;
+    for place in 0..events.len() {
+        check_partner(evidence.ledger, &events[place])?;
     }
     Ok(())
 }

@@ -14,6 +14,7 @@ use sq_base::name::QueueName;
 use sq_base::refusal::Refusal;
 use sq_base::stamp::Stamp;
 use sq_history::log::Log;
+use sq_log::blocks::Blocks;
 use sq_model::directory::{DirectoryCall, DirectoryReply};
 use sq_model::event::{Actor, Event};
 use sq_model::listed::Listed;
@@ -54,8 +55,8 @@ impl Directory {
     }
 
     /// All events, the first first. The queues are always the replay of them.
-    pub fn events(&self) -> &[Event<DirectoryCall, DirectoryReply>]
-        ensures items { result.now ≡ self.now.events }
+    pub fn events(&self) -> &Blocks<Event<DirectoryCall, DirectoryReply>>
+        ensures items { result.now.items ≡ self.now.events }
         ensures kept { IsDirectoryKept self.now }
     {
         self.log.events()

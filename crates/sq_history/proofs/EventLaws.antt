@@ -1,21 +1,19 @@
 -- Where an event of a stamp stands, in a history whose stamps rise.
-use Rattle.std.proofs.Common.{◌≡◌, ◌≢◌, ℕ, zero, suc, ◌<◌, Bool, true, false, List, [], ◌∷◌, length, Option, Some, None, refl, sym, ◌∙◌, subst, inl, inr, arith, slice_get}
-use Rattle.std.specs.Prelude.{◌&&◌, nat_eq, option_map}
-use Rattle.std.specs.List.{ItemBy, slice_index_or}
-use Rattle.std.specs.List.Sorted.{IsPartitionedBy, IsPartitionPoint}
+use Rattle.std.proofs.Common.{◌≡◌, ℕ, zero, suc, ◌+◌, ◌<◌, ◌≤◌, Bool, true, false, List, [], ◌∷◌, length, Some, refl, sym, ◌∙◌, subst, inl, inr, arith, slice_get}
+use Rattle.std.specs.Prelude.{◌&&◌, nat_eq}
+use Rattle.std.specs.List.{slice_index_or}
 use Rattle.std.specs.Ordering.{is_lt}
 use Rattle.std.specs.Cmp.{IsStrictWeakOrder}
 use Rattle.std.proofs.lemmas.List.Sorted.{ranks_by}
 use Rattle.std.proofs.lemmas.Bool.{cases_lt}
-use Rattle.std.proofs.lemmas.Bool.Decides.{eqb_tells}
 use Rattle.std.proofs.lemmas.Grind.{common_steps}
-use Rattle.std.proofs.lemmas.Option.{get_or_from_slice_get, slice_get-get_or, slice_get_past, slice_get_read, slice_get_within}
+use Rattle.std.proofs.lemmas.Option.{same_Some, slice_get-get_or, slice_get_within}
 use Rattle.sq_base.specs.StampValue.{StampValue}
 use Rattle.sq_base.specs.Stamps.{Below, stamp_cmp}
 use Rattle.sq_base.proofs.StampLaws.{below_less, below_not_less, below_or, below_trans, stamps_total}
 use Rattle.sq_model.specs.declared.event.Event.{Event}
 use Rattle.sq_model.specs.Replays.{StampsRise}
-use Rattle.sq_history.specs.Events.{IsEventAt, Rises, is_event_before}
+use Rattle.sq_history.specs.Events.{IsEventAt, IsParted, Rises, is_event_before}
 
 stamps_weak : IsStrictWeakOrder (λ a b. is_lt (stamp_cmp a b))
 stamps_weak = ranks_by stamps_total (λ s. s)
@@ -44,28 +42,46 @@ under_below a b h = elim (below_or a b) as (λ _. Below a b) [
   ]
 ]
 
--- those under a stamp come first
-pub parted : {K R : Type 0} (es : List (Event K R)) (stamp : StampValue) → Rises es → IsPartitionedBy (is_event_before stamp) es
-parted es stamp r i j d le lt h =
-    let x = slice_index_or es i d in
-    let y = slice_index_or es j d in
-    let at_i : slice_get es i ≡ Some x = slice_get-get_or es i d (omega (arith, le, lt)) in
-    let at_j : slice_get es j ≡ Some y = slice_get-get_or es j d lt in
-    elim (eqb_tells i j) as (λ _. is_event_before stamp x ≡ true) [
-      | inl p ↦ rw p.1 h
-      | inr p ↦ (let ne : i ≢ j = p.1 in below_less x.stamp stamp (below_trans x.stamp y.stamp stamp (rises_at r.low es r.last r.rising i j x y (omega (arith, le)) at_i at_j) (under_below y.stamp stamp h)))
-    ]
+-- of two events the earlier one is before a stamp if the later one is
+before_too : {K R : Type 0} (es : List (Event K R)) (stamp : StampValue) → Rises es → (i j : ℕ) (d e : Event K R) → i ≤ j → slice_get es i ≡ Some d → slice_get es j ≡ Some e → is_event_before stamp e ≡ true → is_event_before stamp d ≡ true
+before_too es stamp r i j d e le at_i at_j h = elim (cases_lt i j) as (λ _. is_event_before stamp d ≡ true) [
+  | inl lt ↦ below_less d.stamp stamp (below_trans d.stamp e.stamp stamp (rises_at r.low es r.last r.rising i j d e lt at_i at_j) (under_below e.stamp stamp h))
+  | inr ge ↦ (let same : i ≡ j = omega (arith, le, ge) in let event : e ≡ d = same_Some e d (sym at_j ∙ subst (λ (n : ℕ). slice_get es n ≡ Some d) same at_i) in subst (λ (x : Event _ _). is_event_before stamp x ≡ true) event h)
+]
+
+-- before any is looked at
+pub unparted : {K R : Type 0} (es : List (Event K R)) (stamp : StampValue) → IsParted stamp es 0 (length es)
+unparted es stamp = record {
+  before = λ k e at lt. absurd (omega (arith, lt));
+  not_before = λ k e at le. absurd (let within = slice_get_within es k e at in omega (arith, le, within));
+}
+
+-- one that is before the stamp is looked at
+pub parted_above : {K R : Type 0} (es : List (Event K R)) (stamp : StampValue) (low high middle : ℕ) (x : Event K R) → Rises es → slice_get es middle ≡ Some x → is_event_before stamp x ≡ true
+    → IsParted stamp es low high → IsParted stamp es (middle + 1) high
+parted_above es stamp low high middle x r at h was = record {
+  before = λ k e there lt. before_too es stamp r k middle e x (omega (arith, lt)) there at h;
+  not_before = was.not_before;
+}
+
+-- one that is not before the stamp is looked at
+pub parted_below : {K R : Type 0} (es : List (Event K R)) (stamp : StampValue) (low high middle : ℕ) (x : Event K R) → Rises es → slice_get es middle ≡ Some x → is_event_before stamp x ≡ false
+    → IsParted stamp es low high → IsParted stamp es low middle
+parted_below es stamp low high middle x r at h was = record {
+  before = was.before;
+  not_before = λ k e there le. elim (is_event_before stamp e) as (λ (v : Bool). is_event_before stamp e ≡ v → v ≡ false) [
+    | true ↦ (λ under. absurd (let too = before_too es stamp r middle k x e le at there under in cc))
+    | false ↦ (λ _. refl)
+  ] refl;
+}
 
 -- and the event of the stamp is the first of the others
-at_point : {K R : Type 0} (es : List (Event K R)) (stamp : StampValue) (place : ℕ) → Rises es → IsPartitionPoint (λ e. is_event_before stamp e ≡ true) (λ e. is_event_before stamp e ≡ false) es place
-    → (e : Event K R) → IsEventAt es stamp e → slice_get es place ≡ Some e
+pub at_point : {K R : Type 0} (es : List (Event K R)) (stamp : StampValue) (place : ℕ) → Rises es → IsParted stamp es place place → (e : Event K R) → IsEventAt es stamp e → slice_get es place ≡ Some e
 at_point es stamp place r point e h =
     let within : h.0 < length es = slice_get_within es h.0 e h.1 in
-    let here : slice_index_or es h.0 e ≡ e = get_or_from_slice_get es h.0 e e h.1 in
     elim (cases_lt h.0 place) as (λ _. slice_get es place ≡ Some e) [
       | inl lt ↦ absurd (
-          let under : is_event_before stamp e ≡ true = subst (λ (x : Event _ _). is_event_before stamp x ≡ true) here (point.0 h.0 e (omega arith) lt) in
-          let not : is_lt (stamp_cmp e.stamp e.stamp) ≡ true = subst (λ (s : StampValue). is_lt (stamp_cmp e.stamp s) ≡ true) (sym h.2) under in
+          let not : is_lt (stamp_cmp e.stamp e.stamp) ≡ true = subst (λ (s : StampValue). is_lt (stamp_cmp e.stamp s) ≡ true) (sym h.2) (point.before h.0 e h.1 lt) in
           let f = not_under e.stamp in
           cc)
       | inr ge ↦ elim (cases_lt place h.0) as (λ _. slice_get es place ≡ Some e) [
@@ -74,21 +90,11 @@ at_point es stamp place r point e h =
             let at : slice_get es place ≡ Some x = slice_get-get_or es place e (omega (arith, lt, within)) in
             let below : Below x.stamp stamp = subst (λ (s : StampValue). Below x.stamp s) h.2 (rises_at r.low es r.last r.rising place h.0 x e lt at h.1) in
             let under = below_less x.stamp stamp below in
-            let over = point.1 place e (omega arith) (omega (arith, lt, within)) in
+            let over = point.not_before place x at (omega arith) in
             cc)
         | inr le ↦ (let same : place ≡ h.0 = omega (arith, ge, le) in rw same h.1)
       ]
     ]
-
--- what is read at a place
-read_is : {X R : Type 0} (now : R → X) (xs : List X) (place : ℕ) (lent : Option R) → ItemBy now xs place place lent → option_map now lent ≡ slice_get xs place
-read_is {X} {R} now xs place None h = sym (slice_get_past xs place h.3)
-read_is {X} {R} now xs place (Some x) h = sym (slice_get_read xs (length xs) place (now x) refl h.3.0 h.1)
-
--- what is lent of the place is the event of the stamp
-pub lent_at : {K R L : Type 0} (now : L → Event K R) (es : List (Event K R)) (stamp : StampValue) (place : ℕ) (lent : Option L) → Rises es → IsPartitionPoint (λ e. is_event_before stamp e ≡ true) (λ e. is_event_before stamp e ≡ false) es place
-    → ItemBy now es place place lent → (e : Event K R) → IsEventAt es stamp e → option_map now lent ≡ Some e
-lent_at now es stamp place lent r point by e h = read_is now es place lent by ∙ at_point es stamp place r point e h
 
 one_number : (n : ℕ) → nat_eq n n ≡ true
 one_number n = grind (arith, common_steps)

@@ -1,23 +1,24 @@
 //! Whether a history has the event of a record.
 ghost use Rattle.std.specs.Prelude.{◌≡◌, ◌↔◌, true, IfSome, IsSome, Some, option_map};
 ghost use Rattle.sq_model.specs.declared.event.Event.{Event as Done};
-ghost use Rattle.sq_history.specs.Events.{IsEventOf, IsEventAt, Rises, HasHomeEvent, is_event_before};
+ghost use Rattle.sq_history.specs.Events.{IsEventOf, IsEventAt, IsParted, Rises, HasHomeEvent, is_event_before};
 
 use crate::record::LentHomeRecord;
 use crate::recorded::Home;
 use sq_base::stamp::Stamp;
+use sq_log::blocks::Blocks;
 use sq_model::event::{Event, StepRecord};
 use sq_model::same::{is_same_call, is_same_reply};
 
 /// The event that this actor's record is of, in the history of its part: the one at its index, where the place and the
 /// stamp are the same. It does not compare call and reply.
 pub fn event_of<'a, K, R>(
-    events: &'a [Event<K, R>],
+    events: &'a Blocks<Event<K, R>>,
     actor: u32,
     kept: &StepRecord<K, R>,
 ) -> Option<&'a Event<K, R>>
-    ensures found { IfSome result (λ e. IsEventOf events.now actor kept.now e.now) }
-    ensures none { (e : Done K R) → IsEventOf events.now actor kept.now e → IsSome result }
+    ensures found { IfSome result (λ e. IsEventOf events.now.items actor kept.now e.now) }
+    ensures none { (e : Done K R) → IsEventOf events.now.items actor kept.now e → IsSome result }
 {
     if kept.index >= events.len() as u64 {
         return None;
@@ -37,13 +38,31 @@ fn is_before<K, R>(event: &Event<K, R>, stamp: Stamp) -> bool
     event.stamp < stamp
 }
 
-/// The event of a stamp, in a history whose stamps rise, by binary search.
-pub fn event_at<'a, K, R>(events: &'a [Event<K, R>], stamp: Stamp) -> Option<&'a Event<K, R>>
-    requires rises { Rises events.now }
-    ensures found { IfSome result (λ e. IsEventAt events.now stamp e.now) }
-    ensures only { (e : Done K R) → IsEventAt events.now stamp e → option_map (λ d. d.now) result ≡ Some e }
+// How many events are before a stamp, in a history whose stamps rise, by binary search.
+fn count_before<K, R>(events: &Blocks<Event<K, R>>, stamp: Stamp) -> usize
+    requires rises { Rises events.now.items }
+    ensures { IsParted stamp events.now.items result result }
 {
-    let event = events.get(events.partition_point(|event| is_before(event, stamp)))?;
+    let mut low = 0;
+    let mut high = events.len();
+    while low < high {
+        let middle = low + (high - low) / 2;
+        if is_before(&events[middle], stamp) {
+            low = middle + 1;
+        } else {
+            high = middle;
+        }
+    }
+    low
+}
+
+/// The event of a stamp, in a history whose stamps rise, by binary search.
+pub fn event_at<'a, K, R>(events: &'a Blocks<Event<K, R>>, stamp: Stamp) -> Option<&'a Event<K, R>>
+    requires rises { Rises events.now.items }
+    ensures found { IfSome result (λ e. IsEventAt events.now.items stamp e.now) }
+    ensures only { (e : Done K R) → IsEventAt events.now.items stamp e → option_map (λ d. d.now) result ≡ Some e }
+{
+    let event = events.get(count_before(events, stamp))?;
     if event.stamp == stamp {
         Some(event)
     } else {

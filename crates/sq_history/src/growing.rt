@@ -1,10 +1,9 @@
-//! Lists that grow within memory that was got before.
+//! Lists of what is never forgotten, which grow within memory that was got before.
 ghost use Rattle.std.specs.Prelude.{◌≡◌, ◌+◌, ◌<◌, ◌≤◌, ◌++◌, ◌∷◌, [], OnOk, IfErr};
-ghost use Rattle.std.specs.Fn.{CalledAt};
-ghost use Rattle.std.specs.List.Retain.{IsFiltered};
 ghost use Rattle.sq_history.specs.Rooms.{IsReady, KeepsRoom};
 
 use sq_base::refusal::Refusal;
+use sq_log::blocks::Blocks;
 use std::alloc::Global;
 use std::marker::Model;
 
@@ -12,19 +11,19 @@ use std::marker::Model;
 /// step that is refused may have got more, and leaves what is shown.
 #[derive(Drop)]
 pub struct Growing<T> {
-    items: Vec<T>,
+    items: Blocks<T>,
     room: usize,
 }
 
 impl<T> Model for Growing<T> {
-    ghost use Rattle.std.specs.Prelude.{◌-◌, ◌≤◌, vec_len, vec_capacity};
+    ghost use Rattle.std.specs.Prelude.{◌≤◌};
     ghost use Rattle.sq_history.specs.Rooms.{GrowingValue};
 
     ghost Value = { GrowingValue T };
 
-    ghost view = { λ g. record { items = g.items.items; room = g.room; reserved = vec_capacity g.items - vec_len g.items } };
+    ghost view = { λ g. record { items = g.items.items; room = g.room; reserved = g.items.reserved } };
 
-    ghost invariant = { λ g. g.room ≤ vec_capacity g.items - vec_len g.items };
+    ghost invariant = { λ g. g.room ≤ g.items.reserved };
 }
 
 impl<T: Drop> Growing<T> {
@@ -33,16 +32,16 @@ impl<T: Drop> Growing<T> {
         ensures { result ≡ record { items = []; room = 0; reserved = 0 } }
     {
         Growing {
-            items: Vec::new(alloc),
+            items: Blocks::new(alloc),
             room: 0,
         }
     }
 
     /// The items in order.
-    pub fn as_slice(&self) -> &[T]
-        ensures { result.now ≡ self.now.items }
+    pub fn items(&self) -> &Blocks<T>
+        ensures { result.now.items ≡ self.now.items }
     {
-        self.items.as_slice()
+        &self.items
     }
 
     /// Gets memory for one item more, and for four at once where it shows room for none. Refused as NoMemory where it
@@ -55,7 +54,7 @@ impl<T: Drop> Growing<T> {
         ensures refused { IfErr result (λ e. (e ≡ Refusal.NoMemory) × (self.old.room ≡ 0) × (self.old.reserved < 4)) }
     {
         if self.room == 0 {
-            self.items.try_reserve(4)?;
+            self.items.reserve()?;
         }
         Ok(())
     }
@@ -68,17 +67,7 @@ impl<T: Drop> Growing<T> {
         ensures kept { self.old.reserved ≤ self.new.reserved + 1 }
         ensures room { KeepsRoom self.old.room self.new.room }
     {
-        let _ = self.items.push(item);
-        self.room = self.items.capacity() - self.items.len();
-    }
-
-    /// Takes out the items that this does not hold of.
-    pub fn retain<F: FnMut(&T) -> bool>(&mut self, f: F)
-        requires { F.IsAlwaysCallable f }
-        ensures filtered { IsFiltered (CalledAt F.FnMut) f self.old.items self.new.items }
-        ensures room { self.new.room ≡ self.old.room }
-        ensures kept { self.old.reserved ≤ self.new.reserved }
-    {
-        self.items.retain(f);
+        self.items.push(item);
+        self.room = self.items.reserved();
     }
 }

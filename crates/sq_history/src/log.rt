@@ -8,6 +8,7 @@ ghost use Rattle.sq_history.specs.Rooms.{IsReady, KeepsRoom};
 use crate::growing::Growing;
 use sq_base::refusal::Refusal;
 use sq_base::stamp::Stamp;
+use sq_log::blocks::Blocks;
 use sq_model::event::{Actor, Event, StepRecord};
 use sq_model::place::Component;
 use std::alloc::Global;
@@ -53,11 +54,11 @@ impl<K: Drop, R: Drop> Log<K, R> {
     }
 
     /// All events, the first first.
-    pub fn events(&self) -> &[Event<K, R>]
-        ensures items { result.now ≡ self.now.events }
+    pub fn events(&self) -> &Blocks<Event<K, R>>
+        ensures items { result.now.items ≡ self.now.events }
         ensures rising { StampsRise start self.now.events self.now.last }
     {
-        self.events.as_slice()
+        self.events.items()
     }
 
     /// Gets memory for one event more. Refused as NoMemory where there was room for none.
@@ -115,7 +116,7 @@ impl<K: Drop, R: Drop> Log<K, R> {
         ensures room { KeepsRoom self.old.room self.new.room }
         ensures for_record { result ≡ record { place = by.now.place; stamp = stamp; index = length self.old.events; call = for_record.0; reply = for_record.1 } }
     {
-        let index = self.events.as_slice().len() as u64;
+        let index = self.events.items().len() as u64;
         self.note(stamp, by, component, kept);
         let (call, reply) = for_record;
         StepRecord {

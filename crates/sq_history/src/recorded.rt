@@ -14,6 +14,7 @@ use sq_base::ids::HomeId;
 use sq_base::name::QueueName;
 use sq_base::refusal::Refusal;
 use sq_base::stamp::Stamp;
+use sq_log::blocks::Blocks;
 use sq_model::calls::HomeCall;
 use sq_model::event::{Actor, Event};
 use sq_model::place::Component;
@@ -63,8 +64,8 @@ impl<S: Store> Recorded<S> {
     }
 
     /// All events, the first first. The home is always the replay of them.
-    pub fn events(&self) -> &[Event<HomeCall, HomeReply>]
-        ensures items { result.now ≡ self.now.events }
+    pub fn events(&self) -> &Blocks<Event<HomeCall, HomeReply>>
+        ensures items { result.now.items ≡ self.now.events }
         ensures kept { IsKept self.now }
     {
         self.log.events()

@@ -16,6 +16,7 @@ use sq_base::ids::HomeId;
 use sq_base::refusal::Refusal;
 use sq_base::stamp::Stamp;
 use sq_history::log::Log;
+use sq_log::blocks::Blocks;
 use sq_model::calls::HomeCall;
 use sq_model::event::{Actor, Event};
 use sq_model::item::{Item, ItemNo, Reason, TaskNo};
@@ -67,8 +68,8 @@ impl TransitLedger {
     }
 
     /// All events, the first first. The ledger is always the replay of them.
-    pub fn events(&self) -> &[Event<LedgerCall, LedgerReply>]
-        ensures items { result.now ≡ self.now.history.events }
+    pub fn events(&self) -> &Blocks<Event<LedgerCall, LedgerReply>>
+        ensures items { result.now.items ≡ self.now.history.events }
         ensures kept { IsLedgerKept self.now.history }
     {
         self.log.events()

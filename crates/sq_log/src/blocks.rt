@@ -1,10 +1,11 @@
-//! A list that grows in blocks, so that one item more moves none of those that are there.
+//! A list that grows in blocks, so that a long one is never copied to grow.
 ghost use Rattle.std.specs.Prelude.{◌≡◌, ◌+◌, ◌<◌, ◌≤◌, ◌++◌, ◌∷◌, [], IfErr, OnOk, length, option_map, slice_get};
 
 use sq_base::refusal::Refusal;
 use std::alloc::Global;
 use std::marker::Model;
 use std::mem;
+use std::ops::Index;
 
 /// How many items a block has.
 const BLOCK: usize = 4096;
@@ -12,7 +13,8 @@ const BLOCK: usize = 4096;
 /// Blocks that there are at most: with more, an item's place would be past any number.
 const BLOCKS: usize = 1 << 50;
 
-/// Items in order, the first ones in whole blocks. The last block grows by copying while it is the first; memory for a later one is got whole.
+/// Items in order, the first ones in whole blocks. The first block grows by copying, as a `Vec` does; a later one is got whole, and
+/// nothing that is there is moved for it.
 #[derive(Drop)]
 pub struct Blocks<T> {
     alloc: Global,
@@ -38,19 +40,7 @@ impl<T> Model for Blocks<T> {
     } };
 }
 
-impl<T: Drop> Blocks<T> {
-    /// No item, and memory for none.
-    pub fn new(alloc: Global) -> Blocks<T>
-        ensures { result ≡ record { items = []; reserved = 0 } }
-    {
-        Blocks {
-            alloc,
-            whole: Vec::new(alloc),
-            last: Vec::new(alloc),
-            next: Vec::new(alloc),
-        }
-    }
-
+impl<T> Blocks<T> {
     /// How many items there are.
     pub fn len(&self) -> usize
         ensures { result ≡ length self.now.items }
@@ -80,6 +70,20 @@ impl<T: Drop> Blocks<T> {
         match at(self.whole.as_slice(), place / BLOCK) {
             Some(block) => at(block.as_slice(), place % BLOCK),
             None => at(self.last.as_slice(), place - self.whole.len() * BLOCK),
+        }
+    }
+}
+
+impl<T: Drop> Blocks<T> {
+    /// No item, and memory for none.
+    pub fn new(alloc: Global) -> Blocks<T>
+        ensures { result ≡ record { items = []; reserved = 0 } }
+    {
+        Blocks {
+            alloc,
+            whole: Vec::new(alloc),
+            last: Vec::new(alloc),
+            next: Vec::new(alloc),
         }
     }
 
@@ -115,6 +119,22 @@ impl<T: Drop> Blocks<T> {
             self.whole.push_reserved(block);
         }
         self.last.push_reserved(item);
+    }
+}
+
+impl<T> Index<usize> for Blocks<T> {
+    ghost use Rattle.std.specs.Prelude.{◌≡◌, ◌<◌, Some, length, slice_get};
+
+    type Output = T;
+
+    ghost can_index = { λ blocks place. place < length blocks.items };
+
+    ghost index_gives = { λ blocks place item. slice_get blocks.items place ≡ Some item };
+
+    /// The item at a place that there is one at, from 0 upwards.
+    fn index(&self, place: usize) -> &T {
+        let found = self.get(place);
+        found.unwrap()
     }
 }
 

@@ -9,15 +9,15 @@ ghost use Rattle.sq_actions.specs.Stops.{UntilFits};
 ghost use Rattle.sq_actions.specs.Performs.{Performs, LeavesRecords};
 
 use crate::world::World;
+use sq_actions::lock_steps::LockSteps;
+use sq_actions::progress::Progress;
+use sq_actions::until::call_until;
+use sq_actions::{client, turns};
 use sq_base::ids::{HomeId, HomeNo, QueueNo};
 use sq_base::name::QueueName;
 use sq_base::refusal::Refusal;
 use sq_calls::calls::{Answer, Call};
 use sq_calls::turns::{Turn, Turned};
-use sq_actions::lock_steps::LockSteps;
-use sq_actions::progress::Progress;
-use sq_actions::until::call_until;
-use sq_actions::{client, turns};
 use sq_history::act::HomeAct;
 use sq_model::directory::{DirectoryCall, DirectoryReply};
 use sq_model::item::TaskNo;
@@ -105,7 +105,8 @@ impl<'a> LockSteps for Acting<'a> {
     }
 
     fn ledger_step(&mut self, act: &TaskAct) -> Result<LedgerReply, Refusal> {
-        self.world.ledger_step(self.alloc, self.actor, self.clock, act)
+        self.world
+            .ledger_step(self.alloc, self.actor, self.clock, act)
     }
 
     fn read_task(&mut self, number: TaskNo) -> Result<Task, Refusal> {

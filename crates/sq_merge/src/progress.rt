@@ -2,8 +2,8 @@
 ghost use Rattle.std.specs.Prelude.{◌≡◌, ◌<◌, None, length, position, IfErr, IfOk, IfSome, OnErr, OnOk};
 ghost use Rattle.sq_merge.specs.Progresses.{is_progress_of, progress_place, with_progress};
 
-use sq_base::refusal::Refusal;
 use sq_actions::progress::Progress;
+use sq_base::refusal::Refusal;
 use sq_steps::capacity::push_within_capacity;
 
 /// How far the turns of an actor are.

@@ -23,6 +23,7 @@ ghost use Rattle.sq_model.specs.Matches.{IsMatched, IsPaired};
 
 use crate::acting::{Acting, call_at, call_until_at, turn_at};
 use crate::progress::{ActorProgress, place_of};
+use sq_actions::progress::Progress;
 use sq_audit::homes::{Homes, home_index};
 use sq_audit::parts::Parts;
 use sq_base::ids::{HomeId, HomeNo, QueueNo};
@@ -31,7 +32,6 @@ use sq_base::refusal::Refusal;
 use sq_base::stamp::Stamp;
 use sq_calls::calls::{Answer, Call};
 use sq_calls::turns::{Turn, Turned};
-use sq_actions::progress::Progress;
 use sq_directory::directory::Directory;
 use sq_history::recorded::Home;
 use sq_ledger::ledger::TransitLedger;

@@ -6,11 +6,11 @@ ghost use Rattle.sq_actions.specs.Progresses.{no_progress, with_item, with_walk}
 ghost use Rattle.sq_actions.specs.Turns.{TurnFits};
 ghost use Rattle.sq_mover.specs.Movers.{GainsAtMost};
 
+use sq_actions::progress::Progress;
+use sq_actions::walk::Walk;
 use sq_base::name::QueueName;
 use sq_base::refusal::Refusal;
 use sq_calls::turns::{Turn, Turned};
-use sq_actions::progress::Progress;
-use sq_actions::walk::Walk;
 use sq_queue::service::{Clock, Gate, Service};
 use sq_queue::session::Session;
 use std::sync::Wait;

@@ -2,8 +2,8 @@
 ghost use Rattle.std.specs.Prelude.{◌≡◌, ◌<◌, ◌≤◌, [], ◌∷◌, ◌++◌, OnOk, OnErr, IfErr, vec_capacity, vec_len};
 ghost use Rattle.sq_mover.specs.MoverValue.{walk_kept};
 
-use sq_base::refusal::Refusal;
 use sq_actions::walk::Walk;
+use sq_base::refusal::Refusal;
 use sq_model::item::TaskNo;
 use std::alloc::Global;
 use std::mem;

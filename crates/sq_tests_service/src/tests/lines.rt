@@ -1,10 +1,10 @@
 //! Lines of clients, each call made by its own name; and turns.
 use super::shared::{Client, First, Setting};
 use super::stories::{Scene, Story, tell};
+use sq_actions::progress::Progress;
 use sq_base::refusal::Refusal;
 use sq_calls::batches::{Batch, EntryAsk};
 use sq_calls::calls::{Answer, Answered, Asked, Call};
-use sq_actions::progress::Progress;
 use sq_json::Scratch;
 use sq_replies::reply::reply_text;
 use sq_requests::request::{Request, read_request};

@@ -2,10 +2,10 @@
 use super::calls::{named, receive};
 use super::shared::{Client, First, Setting, is_set};
 use super::stories::{Scene, Story, Told, received_from, tell};
+use sq_actions::walk::Walk;
 use sq_base::refusal::Refusal;
 use sq_calls::calls::{Call, StartMessageMoveTask};
 use sq_calls::turns::Turned;
-use sq_actions::walk::Walk;
 use sq_model::item::TaskNo;
 use sq_mover::mover::{Mover, run_mover};
 use sq_mover::turns::{dead_turn, enter_turn, task_turn};

@@ -2,12 +2,12 @@
 //! proved with all that it is made of, which takes up to ten times as long.
 ghost use Rattle.std.specs.Prelude.{◌≡◌};
 
+use sq_actions::progress::Progress;
 use sq_audit::merge::merge;
 use sq_audit::parts::Parts;
 use sq_base::refusal::Refusal;
 use sq_calls::calls::{Answer, Call};
 use sq_calls::turns::{Turn, Turned};
-use sq_actions::progress::Progress;
 use sq_directory::directory::Directory;
 use sq_history::recorded::Home;
 use sq_ledger::ledger::TransitLedger;

@@ -2,10 +2,10 @@
 use super::calls::{create, create_with_target, delete, handle_of, named, receive, send};
 use super::shared::{Client, First, Setting, is_set};
 use super::stories::{Scene, Story, tell};
+use sq_actions::progress::Progress;
 use sq_base::ranges::MaxResults;
 use sq_calls::calls::{Call, ListMessageMoveTasks, StartMessageMoveTask};
 use sq_calls::turns::Turn;
-use sq_actions::progress::Progress;
 use sq_model::item::TaskNo;
 use sq_tests_values::choices::Choices;
 use std::process::Abort;

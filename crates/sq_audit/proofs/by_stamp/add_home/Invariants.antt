@@ -4,5 +4,5 @@ use Rattle.sq_model.specs.Systems.{OfHome}
 use Rattle.sq_audit.specs.Tags.{tags_of}
 use Rattle.sq_audit.proofs.by_stamp.add_home.Given as goal
 
-abbrev pub invariant-loop-event : goal.invariant-loop-event
-invariant-loop-event l = tags_of l.all.items ≡ tags_of l.initial.all.items ++ map (λ e. OfHome l.index e) (take l.event-index l.events)
+abbrev pub invariant-loop-place : goal.invariant-loop-place
+invariant-loop-place l = tags_of l.all.items ≡ tags_of l.initial.all.items ++ map (λ e. OfHome l.index e) (take l.place l.events.items)

@@ -5,5 +5,5 @@ use Rattle.sq_audit.specs.SystemNow.{own_events}
 use Rattle.sq_audit.specs.Tags.{tags_of}
 use Rattle.sq_audit.proofs.by_stamp.add_ledger.Given as goal
 
-abbrev pub invariant-loop-event : goal.invariant-loop-event
-invariant-loop-event l = tags_of l.all.items ≡ tags_of l.initial.all.items ++ map OfLedger (own_events (take l.event-index l.events))
+abbrev pub invariant-loop-place : goal.invariant-loop-place
+invariant-loop-place l = tags_of l.all.items ≡ tags_of l.initial.all.items ++ map OfLedger (own_events (take l.place l.events.items))

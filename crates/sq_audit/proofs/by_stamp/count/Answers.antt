@@ -19,4 +19,4 @@ loop-home-preserved c =
     let before = by_part events moved (events_of (take at homes)) in
     let more : length (by_part events moved (events_of (take (at + 1) homes))) ≡ length before + length home.events =
     rw (by_part_more events moved homes at home (omega arith) c.home-item.is) (length-append before (map (λ e. OfHome at e) home.events) ∙ ap (λ n. length before + n) (length-map home.events (λ e. OfHome at e))) in
-    rw (more, c.saturating_add-count-in-loop-home.ensures, c.loop-home.invariant, c.events-in-loop-home.ensures.items) (min_sum (length before) (length home.events) (2 ^ 64 - 1))
+    rw (more, c.saturating_add-count-in-loop-home.ensures, c.loop-home.invariant, c.len-in-loop-home.ensures, c.events-in-loop-home.ensures.items) (min_sum (length before) (length home.events) (2 ^ 64 - 1))

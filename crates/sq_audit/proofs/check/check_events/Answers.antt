@@ -1,24 +1,20 @@
-use Rattle.std.proofs.Common.{rules, ◌≡◌, ◌<◌, length, Err, refl, sym, ◌∙◌, subst}
+use Rattle.std.proofs.Common.{rules, ◌≡◌, ◌<◌, length, Err, sym, ◌∙◌, subst}
 use Rattle.std.proofs.lemmas.Option.{slice_get_within}
 use Rattle.sq_model.specs.declared.event.Event.{Event}
 use Rattle.sq_audit.specs.Faults.{EventFits, IsAt, IsRecordedAt}
-use Rattle.sq_directory.proofs.ElementLaws.{below_more, read_at, some_same}
+use Rattle.sq_directory.proofs.ElementLaws.{below_more, some_same}
 use Rattle.sq_audit.proofs.check.check_events.Goals as goal
 
 pub returns-in_err-check_event-clause-fault : goal.returns-in_err-check_event-clause-fault
 returns-in_err-check_event-clause-fault g c =
-    let events = c.args.events.now in
-    let lt : c.loop-index.index < length events = search rules in
     let refused : c.from_residual.result ≡ Err c.in_err-check_event.field-0.0 = search rules in
-    rw refused (c.loop-index.index, c.index-events-index.result, read_at events events c.loop-index.index c.index-events-index.result refl lt c.index-events-index.is, c.in_err-check_event.ensures.fault)
+    rw refused (c.loop-index.index, c.index-event.result.now, c.index-event.ensures, c.in_err-check_event.ensures.fault)
 
 pub loop-index-preserved : goal.loop-index-preserved
 loop-index-preserved g c =
-    let events = c.args.events.now in
-    let lt : c.loop-index.index < length events = search rules in
-    let in_list = read_at events events c.loop-index.index c.index-events-index.result refl lt c.index-events-index.is in
-    below_more (EventFits c.args.evidence.now.per_queue c.args.evidence.now.journals c.args.part events) c.loop-index.index c.loop-index.invariant
+    let in_list = c.index-event.ensures in
+    below_more (EventFits c.args.evidence.now.per_queue c.args.evidence.now.journals c.args.part c.args.events.now.items) c.loop-index.index c.loop-index.invariant
     (λ e same. subst (λ (x : Event _ _). IsRecordedAt c.args.evidence.now.journals x.actor x.place (IsAt c.args.evidence.now.per_queue c.args.part c.loop-index.index)) (some_same (sym in_list ∙ same)) c.in_ok-check_event.ensures.ok)
 
 pub returns-clause-ok : goal.returns-clause-ok
-returns-clause-ok g c k e in_list = c.loop-index.invariant k (let lt : k < length c.args.events.now = slice_get_within c.args.events.now k e in_list in search rules) e in_list
+returns-clause-ok g c k e in_list = c.loop-index.invariant k (let lt : k < length c.args.events.now.items = slice_get_within c.args.events.now.items k e in_list in search rules) e in_list

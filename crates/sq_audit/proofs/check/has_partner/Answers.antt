@@ -29,7 +29,7 @@ returns-in-Some-event_at c =
       λ h.
           let x = found_there c.evidence.inside.per_queue homes c.evidence.invariant.numbered c.args.home.now c.args.event.now c.requires.of_home.0 c.requires.of_home.1 c.in-Some.index home c.home_index.ensures.queue index c.index-homes-index.is
           (subst (λ (v : EvidenceValue). InHome v.homes c.args.event.now) (sym c.evidence.view_is) h) in
-          let there : IsEventAt c.events.result.now c.args.event.now.stamp x.0 = rw c.events.ensures.items x.1 in
+          let there : IsEventAt c.events.result.now.items c.args.event.now.stamp x.0 = rw c.events.ensures.items x.1 in
           let only : Some c.in-Some-event_at.other.now ≡ Some x.0 = c.in-Some-event_at.ensures.only x.0 there in
           let other : c.in-Some-event_at.other.now ≡ x.0 = cc in
           c.is_shared_event.ensures.1 (x.2 ∙ ap (as_ledger c.args.home.now) (sym other)),
@@ -44,7 +44,7 @@ returns-in-None c =
       λ h.
           let x = found_there c.evidence.inside.per_queue homes c.evidence.invariant.numbered c.args.home.now c.args.event.now c.requires.of_home.0 c.requires.of_home.1 c.in-Some.index home c.home_index.ensures.queue index c.index-homes-index.is
           (subst (λ (v : EvidenceValue). InHome v.homes c.args.event.now) (sym c.evidence.view_is) h) in
-          let there : IsEventAt c.events.result.now c.args.event.now.stamp x.0 = rw c.events.ensures.items x.1 in
+          let there : IsEventAt c.events.result.now.items c.args.event.now.stamp x.0 = rw c.events.ensures.items x.1 in
           let only = c.in-None.ensures.only x.0 there in
           absurd cc,
     )
