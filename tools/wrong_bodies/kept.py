@@ -2,13 +2,14 @@
 
 A file of the repository has a line for each edit: its name, its sum, and the goal that its contract opened. An edit whose sum
 stands there is not tried again, but in its turn: an eighth of them at each commit. Of each edit the last two sums are there, the
-latest first, so that two toolchains may take turns.
+latest first, so that two toolchains may take turns. A line with a word in place of the sum has the goals of a function.
 """
 import os
 import subprocess
 
 TURNS = 8
 SUMS = 2
+HAS = "has"  # what stands in place of a sum before the goals of a function
 
 
 def turn_of(root):
@@ -34,11 +35,14 @@ class Kept:
     """The lines of the file, by the names of the edits: of each the goals by their sums, the latest first."""
 
     def __init__(self, file):
-        self.file, self.goals = file, {}
+        self.file, self.goals, self.functions = file, {}, {}
         if file and os.path.exists(file):
             with open(file, encoding="utf-8") as lines:
                 for name, sum_of, goal in (it.split(maxsplit=2) for it in lines if it.strip()):
-                    self.goals.setdefault(name, {})[sum_of] = goal.strip()
+                    if sum_of == HAS:
+                        self.functions[name] = frozenset(goal.split())
+                    else:
+                        self.goals.setdefault(name, {})[sum_of] = goal.strip()
 
     def goal_of(self, name, sum_of):
         """The goal by which an edit of this sum was refused, if it was."""
@@ -58,5 +62,7 @@ class Kept:
     def write(self, names):
         """Writes the lines of these edits, and no others."""
         with open(self.file, "w", encoding="utf-8") as file:
-            for name in sorted(it for it in self.goals if it in names):
-                file.writelines(f"{name} {sum_of} {goal}\n" for sum_of, goal in self.goals[name].items())
+            for name in sorted(it for it in {*self.goals, *self.functions} if it in names):
+                file.writelines(f"{name} {sum_of} {goal}\n" for sum_of, goal in self.goals.get(name, {}).items())
+                if self.functions.get(name):
+                    file.write(f"{name} {HAS} {' '.join(sorted(self.functions[name]))}\n")

@@ -9,7 +9,7 @@ from collections import Counter
 
 from .checks import Check
 from .edits import say
-from .functions import copy_proof, function_at, leave_out, leave_unoffered, proof_of
+from .functions import copy_proof, function_at, goals_of, leave_out, leave_unoffered, proof_of
 from .kit import KIT
 from .rounds import end_of, is_control, rounds_of
 
@@ -97,9 +97,9 @@ class Work:
                 copy_proof(texts, proof_of(crate, function.path), it.suffix)
             else:
                 texts[path] = was[: function.opens] + it.body + was[function.closes :]
-            leave_out(texts, function.path, it.suffix, it.left_out)
+            leave_out(texts, function.path, it.suffix, it.left_out | it.aside)
             if it.in_brief:
-                leave_unoffered(crate, texts, function.path, it.suffix)
+                leave_unoffered(crate, texts, function.path, it.suffix, it.aside)
         return texts
 
     def with_tries(self, crate, tries):
@@ -119,6 +119,8 @@ class Work:
         what = " ".join(end_of(it) if is_control(it) else it.edit.name for it in tries)
         check = self.check(crate, room, what, only, {it: text for it, text in texts.items() if it.startswith("proofs/")})
         with self.lock:
+            for it in (it for it in tries if it.function):
+                crate.found.setdefault(it.function, set()).update(goals_of(crate, it.function.path, it.suffix, f"{room}/out/incremental"))
             if not os.path.isdir(f"{self.folder}/{crate.name}.kept") and os.path.isdir(f"{room}/out/incremental"):
                 os.rename(f"{room}/out/incremental", f"{self.folder}/{crate.name}.kept")
         shutil.rmtree(room, ignore_errors=True)
@@ -171,7 +173,11 @@ class Work:
             return
         if unfit:
             self.try_round(crate, unfit)
-        for it in left:
+        # Another goal may refuse an edit now.
+        whole = [it._replace(aside=frozenset()) for it in left if it.aside]
+        if whole:
+            self.try_round(crate, whole)
+        for it in (it for it in left if not it.aside):
             self.try_round(crate, [it._replace(suffix="", in_brief=False)])
 
     def try_crate(self, crate, edits, pool):
