@@ -23,7 +23,9 @@ class Edit:
     def __init__(self, crate, file):
         self.crate, self.name = crate, os.path.basename(file)[: -len(".edit")]
         self.texts, self.path, self.function, self.body = {}, None, None, None
-        self.wanted, self.by, self.verdict, self.why, self.last_goal, self.is_passed_over = "refused", None, None, None, None, False
+        self.wanted, self.by, self.verdict, self.why = "refused", None, None, None
+        # The goal that refused it last, and those that it opened beside it.
+        self.last_goal, self.beside = None, frozenset()
         self.fault = self.read(file)
         if not self.fault and len(self.texts) == 1:
             self.place()
@@ -74,8 +76,6 @@ class Crate:
         self.edits, self.files, self.below, self.library = [], {}, [], f"{root}/crates/{name}/out/rlib/{name}.rlib"
         # The functions of which a copy as they are was proved, earlier or in this run.
         self.copies = set()
-        # Of functions the names of their goals: those that are known from earlier, and those that checks of this run found.
-        self.goals, self.found = {}, {}
 
     def read(self, folders):
         for part in PARTS:

@@ -1,6 +1,4 @@
 """The functions of a source file, found by its layout."""
-import glob
-import json
 import re
 from collections import namedtuple
 
@@ -12,8 +10,6 @@ IMPL = re.compile(r"impl(?:<(.*?)>)? (?:(\S.*?) for )?(\w+)(?:<([^{]*)>)? ?(?:\{
 TRAIT = re.compile(r"(?:pub )?trait (\w+)")
 # The name of an answer that cannot be read, by which a check is told to print no more than that a function is not proved.
 UNOFFERED = "not_offered"
-# The goals whose search takes long: of what holds as a function returns, and of what is kept.
-KEEPS = re.compile(r"returns|invariant_of-|loop-|\w+-(?:init|preserved)$")
 # A declaration of a proof: an answer to the goal of its name, or a lemma of its own.
 DECLARED = re.compile(r"(?m)^(?:abbrev |abstract )*(?:pub )?(\S+) :(?= |$)( goal\.)?")
 
@@ -103,20 +99,6 @@ def leave_unoffered(crate, texts, path, suffix, aside):
         file = f"{folder}{suffix}/Answers.antt"
         unread = (f"\npub {it} : {UNOFFERED}_here\n{it} = {UNOFFERED}_here\n" for it in (UNOFFERED, *sorted(aside)))
         texts[file] = texts.get(file, "") + "".join(unread)
-
-
-def goals_of(crate, path, suffix, kept):
-    """The goals that say what a function ensures and what its types and loops keep, or a copy of it, as a check left them in the folder
-    of its work; none where it did not come to them."""
-    folder = proof_of(crate, path) or place_of_proof(crate, path) or ""
-    module = f"Rattle-{crate.name}-proofs.{folder.partition('/')[2].replace('/', '.')}{suffix}.Proof.oantt"
-    for file in glob.glob(f"{kept}/*/{glob.escape(module)}"):
-        with open(file, "rb") as text:
-            said = re.search(rb"(?m)^--@ interface (.*)", text.read())
-        names = {it["name"] for it in json.loads(said[1])["globals"]} if said else set()
-        # A goal of several clauses is made of these.
-        return {it for it in names if KEEPS.match(it) and not any(other.startswith(f"{it}-clause-") for other in names)}
-    return set()
 
 
 def copy_proof(texts, folder, suffix):

@@ -1,15 +1,14 @@
 """What was refused once, over the same texts, by the same toolchain.
 
-A file of the repository has a line for each edit: its name, its sum, and the goal that its contract opened. An edit whose sum
-stands there is not tried again, but in its turn: an eighth of them at each commit. Of each edit the last two sums are there, the
-latest first, so that two toolchains may take turns. A line with a word in place of the sum has the goals of a function.
+A file of the repository has a line for each edit: its name, its sum, the goal that refused it, and the goals that it opened beside
+that one. An edit whose sum stands there is not tried again, but in its turn: an eighth of them at each commit. Of each edit the last
+two sums are there, the latest first, so that two toolchains may take turns.
 """
 import os
 import subprocess
 
 TURNS = 8
 SUMS = 2
-HAS = "has"  # what stands in place of a sum before the goals of a function
 
 
 def turn_of(root):
@@ -23,8 +22,8 @@ def turns_of(edits):
     groups, found, before = {}, {}, 0
     for it in edits:
         groups.setdefault((it.crate.name, it.function.path if it.body else it.name), []).append(it)
-    # What a function costs grows with its length.
-    costs = {key: sum(500 + len(it.body or "") for it in its) for key, its in groups.items()}
+    # What an edit costs grows with the length of its function, and with the libraries below its crate.
+    costs = {key: sum((500 + len(it.body or "")) * (8 + len(it.crate.below)) for it in its) for key, its in groups.items()}
     for key, its in groups.items():
         found.update(dict.fromkeys(its, (2 * before + costs[key]) * TURNS // (2 * sum(costs.values()))))
         before += costs[key]
@@ -35,34 +34,30 @@ class Kept:
     """The lines of the file, by the names of the edits: of each the goals by their sums, the latest first."""
 
     def __init__(self, file):
-        self.file, self.goals, self.functions = file, {}, {}
+        self.file, self.goals = file, {}
         if file and os.path.exists(file):
             with open(file, encoding="utf-8") as lines:
-                for name, sum_of, goal in (it.split(maxsplit=2) for it in lines if it.strip()):
-                    if sum_of == HAS:
-                        self.functions[name] = frozenset(goal.split())
-                    else:
-                        self.goals.setdefault(name, {})[sum_of] = goal.strip()
+                for name, sum_of, *goals in (it.split() for it in lines if it.strip()):
+                    self.goals.setdefault(name, {})[sum_of] = goals
 
     def goal_of(self, name, sum_of):
         """The goal by which an edit of this sum was refused, if it was."""
-        return self.goals.get(name, {}).get(sum_of)
+        return next(iter(self.goals.get(name, {}).get(sum_of, [])), None)
 
-    def last_goal_of(self, name):
-        """The goal by which an edit was refused last, over whatever texts."""
-        return next(iter(self.goals.get(name, {}).values()), None)
+    def last_goals_of(self, name):
+        """The goal by which an edit was refused last, over whatever texts, if it was, and those that it opened beside it."""
+        goal, *beside = next(iter(self.goals.get(name, {}).values()), [None])
+        return goal, frozenset(beside)
 
-    def note(self, name, sum_of, goal):
+    def note(self, name, sum_of, goal, beside=()):
         """Keeps that an edit is refused, or with no goal that it is not."""
         was = self.goals.pop(name, {})
         if goal:
-            first = {} if sum_of in was else {sum_of: goal}
-            self.goals[name] = dict([*first.items(), *was.items()][:SUMS])
+            now = {sum_of: [goal, *sorted(beside)]}
+            self.goals[name] = dict([*({**was, **now} if sum_of in was else {**now, **was}).items()][:SUMS])
 
     def write(self, names):
         """Writes the lines of these edits, and no others."""
         with open(self.file, "w", encoding="utf-8") as file:
-            for name in sorted(it for it in {*self.goals, *self.functions} if it in names):
-                file.writelines(f"{name} {sum_of} {goal}\n" for sum_of, goal in self.goals.get(name, {}).items())
-                if self.functions.get(name):
-                    file.write(f"{name} {HAS} {' '.join(sorted(self.functions[name]))}\n")
+            for name in sorted(it for it in self.goals if it in names):
+                file.writelines(f"{name} {sum_of} {' '.join(goals)}\n" for sum_of, goals in self.goals[name].items())

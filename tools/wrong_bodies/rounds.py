@@ -5,8 +5,9 @@ from .functions import has_answer, is_in_a_cycle, proof_of
 
 # An edit, or none, in a function; with a suffix it is in a copy of the function. Where its body is the function's own it is a control.
 # The stored answers to some of its goals may be left out. What is tried in brief is not told how to go on where it is not proved, and
-# goals may be set aside: for these no search is made. So an edit that one goal refused last is tried by that goal, as it is open or not
-# whatever becomes of the others. A second try of an edit stands beside the first, and counts where a stored answer does not fit the first.
+# goals may be set aside: for these no search is made. So an edit that opened several goals is tried by the one that refused it last, which
+# is open or not whatever becomes of the others. A second try of an edit stands beside the first, and counts where a stored answer does
+# not fit the first.
 Try = namedtuple("Try", "edit function body suffix left_out in_brief aside is_second", defaults=[frozenset(), False, frozenset(), False])
 
 
@@ -20,17 +21,11 @@ def is_control(it):
     return it.edit.body != it.body
 
 
-def aside_of(edit):
-    """The goals of an edit's function, as far as they are known, but that which refused the edit last; none where none did."""
-    return edit.crate.goals.get(edit.function, frozenset()) - {edit.last_goal} if edit.last_goal else frozenset()
-
-
 def rounds_of(crate, edits, most):
     """Divides edits of a crate into few rounds of about one size. A function is copied for each of its edits, and once as it is
     where its proof is written, unless that copy was proved earlier; and twice for an edit that was last refused by a goal with a
     stored answer, once without the answer, which spares a check. One that cannot be copied has an edit a round, among others of
-    its kind: beside an edit in place nothing is known of who calls its function. Of a function whose goals are known all are set
-    aside but that which refused the edit last."""
+    its kind: beside an edit in place nothing is known of who calls its function."""
     alone, groups = [], {}
     for it in edits:
         if it.body:
@@ -43,9 +38,9 @@ def rounds_of(crate, edits, most):
             in_brief = not is_in_a_cycle(crate, function.path)
             for at, it in enumerate(its):
                 placed += [[]] if at == len(placed) else []
-                placed[at].append(Try(it, function, it.body, "", in_brief=in_brief, aside=aside_of(it) if in_brief else frozenset()))
+                placed[at].append(Try(it, function, it.body, "", in_brief=in_brief, aside=it.beside if in_brief else frozenset()))
             continue
-        tries = [Try(it, function, it.body, f"_w{at}", in_brief=True, aside=aside_of(it)) for at, it in enumerate(its, 1)]
+        tries = [Try(it, function, it.body, f"_w{at}", in_brief=True, aside=it.beside) for at, it in enumerate(its, 1)]
         with_answer = [it for it in tries if has_answer(crate, function.path, it.edit.last_goal)]
         tries += [it._replace(suffix=f"{it.suffix}s", left_out=frozenset([it.edit.last_goal]), is_second=True) for it in with_answer]
         if proof_of(crate, function.path) and function not in crate.copies:

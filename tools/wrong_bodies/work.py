@@ -9,7 +9,7 @@ from collections import Counter
 
 from .checks import Check
 from .edits import say
-from .functions import copy_proof, function_at, goals_of, leave_out, leave_unoffered, proof_of
+from .functions import copy_proof, function_at, leave_out, leave_unoffered, proof_of
 from .kit import KIT
 from .rounds import end_of, is_control, rounds_of
 
@@ -119,8 +119,6 @@ class Work:
         what = " ".join(end_of(it) if is_control(it) else it.edit.name for it in tries)
         check = self.check(crate, room, what, only, {it: text for it, text in texts.items() if it.startswith("proofs/")})
         with self.lock:
-            for it in (it for it in tries if it.function):
-                crate.found.setdefault(it.function, set()).update(goals_of(crate, it.function.path, it.suffix, f"{room}/out/incremental"))
             if not os.path.isdir(f"{self.folder}/{crate.name}.kept") and os.path.isdir(f"{room}/out/incremental"):
                 os.rename(f"{room}/out/incremental", f"{self.folder}/{crate.name}.kept")
         shutil.rmtree(room, ignore_errors=True)
@@ -153,6 +151,8 @@ class Work:
                 it.edit.tell("BAD EDIT", "the borrow checker does not cover it, so that no contract was tried")
             elif goals and it.function not in unsure:
                 it.edit.tell("refused", f"{goals[0][0]}: {goals[0][1]}")
+                tried = [symbol, *([check.symbol_of(end_of(seconds[it.edit]))] if it.edit in seconds else [])]
+                it.edit.beside = (it.aside | {name for each in tried for name, *_ in check.goals.get(each, [])}) - {goals[0][0]}
             elif check.unfit_answers(symbol) - it.left_out and it.function not in unsure:
                 # An answer shows something else than is to be shown now: does the search leave the goal open too?
                 unfit.append(it._replace(left_out=it.left_out | check.unfit_answers(symbol)))
