@@ -1,4 +1,4 @@
-//! The library in use: three short programs, each a test.
+//! The library in use: short programs, each a test.
 #![tactic(auto)]
 
 #[cfg(test)]

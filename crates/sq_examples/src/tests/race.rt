@@ -1,4 +1,4 @@
-//! Races of clients and movers.
+//! A race: clients and movers at one service, and the verdict.
 use sq_flags::flags::RaceMode;
 use sq_lines::counted::Counted;
 use sq_opening::options::Options;

@@ -1,4 +1,4 @@
-//! Both ends of a connection, in one process.
+//! A server, and a client of it over a socket: both ends of a connection, in one process.
 use sq_flags::flags::ServeMode;
 use sq_lines::counted::Counted;
 use sq_opening::options::Options;

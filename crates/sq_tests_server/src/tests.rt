@@ -1,4 +1,0 @@
-//! A module a subject.
-
-mod loopback;
-mod races;
