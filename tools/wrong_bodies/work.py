@@ -151,8 +151,8 @@ class Work:
                 it.edit.tell("BAD EDIT", "the borrow checker does not cover it, so that no contract was tried")
             elif goals and it.function not in unsure:
                 it.edit.tell("refused", f"{goals[0][0]}: {goals[0][1]}")
-                both = [symbol, *(check.symbol_of(end_of(each)) for each in tries if each.is_second and each.edit == it.edit)]
-                it.edit.beside = (it.aside | {name for each in both for name, *_ in check.goals.get(each, [])}) - {goals[0][0]}
+                opened = [name for each in {it, seconds.get(it.edit, it)} for name, *_ in check.goals.get(check.symbol_of(end_of(each)), [])]
+                it.edit.beside = it.aside.union(opened) - {goals[0][0]}
             elif check.unfit_answers(symbol) - it.left_out and it.function not in unsure:
                 # An answer shows something else than is to be shown now: does the search leave the goal open too?
                 unfit.append(it._replace(left_out=it.left_out | check.unfit_answers(symbol)))
