@@ -1,5 +1,5 @@
 -- What contracts see of a list that grows in blocks.
-use Rattle.std.specs.Prelude.{ℕ, ◌+◌, ◌-◌, ◌^◌, List, ◌++◌, min, ◌&&◌, nat_le, nat_lt, if◌then◌else◌}
+use Rattle.std.specs.Prelude.{ℕ, ◌≡◌, ◌+◌, ◌-◌, ◌^◌, List, ◌++◌, min, ◌&&◌, nat_le, nat_lt, length, if◌then◌else◌}
 use Rattle.std.specs.Global.{Vec}
 use Rattle.std.specs.List.{flat_map}
 
@@ -7,6 +7,10 @@ use Rattle.std.specs.List.{flat_map}
 pub record BlocksValue (T : Type 0) : Type 0 where
   pub items : List T
   pub reserved : ℕ
+
+-- a block is full
+abbrev pub IsWhole : {T : Type 0} → Vec T → Type 0
+IsWhole block = length block.items ≡ 4096
 
 -- the items of whole blocks, and then those of the last one
 abbrev pub joined : {T : Type 0} → List (Vec T) → List T → List T

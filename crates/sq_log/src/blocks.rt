@@ -1,5 +1,7 @@
 //! A list that grows in blocks, so that a long one is never copied to grow.
-ghost use Rattle.std.specs.Prelude.{◌≡◌, ◌+◌, ◌<◌, ◌≤◌, ◌++◌, ◌∷◌, [], IfErr, OnOk, length, option_map, slice_get};
+ghost use Rattle.std.specs.Prelude.{◌≡◌, ◌+◌, ◌*◌, ◌<◌, ◌≤◌, ◌++◌, ◌∷◌, [], IfErr, OnOk, Some, length, option_map, slice_get, vec_len};
+ghost use Rattle.std.specs.List.{AllByRecursion, remove as without};
+ghost use Rattle.sq_log.specs.BlocksValue.{IsWhole, joined};
 
 use sq_base::refusal::Refusal;
 use std::alloc::Global;
@@ -26,14 +28,14 @@ pub struct Blocks<T> {
 impl<T> Model for Blocks<T> {
     ghost use Rattle.std.specs.Prelude.{◌≡◌, ◌≤◌, ◌-◌, ◌^◌, length, vec_len, vec_capacity};
     ghost use Rattle.std.specs.List.{AllByRecursion};
-    ghost use Rattle.sq_log.specs.BlocksValue.{BlocksValue, joined, room_in};
+    ghost use Rattle.sq_log.specs.BlocksValue.{BlocksValue, IsWhole, joined, room_in};
 
     ghost Value = { BlocksValue T };
 
     ghost view = { λ b. record { items = joined b.whole.items b.last.items; reserved = room_in (vec_len b.last) (vec_capacity b.last) (vec_len b.whole) (vec_capacity b.whole) (vec_capacity b.next) } };
 
     ghost invariant = { λ b. record {
-      whole : AllByRecursion (λ block. length block.items ≡ 4096) b.whole.items;
+      whole : AllByRecursion IsWhole b.whole.items;
       few : vec_len b.whole ≤ 2 ^ 50;
       last : vec_len b.last ≤ 4096;
       next : vec_len b.next ≡ 0;
@@ -120,6 +122,22 @@ impl<T: Drop> Blocks<T> {
         }
         self.last.push_reserved(item);
     }
+
+    /// Takes out the item at a place that there is one at, from 0 upwards, and moves up those after it by one. There may then be
+    /// memory for fewer.
+    pub fn remove(&mut self, place: usize) -> T
+        requires { place < length self.old.items }
+        ensures taken { slice_get self.old.items place ≡ Some result }
+        ensures items { self.new.items ≡ without self.old.items place }
+    {
+        reopen(&mut self.whole, &mut self.last);
+        let before = self.whole.len() * BLOCK;
+        if place >= before {
+            return self.last.remove(place - before);
+        }
+        let first = self.last.remove(0);
+        move_out(self.whole.as_mut_slice(), place, first)
+    }
 }
 
 impl<T> Index<usize> for Blocks<T> {
@@ -136,6 +154,53 @@ impl<T> Index<usize> for Blocks<T> {
         let found = self.get(place);
         found.unwrap()
     }
+}
+
+// Makes the last whole block the last one of all, where that has no item.
+fn reopen<T: Drop>(whole: &mut Vec<Vec<T>>, last: &mut Vec<T>)
+    requires whole { AllByRecursion IsWhole whole.old.items }
+    requires last { length last.old.items ≤ 4096 }
+    ensures whole { AllByRecursion IsWhole whole.new.items }
+    ensures few { vec_len whole.new ≤ vec_len whole.old }
+    ensures last { length last.new.items ≤ 4096 }
+    ensures open { 0 < length whole.new.items → 0 < length last.new.items }
+    ensures items { joined whole.new.items last.new.items ≡ joined whole.old.items last.old.items }
+{
+    if !last.is_empty() {
+        return;
+    }
+    if let Some(block) = whole.pop() {
+        *last = block;
+    }
+}
+
+// Takes out the item of whole blocks at a place, moves up those after it by one, and puts another last.
+fn move_out<T>(blocks: &mut [Vec<T>], place: usize, item: T) -> T
+    requires whole { AllByRecursion IsWhole blocks.old }
+    requires there { place < length blocks.old * 4096 }
+    ensures whole { AllByRecursion IsWhole blocks.new }
+    ensures len { length blocks.new ≡ length blocks.old }
+    ensures taken { slice_get (joined blocks.old []) place ≡ Some result }
+    ensures items { joined blocks.new [] ≡ without (joined blocks.old []) place ++ item ∷ [] }
+{
+    let at = place / BLOCK;
+    let mut carried = item;
+    for left in (at + 1..blocks.len()).rev() {
+        carried = push_out(&mut blocks[left], 0, carried);
+    }
+    push_out(&mut blocks[at], place % BLOCK, carried)
+}
+
+// Takes out the item of a block at a place, and puts another last.
+fn push_out<T>(block: &mut Vec<T>, place: usize, item: T) -> T
+    requires { place < length block.old.items }
+    ensures taken { slice_get block.old.items place ≡ Some result }
+    ensures items { block.new.items ≡ without block.old.items place ++ item ∷ [] }
+    ensures len { length block.new.items ≡ length block.old.items }
+{
+    let taken = block.remove(place);
+    block.push_reserved(item);
+    taken
 }
 
 // The item of a slice at a place.

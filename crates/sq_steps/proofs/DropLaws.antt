@@ -1,5 +1,5 @@
 -- An actor's journal without one of its records.
-use Rattle.std.proofs.Common.{◌≡◌, ◌≢◌, ◌↔◌, ℕ, zero, suc, ◌+◌, ◌<◌, ◌≤◌, Bool, true, false, not, cond, List, [], ◌∷◌, length, map, refl, ap, sym, ◌∙◌, subst, arith, Some, None, slice_get, slice_set}
+use Rattle.std.proofs.Common.{◌≡◌, ◌≢◌, ◌↔◌, ℕ, zero, suc, ◌+◌, ◌<◌, ◌≤◌, Bool, true, false, not, cond, List, [], ◌∷◌, length, refl, ap, sym, ◌∙◌, subst, arith, Some, None, slice_get, slice_set}
 use Rattle.std.specs.Prelude.{nat_eq, nat_lt, ◌==◌, ◌||◌, if◌then◌else◌, position, filter}
 use Rattle.std.specs.List.{AllByRecursion, position_or_len, list_any}
 use Rattle.std.proofs.lemmas.Bool.{eqb-true}
@@ -8,6 +8,7 @@ use Rattle.sq_base.specs.Stamps.{Below}
 use Rattle.sq_model.specs.RecordValues.{RecordValue, place_of_record, record_stamp, Journal, RecordsRise}
 use Rattle.sq_model.specs.Matches.{IsRecorded}
 use Rattle.sq_directory.specs.Makers.{IsSeen}
+use Rattle.sq_steps.specs.Records.{without_first}
 use Rattle.sq_steps.specs.Journals.{IsJournal, is_of_actor, journal_of, without_record, without_record_of, AreDistinct}
 use Rattle.sq_steps.proofs.JournalListLaws.{journal_own, found_there, differ, journal_once, same_place}
 use Rattle.sq_directory.proofs.ElementLaws.{all_get, some_same}
@@ -29,6 +30,27 @@ journal_less journal place is =
       saw = all_filter (λ n. IsSeen (record_stamp n) journal.seen) p journal.records is.saw;
     }
 
+other_number : (x y : ℕ) → x ≢ y → nat_eq x y ≡ false
+other_number x y ne = grind (arith, common_steps)
+
+-- of records that rise one at most has this number, so that the first is all
+kept_all : (n : RecordValue) (place : ℕ) (ns : List RecordValue) → place_of_record n ≡ place → AllByRecursion (λ m. (place_of_record n < place_of_record m) × Below (record_stamp n) (record_stamp m)) ns
+    → filter (λ m. not (place_of_record m == place)) ns ≡ ns
+kept_all n place [] same above = refl
+kept_all n place (m ∷ ns) same above =
+    let lower = above.0.0 in
+    rw (other_number (place_of_record m) place (λ e. absurd (omega (arith, e, same, lower)))) (ap (λ ys. m ∷ ys) (kept_all n place ns same above.1))
+
+pub first_is_all : (place : ℕ) (ns : List RecordValue) → RecordsRise ns → without_first (λ n. place_of_record n == place) ns ≡ filter (λ n. not (place_of_record n == place)) ns
+first_is_all place [] rise = refl
+first_is_all place (n ∷ ns) rise =
+    let p : RecordValue → Bool = λ m. place_of_record m == place in
+    let q : RecordValue → Bool = λ m. not (place_of_record m == place) in
+    elim (p n) as (λ v. p n ≡ v → cond v ns (n ∷ without_first p ns) ≡ cond (not v) (n ∷ filter q ns) (filter q ns)) [
+      | true ↦ (λ e. sym (kept_all n place ns (eqb-true _ _ e) rise.0))
+      | false ↦ (λ e. ap (λ ys. n ∷ ys) (first_is_all place ns rise.1))
+    ] refl
+
 -- where no element passes, none is found; and the other way round
 any_at : {X : Type 0} (p : X → Bool) (xs : List X) → list_any p xs ≡ true → (i : ℕ) × (x : X) × (slice_get xs i ≡ Some x) × (p x ≡ true)
 any_at p [] h = absurd cc
@@ -41,10 +63,6 @@ at_any p [] i x h e = absurd cc
 at_any p (y ∷ ys) zero x h e = let here : p y ≡ true = ap p (some_same h) ∙ e in rw here refl
 at_any p (y ∷ ys) (suc i) x h e = elim (p y) as (λ v. (v || list_any p ys) ≡ true) [ true ↦ refl | false ↦ at_any p ys i x h e ]
 
-pub any_map : {X Y : Type 0} (f : X → Y) (p : Y → Bool) (xs : List X) → list_any p (map f xs) ≡ list_any (λ x. p (f x)) xs
-any_map f p [] = refl
-any_map f p (x ∷ xs) = ap (λ (v : Bool). p (f x) || v) (any_map f p xs)
-
 -- where an actor is not found, all are others
 all_lost : (actor : ℕ) (journals : List Journal) → length journals ≤ position_or_len (is_of_actor actor) journals → AllByRecursion (λ y. y.actor ≢ actor) journals
 all_lost actor [] le = tt
@@ -56,9 +74,6 @@ lost_others : (actor : ℕ) (journals : List Journal) → position (is_of_actor 
 lost_others actor journals h =
     elim (nat_lt (position_or_len (is_of_actor actor) journals) (length journals)) as (λ v. nat_lt (position_or_len (is_of_actor actor) journals) (length journals) ≡ v → cond v (Some (position_or_len (is_of_actor actor) journals)) None ≡ None → AllByRecursion (λ y. y.actor ≢ actor) journals)
     [ true ↦ (λ e k. absurd cc) | false ↦ (λ e k. all_lost actor journals (grind (arith, common_steps, e))) ] refl h
-
-other_number : (x y : ℕ) → x ≢ y → nat_eq x y ≡ false
-other_number x y ne = grind (arith, common_steps)
 
 without_others : (actor place : ℕ) (journals : List Journal) → AllByRecursion (λ y. y.actor ≢ actor) journals → without_record_of actor place journals ≡ journals
 without_others actor place [] all = refl

@@ -1,17 +1,17 @@
 -- Records as they are kept, one more or one fewer.
-use Rattle.std.proofs.Common.{◌≡◌, ◌∙◌, ℕ, zero, suc, Bool, cond, not, ◌+◌, ◌<◌, ◌≤◌, List, [], ◌∷◌, ◌++◌, true, false, length, map, Option, Some, slice_get, refl, ap, sym, subst, arith}
-use Rattle.std.specs.List.{AllByRecursion, list_any}
-use Rattle.std.specs.Prelude.{◌==◌, ◌||◌, filter, nat_le, if◌then◌else◌}
+use Rattle.std.proofs.Common.{◌≡◌, ◌∙◌, ℕ, zero, suc, Bool, cond, ◌+◌, ◌<◌, ◌≤◌, List, [], ◌∷◌, ◌++◌, true, false, length, map, Option, Some, slice_get, take, refl, ap, sym, subst, arith}
+use Rattle.std.specs.List.{AllByRecursion, list_any, remove}
+use Rattle.std.specs.Prelude.{◌==◌, ◌||◌, if◌then◌else◌}
 use Rattle.std.specs.Str.{bytes_eq}
-use Rattle.std.proofs.lemmas.Grind.{common_steps}
 use Rattle.std.proofs.lemmas.List.{map-append, length-append}
+use Rattle.std.proofs.lemmas.List.Folds.{list_any_more}
+use Rattle.std.proofs.lemmas.Option.{get_or_from_slice_get}
 use Rattle.sq_model.specs.RecordValues.{RecordValue, HomeRecordValue, OfHome, place_of_record}
 use Rattle.sq_history.specs.Records.{with_home}
 use Rattle.sq_steps.specs.declared.records.Kept.{Kept}
 use Rattle.sq_steps.specs.declared.records.Kept.TheVariants.{Home, Named, Other as AmongOthers}
 use Rattle.sq_steps.specs.declared.records.Other.{Other}
-use Rattle.sq_steps.specs.Records.{HasPut, IsIn, IsKeptAs, least, other_at, place_of_kept, value_of_kept, value_of_other, values_of_kept}
-use Rattle.sq_directory.proofs.ElementLaws.{all_get, get_map}
+use Rattle.sq_steps.specs.Records.{HasPut, IsFirstAt, IsIn, IsKeptAs, other_at, place_of_kept, value_of_kept, value_of_other, values_of_kept, without_first}
 use Rattle.sq_steps.proofs.JournalLaws.{all_push, all_weaken}
 
 pub get_last : {X : Type 0} (xs : List X) (x : X) → slice_get (xs ++ x ∷ []) (length xs) ≡ Some x
@@ -24,21 +24,10 @@ get_front (y ∷ ys) x zero h = refl
 get_front (y ∷ ys) x (suc i) h = get_front ys x i (omega (arith, h))
 
 -- where one is got, it is within
-get_within : {X : Type 0} (xs : List X) (x : X) (i : ℕ) → slice_get xs i ≡ Some x → i < length xs
+pub get_within : {X : Type 0} (xs : List X) (x : X) (i : ℕ) → slice_get xs i ≡ Some x → i < length xs
 get_within [] x i h = absurd cc
 get_within (y ∷ ys) x zero h = omega arith
 get_within (y ∷ ys) x (suc i) h = let rest = get_within ys x i h in omega (arith, rest)
-
--- more memory for the one leaves no less for both
-pub least_more : (room a more b : ℕ) → a ≤ more → room ≤ least a b → room ≤ least more b
-least_more room a more b le h =
-    elim (nat_le more b) as (λ v. nat_le more b ≡ v → room ≤ (if v then more else b)) [
-      | true ↦ (λ e. elim (nat_le a b) as (λ v. room ≤ (if v then a else b) → room ≤ more) [ true ↦ (λ k. omega (arith, k, le)) | false ↦ (λ k. let l : more ≤ b = grind (arith, common_steps, e) in grind (arith, common_steps, e, le, k)) ] h)
-      | false ↦ (λ e. elim (nat_le a b) as (λ v. nat_le a b ≡ v → room ≤ (if v then a else b) → room ≤ b) [ true ↦ (λ d k. grind (arith, common_steps, d, k)) | false ↦ (λ d k. k) ] refl h)
-    ] refl
-
-pub least_of_more : (room a more b c : ℕ) → a ≤ more → room ≤ least (least a b) c → room ≤ least (least more b) c
-least_of_more room a more b c le h = least_more room (least a b) (least more b) c (least_more (least a b) a more b le (omega arith)) h
 
 -- a name that was there stays at its place
 pub record KeepsNames (old new : List (List ℕ)) : Type 0 where
@@ -119,18 +108,6 @@ other_within others names kept other h =
     all_push (IsIn (length (others ++ other ∷ [])) names) kept (AmongOthers (length others))
     (all_weaken (IsIn (length others) names) (IsIn (length (others ++ other ∷ [])) names) kept (λ n. is_in_more _ _ names names n (omega (arith, more)) (omega arith)) h) (omega (arith, more))
 
--- one that is read
-
-pub home_read : (others : List Other) (names : List (List ℕ)) (kept : List Kept) (index : ℕ) (n : Kept) → slice_get kept index ≡ Some n → slice_get (values_of_kept others names kept) index ≡ Some (value_of_kept others names n)
-home_read others names kept index n h = get_map (value_of_kept others names) kept index n h
-
-pub other_read : (others : List Other) (names : List (List ℕ)) (kept : List Kept) (index at : ℕ) (other : Other) → slice_get kept index ≡ Some (AmongOthers at) → slice_get others at ≡ Some other
-    → slice_get (values_of_kept others names kept) index ≡ Some (value_of_other other)
-other_read others names kept index at other h found = get_map (value_of_kept others names) kept index (AmongOthers at) h ∙ ap (λ (o : Option Other). Some (other_at o)) found
-
-pub other_there : (others : List Other) (names : ℕ) (kept : List Kept) (index at : ℕ) → AllByRecursion (IsIn (length others) names) kept → slice_get kept index ≡ Some (AmongOthers at) → at < length others
-other_there others names kept index at within h = all_get (IsIn (length others) names) kept within index (AmongOthers at) h
-
 -- by the numbers of their steps
 
 place_same : (others : List Other) (names : List (List ℕ)) (n : Kept) → place_of_record (value_of_kept others names n) ≡ place_of_kept others n
@@ -142,15 +119,51 @@ pub any_places : (others : List Other) (names : List (List ℕ)) (place : ℕ) (
 any_places others names place [] = refl
 any_places others names place (n ∷ ns) = λ i. (place_same others names n i == place) || any_places others names place ns i
 
-pub filter_places : (others : List Other) (names : List (List ℕ)) (place : ℕ) (kept : List Kept)
-    → values_of_kept others names (filter (λ n. not (place_of_kept others n == place)) kept) ≡ filter (λ n. not (place_of_record n == place)) (values_of_kept others names kept)
-filter_places others names place [] = refl
-filter_places others names place (n ∷ ns) =
+pub without_places : (others : List Other) (names : List (List ℕ)) (place : ℕ) (kept : List Kept)
+    → values_of_kept others names (without_first (λ n. place_of_kept others n == place) kept) ≡ without_first (λ n. place_of_record n == place) (values_of_kept others names kept)
+without_places others names place [] = refl
+without_places others names place (n ∷ ns) =
     let f = value_of_kept others names in
-    let p : RecordValue → Bool = λ m. not (place_of_record m == place) in
-    let q : Kept → Bool = λ m. not (place_of_kept others m == place) in
-    let same : q n ≡ p (f n) = ap (λ (x : ℕ). not (x == place)) (sym (place_same others names n)) in
-    let here : map f (cond (q n) (n ∷ filter q ns) (filter q ns)) ≡ cond (q n) (f n ∷ filter p (map f ns)) (filter p (map f ns)) =
-    (let rest = filter_places others names place ns in
-    elim (q n) as (λ v. map f (cond v (n ∷ filter q ns) (filter q ns)) ≡ cond v (f n ∷ filter p (map f ns)) (filter p (map f ns))) [ true ↦ ap (λ ys. f n ∷ ys) rest | false ↦ rest ]) in
-    here ∙ ap (λ (v : Bool). cond v (f n ∷ filter p (map f ns)) (filter p (map f ns))) same
+    let p : RecordValue → Bool = λ m. place_of_record m == place in
+    let q : Kept → Bool = λ m. place_of_kept others m == place in
+    let same : q n ≡ p (f n) = ap (λ (x : ℕ). x == place) (sym (place_same others names n)) in
+    let here : map f (cond (q n) ns (n ∷ without_first q ns)) ≡ cond (q n) (map f ns) (f n ∷ without_first p (map f ns)) =
+    (let rest = without_places others names place ns in
+    elim (q n) as (λ v. map f (cond v ns (n ∷ without_first q ns)) ≡ cond v (map f ns) (f n ∷ without_first p (map f ns))) [ true ↦ refl | false ↦ ap (λ ys. f n ∷ ys) rest ]) in
+    here ∙ ap (λ (v : Bool). cond v (map f ns) (f n ∷ without_first p (map f ns))) same
+
+-- the first that passes is taken out, by its place
+pub first_out : {X : Type 0} (p : X → Bool) (xs : List X) (at : ℕ) → IsFirstAt p xs at → remove xs at ≡ without_first p xs
+first_out p [] at first = let within = first.within in absurd (omega arith)
+first_out p (x ∷ xs) zero first =
+    elim (p x) as (λ v. (v || false) ≡ true → xs ≡ cond v xs (x ∷ without_first p xs)) [ true ↦ (λ e. refl) | false ↦ (λ e. absurd cc) ] first.passes
+first_out p (x ∷ xs) (suc at) first =
+    let one : suc at + 1 ≡ suc (at + 1) = omega arith in
+    elim (p x) as (λ v. (v || list_any p (take at xs)) ≡ false → (v || list_any p (take (at + 1) xs)) ≡ true → x ∷ remove xs at ≡ cond v xs (x ∷ without_first p xs)) [
+      | true ↦ (λ e d. absurd cc)
+      | false ↦ (λ e d. ap (λ ys. x ∷ ys) (first_out p xs at (record { within = let within = first.within in omega arith; before = e; passes = d })))
+    ] first.before (subst (λ (k : ℕ). list_any p (take k (x ∷ xs)) ≡ true) one first.passes)
+
+pub first_there : {X : Type 0} (p : X → Bool) (xs : List X) (at : ℕ) → IsFirstAt p xs at → list_any p xs ≡ true
+first_there p [] at first = let within = first.within in absurd (omega arith)
+first_there p (x ∷ xs) zero first = elim (p x) as (λ v. (v || false) ≡ true → (v || list_any p xs) ≡ true) [ true ↦ (λ e. refl) | false ↦ (λ e. absurd cc) ] first.passes
+first_there p (x ∷ xs) (suc at) first =
+    let one : suc at + 1 ≡ suc (at + 1) = omega arith in
+    elim (p x) as (λ v. (v || list_any p (take at xs)) ≡ false → (v || list_any p (take (at + 1) xs)) ≡ true → (v || list_any p xs) ≡ true) [
+      | true ↦ (λ e d. refl)
+      | false ↦ (λ e d. first_there p xs at (record { within = let within = first.within in omega arith; before = e; passes = d }))
+    ] first.before (subst (λ (k : ℕ). list_any p (take k (x ∷ xs)) ≡ true) one first.passes)
+
+pub none_out : {X : Type 0} (p : X → Bool) (xs : List X) → list_any p xs ≡ false → without_first p xs ≡ xs
+none_out p [] none = refl
+none_out p (x ∷ xs) none =
+    elim (p x) as (λ v. (v || list_any p xs) ≡ false → cond v xs (x ∷ without_first p xs) ≡ x ∷ xs) [ true ↦ (λ e. absurd cc) | false ↦ (λ e. ap (λ ys. x ∷ ys) (none_out p xs e)) ] none
+
+-- what holds of all holds of those that stay
+pub all_but_first : {X : Type 0} (P : X → Type 0) (p : X → Bool) (xs : List X) → AllByRecursion P xs → AllByRecursion P (without_first p xs)
+all_but_first P p [] h = h
+all_but_first P p (x ∷ xs) h = elim (p x) as (λ v. AllByRecursion P (cond v xs (x ∷ without_first p xs))) [ true ↦ h.1 | false ↦ (h.0, all_but_first P p xs h.1) ]
+
+-- one element more, as at a step of a loop
+pub any_next : {X : Type 0} (p : X → Bool) (xs : List X) (i : ℕ) (x : X) → slice_get xs i ≡ Some x → list_any p (take (i + 1) xs) ≡ (list_any p (take i xs) || p x)
+any_next p xs i x at = list_any_more p xs i x (get_within xs x i at) ∙ ap (λ y. list_any p (take i xs) || p y) (get_or_from_slice_get xs i x x at)

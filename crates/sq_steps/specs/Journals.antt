@@ -119,9 +119,9 @@ abbrev pub put_journal : Journal → List Journal → List Journal
 put_journal journal [] = journal ∷ []
 put_journal journal (x ∷ journals) = if x.actor == journal.actor then journal ∷ journals else x ∷ put_journal journal journals
 
--- what an actor has without the record of this number
+-- what an actor has without the record of this number; it shows room for none
 abbrev pub without_record : ℕ → Journal → Journal
-without_record place journal = record journal { records = filter (λ n. not (place_of_record n == place)) journal.records }
+without_record place journal = record journal { records = filter (λ n. not (place_of_record n == place)) journal.records; room = 0 }
 
 -- the same actors in the same order, where this one has no record of this number
 abbrev pub without_record_of : ℕ → ℕ → List Journal → List Journal

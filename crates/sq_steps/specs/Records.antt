@@ -1,5 +1,5 @@
 -- Records as they are lent, and as they are kept.
-use Rattle.std.specs.Prelude.{ℕ, ◌≡◌, ◌<◌, ◌++◌, ◌∷◌, [], List, map, nat_le, if◌then◌else◌, Option, None, Some, slice_get}
+use Rattle.std.specs.Prelude.{ℕ, Bool, ◌≡◌, ◌+◌, ◌<◌, ◌++◌, ◌∷◌, [], true, false, List, length, map, take, nat_le, if◌then◌else◌, Option, None, Some, slice_get}
 use Rattle.std.specs.List.{list_any}
 use Rattle.std.specs.Str.{bytes_eq}
 use Rattle.sq_base.specs.Stamps.{start}
@@ -45,6 +45,17 @@ place_of_kept others (AmongOthers at) = place_of_record (other_at (slice_get oth
 
 abbrev pub values_of_kept : List Other → List (List ℕ) → List Kept → List RecordValue
 values_of_kept others names kept = map (value_of_kept others names) kept
+
+-- the elements without the first one that passes
+abbrev pub without_first : {X : Type 0} → (X → Bool) → List X → List X
+without_first p [] = []
+without_first p (x ∷ xs) = if p x then xs else x ∷ without_first p xs
+
+-- the first one that passes stands at this place
+pub record IsFirstAt {X : Type 0} (p : X → Bool) (xs : List X) (at : ℕ) : Type 0 where
+  pub within : at < length xs
+  pub before : list_any p (take at xs) ≡ false
+  pub passes : list_any p (take (at + 1) xs) ≡ true
 
 -- what it points to is there, where there are so many others and so many names
 abbrev pub IsIn : ℕ → ℕ → Kept → Type 0

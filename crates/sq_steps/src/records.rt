@@ -1,10 +1,10 @@
 //! The records of an actor's steps.
-ghost use Rattle.std.specs.Prelude.{◌≡◌, ◌<◌, ◌≤◌, ◌+◌, ◌-◌, ◌++◌, ◌∷◌, ◌==◌, [], Some, filter, length, not, option_map, slice_get, vec_capacity, vec_len, IfErr, OnOk};
+ghost use Rattle.std.specs.Prelude.{◌≡◌, ◌<◌, ◌≤◌, ◌+◌, ◌++◌, ◌∷◌, ◌==◌, [], None, Some, false, length, slice_get, IfErr, IfSome, OnOk};
 ghost use Rattle.std.specs.List.{list_any};
 ghost use Rattle.sq_base.specs.declared.refusal.Refusal.{Refusal as Why};
 ghost use Rattle.sq_model.specs.RecordValues.{OfDirectory, OfLedger, OfHome, place_of_record};
 ghost use Rattle.sq_history.specs.Rooms.{IsReady, KeepsRoom};
-ghost use Rattle.sq_steps.specs.Records.{IsKeptAs, least, place_of_kept, value_of_other, value_of_record};
+ghost use Rattle.sq_steps.specs.Records.{IsFirstAt, IsKeptAs, least, place_of_kept, value_of_other, value_of_record, without_first};
 
 use crate::names::Names;
 use crate::record::Record;
@@ -14,6 +14,7 @@ use sq_base::refusal::Refusal;
 use sq_directory::record::DirectoryRecord;
 use sq_history::record::{HomeRecord, LentHomeRecord};
 use sq_ledger::record::LedgerRecord;
+use sq_log::blocks::Blocks;
 use sq_model::calls::HomeCall;
 use sq_model::event::StepRecord;
 use sq_model::replies::HomeReply;
@@ -41,14 +42,14 @@ pub(crate) enum Other {
 /// is got before a step, for a record of any part; it shows for how many more there was memory when its last one was put.
 #[derive(Drop)]
 pub(crate) struct Records {
-    kept: Vec<Kept>,
-    others: Vec<Other>,
+    kept: Blocks<Kept>,
+    others: Blocks<Other>,
     names: Names,
     room: usize,
 }
 
 impl Model for Records {
-    ghost use Rattle.std.specs.Prelude.{◌-◌, ◌≤◌, length, vec_len, vec_capacity};
+    ghost use Rattle.std.specs.Prelude.{◌≤◌, length};
     ghost use Rattle.std.specs.List.{AllByRecursion};
     ghost use Rattle.sq_history.specs.Rooms.{GrowingValue};
     ghost use Rattle.sq_model.specs.RecordValues.{RecordValue};
@@ -56,11 +57,11 @@ impl Model for Records {
 
     ghost Value = { GrowingValue RecordValue };
 
-    ghost view = { λ r. record { items = values_of_kept r.others.items r.names.names r.kept.items; room = r.room; reserved = least (least (vec_capacity r.kept - vec_len r.kept) (vec_capacity r.others - vec_len r.others)) r.names.reserved } };
+    ghost view = { λ r. record { items = values_of_kept r.others.items r.names.names r.kept.items; room = r.room; reserved = least (least r.kept.reserved r.others.reserved) r.names.reserved } };
 
     ghost invariant = { λ r. record {
       within : AllByRecursion (IsIn (length r.others.items) (length r.names.names)) r.kept.items;
-      room : r.room ≤ least (least (vec_capacity r.kept - vec_len r.kept) (vec_capacity r.others - vec_len r.others)) r.names.reserved;
+      room : r.room ≤ least (least r.kept.reserved r.others.reserved) r.names.reserved;
     } };
 }
 
@@ -71,8 +72,8 @@ impl Records {
         ensures room { result.room ≡ 0 }
     {
         Records {
-            kept: Vec::new(alloc),
-            others: Vec::new(alloc),
+            kept: Blocks::new(alloc),
+            others: Blocks::new(alloc),
             names: Names::new(alloc),
             room: 0,
         }
@@ -109,8 +110,8 @@ impl Records {
         ensures refused { IfErr result (λ e. (e ≡ Why.NoMemory) × (self.old.room ≡ 0) × (self.old.reserved < 4)) }
     {
         if self.room == 0 {
-            self.kept.try_reserve(4)?;
-            self.others.try_reserve(4)?;
+            self.kept.reserve()?;
+            self.others.reserve()?;
             self.names.reserve()?;
         }
         Ok(())
@@ -124,7 +125,7 @@ impl Records {
         ensures room { KeepsRoom self.old.room self.new.room }
     {
         let kept = keep(&mut self.names, its_record);
-        self.kept.push_reserved(kept);
+        self.kept.push(kept);
         self.room = spare(&self.kept, &self.others, &self.names);
     }
 
@@ -155,23 +156,26 @@ impl Records {
         ensures shown { self.new.room ≡ self.new.reserved }
         ensures room { KeepsRoom self.old.room self.new.room }
     {
-        self.kept.push_reserved(Kept::Other(self.others.len()));
-        self.others.push_reserved(other);
+        self.kept.push(Kept::Other(self.others.len()));
+        self.others.push(other);
         self.room = spare(&self.kept, &self.others, &self.names);
     }
 
-    /// Takes out the record of the step of this number, and tells whether it was there. One of the directory or the ledger
-    /// keeps its memory, and so does a name.
+    /// Takes out the first record of the step of this number, and tells whether it was there. It shows room for none then. One of
+    /// the directory or the ledger keeps its memory, and so does a name.
     pub(crate) fn drop_record(&mut self, place: u64) -> bool
         ensures answered { result ≡ list_any (λ n. place_of_record n == place) self.old.items }
-        ensures dropped { self.new.items ≡ filter (λ n. not (place_of_record n == place)) self.old.items }
-        ensures room { self.new.room ≡ self.old.room }
-        ensures kept { self.old.reserved ≤ self.new.reserved }
+        ensures dropped { self.new.items ≡ without_first (λ n. place_of_record n == place) self.old.items }
+        ensures room { self.new.room ≡ 0 }
     {
-        let others = self.others.as_slice();
-        let found = has_place(others, self.kept.as_slice(), place);
-        self.kept.retain(|kept| place_of(others, kept) != place);
-        found
+        self.room = 0;
+        match find_place(&self.others, &self.kept, place) {
+            Some(at) => {
+                drop(self.kept.remove(at));
+                true
+            }
+            None => false,
+        }
     }
 }
 
@@ -199,16 +203,22 @@ fn keep(names: &mut Names, its_record: HomeRecord) -> Kept
     }
 }
 
-// Whether the record of the step of this number is there.
-fn has_place(others: &[Other], kept: &[Kept], place: u64) -> bool
-    ensures { result ≡ list_any (λ n. place_of_kept others.now n == place) kept.now }
+// Where the first record of the step of this number stands.
+fn find_place(others: &Blocks<Other>, kept: &Blocks<Kept>, place: u64) -> Option<usize>
+    ensures found { IfSome result (IsFirstAt (λ n. place_of_kept others.now.items n == place) kept.now.items) }
+    ensures none { result ≡ None → list_any (λ n. place_of_kept others.now.items n == place) kept.now.items ≡ false }
 {
-    kept.iter().any(|kept| place_of(others, kept) == place)
+    for at in 0..kept.len() {
+        if place_of(others, &kept[at]) == place {
+            return Some(at);
+        }
+    }
+    None
 }
 
 // The number of the step of a record.
-fn place_of(others: &[Other], kept: &Kept) -> u64
-    ensures { result ≡ place_of_kept others.now kept.now }
+fn place_of(others: &Blocks<Other>, kept: &Kept) -> u64
+    ensures { result ≡ place_of_kept others.now.items kept.now }
 {
     match kept {
         Kept::Home(_, step) | Kept::Named(_, _, step) => step.place,
@@ -220,13 +230,10 @@ fn place_of(others: &[Other], kept: &Kept) -> u64
 }
 
 // For how many records more there is memory, of whichever part and with whichever name.
-fn spare(kept: &Vec<Kept>, others: &Vec<Other>, names: &Names) -> usize
-    ensures { result ≡ least (least (vec_capacity kept.now - vec_len kept.now) (vec_capacity others.now - vec_len others.now)) names.now.reserved }
+fn spare(kept: &Blocks<Kept>, others: &Blocks<Other>, names: &Names) -> usize
+    ensures { result ≡ least (least kept.now.reserved others.now.reserved) names.now.reserved }
 {
-    let records = lesser(
-        kept.capacity() - kept.len(),
-        others.capacity() - others.len(),
-    );
+    let records = lesser(kept.reserved(), others.reserved());
     lesser(records, names.spare())
 }
 

@@ -35,3 +35,44 @@ fn items_stand_at_their_places_over_several_blocks(rt: HostRuntime) {
         assert!(rt; are_in_place(&blocks, many), "{many}");
     }
 }
+
+// So many numbers from 0 in a list of one piece.
+fn in_one(alloc: Global, many: u64) -> Option<Vec<u64>> {
+    let mut all = Vec::new(alloc);
+    for number in 0..many {
+        all.push(number).ok()?;
+    }
+    Some(all)
+}
+
+// Whether both have the same numbers.
+fn are_same(blocks: &Blocks<u64>, all: &[u64]) -> bool {
+    for (place, number) in all.iter().enumerate() {
+        if blocks.get(place) != Some(number) {
+            return false;
+        }
+    }
+    blocks.len() == all.len()
+}
+
+// Whether the items at these places, taken out one after another, and what is left are those of a list of one piece.
+fn are_taken_out(blocks: &mut Blocks<u64>, all: &mut Vec<u64>, places: &[usize]) -> bool {
+    for place in places {
+        if *place >= blocks.len() || *place >= all.len() {
+            return false;
+        }
+        if blocks.remove(*place) != all.remove(*place) || !are_same(blocks, all.as_slice()) {
+            return false;
+        }
+    }
+    true
+}
+
+// The first one leaves the last block empty, and the second is the last of all.
+#[test]
+fn items_that_are_taken_out_are_followed_by_the_next(rt: HostRuntime) {
+    let mut blocks = numbers(rt.alloc(), 8193).expect(&rt, "memory");
+    let mut all = in_one(rt.alloc(), 8193).expect(&rt, "memory");
+    let places = [0, 8191, 8190, 4096, 4095, 100, 0];
+    assert!(rt; are_taken_out(&mut blocks, &mut all, &places));
+}
