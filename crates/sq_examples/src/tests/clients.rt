@@ -45,9 +45,13 @@ pub fn send<C: Client>(
         body,
         delay: None,
     });
-    let told = client.call(&call);
-    match &told {
-        Ok(Answer::Sent(id, _)) => Some(*id),
+    sent(client.call(&call))
+}
+
+// The id of the message that was sent.
+fn sent(told: Result<Answer, Refusal>) -> Option<MessageId> {
+    match told {
+        Ok(Answer::Sent(id, _)) => Some(id),
         _ => None,
     }
 }
@@ -63,13 +67,18 @@ pub fn receive<C: Client>(client: &mut C, queue: QueueName, timeout: Timeout) ->
             sent_timestamp: false,
         },
     });
-    match client.call(&call) {
+    received(client.call(&call))
+}
+
+// The receipt handle of the first message that was received.
+fn received(told: Result<Answer, Refusal>) -> Option<Handle> {
+    match told {
         Ok(answer) => first_handle(&answer),
         Err(_) => None,
     }
 }
 
-// The receipt handle of the first message that was received.
+// That of an answer.
 fn first_handle(answer: &Answer) -> Option<Handle> {
     let Answer::Received(received) = answer else {
         return None;

@@ -1,6 +1,7 @@
 //! A world, which is a service of one thread, and the actors that call it.
 use super::clients::Client;
 use sq_audit::merge::merge;
+use sq_audit::parts::Parts;
 use sq_base::message_id::MessageId;
 use sq_base::refusal::Refusal;
 use sq_calls::calls::{Answer, Call};
@@ -81,11 +82,17 @@ impl Opened {
     /// Ends it, holds what all actors did against the histories, and says where a message is.
     pub fn place(self, rt: &impl Abort, id: &MessageId) -> &'static str {
         let parts = Box::into_inner(self.world).parts();
-        let run = merge(self.alloc, &parts).expect(rt, "one run");
-        match place_of(&run, id) {
-            Some(place) => place_name(place),
-            None => "nowhere",
-        }
+        let parts = Box::new(self.alloc, parts).expect(rt, "memory");
+        place_in(rt, self.alloc, &parts, id)
+    }
+}
+
+// Where a message is in the one run of all that was done.
+fn place_in(rt: &impl Abort, alloc: Global, parts: &Parts, id: &MessageId) -> &'static str {
+    let run = merge(alloc, parts).expect(rt, "one run");
+    match place_of(&run, id) {
+        Some(place) => place_name(place),
+        None => "nowhere",
     }
 }
 

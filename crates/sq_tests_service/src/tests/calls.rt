@@ -1,43 +1,81 @@
-//! Calls that several tests make.
+//! What clients ask in stories, and what they have of it. Each is a small value: a function that has a call or an answer on its own
+//! stack is proved with all kinds of them, which takes up to ten times as long.
 use sq_base::handle::Handle;
 use sq_base::name::QueueName;
-use sq_base::ranges::{MaxMessages, MaxReceives, Receives, Timeout};
+use sq_base::ranges::{MaxMessages, MaxReceives, MaxResults, Receives, Timeout};
+use sq_base::refusal::Refusal;
 use sq_calls::body_text::BodyText;
 use sq_calls::calls::{
-    Answer, AskedAttributes, Call, CreateQueue, DeleteMessage, ReceiveMessage, SendMessage,
+    Answer, AskedAttributes, Call, CreateQueue, DeleteMessage, ListMessageMoveTasks,
+    ReceiveMessage, SendMessage, StartMessageMoveTask,
 };
 use sq_model::directory::Attributes;
+use sq_model::item::TaskNo;
 use sq_model::policy::RedrivePolicy;
 use std::alloc::Global;
 use std::process::Abort;
+
+/// What a client asks, of queues by their names.
+#[derive(Clone, Copy)]
+pub enum Ask<'a> {
+    /// Makes a queue. What is received from it once goes to another one, if that is named.
+    Create(&'a str, Option<&'a str>),
+    Url(&'a str),
+    Send(&'a str),
+    /// Receives a message, which is visible again at once.
+    Receive(&'a str),
+    Delete(&'a str, Option<Handle>),
+    DeleteQueue(&'a str),
+    Purge(&'a str),
+    /// Moves what is in a queue to another one, or to where it came from.
+    Start(&'a str, Option<&'a str>),
+    Cancel(u64),
+    ListTasks(&'a str),
+}
 
 pub fn named(rt: &impl Abort, name: &str) -> QueueName {
     QueueName::new(name.as_bytes()).expect(rt, "a name")
 }
 
-/// Makes a queue.
-pub fn create(rt: &impl Abort, name: &str) -> Call {
-    Call::CreateQueue(CreateQueue {
-        name: named(rt, name),
-        attributes: Attributes::none(),
-    })
+/// The call that asks it.
+pub fn call_of(rt: &impl Abort, alloc: Global, ask: Ask<'_>) -> Call {
+    match ask {
+        Ask::Create(name, target) => create(rt, name, target),
+        Ask::Url(name) => Call::GetQueueUrl(named(rt, name)),
+        Ask::Send(name) => send(rt, alloc, name),
+        Ask::Receive(name) => receive(rt, name),
+        Ask::Delete(name, handle) => delete(rt, name, handle),
+        Ask::DeleteQueue(name) => Call::DeleteQueue(named(rt, name)),
+        Ask::Purge(name) => Call::PurgeQueue(named(rt, name)),
+        Ask::Start(name, target) => start(rt, name, target),
+        Ask::Cancel(number) => Call::CancelMessageMoveTask(TaskNo::new(number)),
+        Ask::ListTasks(name) => list_tasks(rt, name),
+    }
 }
 
-/// Makes a queue from which what is received once goes to another.
-pub fn create_with_target(rt: &impl Abort, name: &str, target: &str) -> Call {
+// A name, if there is one.
+fn maybe_named(rt: &impl Abort, name: Option<&str>) -> Option<QueueName> {
+    match name {
+        Some(name) => Some(named(rt, name)),
+        None => None,
+    }
+}
+
+fn create(rt: &impl Abort, name: &str, target: Option<&str>) -> Call {
     let mut attributes = Attributes::none();
-    attributes.redrive = Some(Some(RedrivePolicy {
-        target: named(rt, target),
-        max_receives: MaxReceives::of(1),
-    }));
+    if let Some(target) = maybe_named(rt, target) {
+        attributes.redrive = Some(Some(RedrivePolicy {
+            target,
+            max_receives: MaxReceives::of(1),
+        }));
+    }
     Call::CreateQueue(CreateQueue {
         name: named(rt, name),
         attributes,
     })
 }
 
-/// Sends a message to a queue.
-pub fn send(rt: &impl Abort, alloc: Global, name: &str) -> Call {
+fn send(rt: &impl Abort, alloc: Global, name: &str) -> Call {
     Call::SendMessage(SendMessage {
         queue: named(rt, name),
         body: BodyText::new(alloc, "hello").expect(rt, "memory"),
@@ -45,8 +83,7 @@ pub fn send(rt: &impl Abort, alloc: Global, name: &str) -> Call {
     })
 }
 
-/// Asks for a message of a queue, which is visible again at once.
-pub fn receive(rt: &impl Abort, name: &str) -> Call {
+fn receive(rt: &impl Abort, name: &str) -> Call {
     Call::ReceiveMessage(ReceiveMessage {
         queue: named(rt, name),
         max: MaxMessages::of(1),
@@ -58,25 +95,59 @@ pub fn receive(rt: &impl Abort, name: &str) -> Call {
     })
 }
 
-/// Deletes a message of a queue.
-pub fn delete(rt: &impl Abort, name: &str, handle: Option<Handle>) -> Call {
+fn delete(rt: &impl Abort, name: &str, handle: Option<Handle>) -> Call {
     Call::DeleteMessage(DeleteMessage {
         queue: named(rt, name),
         handle,
     })
 }
 
-/// The handle of the first message that was received, as that of its first receive.
-pub fn handle_of(answer: &Answer) -> Option<Handle> {
+fn start(rt: &impl Abort, name: &str, target: Option<&str>) -> Call {
+    Call::StartMessageMoveTask(StartMessageMoveTask {
+        source: named(rt, name),
+        destination: maybe_named(rt, target),
+        rate: None,
+    })
+}
+
+fn list_tasks(rt: &impl Abort, name: &str) -> Call {
+    Call::ListMessageMoveTasks(ListMessageMoveTasks {
+        source: named(rt, name),
+        max: MaxResults::of(1),
+    })
+}
+
+/// A message that was received.
+#[derive(Clone, Copy)]
+pub struct Got {
+    /// The serial of its id.
+    pub serial: u64,
+    /// Its handle, as that of its first receive.
+    pub handle: Handle,
+}
+
+/// The first message that was received, if one was.
+pub fn got(told: Result<Answer, Refusal>) -> Option<Got> {
+    match told {
+        Ok(answer) => first(&answer),
+        Err(_) => None,
+    }
+}
+
+fn first(answer: &Answer) -> Option<Got> {
     let Answer::Received(received) = answer else {
         return None;
     };
     let row = received.rows().first()?;
-    Some(Handle {
+    let handle = Handle {
         queue: received.home().queue,
         home: received.home().home,
         slot: row.slot,
         serial: row.serial,
         receive: Receives::of(1),
+    };
+    Some(Got {
+        serial: row.id.serial.get(),
+        handle,
     })
 }

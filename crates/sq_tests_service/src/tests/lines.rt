@@ -8,13 +8,14 @@ use sq_calls::calls::{Answer, Answered, Asked, Call};
 use sq_json::Scratch;
 use sq_replies::reply::reply_text;
 use sq_requests::request::{Request, read_request};
+use std::alloc::Global;
 use std::process::Abort;
 use std::sync::Wait;
 use std::sync::atomic::Ordering;
 use std::sync::ledger::Ledger;
 
 /// Each line with its reply, as a world of one home gives it.
-const LINES: [(&str, &str); 29] = [
+const LINES: &[(&str, &str)] = &[
     (
         "{\"Action\":\"CreateQueue\",\"Now\":0,\"QueueName\":\"d\"}",
         "{\"QueueUrl\":\"http://localhost/000000000000/d\"}",
@@ -192,6 +193,24 @@ fn answered<D: Ledger, T: Ledger, R: Wait>(
     }
 }
 
+// What a line is answered.
+fn told<D: Ledger, T: Ledger, R: Wait>(
+    at: &Scene<'_, '_, D, T, R>,
+    clients: (&mut Client<D, T>, &mut Client<D, T>),
+    progress: &mut Progress,
+    scratch: &mut Scratch,
+    line: &str,
+) -> Result<Answered, Refusal> {
+    let request = read_request(at.alloc, scratch, line.as_bytes())?;
+    answered(at, clients, progress, request)
+}
+
+// Whether the text of what is told is this one.
+fn is_told(rt: &impl Abort, alloc: Global, told: Result<Answered, Refusal>, reply: &str) -> bool {
+    let text = reply_text(alloc, &told).expect(rt, "memory");
+    text.as_bytes() == reply.as_bytes()
+}
+
 // How many lines have their replies.
 #[derive(Drop)]
 struct Lines;
@@ -206,15 +225,16 @@ impl Story for Lines {
         let mut progress = Progress::new();
         let mut scratch = Scratch::new(at.alloc);
         let mut right = 0u64;
-        for (line, reply) in LINES {
-            let told = match read_request(at.alloc, &mut scratch, line.as_bytes()) {
-                Ok(request) => answered(at, (&mut *client, &mut mover), &mut progress, request),
-                Err(refusal) => Err(refusal),
-            };
-            let text = reply_text(at.alloc, &told).expect(at.rt, "memory");
-            if text.as_bytes() == reply.as_bytes() {
-                right = right.saturating_add(1);
-            }
+        for (line, reply) in LINES.iter() {
+            let told = told(
+                at,
+                (&mut *client, &mut mover),
+                &mut progress,
+                &mut scratch,
+                line,
+            );
+            let is_right = is_told(at.rt, at.alloc, told, reply);
+            right = right.saturating_add(is_right as u64);
         }
         at.service.retire(at.rt, mover);
         right

@@ -1,10 +1,9 @@
 //! Movers at a service.
-use super::calls::{named, receive};
+use super::calls::{Ask, named};
 use super::shared::{Client, First, Setting, is_set};
-use super::stories::{Scene, Story, Told, received_from, tell};
+use super::stories::{Scene, Story, Told, tell};
 use sq_actions::walk::Walk;
 use sq_base::refusal::Refusal;
-use sq_calls::calls::{Call, StartMessageMoveTask};
 use sq_calls::turns::Turned;
 use sq_model::item::TaskNo;
 use sq_mover::mover::{Mover, run_mover};
@@ -45,7 +44,7 @@ impl Story for Brings {
         let mut worker = at.service.client(at.rt, at.alloc);
         assert!(at.rt; moves(at, &mut worker, 100), "made");
         at.service.retire(at.rt, worker);
-        received_from(at, client, "d")
+        at.serial(client, "d")
     }
 }
 
@@ -90,7 +89,7 @@ impl Story for Words {
         let mut tried = 0;
         let dead = word(dead_turn(service, rt, worker.session(), &named(rt, "q")));
         let entered = word(enter_turn(service, rt, worker.session(), &mut tried));
-        assert!(rt; at.is_done(client, &back(rt)), "a task");
+        assert!(rt; at.is_done(client, Ask::Start("d", None)), "a task");
         let mut walk = Walk::new(TaskNo::new(1).expect(rt, "a number"));
         let mut words = dead.saturating_mul(10).saturating_add(entered);
         for turn in 2..8usize {
@@ -104,15 +103,6 @@ impl Story for Words {
         at.service.retire(rt, worker);
         words
     }
-}
-
-// A task that moves what is in d to where it came from.
-fn back(rt: &impl Abort) -> Call {
-    Call::StartMessageMoveTask(StartMessageMoveTask {
-        source: named(rt, "d"),
-        destination: None,
-        rate: None,
-    })
 }
 
 #[test]
@@ -143,12 +133,12 @@ impl Story for Between {
     ) -> u64 {
         if at.place == 0 {
             let there = is_set(&at.signs.held);
-            let call = if self.deletes {
-                Call::DeleteQueue(named(at.rt, "d"))
+            let ask = if self.deletes {
+                Ask::DeleteQueue("d")
             } else {
-                receive(at.rt, "q")
+                Ask::Receive("q")
             };
-            let answered = at.is_done(client, &call);
+            let answered = at.is_done(client, ask);
             at.signs.sign.store(1, Ordering::SeqCst);
             (there && answered) as u64
         } else {

@@ -1,7 +1,9 @@
 //! Runs of one session.
-use super::calls::{delete, handle_of, receive, send};
+use super::calls::{Ask, call_of};
 use super::shared::{Client, First, Setting};
 use super::stories::{Scene, Story, tell};
+use sq_base::refusal::Refusal;
+use sq_calls::calls::Answer;
 use std::process::Abort;
 use std::sync::Wait;
 use std::sync::atomic::Ordering;
@@ -12,13 +14,9 @@ fn receive_and_delete<D: Ledger, T: Ledger, R: Wait + Abort>(
     at: &Scene<'_, '_, D, T, R>,
     client: &mut Client<D, T>,
 ) -> bool {
-    let rt = at.rt;
-    match at.call(client, &receive(rt, "q")) {
-        Ok(answer) => {
-            let handle = handle_of(&answer);
-            handle.is_some() && at.is_done(client, &delete(rt, "q", handle))
-        }
-        Err(_) => false,
+    match at.received(client, "q") {
+        Some(got) => at.is_done(client, Ask::Delete("q", Some(got.handle))),
+        None => false,
     }
 }
 
@@ -32,9 +30,8 @@ impl Story for FourCalls {
         at: &Scene<'_, '_, D, T, R>,
         client: &mut Client<D, T>,
     ) -> u64 {
-        let (rt, alloc) = (at.rt, at.alloc);
         at.signs.time.store(1000, Ordering::SeqCst);
-        let sent = at.is_done(client, &send(rt, alloc, "q"));
+        let sent = at.is_done(client, Ask::Send("q"));
         (sent && receive_and_delete(at, client)) as u64
     }
 }
@@ -48,6 +45,11 @@ fn a_message_is_sent_received_and_deleted(rt: HostRuntime) {
     assert!(rt; told.seen.messages == Some(1), "{told:?}");
 }
 
+// Whether a call was stopped.
+fn is_stopped(told: Result<Option<Answer>, Refusal>) -> bool {
+    matches!(told, Ok(None))
+}
+
 // A send that may do so many steps; it tells whether it is stopped.
 #[derive(Drop)]
 struct SendOfSteps(u64);
@@ -58,11 +60,10 @@ impl Story for SendOfSteps {
         at: &Scene<'_, '_, D, T, R>,
         client: &mut Client<D, T>,
     ) -> u64 {
-        let rt = at.rt;
-        let call = send(rt, at.alloc, "q");
+        let call = call_of(at.rt, at.alloc, Ask::Send("q"));
         let service = at.service.service();
-        let told = service.call_until(rt, client.session(), &call, self.0);
-        matches!(told, Ok(None)) as u64
+        let told = service.call_until(at.rt, client.session(), &call, self.0);
+        is_stopped(told) as u64
     }
 }
 

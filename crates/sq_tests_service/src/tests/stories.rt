@@ -1,11 +1,8 @@
 //! Stories of clients, each told at a service of its own: how that is made, shared by threads and ended is written here, once.
 ghost use Rattle.std.specs.Prelude.{◌≡◌};
 
-use super::calls::{create, create_with_target, receive, send};
+use super::calls::{Ask, Got, call_of, got};
 use super::shared::{Client, First, Seen, Setting, Shared, Signs};
-use sq_base::message_id::MessageId;
-use sq_base::refusal::Refusal;
-use sq_calls::calls::{Answer, Call};
 use sq_queue::actors::SEATS;
 use sq_shard::slots::SlotStore;
 use std::alloc::Global;
@@ -28,15 +25,25 @@ pub struct Scene<'s, 'a, D: Ledger, T: Ledger, R> {
     pub place: usize,
 }
 
-impl<'s, 'a, D: Ledger, T: Ledger, R: Wait> Scene<'s, 'a, D, T, R> {
-    /// Does what a client asks.
-    pub fn call(&self, client: &mut Client<D, T>, call: &Call) -> Result<Answer, Refusal> {
-        self.service.call(self.rt, client, call)
+impl<'s, 'a, D: Ledger, T: Ledger, R: Wait + Abort> Scene<'s, 'a, D, T, R> {
+    /// Does what a client asks, and tells whether it is not refused.
+    pub fn is_done(&self, client: &mut Client<D, T>, ask: Ask<'_>) -> bool {
+        let call = call_of(self.rt, self.alloc, ask);
+        self.service.call(self.rt, client, &call).is_ok()
     }
 
-    /// Whether what a client asks is not refused.
-    pub fn is_done(&self, client: &mut Client<D, T>, call: &Call) -> bool {
-        self.call(client, call).is_ok()
+    /// The message that a queue gives to a client; it is visible again at once.
+    pub fn received(&self, client: &mut Client<D, T>, name: &str) -> Option<Got> {
+        let call = call_of(self.rt, self.alloc, Ask::Receive(name));
+        got(self.service.call(self.rt, client, &call))
+    }
+
+    /// The serial of the id of the message that a queue gives to a client, and one more; 0 where it gives none.
+    pub fn serial(&self, client: &mut Client<D, T>, name: &str) -> u64 {
+        match self.received(client, name) {
+            Some(got) => got.serial.saturating_add(1),
+            None => 0,
+        }
     }
 }
 
@@ -101,7 +108,7 @@ fn begin<D: Ledger, T: Ledger, R: Wait + Abort>(
 ) -> bool {
     match first {
         First::Nothing => true,
-        First::Queue => at.is_done(client, &create(at.rt, "q")),
+        First::Queue => at.is_done(client, Ask::Create("q", None)),
         First::Held => hold_at_q(at, client),
         First::DeadLetter => dead_letter(at, client),
     }
@@ -112,9 +119,9 @@ fn hold_at_q<D: Ledger, T: Ledger, R: Wait + Abort>(
     at: &Scene<'_, '_, D, T, R>,
     client: &mut Client<D, T>,
 ) -> bool {
-    let rt = at.rt;
     at.signs.sign.store(1, Ordering::SeqCst);
-    let made = at.is_done(client, &create(rt, "q")) && at.is_done(client, &create(rt, "r"));
+    let made = at.is_done(client, Ask::Create("q", None))
+        && at.is_done(client, Ask::Create("r", None));
     at.signs.met.store(0, Ordering::SeqCst);
     at.signs.held.store(0, Ordering::SeqCst);
     at.signs.sign.store(0, Ordering::SeqCst);
@@ -126,33 +133,13 @@ fn dead_letter<D: Ledger, T: Ledger, R: Wait + Abort>(
     at: &Scene<'_, '_, D, T, R>,
     client: &mut Client<D, T>,
 ) -> bool {
-    let rt = at.rt;
-    let made = at.is_done(client, &create(rt, "d"))
-        && at.is_done(client, &create_with_target(rt, "q", "d"));
+    let made = at.is_done(client, Ask::Create("d", None))
+        && at.is_done(client, Ask::Create("q", Some("d")));
     at.signs.time.store(1000, Ordering::SeqCst);
-    let sent = at.is_done(client, &send(rt, at.alloc, "q"));
-    let received = received_from(at, client, "q") == 1;
+    let sent = at.is_done(client, Ask::Send("q"));
+    let received = at.serial(client, "q") == 1;
     at.signs.time.store(31000, Ordering::SeqCst);
-    made && sent && received && received_from(at, client, "q") == 0
-}
-
-/// The serial of the id of the message that a queue gives, and one more; 0 where it gives none.
-pub fn received_from<D: Ledger, T: Ledger, R: Wait + Abort>(
-    at: &Scene<'_, '_, D, T, R>,
-    client: &mut Client<D, T>,
-    name: &str,
-) -> u64 {
-    match at.call(client, &receive(at.rt, name)) {
-        Ok(Answer::Received(received)) => match received.rows().first() {
-            Some(row) => serial_of(&row.id).saturating_add(1),
-            None => 0,
-        },
-        _ => 0,
-    }
-}
-
-fn serial_of(id: &MessageId) -> u64 {
-    id.serial.get()
+    made && sent && received && at.serial(client, "q") == 0
 }
 
 // All of them act, each in its thread.

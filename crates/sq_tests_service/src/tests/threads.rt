@@ -1,10 +1,8 @@
 //! Runs of many threads at one service.
-use super::calls::{create, create_with_target, delete, handle_of, named, receive, send};
+use super::calls::{Ask, named};
 use super::shared::{Client, First, Setting, is_set};
 use super::stories::{Scene, Story, tell};
 use sq_actions::progress::Progress;
-use sq_base::ranges::MaxResults;
-use sq_calls::calls::{Call, ListMessageMoveTasks, StartMessageMoveTask};
 use sq_calls::turns::Turn;
 use sq_model::item::TaskNo;
 use sq_tests_values::choices::Choices;
@@ -24,10 +22,9 @@ impl Story for Sends {
         client: &mut Client<D, T>,
     ) -> u64 {
         let mut done = 0u64;
-        let url = Call::GetQueueUrl(named(at.rt, "q"));
         for _ in 0..100u64 {
-            let sent = at.is_done(client, &send(at.rt, at.alloc, "q"));
-            let told = at.is_done(client, &url);
+            let sent = at.is_done(client, Ask::Send("q"));
+            let told = at.is_done(client, Ask::Url("q"));
             done = done.saturating_add(sent as u64).saturating_add(told as u64);
         }
         done
@@ -54,10 +51,10 @@ impl Story for Apart {
         client: &mut Client<D, T>,
     ) -> u64 {
         if at.place == 0 {
-            return at.is_done(client, &send(at.rt, at.alloc, "q")) as u64;
+            return at.is_done(client, Ask::Send("q")) as u64;
         }
         let there = is_set(&at.signs.held);
-        let sent = at.is_done(client, &send(at.rt, at.alloc, "r"));
+        let sent = at.is_done(client, Ask::Send("r"));
         at.signs.sign.store(1, Ordering::SeqCst);
         (there && sent) as u64
     }
@@ -84,25 +81,18 @@ fn one_of(choices: &mut Choices) -> &'static str {
     QUEUES[choices.below(6) as usize]
 }
 
-// A call that changes which queues there are, what is in them, or the tasks.
-fn rare_call(rt: &impl Abort, choices: &mut Choices) -> Call {
+// What changes which queues there are, what is in them, or the tasks.
+fn rare_ask(choices: &mut Choices) -> Ask<'static> {
     let name = one_of(choices);
     let other = one_of(choices);
     match choices.below(8) {
-        0 => Call::DeleteQueue(named(rt, name)),
-        1 => Call::PurgeQueue(named(rt, name)),
-        2 => Call::StartMessageMoveTask(StartMessageMoveTask {
-            source: named(rt, name),
-            destination: Some(named(rt, other)),
-            rate: None,
-        }),
-        3 => Call::CancelMessageMoveTask(TaskNo::new(1 + choices.below(4))),
-        4 => Call::ListMessageMoveTasks(ListMessageMoveTasks {
-            source: named(rt, name),
-            max: MaxResults::of(1),
-        }),
-        5 => create(rt, name),
-        _ => create_with_target(rt, name, other),
+        0 => Ask::DeleteQueue(name),
+        1 => Ask::Purge(name),
+        2 => Ask::Start(name, Some(other)),
+        3 => Ask::Cancel(1 + choices.below(4)),
+        4 => Ask::ListTasks(name),
+        5 => Ask::Create(name, None),
+        _ => Ask::Create(name, Some(other)),
     }
 }
 
@@ -122,27 +112,22 @@ fn act_once<D: Ledger, T: Ledger, R: Wait + Abort>(
     progress: &mut Progress,
     choices: &mut Choices,
 ) -> u64 {
-    let rt = at.rt;
     let name = one_of(choices);
     match choices.below(12) {
-        0..=3 => at.is_done(client, &send(rt, at.alloc, name)) as u64,
+        0..=3 => return at.is_done(client, Ask::Send(name)) as u64,
         4..=6 => {
-            if let Ok(answer) = at.call(client, &receive(rt, name)) {
-                let _ = at.call(client, &delete(rt, name, handle_of(&answer)));
-            }
-            0
+            let handle = at.received(client, name).map(|got| got.handle);
+            at.is_done(client, Ask::Delete(name, handle));
         }
         7 => {
-            let _ = at.call(client, &rare_call(rt, choices));
-            0
+            at.is_done(client, rare_ask(choices));
         }
         _ => {
-            let _ = at
-                .service
-                .turn(rt, client, progress, &some_turn(rt, choices));
-            0
+            let turn = some_turn(at.rt, choices);
+            let _ = at.service.turn(at.rt, client, progress, &turn);
         }
     }
+    0
 }
 
 // Calls at random, while the clock goes on; how many messages were sent.

@@ -18,9 +18,9 @@ fn number_in(queues: &[NamedQueue], place: usize, name: &str) -> u64 {
     }
 }
 
-fn number_of(outcome: &Outcome, place: usize, name: &str) -> u64 {
-    match outcome {
-        Outcome::Named(queues) => number_in(queues.as_slice(), place, name),
+fn number_of(told: Result<Outcome, Refusal>, place: usize, name: &str) -> u64 {
+    match told {
+        Ok(Outcome::Named(queues)) => number_in(queues.as_slice(), place, name),
         _ => 0,
     }
 }
@@ -32,10 +32,7 @@ fn number_at(alloc: Global, service: &mut Service, place: usize, name: &str) -> 
         clock: 0,
         act: Act::Names,
     };
-    match service.step(alloc, &step) {
-        Ok(outcome) => number_of(&outcome, place, name),
-        Err(_) => 0,
-    }
+    number_of(service.step(alloc, &step), place, name)
 }
 
 #[test]
