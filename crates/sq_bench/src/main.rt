@@ -1,7 +1,6 @@
 //! How fast one service is called by threads, and a world by one: in one process, without sockets.
 #![tactic(auto)]
 
-mod cycle;
 mod options;
 mod spent;
 mod threads;

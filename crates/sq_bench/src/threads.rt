@@ -1,13 +1,11 @@
 //! Threads that call one service.
 ghost use Rattle.std.specs.Prelude.{◌≡◌};
 
-use crate::cycle::{Caller, cycle, makes};
 use crate::options::{options, queue_name};
 use crate::spent::{Spent, begin};
 use sq_base::name::QueueName;
-use sq_base::refusal::Refusal;
-use sq_calls::calls::{Answer, Call};
 use sq_queue::actors::SEATS;
+use sq_server::clients::{create, delete, first_handle, receive, send};
 use sq_server::served::{Client, Served};
 use sq_shard::slots::SlotStore;
 use std::alloc::Global;
@@ -20,83 +18,72 @@ use std::time::{Clock, CpuClock};
 
 /// A thread's client, the queue that it calls at, and how many of its calls were answered.
 #[derive(Drop)]
-struct Thread<D: Ledger, T: Ledger> {
+struct Caller<D: Ledger, T: Ledger> {
     client: Client<D, T>,
     queue: QueueName,
     answered: u64,
 }
 
-/// A client at a service.
-#[derive(Drop)]
-struct Session<'a, 's, R, D: Ledger, T: Ledger> {
-    rt: &'a R,
-    service: &'a Served<'s, R, D, T, SlotStore>,
-    client: &'a mut Client<D, T>,
-}
-
-impl<'a, 's, R: Clock + Wait, D: Ledger, T: Ledger> Caller for Session<'a, 's, R, D, T> {
-    fn call(&mut self, call: &Call) -> Result<Answer, Refusal> {
-        self.service.call(self.rt, self.client, call)
+// A message is sent, received and deleted; how many of the three calls were answered.
+fn cycle<R: Clock + Wait, D: Ledger, T: Ledger>(
+    rt: &R,
+    alloc: Global,
+    service: &Served<'_, R, D, T, SlotStore>,
+    client: &mut Client<D, T>,
+    queue: QueueName,
+) -> u64 {
+    let Ok(call) = send(alloc, queue) else {
+        return 0;
+    };
+    let mut answered = service.call(rt, client, &call).is_ok() as u64;
+    if let Ok(answer) = service.call(rt, client, &receive(queue, None)) {
+        answered = answered.saturating_add(1);
+        if let Some(handle) = first_handle(&answer) {
+            let deleted = service.call(rt, client, &delete(queue, handle)).is_ok();
+            answered = answered.saturating_add(deleted as u64);
+        }
     }
+    answered
 }
 
-// A thread makes so many calls.
+// A caller makes so many calls.
 fn make_calls<R: Clock + Wait, D: Ledger, T: Ledger>(
     rt: &R,
     alloc: Global,
     service: &Served<'_, R, D, T, SlotStore>,
-    thread: &mut Thread<D, T>,
+    caller: &mut Caller<D, T>,
     calls: u64,
 ) {
     // Nothing is written that lies beside what another thread reads.
-    let queue = thread.queue;
-    let mut session = Session {
-        rt,
-        service,
-        client: &mut thread.client,
-    };
+    let queue = caller.queue;
     let mut all = 0u64;
     for _ in 0..calls / 3 {
-        all = all.saturating_add(cycle(&mut session, alloc, queue));
+        let answered = cycle(rt, alloc, service, &mut caller.client, queue);
+        all = all.saturating_add(answered);
     }
-    thread.answered = all;
+    caller.answered = all;
 }
 
-// A client at a queue, which it makes; none where it cannot.
-fn caller<R: Clock + Wait, D: Ledger, T: Ledger>(
-    rt: &R,
-    alloc: Global,
-    service: &Served<'_, R, D, T, SlotStore>,
-    queue: QueueName,
-) -> Option<Thread<D, T>> {
-    let mut client = service.client(rt, alloc).ok()?;
-    let mut session = Session {
-        rt,
-        service,
-        client: &mut client,
-    };
-    if !makes(&mut session, queue) {
-        return None;
-    }
-    Some(Thread {
-        client,
-        queue,
-        answered: 0,
-    })
-}
-
-// One for each thread, at the queues by turns.
+// A caller for each thread, at the queues by turns, which are made.
 fn callers<R: Clock + Wait, D: Ledger, T: Ledger>(
     rt: &R,
     alloc: Global,
     service: &Served<'_, R, D, T, SlotStore>,
     threads: u64,
     queues: u64,
-) -> Option<Vec<Thread<D, T>>> {
+) -> Option<Vec<Caller<D, T>>> {
     let mut callers = Vec::new(alloc);
     for number in 0..threads {
         let queue = queue_name(number % queues.max(1))?;
-        callers.push(caller(rt, alloc, service, queue)?).ok()?;
+        let mut client = service.client(rt, alloc).ok()?;
+        service.call(rt, &mut client, &create(queue, None)).ok()?;
+        callers
+            .push(Caller {
+                client,
+                queue,
+                answered: 0,
+            })
+            .ok()?;
     }
     Some(callers)
 }
@@ -106,7 +93,7 @@ fn call_all<R: Threads + Wait + Clock + Sync, D: Ledger + Send + Sync, T: Ledger
     rt: &R,
     alloc: Global,
     service: &Served<'_, R, D, T, SlotStore>,
-    callers: &mut Vec<Thread<D, T>>,
+    callers: &mut Vec<Caller<D, T>>,
     calls: u64,
 ) -> u64 {
     let threads = callers.len().max(1);
@@ -114,11 +101,11 @@ fn call_all<R: Threads + Wait + Clock + Sync, D: Ledger + Send + Sync, T: Ledger
         rt,
         callers,
         threads,
-        &|_: usize, thread: &mut Thread<D, T>| make_calls(rt, alloc, service, thread, calls),
+        &|_: usize, caller: &mut Caller<D, T>| make_calls(rt, alloc, service, caller, calls),
     );
     let mut answered = 0u64;
-    for thread in callers.iter() {
-        answered = answered.saturating_add(thread.answered);
+    for caller in callers.iter() {
+        answered = answered.saturating_add(caller.answered);
     }
     answered
 }

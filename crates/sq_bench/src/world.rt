@@ -1,35 +1,33 @@
 //! One actor that calls a world.
-use crate::cycle::{Caller, cycle, makes};
 use crate::options::{options, queue_name};
 use crate::spent::{Spent, begin};
-use sq_base::refusal::Refusal;
-use sq_calls::calls::{Answer, Call};
+use sq_base::name::QueueName;
 use sq_merge::world::World;
+use sq_server::clients::{create, delete, first_handle, receive, send};
 use std::alloc::Global;
 use std::time::{Clock, CpuClock};
 
-/// The actor of a world, whose clock says so many ms.
-#[derive(Drop)]
-struct Actor {
-    alloc: Global,
-    world: Box<World>,
-    now: u64,
-}
-
-impl Caller for Actor {
-    fn call(&mut self, call: &Call) -> Result<Answer, Refusal> {
-        self.world.call(self.alloc, 0, self.now, call)
+// A message is sent, received and deleted; how many of the three calls were answered.
+fn cycle(alloc: Global, world: &mut World, queue: QueueName, now: u64) -> u64 {
+    let Ok(call) = send(alloc, queue) else {
+        return 0;
+    };
+    let mut answered = world.call(alloc, 0, now, &call).is_ok() as u64;
+    if let Ok(answer) = world.call(alloc, 0, now, &receive(queue, None)) {
+        answered = answered.saturating_add(1);
+        if let Some(handle) = first_handle(&answer) {
+            let deleted = world.call(alloc, 0, now, &delete(queue, handle)).is_ok();
+            answered = answered.saturating_add(deleted as u64);
+        }
     }
+    answered
 }
 
-// A world without queues, with its actor.
-fn opened(alloc: Global, homes: u64) -> Result<Actor, Refusal> {
-    let world = World::new(alloc, options(homes))?;
-    Ok(Actor {
-        alloc,
-        world: Box::new(alloc, world)?,
-        now: 0,
-    })
+// A world with one queue, in a box.
+fn opened(alloc: Global, homes: u64, queue: QueueName) -> Option<Box<World>> {
+    let mut world = Box::new(alloc, World::new(alloc, options(homes)).ok()?).ok()?;
+    world.call(alloc, 0, 0, &create(queue, None)).ok()?;
+    Some(world)
 }
 
 /// What so many calls take; none where there is no memory for it.
@@ -40,15 +38,11 @@ pub fn measure<R: Clock + CpuClock>(
     calls: u64,
 ) -> Option<Spent> {
     let queue = queue_name(0)?;
-    let mut actor = opened(alloc, homes).ok()?;
-    if !makes(&mut actor, queue) {
-        return None;
-    }
+    let mut world = opened(alloc, homes, queue)?;
     let begun = begin(rt);
     let mut answered = 0u64;
     for number in 0..calls / 3 {
-        actor.now = number;
-        answered = answered.saturating_add(cycle(&mut actor, alloc, queue));
+        answered = answered.saturating_add(cycle(alloc, &mut world, queue, number));
     }
     Some(begun.spent(rt, answered))
 }

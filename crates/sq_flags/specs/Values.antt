@@ -8,13 +8,13 @@ use Rattle.sq_opening.specs.declared.options.Options.{Options}
 use Rattle.sq_opening.specs.declared.options.TheConstants.{MOST_HOMES, MOST_QUEUES, MOST_ROWS, MOST_FLIGHTS, MOST_TRANSIT}
 
 -- a text is decimal digits, perhaps behind a plus, and n is their value
-pub record IsWhole (text : List ℕ) (n : ℕ) : Type 0 where
+pub record IsWholeNumber (text : List ℕ) (n : ℕ) : Type 0 where
   pub digits : IsNumeral 10 (without_leading_plus text)
   pub value : n ≡ digits_value 10 (without_leading_plus text)
 
 -- n is the number of a flag with this text, or the default of one with none, and within bounds
 pub record IsNumberOf (of_flag : Option Text) (least greatest default n : ℕ) : Type 0 where
-  pub when_set : (text : Text) → of_flag ≡ Some text → IsWhole text n
+  pub when_set : (text : Text) → of_flag ≡ Some text → IsWholeNumber text n
   pub when_unset : of_flag ≡ None → n ≡ default
   pub from : least ≤ n
   pub up_to : n ≤ greatest
@@ -22,7 +22,7 @@ pub record IsNumberOf (of_flag : Option Text) (least greatest default n : ℕ) :
 -- n is the number of a flag that must be given, by this text, and within bounds
 pub record IsGivenNumber (of_flag : Option Text) (least greatest n : ℕ) : Type 0 where
   pub is_set : of_flag ≢ None
-  pub when_set : (text : Text) → of_flag ≡ Some text → IsWhole text n
+  pub when_set : (text : Text) → of_flag ≡ Some text → IsWholeNumber text n
   pub from : least ≤ n
   pub up_to : n ≤ greatest
 

@@ -3,7 +3,7 @@ ghost use Rattle.std.specs.Prelude.{◌≡◌, ◌≤◌, IfOk, IfErr, IfSome, I
 ghost use Rattle.clap.specs.Words.{first_value, found_of};
 ghost use Rattle.std.specs.declared.net.socket_addr.SocketAddr.{SocketAddr as Address};
 ghost use Rattle.sq_opening.specs.declared.options.Options.{Options as OptionsValue};
-ghost use Rattle.sq_flags.specs.Values.{IsWhole, IsNumberOf, IsGivenNumber, IsFlagOf, IsAddressIn, IsAddressOf, AreOptionsOf};
+ghost use Rattle.sq_flags.specs.Values.{IsWholeNumber, IsNumberOf, IsGivenNumber, IsFlagOf, IsAddressIn, IsAddressOf, AreOptionsOf};
 
 use clap::ArgMatches;
 use sq_opening::options::{
@@ -41,8 +41,8 @@ pub const MOVERS: u32 = 1;
 // A whole number within bounds.
 fn whole(text: &str, least: u64, greatest: u64) -> Option<u64>
     ensures range { IfSome result (λ n. (least ≤ n) × (n ≤ greatest)) }
-    ensures value { IfSome result (λ n. IsWhole text.now n) }
-    ensures none { IfNone result ((n : ℕ) → IsWhole text.now n → least ≤ n → n ≤ greatest → ⊥) }
+    ensures value { IfSome result (λ n. IsWholeNumber text.now n) }
+    ensures none { IfNone result ((n : ℕ) → IsWholeNumber text.now n → least ≤ n → n ≤ greatest → ⊥) }
 {
     let number = text.parse::<u64>().ok()?;
     if least <= number && number <= greatest {

@@ -50,8 +50,8 @@ pub fn send<C: Client>(
 
 // The id of the message that was sent.
 fn sent(told: Result<Answer, Refusal>) -> Option<MessageId> {
-    match told {
-        Ok(Answer::Sent(id, _)) => Some(id),
+    match &told {
+        Ok(Answer::Sent(id, _)) => Some(*id),
         _ => None,
     }
 }

@@ -15,30 +15,30 @@ use sq_model::policy::RedrivePolicy;
 use std::alloc::Global;
 use std::process::Abort;
 
-/// What a client asks, of queues by their names.
+/// What a client asks, of queues whose names are letters.
 #[derive(Clone, Copy)]
-pub enum Ask<'a> {
+pub enum Ask {
     /// Makes a queue. What is received from it once goes to another one, if that is named.
-    Create(&'a str, Option<&'a str>),
-    Url(&'a str),
-    Send(&'a str),
+    Create(u8, Option<u8>),
+    Url(u8),
+    Send(u8),
     /// Receives a message, which is visible again at once.
-    Receive(&'a str),
-    Delete(&'a str, Option<Handle>),
-    DeleteQueue(&'a str),
-    Purge(&'a str),
+    Receive(u8),
+    Delete(u8, Option<Handle>),
+    DeleteQueue(u8),
+    Purge(u8),
     /// Moves what is in a queue to another one, or to where it came from.
-    Start(&'a str, Option<&'a str>),
+    Start(u8, Option<u8>),
     Cancel(u64),
-    ListTasks(&'a str),
+    ListTasks(u8),
 }
 
-pub fn named(rt: &impl Abort, name: &str) -> QueueName {
-    QueueName::new(name.as_bytes()).expect(rt, "a name")
+pub fn named(rt: &impl Abort, name: u8) -> QueueName {
+    QueueName::new(&[name]).expect(rt, "a name")
 }
 
 /// The call that asks it.
-pub fn call_of(rt: &impl Abort, alloc: Global, ask: Ask<'_>) -> Call {
+pub fn call_of(rt: &impl Abort, alloc: Global, ask: Ask) -> Call {
     match ask {
         Ask::Create(name, target) => create(rt, name, target),
         Ask::Url(name) => Call::GetQueueUrl(named(rt, name)),
@@ -54,14 +54,14 @@ pub fn call_of(rt: &impl Abort, alloc: Global, ask: Ask<'_>) -> Call {
 }
 
 // A name, if there is one.
-fn maybe_named(rt: &impl Abort, name: Option<&str>) -> Option<QueueName> {
+fn maybe_named(rt: &impl Abort, name: Option<u8>) -> Option<QueueName> {
     match name {
         Some(name) => Some(named(rt, name)),
         None => None,
     }
 }
 
-fn create(rt: &impl Abort, name: &str, target: Option<&str>) -> Call {
+fn create(rt: &impl Abort, name: u8, target: Option<u8>) -> Call {
     let mut attributes = Attributes::none();
     if let Some(target) = maybe_named(rt, target) {
         attributes.redrive = Some(Some(RedrivePolicy {
@@ -75,7 +75,7 @@ fn create(rt: &impl Abort, name: &str, target: Option<&str>) -> Call {
     })
 }
 
-fn send(rt: &impl Abort, alloc: Global, name: &str) -> Call {
+fn send(rt: &impl Abort, alloc: Global, name: u8) -> Call {
     Call::SendMessage(SendMessage {
         queue: named(rt, name),
         body: BodyText::new(alloc, "hello").expect(rt, "memory"),
@@ -83,7 +83,7 @@ fn send(rt: &impl Abort, alloc: Global, name: &str) -> Call {
     })
 }
 
-fn receive(rt: &impl Abort, name: &str) -> Call {
+fn receive(rt: &impl Abort, name: u8) -> Call {
     Call::ReceiveMessage(ReceiveMessage {
         queue: named(rt, name),
         max: MaxMessages::of(1),
@@ -95,14 +95,14 @@ fn receive(rt: &impl Abort, name: &str) -> Call {
     })
 }
 
-fn delete(rt: &impl Abort, name: &str, handle: Option<Handle>) -> Call {
+fn delete(rt: &impl Abort, name: u8, handle: Option<Handle>) -> Call {
     Call::DeleteMessage(DeleteMessage {
         queue: named(rt, name),
         handle,
     })
 }
 
-fn start(rt: &impl Abort, name: &str, target: Option<&str>) -> Call {
+fn start(rt: &impl Abort, name: u8, target: Option<u8>) -> Call {
     Call::StartMessageMoveTask(StartMessageMoveTask {
         source: named(rt, name),
         destination: maybe_named(rt, target),
@@ -110,7 +110,7 @@ fn start(rt: &impl Abort, name: &str, target: Option<&str>) -> Call {
     })
 }
 
-fn list_tasks(rt: &impl Abort, name: &str) -> Call {
+fn list_tasks(rt: &impl Abort, name: u8) -> Call {
     Call::ListMessageMoveTasks(ListMessageMoveTasks {
         source: named(rt, name),
         max: MaxResults::of(1),
@@ -127,7 +127,7 @@ pub struct Got {
 }
 
 /// The first message that was received, if one was.
-pub fn got(told: Result<Answer, Refusal>) -> Option<Got> {
+pub fn first_of(told: Result<Answer, Refusal>) -> Option<Got> {
     match told {
         Ok(answer) => first(&answer),
         Err(_) => None,

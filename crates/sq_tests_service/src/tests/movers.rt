@@ -44,7 +44,7 @@ impl Story for Brings {
         let mut worker = at.service.client(at.rt, at.alloc);
         assert!(at.rt; moves(at, &mut worker, 100), "made");
         at.service.retire(at.rt, worker);
-        at.serial(client, "d")
+        at.serial(client, b'd')
     }
 }
 
@@ -87,9 +87,9 @@ impl Story for Words {
         let (rt, service) = (at.rt, at.service.service());
         let mut worker = at.service.client(rt, at.alloc);
         let mut tried = 0;
-        let dead = word(dead_turn(service, rt, worker.session(), &named(rt, "q")));
+        let dead = word(dead_turn(service, rt, worker.session(), &named(rt, b'q')));
         let entered = word(enter_turn(service, rt, worker.session(), &mut tried));
-        assert!(rt; at.is_done(client, Ask::Start("d", None)), "a task");
+        assert!(rt; at.is_done(client, Ask::Start(b'd', None)), "a task");
         let mut walk = Walk::new(TaskNo::new(1).expect(rt, "a number"));
         let mut words = dead.saturating_mul(10).saturating_add(entered);
         for turn in 2..8usize {
@@ -134,9 +134,9 @@ impl Story for Between {
         if at.place == 0 {
             let there = is_set(&at.signs.held);
             let ask = if self.deletes {
-                Ask::DeleteQueue("d")
+                Ask::DeleteQueue(b'd')
             } else {
-                Ask::Receive("q")
+                Ask::Receive(b'q')
             };
             let answered = at.is_done(client, ask);
             at.signs.sign.store(1, Ordering::SeqCst);

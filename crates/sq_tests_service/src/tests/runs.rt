@@ -14,8 +14,8 @@ fn receive_and_delete<D: Ledger, T: Ledger, R: Wait + Abort>(
     at: &Scene<'_, '_, D, T, R>,
     client: &mut Client<D, T>,
 ) -> bool {
-    match at.received(client, "q") {
-        Some(got) => at.is_done(client, Ask::Delete("q", Some(got.handle))),
+    match at.received(client, b'q') {
+        Some(got) => at.is_done(client, Ask::Delete(b'q', Some(got.handle))),
         None => false,
     }
 }
@@ -31,7 +31,7 @@ impl Story for FourCalls {
         client: &mut Client<D, T>,
     ) -> u64 {
         at.signs.time.store(1000, Ordering::SeqCst);
-        let sent = at.is_done(client, Ask::Send("q"));
+        let sent = at.is_done(client, Ask::Send(b'q'));
         (sent && receive_and_delete(at, client)) as u64
     }
 }
@@ -60,7 +60,7 @@ impl Story for SendOfSteps {
         at: &Scene<'_, '_, D, T, R>,
         client: &mut Client<D, T>,
     ) -> u64 {
-        let call = call_of(at.rt, at.alloc, Ask::Send("q"));
+        let call = call_of(at.rt, at.alloc, Ask::Send(b'q'));
         let service = at.service.service();
         let told = service.call_until(at.rt, client.session(), &call, self.0);
         is_stopped(told) as u64

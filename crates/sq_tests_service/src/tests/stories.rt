@@ -1,7 +1,7 @@
 //! Stories of clients, each told at a service of its own: how that is made, shared by threads and ended is written here, once.
 ghost use Rattle.std.specs.Prelude.{◌≡◌};
 
-use super::calls::{Ask, Got, call_of, got};
+use super::calls::{Ask, Got, call_of, first_of};
 use super::shared::{Client, First, Seen, Setting, Shared, Signs};
 use sq_queue::actors::SEATS;
 use sq_shard::slots::SlotStore;
@@ -27,19 +27,19 @@ pub struct Scene<'s, 'a, D: Ledger, T: Ledger, R> {
 
 impl<'s, 'a, D: Ledger, T: Ledger, R: Wait + Abort> Scene<'s, 'a, D, T, R> {
     /// Does what a client asks, and tells whether it is not refused.
-    pub fn is_done(&self, client: &mut Client<D, T>, ask: Ask<'_>) -> bool {
+    pub fn is_done(&self, client: &mut Client<D, T>, ask: Ask) -> bool {
         let call = call_of(self.rt, self.alloc, ask);
         self.service.call(self.rt, client, &call).is_ok()
     }
 
     /// The message that a queue gives to a client; it is visible again at once.
-    pub fn received(&self, client: &mut Client<D, T>, name: &str) -> Option<Got> {
+    pub fn received(&self, client: &mut Client<D, T>, name: u8) -> Option<Got> {
         let call = call_of(self.rt, self.alloc, Ask::Receive(name));
-        got(self.service.call(self.rt, client, &call))
+        first_of(self.service.call(self.rt, client, &call))
     }
 
     /// The serial of the id of the message that a queue gives to a client, and one more; 0 where it gives none.
-    pub fn serial(&self, client: &mut Client<D, T>, name: &str) -> u64 {
+    pub fn serial(&self, client: &mut Client<D, T>, name: u8) -> u64 {
         match self.received(client, name) {
             Some(got) => got.serial.saturating_add(1),
             None => 0,
@@ -108,7 +108,7 @@ fn begin<D: Ledger, T: Ledger, R: Wait + Abort>(
 ) -> bool {
     match first {
         First::Nothing => true,
-        First::Queue => at.is_done(client, Ask::Create("q", None)),
+        First::Queue => at.is_done(client, Ask::Create(b'q', None)),
         First::Held => hold_at_q(at, client),
         First::DeadLetter => dead_letter(at, client),
     }
@@ -120,8 +120,8 @@ fn hold_at_q<D: Ledger, T: Ledger, R: Wait + Abort>(
     client: &mut Client<D, T>,
 ) -> bool {
     at.signs.sign.store(1, Ordering::SeqCst);
-    let made = at.is_done(client, Ask::Create("q", None))
-        && at.is_done(client, Ask::Create("r", None));
+    let made = at.is_done(client, Ask::Create(b'q', None))
+        && at.is_done(client, Ask::Create(b'r', None));
     at.signs.met.store(0, Ordering::SeqCst);
     at.signs.held.store(0, Ordering::SeqCst);
     at.signs.sign.store(0, Ordering::SeqCst);
@@ -133,13 +133,13 @@ fn dead_letter<D: Ledger, T: Ledger, R: Wait + Abort>(
     at: &Scene<'_, '_, D, T, R>,
     client: &mut Client<D, T>,
 ) -> bool {
-    let made = at.is_done(client, Ask::Create("d", None))
-        && at.is_done(client, Ask::Create("q", Some("d")));
+    let made = at.is_done(client, Ask::Create(b'd', None))
+        && at.is_done(client, Ask::Create(b'q', Some(b'd')));
     at.signs.time.store(1000, Ordering::SeqCst);
-    let sent = at.is_done(client, Ask::Send("q"));
-    let received = at.serial(client, "q") == 1;
+    let sent = at.is_done(client, Ask::Send(b'q'));
+    let received = at.serial(client, b'q') == 1;
     at.signs.time.store(31000, Ordering::SeqCst);
-    made && sent && received && at.serial(client, "q") == 0
+    made && sent && received && at.serial(client, b'q') == 0
 }
 
 // All of them act, each in its thread.

@@ -23,8 +23,8 @@ impl Story for Sends {
     ) -> u64 {
         let mut done = 0u64;
         for _ in 0..100u64 {
-            let sent = at.is_done(client, Ask::Send("q"));
-            let told = at.is_done(client, Ask::Url("q"));
+            let sent = at.is_done(client, Ask::Send(b'q'));
+            let told = at.is_done(client, Ask::Url(b'q'));
             done = done.saturating_add(sent as u64).saturating_add(told as u64);
         }
         done
@@ -51,10 +51,10 @@ impl Story for Apart {
         client: &mut Client<D, T>,
     ) -> u64 {
         if at.place == 0 {
-            return at.is_done(client, Ask::Send("q")) as u64;
+            return at.is_done(client, Ask::Send(b'q')) as u64;
         }
         let there = is_set(&at.signs.held);
-        let sent = at.is_done(client, Ask::Send("r"));
+        let sent = at.is_done(client, Ask::Send(b'r'));
         at.signs.sign.store(1, Ordering::SeqCst);
         (there && sent) as u64
     }
@@ -71,18 +71,18 @@ fn a_thread_inside_a_home_holds_up_no_other_queue(rt: HostRuntime) {
 }
 
 /// Queues of a run of many threads.
-const QUEUES: [&str; 6] = ["a", "b", "c", "d", "e", "f"];
+const QUEUES: [u8; 6] = *b"abcdef";
 
 /// How many calls each of them makes.
 const CALLS: u64 = 2000;
 
 // One of the queues.
-fn one_of(choices: &mut Choices) -> &'static str {
+fn one_of(choices: &mut Choices) -> u8 {
     QUEUES[choices.below(6) as usize]
 }
 
 // What changes which queues there are, what is in them, or the tasks.
-fn rare_ask(choices: &mut Choices) -> Ask<'static> {
+fn rare_ask(choices: &mut Choices) -> Ask {
     let name = one_of(choices);
     let other = one_of(choices);
     match choices.below(8) {
