@@ -2,7 +2,6 @@
 
 mod clients;
 mod dead_letters;
-mod race;
 mod send_and_receive;
 mod server_and_client;
 mod two_threads;

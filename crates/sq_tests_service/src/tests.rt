@@ -1,6 +1,8 @@
-//! A module a subject; `shared` has the service under test, `stories` how clients share it, `calls` what they ask.
+//! A module a subject. `shared` has the service under test, `stories` what clients do there, `asks` what they ask, and `evidence`
+//! what a service leaves.
 
-mod calls;
+mod asks;
+mod evidence;
 mod lines;
 mod movers;
 mod runs;

@@ -1,11 +1,12 @@
-//! A module a subject; `setup` has what several begin with.
+//! A module a subject. `stage` has the world under test, `cues` what is done there, and `evidence` what it leaves.
 
-mod calls;
+mod cues;
 mod evidence;
+mod homes;
+mod mixed;
 mod moves;
+mod order;
 mod queues;
 mod scripts;
-mod service;
-mod setup;
+mod stage;
 mod stops;
-mod worlds;

@@ -1,6 +1,6 @@
 //! Lines of clients, each call made by its own name; and turns.
-use super::shared::{Client, First, Setting};
-use super::stories::{Scene, Story, tell};
+use super::shared::{Client, NOTHING, Setting};
+use super::stories::{Deed, Scene, must, tell};
 use sq_actions::progress::Progress;
 use sq_base::refusal::Refusal;
 use sq_calls::batches::{Batch, EntryAsk};
@@ -179,30 +179,29 @@ fn by_name<D: Ledger, T: Ledger, R: Wait>(
 // Does what a line asks, at its clock reading or the last one's.
 fn answered<D: Ledger, T: Ledger, R: Wait>(
     at: &Scene<'_, '_, D, T, R>,
-    clients: (&mut Client<D, T>, &mut Client<D, T>),
+    client: &mut Client<D, T>,
     progress: &mut Progress,
     request: Request,
 ) -> Result<Answered, Refusal> {
     if let Some(reading) = request.clock {
         at.signs.time.store(reading, Ordering::SeqCst);
     }
-    let (client, mover) = clients;
     match request.asked {
         Asked::Call(call) => Ok(Answered::Call(by_name(at, client, call)?)),
-        Asked::Turn(turn) => Ok(Answered::Turn(at.service.turn(at.rt, mover, progress, &turn)?)),
+        Asked::Turn(turn) => Ok(Answered::Turn(at.service.turn(at.rt, client, progress, &turn)?)),
     }
 }
 
 // What a line is answered.
 fn told<D: Ledger, T: Ledger, R: Wait>(
     at: &Scene<'_, '_, D, T, R>,
-    clients: (&mut Client<D, T>, &mut Client<D, T>),
+    client: &mut Client<D, T>,
     progress: &mut Progress,
     scratch: &mut Scratch,
     line: &str,
 ) -> Result<Answered, Refusal> {
     let request = read_request(at.alloc, scratch, line.as_bytes())?;
-    answered(at, clients, progress, request)
+    answered(at, client, progress, request)
 }
 
 // Whether the text of what is told is this one.
@@ -211,39 +210,28 @@ fn is_told(rt: &impl Abort, alloc: Global, told: Result<Answered, Refusal>, repl
     text.as_bytes() == reply.as_bytes()
 }
 
-// How many lines have their replies.
-#[derive(Drop)]
-struct Lines;
-
-impl Story for Lines {
-    fn act<D: Ledger, T: Ledger, R: Wait + Abort>(
-        &self,
-        at: &Scene<'_, '_, D, T, R>,
-        client: &mut Client<D, T>,
-    ) -> u64 {
-        let mut mover = at.service.client(at.rt, at.alloc);
-        let mut progress = Progress::new();
-        let mut scratch = Scratch::new(at.alloc);
-        let mut right = 0u64;
-        for (line, reply) in LINES.iter() {
-            let told = told(
-                at,
-                (&mut *client, &mut mover),
-                &mut progress,
-                &mut scratch,
-                line,
-            );
-            let is_right = is_told(at.rt, at.alloc, told, reply);
-            right = right.saturating_add(is_right as u64);
-        }
-        at.service.retire(at.rt, mover);
-        right
+/// Does what lines ask, each call by its own name, and tells how many have their replies.
+pub fn lines<D: Ledger, T: Ledger, R: Wait + Abort>(
+    at: &Scene<'_, '_, D, T, R>,
+    client: &mut Client<D, T>,
+    asked: &[(&'static str, &'static str)],
+) -> u64 {
+    let mut progress = Progress::new();
+    let mut scratch = Scratch::new(at.alloc);
+    let mut right = 0u64;
+    for (line, reply) in asked.iter() {
+        let told = told(at, client, &mut progress, &mut scratch, line);
+        let is_right = is_told(at.rt, at.alloc, told, reply);
+        right = right.saturating_add(is_right as u64);
     }
+    right
 }
+
+const DEEDS: &[Deed] = &[Deed::Lines(LINES)];
 
 #[test]
 fn each_call_by_its_name_is_answered_as_by_a_world(rt: HostRuntime) {
-    let told = tell(&rt, rt.alloc(), Setting::of(First::Nothing, 1, 1), &Lines);
-    assert!(rt; told.by[0] == LINES.len() as u64, "{told:?}");
-    assert!(rt; told.seen.messages.is_some(), "{told:?}");
+    let told = tell(&rt, rt.alloc(), Setting::of(NOTHING, 1), &[DEEDS]);
+    let right = told.by[0] == LINES.len() as u64;
+    must(&rt, &told, right && told.seen.messages.is_some());
 }

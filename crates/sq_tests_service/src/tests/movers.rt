@@ -1,7 +1,7 @@
 //! Movers at a service.
-use super::calls::{Ask, named};
-use super::shared::{Client, First, Setting, is_set};
-use super::stories::{Scene, Story, Told, tell};
+use super::asks::{Ask, named};
+use super::shared::{Client, DEAD_LETTER, Setting};
+use super::stories::{Deed, Scene, Told, must, tell};
 use sq_actions::walk::Walk;
 use sq_base::refusal::Refusal;
 use sq_calls::turns::Turned;
@@ -11,15 +11,14 @@ use sq_mover::turns::{dead_turn, enter_turn, task_turn};
 use std::alloc::Global;
 use std::process::Abort;
 use std::sync::Wait;
-use std::sync::atomic::Ordering;
 use std::sync::ledger::Ledger;
 use std::thread::Threads;
 
-// So many turns of a mover, and whether they were made.
-fn moves<D: Ledger, T: Ledger, R: Wait>(
+/// Makes so many turns of a mover, and tells whether they were made.
+pub fn turns<D: Ledger, T: Ledger, R: Wait + Abort>(
     at: &Scene<'_, '_, D, T, R>,
     client: &mut Client<D, T>,
-    turns: u64,
+    number: u64,
 ) -> bool {
     let mut mover = Mover::new(at.alloc);
     run_mover(
@@ -27,37 +26,16 @@ fn moves<D: Ledger, T: Ledger, R: Wait>(
         at.rt,
         client.session(),
         &mut mover,
-        turns,
-    ) == Ok(turns)
+        number,
+    ) == Ok(number)
 }
 
-// A mover makes a hundred turns; what the dead-letter queue gives then.
-#[derive(Drop)]
-struct Brings;
-
-impl Story for Brings {
-    fn act<D: Ledger, T: Ledger, R: Wait + Abort>(
-        &self,
-        at: &Scene<'_, '_, D, T, R>,
-        client: &mut Client<D, T>,
-    ) -> u64 {
-        let mut worker = at.service.client(at.rt, at.alloc);
-        assert!(at.rt; moves(at, &mut worker, 100), "made");
-        at.service.retire(at.rt, worker);
-        at.serial(client, b'd')
-    }
-}
+const BRING: &[Deed] = &[Deed::Turns(100), Deed::Receive(b'd')];
 
 #[test]
 fn a_mover_brings_a_dead_letter(rt: HostRuntime) {
-    let told = tell(
-        &rt,
-        rt.alloc(),
-        Setting::of(First::DeadLetter, 1, 1),
-        &Brings,
-    );
-    assert!(rt; told.by[0] == 1, "{told:?}");
-    assert!(rt; told.seen.messages == Some(1), "{told:?}");
+    let told = tell(&rt, rt.alloc(), Setting::of(DEAD_LETTER, 1), &[BRING]);
+    must(&rt, &told, told.by[0] == 2 && told.seen.messages == Some(1));
 }
 
 // The number of a turn's word; 0 where it is refused.
@@ -74,35 +52,27 @@ fn word(told: Result<Turned, Refusal>) -> u64 {
     }
 }
 
-// The words of turns, as digits: a dead letter is brought to its queue, and a task takes it back.
-#[derive(Drop)]
-struct Words;
-
-impl Story for Words {
-    fn act<D: Ledger, T: Ledger, R: Wait + Abort>(
-        &self,
-        at: &Scene<'_, '_, D, T, R>,
-        client: &mut Client<D, T>,
-    ) -> u64 {
-        let (rt, service) = (at.rt, at.service.service());
-        let mut worker = at.service.client(rt, at.alloc);
-        let mut tried = 0;
-        let dead = word(dead_turn(service, rt, worker.session(), &named(rt, b'q')));
-        let entered = word(enter_turn(service, rt, worker.session(), &mut tried));
-        assert!(rt; at.is_done(client, Ask::Start(b'd', None)), "a task");
-        let mut walk = Walk::new(TaskNo::new(1).expect(rt, "a number"));
-        let mut words = dead.saturating_mul(10).saturating_add(entered);
-        for turn in 2..8usize {
-            let next = if turn == 5 {
-                word(enter_turn(service, rt, worker.session(), &mut tried))
-            } else {
-                word(task_turn(service, rt, worker.session(), &mut walk))
-            };
-            words = words.saturating_mul(10).saturating_add(next);
-        }
-        at.service.retire(rt, worker);
-        words
+/// The words of turns, as digits: a dead letter is brought to its queue, and a task takes it back.
+pub fn words<D: Ledger, T: Ledger, R: Wait + Abort>(
+    at: &Scene<'_, '_, D, T, R>,
+    client: &mut Client<D, T>,
+) -> u64 {
+    let (rt, service) = (at.rt, at.service.service());
+    let mut tried = 0;
+    let dead = word(dead_turn(service, rt, client.session(), &named(rt, b'q')));
+    let entered = word(enter_turn(service, rt, client.session(), &mut tried));
+    assert!(rt; at.is_done(client, Ask::Start(b'd', None)), "a task");
+    let mut walk = Walk::new(TaskNo::new(1).expect(rt, "a number"));
+    let mut words = dead.saturating_mul(10).saturating_add(entered);
+    for turn in 2..8usize {
+        let next = if turn == 5 {
+            word(enter_turn(service, rt, client.session(), &mut tried))
+        } else {
+            word(task_turn(service, rt, client.session(), &mut walk))
+        };
+        words = words.saturating_mul(10).saturating_add(next);
     }
+    words
 }
 
 #[test]
@@ -110,76 +80,49 @@ fn turns_say_what_they_did(rt: HostRuntime) {
     let told = tell(
         &rt,
         rt.alloc(),
-        Setting::of(First::DeadLetter, 1, 1),
-        &Words,
+        Setting::of(DEAD_LETTER, 1),
+        &[&[Deed::Words]],
     );
-    assert!(rt; told.by[0] == 12_164_265, "{told:?}");
+    must(&rt, &told, told.by[0] == 12_164_265);
 }
 
 // A mover makes so many turns, and is held after its leave until a call of the client was answered; it is made after the turns where
 // nobody was held.
-#[derive(Drop)]
-struct Between {
+fn told_between<R: Threads + Wait + Abort + Sync>(
+    rt: &R,
+    alloc: Global,
     turns: u64,
-    /// Whether the client deletes the dead-letter queue; else it receives from the source.
-    deletes: bool,
-}
-
-impl Story for Between {
-    fn act<D: Ledger, T: Ledger, R: Wait + Abort>(
-        &self,
-        at: &Scene<'_, '_, D, T, R>,
-        client: &mut Client<D, T>,
-    ) -> u64 {
-        if at.place == 0 {
-            let there = is_set(&at.signs.held);
-            let ask = if self.deletes {
-                Ask::DeleteQueue(b'd')
-            } else {
-                Ask::Receive(b'q')
-            };
-            let answered = at.is_done(client, ask);
-            at.signs.sign.store(1, Ordering::SeqCst);
-            (there && answered) as u64
-        } else {
-            let made = moves(at, client, self.turns);
-            at.signs.held.store(1, Ordering::SeqCst);
-            made as u64
-        }
-    }
-}
-
-// What it tells; a client and a mover.
-fn told_between<R: Threads + Wait + Abort + Sync>(rt: &R, alloc: Global, story: &Between) -> Told {
+    ask: Ask,
+) -> Told {
     let setting = Setting {
         item: 1,
-        ..Setting::of(First::DeadLetter, 1, 2)
+        ..Setting::of(DEAD_LETTER, 1)
     };
-    tell(rt, alloc, setting, story)
+    let client = [Deed::AwaitHeld, Deed::Ask(ask), Deed::Sign];
+    let mover = [Deed::Turns(turns), Deed::Hold];
+    tell(rt, alloc, setting, &[client.as_slice(), mover.as_slice()])
 }
 
 #[test]
 fn a_mover_holds_no_source_while_its_item_is_on_the_way(rt: HostRuntime) {
-    let story = Between {
-        turns: 6,
-        deletes: false,
-    };
-    let told = told_between(&rt, rt.alloc(), &story);
-    assert!(rt; told.by[0] == 1 && told.by[1] == 1 && told.met, "{told:?}");
+    let told = told_between(&rt, rt.alloc(), 6, Ask::Receive(b'q'));
+    must(&rt, &told, told.by[0] == 2 && told.by[1] == 1 && told.met);
+}
+
+// Whether both were answered, and left the message in one run.
+fn is_one_run(told: &Told) -> bool {
+    told.by[0] == 2
+        && told.by[1] == 1
+        && told.seen.sessions == [2, 2]
+        && told.seen.messages == Some(1)
 }
 
 #[test]
 fn a_mover_is_stopped_after_each_turn_while_its_target_is_deleted(rt: HostRuntime) {
     let mut left = 0u64;
     for turns in 0..=50u64 {
-        let story = Between {
-            turns,
-            deletes: true,
-        };
-        let told = told_between(&rt, rt.alloc(), &story);
-        assert!(rt; told.by[0] == 1 && told.by[1] == 1, "{turns} {told:?}");
-        assert!(rt; told.seen.sessions == [2, 2], "{turns} {told:?}");
-        assert!(rt; told.seen.messages == Some(1), "{turns} {told:?}");
+        let told = told_between(&rt, rt.alloc(), turns, Ask::DeleteQueue(b'd'));
+        must(&rt, &told, is_one_run(&told));
         left = left.saturating_add((told.seen.events[1] != 0) as u64);
     }
     // The first turns are of d, where there is no dead letter.

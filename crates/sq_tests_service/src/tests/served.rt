@@ -1,13 +1,12 @@
 //! Lines of a client over memory, answered by a session.
-use super::shared::{Client, First, Setting};
-use super::stories::{Scene, Story, tell};
+use super::shared::{Client, NOTHING, Setting};
+use super::stories::{Deed, Scene, must, tell};
 use sq_lines::counted::Counted;
-use sq_tests_values::streams::{Batches, Whole};
+use sq_tests_parts::streams::{Batches, Whole};
 use sq_wire::run::ServeFault;
 use sq_wire::serve::serve;
 use std::process::Abort;
 use std::sync::Wait;
-use std::sync::atomic::Ordering;
 use std::sync::ledger::Ledger;
 
 /// A message is sent, received and deleted. Clock readings and actors are passed over.
@@ -32,29 +31,43 @@ const MORE: &[u8] = b"{\"Action\":\"ListQueues\"}\n";
 
 const LISTED: &[u8] = b"{\"QueueUrls\":[\"http://localhost/000000000000/q\"]}\n";
 
-/// How a run ends, how many lines it answered, whether the replies are those, and how many records it left.
-#[derive(Clone, Copy, PartialEq, Eq, Debug)]
-struct Ended {
-    well: bool,
+/// The lines of a connection, and what must become of them.
+#[derive(Clone, Copy)]
+pub struct Connection {
+    asked: &'static [u8],
+    replies: &'static [u8],
+    /// How many lines are answered, by one write, and how many records the session has then.
     lines: u64,
-    replied: bool,
-    writes: u64,
     records: u64,
 }
 
-// How many lines were answered, where all were.
+// A session answers the lines of one connection, and then those of another.
+const FIRST: &Connection = &Connection {
+    asked: LINES,
+    replies: REPLIES,
+    lines: 6,
+    records: 5,
+};
+
+const SECOND: &Connection = &Connection {
+    asked: MORE,
+    replies: LISTED,
+    lines: 1,
+    records: 6,
+};
+
+// How many lines were answered, where all were; none else.
 fn lines_of(done: Result<u64, ServeFault>) -> Option<u64> {
     done.ok()
 }
 
-// What becomes of these lines, where the replies are to be those.
-fn serve_lines<D: Ledger, T: Ledger, R: Wait>(
+/// Answers the lines of a connection, and tells whether all becomes of them that must.
+pub fn serve_lines<D: Ledger, T: Ledger, R: Wait>(
     at: &Scene<'_, '_, D, T, R>,
     client: &mut Client<D, T>,
-    asked: &[u8],
-    replies: &[u8],
-) -> Ended {
-    let batches = [asked];
+    connection: &Connection,
+) -> bool {
+    let batches = [connection.asked];
     let mut reader = Counted::new(Batches::new(&batches));
     let mut writer = Counted::new(Whole::new(at.alloc));
     let service = at.service.service();
@@ -66,52 +79,21 @@ fn serve_lines<D: Ledger, T: Ledger, R: Wait>(
         service,
         client.session(),
     );
-    let lines = lines_of(done);
-    Ended {
-        well: lines.is_some(),
-        lines: lines.unwrap_or(0),
-        replied: writer.inner().written.as_slice() == replies,
-        writes: writer.inner().writes,
-        records: client.session().len() as u64,
-    }
+    let written = writer.inner();
+    lines_of(done) == Some(connection.lines)
+        && written.written.as_slice() == connection.replies
+        && written.writes == 1
+        && client.session().len() as u64 == connection.records
 }
 
-// A session answers the lines of one connection, and then those of another.
-#[derive(Drop)]
-struct Serves;
-
-impl Story for Serves {
-    fn act<D: Ledger, T: Ledger, R: Wait + Abort>(
-        &self,
-        at: &Scene<'_, '_, D, T, R>,
-        client: &mut Client<D, T>,
-    ) -> u64 {
-        at.signs.time.store(1000, Ordering::SeqCst);
-        let first = serve_lines(at, client, LINES, REPLIES);
-        let want = Ended {
-            well: true,
-            lines: 6,
-            replied: true,
-            writes: 1,
-            records: 5,
-        };
-        assert!(at.rt; first == want, "{first:?}");
-        let second = serve_lines(at, client, MORE, LISTED);
-        let want = Ended {
-            well: true,
-            lines: 1,
-            replied: true,
-            writes: 1,
-            records: 6,
-        };
-        assert!(at.rt; second == want, "{second:?}");
-        7
-    }
-}
+const CONNECTIONS: &[Deed] = &[
+    Deed::Clock(1000),
+    Deed::Connect(FIRST),
+    Deed::Connect(SECOND),
+];
 
 #[test]
 fn the_lines_of_a_client_are_answered_in_order(rt: HostRuntime) {
-    let told = tell(&rt, rt.alloc(), Setting::of(First::Nothing, 1, 1), &Serves);
-    assert!(rt; told.by[0] == 7, "{told:?}");
-    assert!(rt; told.seen.messages == Some(1), "{told:?}");
+    let told = tell(&rt, rt.alloc(), Setting::of(NOTHING, 1), &[CONNECTIONS]);
+    must(&rt, &told, told.by[0] == 2 && told.seen.messages == Some(1));
 }

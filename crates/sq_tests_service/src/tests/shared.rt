@@ -1,10 +1,11 @@
-//! A service under test, its sessions and the evidence that they leave, each in a box: a function that has one on its own stack is
+//! A service under test and its sessions, each in a box: a function that has one on its own stack is
 //! proved with all that it is made of, which takes up to ten times as long.
 ghost use Rattle.std.specs.Prelude.{◌≡◌};
 
+use super::asks::Ask;
+use super::evidence::Evidence;
+use super::stories::Deed;
 use sq_actions::progress::Progress;
-use sq_audit::merge::merge;
-use sq_audit::parts::Parts;
 use sq_base::refusal::Refusal;
 use sq_calls::calls::{Answer, Call};
 use sq_calls::turns::{Turn, Turned};
@@ -12,7 +13,6 @@ use sq_directory::directory::Directory;
 use sq_history::recorded::Home;
 use sq_ledger::ledger::TransitLedger;
 use sq_opening::options::Options;
-use sq_places::places::places_of;
 use sq_queue::service::{Clock, Gate, Service, Serving};
 use sq_queue::session::Session;
 use sq_shard::slots::SlotStore;
@@ -61,28 +61,64 @@ impl Signs {
             met: AtomicU64::new(0),
         }
     }
+
+    /// Takes all of them back.
+    pub fn take_back(&self) {
+        self.met.store(0, Ordering::SeqCst);
+        self.held.store(0, Ordering::SeqCst);
+        self.sign.store(0, Ordering::SeqCst);
+    }
 }
 
-/// What the first client of a story does before they all act.
-#[derive(Clone, Copy, PartialEq, Eq, Debug)]
-pub enum First {
-    Nothing,
-    /// Makes queue q.
-    Queue,
-    /// Makes queues q and r, and lets who is inside a home of q be held.
-    Held,
-    /// Makes queues d and q, and a dead letter in q.
-    DeadLetter,
+/// What the first client of a story does before they all act, and what that tells.
+#[derive(Clone, Copy)]
+pub struct Start {
+    pub deeds: &'static [Deed],
+    pub tells: u64,
 }
+
+pub const NOTHING: Start = Start {
+    deeds: &[],
+    tells: 0,
+};
+
+/// Makes queue q.
+pub const QUEUE: Start = Start {
+    deeds: &[Deed::Ask(Ask::Create(b'q', None))],
+    tells: 1,
+};
+
+/// Makes queues q and r; from then on who is inside a home of q may be held.
+pub const HELD: Start = Start {
+    deeds: &[
+        Deed::Sign,
+        Deed::Ask(Ask::Create(b'q', None)),
+        Deed::Ask(Ask::Create(b'r', None)),
+        Deed::NoSign,
+    ],
+    tells: 2,
+};
+
+/// Makes queues d and q, from which what was received once goes to d; and a dead letter in q, at 31000.
+pub const DEAD_LETTER: Start = Start {
+    deeds: &[
+        Deed::Ask(Ask::Create(b'd', None)),
+        Deed::Ask(Ask::Create(b'q', Some(b'd'))),
+        Deed::Clock(1000),
+        Deed::Ask(Ask::Send(b'q')),
+        Deed::Receive(b'q'),
+        Deed::Clock(31000),
+        Deed::Receive(b'q'),
+    ],
+    tells: 4,
+};
 
 /// How a service under test is made, and a story begins.
 #[derive(Clone, Copy)]
 pub struct Setting {
-    pub first: First,
+    pub begin: Start,
     /// Homes of each queue, all of which are asked.
     pub homes: u32,
-    /// How many clients there are.
-    pub clients: usize,
     /// The number of the queue inside whose homes a thread is held until the sign; 0 where none is.
     pub queue: u64,
     /// The number of the item after whose leave its mover is held; 0 where none is.
@@ -90,12 +126,11 @@ pub struct Setting {
 }
 
 impl Setting {
-    /// Of so many clients at queues of so many homes; nobody is held.
-    pub fn of(first: First, homes: u32, clients: usize) -> Setting {
+    /// Of queues of so many homes; nobody is held.
+    pub fn of(begin: Start, homes: u32) -> Setting {
         Setting {
-            first,
+            begin,
             homes,
-            clients,
             queue: 0,
             item: 0,
         }
@@ -271,9 +306,7 @@ impl<'a, D: Ledger, T: Ledger> Shared<'a, D, T, SlotStore> {
     {
         let sessions = sessions_of(rt, alloc, clients);
         match Box::into_inner(self.service).finish(sessions) {
-            Ok(parts) => Evidence {
-                parts: Box::new(alloc, parts).expect(rt, "memory"),
-            },
+            Ok(parts) => Evidence::new(rt, alloc, parts),
             Err(_) => panic!(rt; "memory"),
         }
     }
@@ -293,59 +326,4 @@ fn sessions_of<D: Ledger, T: Ledger>(
         }
     }
     sessions
-}
-
-/// The parts of a service with their histories, and what each session kept of its steps.
-#[derive(Drop)]
-pub struct Evidence {
-    parts: Box<Parts>,
-}
-
-impl Model for Evidence {
-    ghost use Rattle.std.specs.Prelude.{⊤};
-
-    ghost Value = { ⊤ };
-
-    ghost view = { λ e. tt };
-}
-
-/// What a test looks at of it.
-#[derive(Clone, Copy, PartialEq, Eq, Debug)]
-pub struct Seen {
-    /// How many sessions were made, and how many left their records.
-    pub sessions: [u64; 2],
-    /// How many events the directory, the ledger and the first home have.
-    pub events: [u64; 3],
-    /// How many messages there were; none where the evidence is not of one run.
-    pub messages: Option<u64>,
-}
-
-impl Evidence {
-    pub fn seen(&self, alloc: Global) -> Seen {
-        let parts = &self.parts;
-        Seen {
-            sessions: [parts.made, parts.records.as_slice().len() as u64],
-            events: [
-                parts.directory.events().len() as u64,
-                parts.ledger.events().len() as u64,
-                first_home(parts),
-            ],
-            messages: messages(alloc, parts),
-        }
-    }
-}
-
-// How many events the first home has.
-fn first_home(parts: &Parts) -> u64 {
-    match parts.homes.as_slice().first() {
-        Some(home) => home.events().len() as u64,
-        None => 0,
-    }
-}
-
-// How many messages there were, in one run of all.
-fn messages(alloc: Global, parts: &Parts) -> Option<u64> {
-    let run = merge(alloc, parts).ok()?;
-    let places = places_of(alloc, &run).ok()?;
-    Some(places.len() as u64)
 }

@@ -1,8 +1,17 @@
-//! Stories of clients, each told at a service of its own: how that is made, shared by threads and ended is written here, once.
+//! Stories of clients, each told at a service of its own: what each client does, and how a service is made, shared by threads and
+//! ended.
 ghost use Rattle.std.specs.Prelude.{◌≡◌};
 
-use super::calls::{Ask, Got, call_of, first_of};
-use super::shared::{Client, First, Seen, Setting, Shared, Signs};
+use super::asks::{Ask, Got, Heard, call_of, delete, heard_of};
+use super::evidence::Seen;
+use super::lines::lines;
+use super::movers::{turns, words};
+use super::served::{Connection, serve_lines};
+use super::shared::{Client, Setting, Shared, Signs, is_set};
+use super::threads::random;
+use sq_base::handle::Handle;
+use sq_base::refusal::Refusal;
+use sq_calls::calls::{Answer, Call};
 use sq_queue::actors::SEATS;
 use sq_shard::slots::SlotStore;
 use std::alloc::Global;
@@ -13,6 +22,41 @@ use std::sync::atomic::Ordering;
 use std::sync::ledger::{Blank, Ledger};
 use std::thread;
 use std::thread::Threads;
+
+/// What a client does, of which each tells a number.
+#[derive(Clone, Copy)]
+pub enum Deed {
+    /// A call: 1 where it is not refused.
+    Ask(Ask),
+    /// A receive: the serial of the message's id and one more, 0 where there is none. The message is visible again at once.
+    Receive(u8),
+    /// A message of a queue is received, and deleted by the handle that was given: 1 where both are done.
+    ReceiveAndDelete(u8),
+    /// Sends to queue q, and as often its URL is asked for: how many were not refused.
+    Sends(u64),
+    /// A send to queue q that may do so many steps: 1 where it is stopped.
+    SendOfSteps(u64),
+    /// Turns of a mover: 1 where they are made.
+    Turns(u64),
+    /// What the turns of a mover say that brings a dead letter to its queue and back, as digits.
+    Words,
+    /// Calls and turns at random, while the clock goes on: how many messages were sent.
+    Random(u64),
+    /// Lines, each call made by its own name: how many have their replies.
+    Lines(&'static [(&'static str, &'static str)]),
+    /// The lines of a connection: 1 where all is as it must be.
+    Connect(&'static Connection),
+    /// Sets the clock, in ms: 0.
+    Clock(u64),
+    /// Waits until somebody is held: 1 where somebody is.
+    AwaitHeld,
+    /// Says that somebody is held, as who is held does: 0.
+    Hold,
+    /// Gives the sign to who is held: 0.
+    Sign,
+    /// Takes all signs back: 0.
+    NoSign,
+}
 
 /// Where a client of a story acts.
 #[derive(Drop)]
@@ -25,42 +69,103 @@ pub struct Scene<'s, 'a, D: Ledger, T: Ledger, R> {
     pub place: usize,
 }
 
+// Whether a call was stopped.
+fn is_stopped(told: Result<Option<Answer>, Refusal>) -> bool {
+    matches!(told, Ok(None))
+}
+
 impl<'s, 'a, D: Ledger, T: Ledger, R: Wait + Abort> Scene<'s, 'a, D, T, R> {
+    // What a client has of the answer to a call.
+    fn heard(&self, client: &mut Client<D, T>, call: &Call) -> Heard {
+        heard_of(&self.service.call(self.rt, client, call))
+    }
+
     /// Does what a client asks, and tells whether it is not refused.
     pub fn is_done(&self, client: &mut Client<D, T>, ask: Ask) -> bool {
         let call = call_of(self.rt, self.alloc, ask);
-        self.service.call(self.rt, client, &call).is_ok()
+        self.heard(client, &call).done
     }
 
     /// The message that a queue gives to a client; it is visible again at once.
     pub fn received(&self, client: &mut Client<D, T>, name: u8) -> Option<Got> {
         let call = call_of(self.rt, self.alloc, Ask::Receive(name));
-        first_of(self.service.call(self.rt, client, &call))
+        self.heard(client, &call).got
     }
 
-    /// The serial of the id of the message that a queue gives to a client, and one more; 0 where it gives none.
-    pub fn serial(&self, client: &mut Client<D, T>, name: u8) -> u64 {
-        match self.received(client, name) {
-            Some(got) => got.serial.saturating_add(1),
-            None => 0,
+    // Deletes a message by its handle, and tells whether that is not refused.
+    fn is_deleted(&self, client: &mut Client<D, T>, name: u8, handle: Option<Handle>) -> bool {
+        let call = delete(self.rt, name, handle);
+        self.heard(client, &call).done
+    }
+
+    /// A message is received, and deleted by the handle that was given; without a handle where there is none.
+    pub fn receive_and_delete(&self, client: &mut Client<D, T>, name: u8) -> bool {
+        let handle = self.received(client, name).map(|got| got.handle);
+        self.is_deleted(client, name, handle)
+    }
+
+    fn sends(&self, client: &mut Client<D, T>, times: u64) -> u64 {
+        let mut done = 0u64;
+        for _ in 0..times {
+            let sent = self.is_done(client, Ask::Send(b'q'));
+            let told = self.is_done(client, Ask::Url(b'q'));
+            done = done.saturating_add(sent as u64).saturating_add(told as u64);
+        }
+        done
+    }
+
+    fn send_is_stopped(&self, client: &mut Client<D, T>, steps: u64) -> bool {
+        let call = call_of(self.rt, self.alloc, Ask::Send(b'q'));
+        let service = self.service.service();
+        is_stopped(service.call_until(self.rt, client.session(), &call, steps))
+    }
+
+    // Signs and the clock.
+    fn show(&self, deed: Deed) -> u64 {
+        match deed {
+            Deed::Clock(time) => self.signs.time.store(time, Ordering::SeqCst),
+            Deed::AwaitHeld => return is_set(&self.signs.held) as u64,
+            Deed::Hold => self.signs.held.store(1, Ordering::SeqCst),
+            Deed::Sign => self.signs.sign.store(1, Ordering::SeqCst),
+            _ => self.signs.take_back(),
+        }
+        0
+    }
+
+    // What a deed tells.
+    fn do_deed(&self, client: &mut Client<D, T>, deed: Deed) -> u64 {
+        match deed {
+            Deed::Ask(ask) => self.is_done(client, ask) as u64,
+            Deed::Receive(name) => match self.received(client, name) {
+                Some(got) => got.serial.saturating_add(1),
+                None => 0,
+            },
+            Deed::ReceiveAndDelete(name) => self.receive_and_delete(client, name) as u64,
+            Deed::Sends(times) => self.sends(client, times),
+            Deed::SendOfSteps(steps) => self.send_is_stopped(client, steps) as u64,
+            Deed::Turns(number) => turns(self, client, number) as u64,
+            Deed::Words => words(self, client),
+            Deed::Random(calls) => random(self, client, calls),
+            Deed::Lines(asked) => lines(self, client, asked),
+            Deed::Connect(connection) => serve_lines(self, client, connection) as u64,
+            _ => self.show(deed),
         }
     }
-}
 
-/// What clients do, each in a thread of its own.
-pub trait Story {
-    /// What a client does, and a number that it tells.
-    fn act<D: Ledger, T: Ledger, R: Wait + Abort>(
-        &self,
-        at: &Scene<'_, '_, D, T, R>,
-        client: &mut Client<D, T>,
-    ) -> u64;
+    // What all deeds of a client tell, in one sum.
+    fn act(&self, client: &mut Client<D, T>, deeds: &[Deed]) -> u64 {
+        let mut all = 0u64;
+        for deed in deeds {
+            all = all.saturating_add(self.do_deed(client, *deed));
+        }
+        all
+    }
 }
 
 /// What a story tells.
 #[derive(Clone, Copy, PartialEq, Eq, Debug)]
 pub struct Told {
-    /// The numbers of the first eight clients.
+    /// What the deeds of each of the first eight clients tell, in one sum.
     pub by: [u64; 8],
     /// Whether somebody who was held saw the sign.
     pub met: bool,
@@ -79,81 +184,30 @@ struct Worker<D: Ledger, T: Ledger> {
 fn begun<D: Ledger, T: Ledger, R: Wait + Abort>(
     at: &Scene<'_, '_, D, T, R>,
     setting: Setting,
+    clients: usize,
 ) -> Vec<Worker<D, T>> {
-    let (rt, alloc) = (at.rt, at.alloc);
-    let mut first = at.service.client(rt, alloc);
-    assert!(rt; begin(at, &mut first, setting.first), "begun");
-    let mut workers = vec![in alloc;
-        Worker {
-            client: first,
-            told: 0
-        },
-    ]
-    .expect(rt, "memory");
-    for _ in 1..setting.clients {
-        let client = at.service.client(rt, alloc);
+    let mut workers = Vec::new(at.alloc);
+    for place in 0..clients {
+        let mut client = at.service.client(at.rt, at.alloc);
+        if place == 0 {
+            let told = at.act(&mut client, setting.begin.deeds);
+            assert!(at.rt; told == setting.begin.tells, "begun: {told}");
+        }
         match workers.push(Worker { client, told: 0 }) {
             Ok(()) => {}
-            Err(_) => assert!(rt; false, "memory"),
+            Err(_) => assert!(at.rt; false, "memory"),
         }
     }
     workers
 }
 
-// Does what the first client begins with, and tells whether it is done.
-fn begin<D: Ledger, T: Ledger, R: Wait + Abort>(
-    at: &Scene<'_, '_, D, T, R>,
-    client: &mut Client<D, T>,
-    first: First,
-) -> bool {
-    match first {
-        First::Nothing => true,
-        First::Queue => at.is_done(client, Ask::Create(b'q', None)),
-        First::Held => hold_at_q(at, client),
-        First::DeadLetter => dead_letter(at, client),
-    }
-}
-
-// Queues q and r; from now on who is inside a home of the first is held.
-fn hold_at_q<D: Ledger, T: Ledger, R: Wait + Abort>(
-    at: &Scene<'_, '_, D, T, R>,
-    client: &mut Client<D, T>,
-) -> bool {
-    at.signs.sign.store(1, Ordering::SeqCst);
-    let made = at.is_done(client, Ask::Create(b'q', None))
-        && at.is_done(client, Ask::Create(b'r', None));
-    at.signs.met.store(0, Ordering::SeqCst);
-    at.signs.held.store(0, Ordering::SeqCst);
-    at.signs.sign.store(0, Ordering::SeqCst);
-    made
-}
-
-// Queues d and q, from which what was received once goes to d; and a dead letter in q, at 31000.
-fn dead_letter<D: Ledger, T: Ledger, R: Wait + Abort>(
-    at: &Scene<'_, '_, D, T, R>,
-    client: &mut Client<D, T>,
-) -> bool {
-    let made = at.is_done(client, Ask::Create(b'd', None))
-        && at.is_done(client, Ask::Create(b'q', Some(b'd')));
-    at.signs.time.store(1000, Ordering::SeqCst);
-    let sent = at.is_done(client, Ask::Send(b'q'));
-    let received = at.serial(client, b'q') == 1;
-    at.signs.time.store(31000, Ordering::SeqCst);
-    made && sent && received && at.serial(client, b'q') == 0
-}
-
 // All of them act, each in its thread.
-fn act_all<
-    D: Ledger + Send + Sync,
-    T: Ledger + Send + Sync,
-    S: Story + Sync,
-    R: Threads + Wait + Abort + Sync,
->(
+fn act_all<D: Ledger + Send + Sync, T: Ledger + Send + Sync, R: Threads + Wait + Abort + Sync>(
     rt: &R,
     alloc: Global,
     service: &Shared<'_, D, T, SlotStore>,
     signs: &Signs,
-    story: &S,
+    deeds: &[&[Deed]],
     workers: &mut Vec<Worker<D, T>>,
 ) {
     let threads = workers.len().max(1);
@@ -169,7 +223,9 @@ fn act_all<
                 signs,
                 place,
             };
-            worker.told = story.act(&at, &mut worker.client);
+            if let Some(all) = deeds.get(place) {
+                worker.told = at.act(&mut worker.client, all);
+            }
         },
     );
 }
@@ -202,12 +258,14 @@ fn apart<D: Ledger, T: Ledger, R: Wait + Abort>(
 }
 
 // What a story tells, at a service whose counts have these names.
-fn told_by<
-    D: Ledger + Send + Sync,
-    T: Ledger + Send + Sync,
-    S: Story + Sync,
-    R: Threads + Wait + Abort + Sync,
->(rt: &R, alloc: Global, setting: Setting, story: &S, of_directory: Blank, of_ledger: Blank) -> Told
+fn told_by<D: Ledger + Send + Sync, T: Ledger + Send + Sync, R: Threads + Wait + Abort + Sync>(
+    rt: &R,
+    alloc: Global,
+    setting: Setting,
+    deeds: &[&[Deed]],
+    of_directory: Blank,
+    of_ledger: Blank,
+) -> Told
     requires of_directory { (of_directory.name ≡ D.name) × (of_directory.parts ≡ D.parts) × (D.parts ≡ 4294967296) }
     requires of_ledger { (of_ledger.name ≡ T.name) × (of_ledger.parts ≡ T.parts) × (T.parts ≡ 4294967296) }
 {
@@ -227,26 +285,31 @@ fn told_by<
         signs: &signs,
         place: 0,
     };
-    let mut workers = begun(&at, setting);
-    act_all(rt, alloc, &service, &signs, story, &mut workers);
+    let mut workers = begun(&at, setting, deeds.len());
+    act_all(rt, alloc, &service, &signs, deeds, &mut workers);
     let (by, left) = apart(rt, alloc, &service, workers);
-    let seen = service.finish(rt, alloc, left).seen(alloc);
+    let seen = service.finish(rt, alloc, left).seen();
     let met = signs.met.load(Ordering::SeqCst) == 1;
     Told { by, met, seen }
 }
 
-/// What a story tells, at a service of its own.
-pub fn tell<S: Story + Sync, R: Threads + Wait + Abort + Sync>(
+/// Whether a story told what it must; what it told is shown where it did not.
+pub fn must(rt: &impl Abort, told: &Told, right: bool) {
+    assert!(rt; right, "{told:?}");
+}
+
+/// What a story tells, at a service of its own: a client for each list of deeds, in a thread of its own.
+pub fn tell<R: Threads + Wait + Abort + Sync>(
     rt: &R,
     alloc: Global,
     setting: Setting,
-    story: &S,
+    deeds: &[&[Deed]],
 ) -> Told {
-    told_by::<Brand, Brand, S, R>(
+    told_by::<Brand, Brand, R>(
         rt,
         alloc,
         setting,
-        story,
+        deeds,
         Blank::new(SEATS),
         Blank::new(SEATS),
     )

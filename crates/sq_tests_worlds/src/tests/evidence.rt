@@ -1,63 +1,132 @@
-//! Parts that are not of each other, and what the audit says of them.
-use super::service::{Evidence, Service};
-use super::setup::{Fault, Mix, NO_FAULT, fault, make, missing, mixed, options, twice};
+//! What a world leaves, in a box, and what an audit finds wrong with it.
+use sq_audit::check::AuditFault;
+use sq_audit::merge::merge;
 use sq_audit::parts::Parts;
-use sq_base::name::QueueName;
-use sq_model::directory::{Attributes, DirectoryCall};
-use sq_steps::journal::{Journal, directory_step};
-use sq_tests_homes::asks::Answers;
-use sq_tests_values::setup::named;
+use sq_places::places::places_of;
 use std::alloc::Global;
+use std::marker::Model;
+use std::mem::swap;
 use std::process::Abort;
 
-// The parts of a service in which an actor made queues of these names.
-fn made(rt: &impl Abort, alloc: Global, names: &[&str]) -> Evidence {
-    let mut service = Service::new(rt, alloc, options(1, 10, 10));
-    for name in names {
-        let answered = make(alloc, &mut service, 3, 1000, name);
-        assert!(rt; matches!(answered, Answers::Number(_)));
+/// The parts of a world with their histories, and what each actor kept of its steps.
+#[derive(Drop)]
+pub struct Evidence {
+    alloc: Global,
+    parts: Box<Parts>,
+}
+
+impl Model for Evidence {
+    ghost use Rattle.std.specs.Prelude.{⊤};
+
+    ghost Value = { ⊤ };
+
+    ghost view = { λ e. tt };
+}
+
+/// What an audit finds wrong, in numbers: its kind, and what it is of.
+pub type Fault = [u64; 3];
+
+pub const NO_FAULT: Fault = [0; 3];
+
+/// Of this actor and place: a record without its event, or an event without its record.
+pub fn missing(actor: u32, place: u64) -> Fault {
+    [1, actor as u64, place]
+}
+
+fn numbers_of(fault: AuditFault) -> Fault {
+    match fault {
+        AuditFault::RecordMissing(actor, place) => missing(actor, place),
+        AuditFault::RecordTwice(actor, place) => [2, actor as u64, place],
+        AuditFault::LeaveUnmatched(stamp) => [3, stamp.moment, stamp.count],
+        AuditFault::EnterUnmatched(stamp) => [4, stamp.moment, stamp.count],
+        AuditFault::NoMemory => [5, 0, 0],
     }
-    service.evidence(rt, alloc)
 }
 
-// What the audit says of these parts, where some are of a service without queues.
-fn with_none(rt: &impl Abort, alloc: Global, mix: Mix) -> Fault {
-    mixed(
-        alloc,
-        made(rt, alloc, &["a", "b"]),
-        made(rt, alloc, &[]),
-        mix,
-    )
+/// Whether the audit found what it must in a case of this number; what it found is shown where it did not.
+pub fn must(rt: &impl Abort, case: u64, found: &Fault, right: bool) {
+    let [kind, first, second] = *found;
+    assert!(rt; right, "{case}: {kind} {first} {second}");
 }
 
-// Whether a queue is made, as this actor records it.
-fn is_made_by(alloc: Global, parts: &mut Parts, actor: &mut Journal, name: QueueName) -> bool {
-    let call = DirectoryCall::Create(name, Attributes::none());
-    directory_step(alloc, &mut parts.directory, actor, 1000, &call).is_ok()
+/// Which parts are another's.
+#[derive(Clone, Copy)]
+pub struct Mix {
+    pub directory: bool,
+    pub homes: bool,
+    pub ledger: bool,
+    pub records: bool,
 }
 
-// Another actor of the same number makes a queue.
-fn make_as_another(rt: &impl Abort, alloc: Global, parts: &mut Parts) {
-    let mut other = Journal::new(alloc, 3);
-    let name = named("a").expect(rt, "a name");
-    assert!(rt; is_made_by(alloc, parts, &mut other, name));
+impl Mix {
+    pub fn none() -> Mix {
+        Mix {
+            directory: false,
+            homes: false,
+            ledger: false,
+            records: false,
+        }
+    }
 }
 
-fn with_an_actor_twice(rt: &impl Abort, alloc: Global) -> Fault {
-    let mut evidence = made(rt, alloc, &["a", "b"]);
-    make_as_another(rt, alloc, evidence.parts_mut());
-    fault(alloc, &evidence)
+impl Evidence {
+    pub fn new(rt: &impl Abort, alloc: Global, parts: Parts) -> Evidence {
+        Evidence {
+            alloc,
+            parts: Box::new(alloc, parts).expect(rt, "memory"),
+        }
+    }
+
+    pub fn parts(&self) -> &Parts {
+        &self.parts
+    }
+
+    pub fn parts_mut(&mut self) -> &mut Parts {
+        &mut self.parts
+    }
+
+    /// What the audit finds wrong.
+    pub fn fault(&self) -> Fault {
+        match merge(self.alloc, &self.parts).err() {
+            Some(fault) => numbers_of(fault),
+            None => NO_FAULT,
+        }
+    }
+
+    /// Takes some parts of the other's in place of its own, which go there.
+    pub fn mix(&mut self, other: &mut Evidence, mix: Mix) {
+        let (parts, others) = (&mut *self.parts, &mut *other.parts);
+        if mix.directory {
+            swap(&mut parts.directory, &mut others.directory);
+        }
+        if mix.homes {
+            swap(&mut parts.homes, &mut others.homes);
+        }
+        if mix.ledger {
+            swap(&mut parts.ledger, &mut others.ledger);
+        }
+        if mix.records {
+            swap(&mut parts.records, &mut others.records);
+        }
+    }
+
+    /// Takes a record of an actor out, and again: whether it was there.
+    pub fn drop_twice(&mut self, actor: u32, record: u64) -> [bool; 2] {
+        [
+            self.parts.drop_record(actor, record),
+            self.parts.drop_record(actor, record),
+        ]
+    }
+
+    /// How many messages there were; none where the evidence is not of one run.
+    pub fn messages(&self) -> Option<u64> {
+        messages(self.alloc, &self.parts)
+    }
 }
 
-#[test]
-fn false_evidence_is_reported(rt: HostRuntime) {
-    let alloc = rt.alloc();
-    let mut mix = Mix::none();
-    assert_eq!(rt; with_none(&rt, alloc, mix), NO_FAULT);
-    mix.directory = true;
-    assert_eq!(rt; with_none(&rt, alloc, mix), missing(3, 0));
-    mix.directory = false;
-    mix.records = true;
-    assert_eq!(rt; with_none(&rt, alloc, mix), missing(3, 0));
-    assert_eq!(rt; with_an_actor_twice(&rt, alloc), twice(3, 0));
+// How many messages there were, in one run of all.
+fn messages(alloc: Global, parts: &Parts) -> Option<u64> {
+    let run = merge(alloc, parts).ok()?;
+    let places = places_of(alloc, &run).ok()?;
+    Some(places.len() as u64)
 }

@@ -1,12 +1,12 @@
 //! Runs over a reader and a writer that fail, and refusals that no line has. Whole scripts are in `rows/`.
-use super::service::Service;
-use super::setup::options;
+use super::stage::{Stage, options};
 use sq_base::refusal::Refusal;
 use sq_lines::counted::Counted;
 use sq_replies::reply::reply_text;
-use sq_tests_values::streams::{Answered, Asking, Batches, Bytewise, Piecewise, Whole};
+use sq_tests_parts::streams::{Answered, Asking, Batches, Bytewise, Piecewise, Whole};
 use sq_wire::run::ServeFault;
 use std::alloc::Global;
+use std::io::{Read, Write};
 use std::process::Abort;
 use std::sync::atomic::AtomicU64;
 
@@ -25,6 +25,17 @@ fn end_of(done: Result<u64, ServeFault>) -> [u64; 2] {
     }
 }
 
+// How a world of its own ends these lines, and how many it answered.
+fn ended<R: Read, W: Write>(
+    rt: &impl Abort,
+    alloc: Global,
+    reader: &mut Counted<R>,
+    writer: &mut Counted<W>,
+) -> [u64; 2] {
+    let mut stage = Stage::new(rt, alloc, options(1, 10, 10));
+    end_of(stage.answer(reader, writer))
+}
+
 // How many bytes of `REFUSED` were written; none where others were.
 fn written(bytes: &[u8]) -> u64 {
     if REFUSED.starts_with(bytes) {
@@ -34,39 +45,47 @@ fn written(bytes: &[u8]) -> u64 {
     }
 }
 
-// What becomes of two lines that are no requests, where a call of the reader and a call of the writer fail, counted from 1: how it ends,
-// how many lines were answered, bytes of `REFUSED` written, flushes, failed reads and failed writes.
-fn run_of(rt: &impl Abort, alloc: Global, reads: u32, writes: u32) -> [u64; 6] {
-    let mut reader = Counted::new(Piecewise::new(b"one\ntwo\n", reads));
-    let mut writer = Counted::new(Bytewise::new(alloc, writes));
-    let mut service = Service::new(rt, alloc, options(1, 10, 10));
-    let [end, lines] = end_of(service.answer(alloc, &mut reader, &mut writer));
-    let stream = writer.inner();
+// How a run ends, how many lines were answered, bytes of `REFUSED` written, and flushes.
+fn told(ended: [u64; 2], stream: &Bytewise) -> [u64; 4] {
+    let [end, lines] = ended;
     [
         end,
         lines,
         written(stream.written.as_slice()),
         stream.flushes as u64,
-        reader.failed(),
-        writer.failed(),
     ]
+}
+
+// What becomes of two lines that are no requests, where a call of the reader and a call of the writer fail, counted from 1: what is
+// told of it, and failed reads and writes.
+fn run_of(rt: &impl Abort, alloc: Global, reads: u32, writes: u32) -> ([u64; 4], [u64; 2]) {
+    let mut reader = Counted::new(Piecewise::new(b"one\ntwo\n", reads));
+    let mut writer = Counted::new(Bytewise::new(alloc, writes));
+    let ended = ended(rt, alloc, &mut reader, &mut writer);
+    (
+        told(ended, writer.inner()),
+        [reader.failed(), writer.failed()],
+    )
 }
 
 // A reply has 46 bytes and a line feed.
 #[test]
 fn a_run_flushes_each_line_and_stops_where_a_call_fails(rt: HostRuntime) {
     let runs = [
-        (0, 0, [0, 2, 94, 2, 0, 0]),
-        (2, 0, [1, 1, 47, 1, 1, 0]),
-        (0, 1, [2, 0, 0, 0, 0, 1]),
-        (0, 46, [2, 0, 45, 0, 0, 1]),
-        (0, 47, [2, 0, 46, 0, 0, 1]),
-        (0, 48, [2, 1, 47, 1, 0, 1]),
-        (0, 49, [2, 1, 48, 1, 0, 1]),
+        (0, 0, [0, 2, 94, 2], [0, 0]),
+        (2, 0, [1, 1, 47, 1], [1, 0]),
+        (0, 1, [2, 0, 0, 0], [0, 1]),
+        (0, 46, [2, 0, 45, 0], [0, 1]),
+        (0, 47, [2, 0, 46, 0], [0, 1]),
+        (0, 48, [2, 1, 47, 1], [0, 1]),
+        (0, 49, [2, 1, 48, 1], [0, 1]),
     ];
-    for (reads, writes, want) in runs.iter() {
-        let found = run_of(&rt, rt.alloc(), *reads, *writes);
-        assert!(rt; found == *want, "{reads} {writes}: {found:?}");
+    for (reads, writes, want, fails) in runs.iter() {
+        let (found, failed) = run_of(&rt, rt.alloc(), *reads, *writes);
+        assert!(rt;
+            found == *want && failed == *fails,
+            "{reads} {writes}: {found:?} {failed:?}"
+        );
     }
 }
 
@@ -74,8 +93,7 @@ fn a_run_flushes_each_line_and_stops_where_a_call_fails(rt: HostRuntime) {
 fn calls_of(rt: &impl Abort, alloc: Global, batches: &[&[u8]]) -> [u64; 5] {
     let mut reader = Counted::new(Batches::new(batches));
     let mut writer = Counted::new(Whole::new(alloc));
-    let mut service = Service::new(rt, alloc, options(1, 10, 10));
-    let [end, lines] = end_of(service.answer(alloc, &mut reader, &mut writer));
+    let [end, lines] = ended(rt, alloc, &mut reader, &mut writer);
     let stream = writer.inner();
     [
         end,
@@ -105,26 +123,16 @@ fn no_reply_waits_while_more_is_read(rt: HostRuntime) {
     let batches: [&[u8]; 3] = [b"one\ntwo\nthr", b"ee\n", b"four\nfive\nsix\n"];
     let mut reader = Counted::new(Asking::new(&batches, &out));
     let mut writer = Counted::new(Answered::new(&out));
-    let mut service = Service::new(&rt, rt.alloc(), options(1, 10, 10));
-    let found = end_of(service.answer(rt.alloc(), &mut reader, &mut writer));
+    let found = ended(&rt, rt.alloc(), &mut reader, &mut writer);
     assert!(rt; found == [0, 6], "{found:?}");
     assert!(rt; !reader.inner().was_kept_waiting);
 }
 
-// A call of the writer fails, counted from 1, where two lines come together: how it ends, how many replies went out whole,
-// bytes of `REFUSED` written, and flushes.
+// What is told where a call of the writer fails, counted from 1, and two lines come together.
 fn cut_of(rt: &impl Abort, alloc: Global, writes: u32) -> [u64; 4] {
     let mut reader = Counted::new(Batches::new(&[b"one\ntwo\n"]));
     let mut writer = Counted::new(Bytewise::new(alloc, writes));
-    let mut service = Service::new(rt, alloc, options(1, 10, 10));
-    let [end, lines] = end_of(service.answer(alloc, &mut reader, &mut writer));
-    let stream = writer.inner();
-    [
-        end,
-        lines,
-        written(stream.written.as_slice()),
-        stream.flushes as u64,
-    ]
+    told(ended(rt, alloc, &mut reader, &mut writer), writer.inner())
 }
 
 #[test]
@@ -147,16 +155,16 @@ const MAKE_A: &[u8] = b"{\"Action\":\"CreateQueue\",\"QueueName\":\"a\"}\n";
 
 #[test]
 fn what_was_read_is_done_though_no_reply_went_out(rt: HostRuntime) {
-    let mut service = Service::new(&rt, rt.alloc(), options(1, 10, 10));
+    let mut stage = Stage::new(&rt, rt.alloc(), options(1, 10, 10));
     let made = [MAKE_A];
     let mut reader = Counted::new(Batches::new(&made));
     let mut failing = Counted::new(Bytewise::new(rt.alloc(), 1));
-    let cut = end_of(service.answer(rt.alloc(), &mut reader, &mut failing));
+    let cut = end_of(stage.answer(&mut reader, &mut failing));
     assert!(rt; cut == [2, 0], "{cut:?}");
     let asked: [&[u8]; 1] = [b"{\"Action\":\"ListQueues\"}\n"];
     let mut reader = Counted::new(Batches::new(&asked));
     let mut writer = Counted::new(Whole::new(rt.alloc()));
-    let listed = end_of(service.answer(rt.alloc(), &mut reader, &mut writer));
+    let listed = end_of(stage.answer(&mut reader, &mut writer));
     assert!(rt; listed == [0, 1], "{listed:?}");
     let want = b"{\"QueueUrls\":[\"http://localhost/000000000000/a\"]}\n";
     assert!(rt; writer.inner().written.as_slice() == want.as_slice());

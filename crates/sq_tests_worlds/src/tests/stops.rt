@@ -1,13 +1,13 @@
 //! Calls that are stopped after each of their steps: all that is left is one run, and each message that was sent is in it once.
-use super::service::{Evidence, Service};
-use super::setup::{is_answered, options};
+use super::cues::is_answered;
+use super::evidence::Evidence;
+use super::stage::{Stage, options};
 use sq_audit::merge::merge;
 use sq_base::refusal::Refusal;
 use sq_calls::batches::EntryAnswer;
 use sq_calls::calls::{Answer, Asked};
 use sq_json::Scratch;
 use sq_model::place::Place;
-use sq_opening::options::Options;
 use sq_places::places::places_of;
 use sq_requests::request::read_request;
 use std::alloc::Global;
@@ -87,11 +87,6 @@ const SEND_ALL: &str =
 const COUNT: &str =
     r#"{"Action":"GetQueueAttributes","QueueUrl":"http://localhost/000000000000/q","AttributeNames":["All"]}"#;
 
-// Queues of one home.
-fn one_home() -> Options {
-    options(1, 100, 100)
-}
-
 // How many messages an answer tells to be sent.
 fn sent_by(answer: &Answer) -> u64 {
     match answer {
@@ -117,8 +112,17 @@ struct Run {
 }
 
 impl Run {
-    // Does what a line asks, up to so many steps where there is such a number.
-    fn line(&mut self, alloc: Global, service: &mut Service, line: &str, steps: Option<u64>) {
+    fn new(alloc: Global) -> Run {
+        Run {
+            scratch: Scratch::new(alloc),
+            clock: 0,
+            stopped: false,
+            told: 0,
+        }
+    }
+
+    // Does what a line asks, up to so many steps if it is a call.
+    fn line(&mut self, alloc: Global, stage: &mut Stage, line: &str, steps: u64) {
         let Ok(request) = read_request(alloc, &mut self.scratch, line.as_bytes()) else {
             return;
         };
@@ -127,14 +131,8 @@ impl Run {
         }
         let (clock, actor) = (self.clock, request.actor);
         match request.asked {
-            Asked::Call(call) => {
-                let most = steps.unwrap_or(u64::MAX);
-                let answered = service.call_until(alloc, actor, clock, &call, most);
-                self.take(answered);
-            }
-            Asked::Turn(turn) => {
-                let _ = service.turn(alloc, actor, clock, &turn);
-            }
+            Asked::Call(call) => self.take(stage.until(actor, clock, &call, steps)),
+            Asked::Turn(turn) => stage.turn(actor, clock, &turn),
         }
     }
 
@@ -166,19 +164,14 @@ fn stopped_at(
     lines: &[&str],
     place: usize,
     steps: u64,
-) -> (bool, u64, Option<usize>) {
-    let mut service = Service::new(rt, alloc, options(2, 100, 100));
-    let mut run = Run {
-        scratch: Scratch::new(alloc),
-        clock: 0,
-        stopped: false,
-        told: 0,
-    };
+) -> (bool, u64, Option<u64>) {
+    let mut stage = Stage::new(rt, alloc, options(2, 100, 100));
+    let mut run = Run::new(alloc);
     for (at, line) in lines.iter().enumerate() {
-        let most = if at == place { Some(steps) } else { None };
-        run.line(alloc, &mut service, line, most);
+        let most = if at == place { steps } else { u64::MAX };
+        run.line(alloc, &mut stage, line, most);
     }
-    let found = places(alloc, &service.evidence(rt, alloc)).map(|found| found.len());
+    let found = stage.evidence(rt).messages();
     (run.stopped, run.told, found)
 }
 
@@ -196,7 +189,7 @@ fn stops_of(rt: &impl Abort, alloc: Global, lines: &[&str]) -> u64 {
                 0
             };
             assert!(rt;
-                found == Some(told.saturating_add(untold) as usize),
+                found == Some(told.saturating_add(untold)),
                 "line {place} after {steps} steps: {told} {found:?}"
             );
             if !stopped {
@@ -208,17 +201,15 @@ fn stops_of(rt: &impl Abort, alloc: Global, lines: &[&str]) -> u64 {
     stops
 }
 
-// A queue that is made, purged or deleted is three steps, of the directory and of two homes; a send is two, a receive two or three,
-// and what is refused at once is one. A batch has one for each entry that is not refused by itself, after the look-up.
-#[test]
-fn batches_are_stopped_after_each_step(rt: HostRuntime) {
-    let lines = [MAKE_D, MAKE_Q, SEND_ALL, RECEIVE, COUNT];
-    assert_eq!(rt; stops_of(&rt, rt.alloc(), &lines), 15);
-}
+// Lines, and in how many ways they can be stopped. A queue that is made, purged or deleted is three steps, of the directory and of two
+// homes; a send is two, a receive two or three, and what is refused at once is one. A batch has one for each entry that is not refused
+// by itself, after the look-up.
+type Stopped = (&'static [&'static str], u64);
 
-#[test]
-fn dead_letters_are_stopped_after_each_step(rt: HostRuntime) {
-    let lines = [
+const BATCHES: Stopped = (&[MAKE_D, MAKE_Q, SEND_ALL, RECEIVE, COUNT], 15);
+
+const DEAD_LETTERS: Stopped = (
+    &[
         MAKE_D,
         MAKE_Q,
         SEND_TO_Q,
@@ -227,13 +218,12 @@ fn dead_letters_are_stopped_after_each_step(rt: HostRuntime) {
         LEAVE,
         ENTER,
         RECEIVE_FROM_D,
-    ];
-    assert_eq!(rt; stops_of(&rt, rt.alloc(), &lines), 17);
-}
+    ],
+    17,
+);
 
-#[test]
-fn deletions_on_the_way_are_stopped_after_each_step(rt: HostRuntime) {
-    let lines = [
+const DELETIONS_ON_THE_WAY: Stopped = (
+    &[
         MAKE_D,
         MAKE_Q,
         SEND_TO_Q,
@@ -244,22 +234,20 @@ fn deletions_on_the_way_are_stopped_after_each_step(rt: HostRuntime) {
         DELETE_Q,
         ENTER,
         ENTER,
-    ];
-    assert_eq!(rt; stops_of(&rt, rt.alloc(), &lines), 20);
-}
+    ],
+    20,
+);
 
-#[test]
-fn tasks_are_stopped_after_each_step(rt: HostRuntime) {
-    let lines = [
+const TASKS: Stopped = (
+    &[
         MAKE_D, MAKE_Q, SEND_TO_D, SEND_TO_D, SEND_TO_D, SEND_TO_D, SEND_TO_D, START, TASK, TASK,
         TASK_LATER, ENTER, ENTER, CANCEL, LIST, TASK, ENTER, TASK, RECEIVE,
-    ];
-    assert_eq!(rt; stops_of(&rt, rt.alloc(), &lines), 24);
-}
+    ],
+    24,
+);
 
-#[test]
-fn purges_and_deletions_are_stopped_after_each_step(rt: HostRuntime) {
-    let lines = [
+const PURGES_AND_DELETIONS: Stopped = (
+    &[
         MAKE_Q_PLAIN,
         SEND_TO_Q,
         PURGE,
@@ -270,29 +258,41 @@ fn purges_and_deletions_are_stopped_after_each_step(rt: HostRuntime) {
         MAKE_Q_TOO_EARLY,
         MAKE_Q_AGAIN,
         SEND_AGAIN,
+    ],
+    22,
+);
+
+#[test]
+fn calls_are_stopped_after_each_step(rt: HostRuntime) {
+    let runs = [
+        BATCHES,
+        DEAD_LETTERS,
+        DELETIONS_ON_THE_WAY,
+        TASKS,
+        PURGES_AND_DELETIONS,
     ];
-    assert_eq!(rt; stops_of(&rt, rt.alloc(), &lines), 22);
+    for (place, (lines, stops)) in runs.iter().enumerate() {
+        let found = stops_of(&rt, rt.alloc(), lines);
+        assert!(rt; found == *stops, "{place}: {found}");
+    }
 }
+
+// What comes before a deletion that is stopped.
+const ON_THE_WAY: &[&str] = &[MAKE_D, MAKE_Q, SEND_TO_Q, RECEIVE, RECEIVE_LATER, LEAVE];
 
 // A queue is deleted up to its first step: it is gone by its name, and its homes are open yet, so that a message on its way comes
 // in.
 #[test]
 fn a_deletion_that_is_stopped_leaves_homes_open(rt: HostRuntime) {
-    let alloc = rt.alloc();
-    let mut service = Service::new(&rt, alloc, one_home());
-    let mut run = Run {
-        scratch: Scratch::new(alloc),
-        clock: 0,
-        stopped: false,
-        told: 0,
-    };
-    for line in [MAKE_D, MAKE_Q, SEND_TO_Q, RECEIVE, RECEIVE_LATER, LEAVE] {
-        run.line(alloc, &mut service, line, None);
+    let mut stage = Stage::new(&rt, rt.alloc(), options(1, 100, 100));
+    let mut run = Run::new(rt.alloc());
+    for line in ON_THE_WAY.iter() {
+        run.line(rt.alloc(), &mut stage, line, u64::MAX);
     }
-    run.line(alloc, &mut service, DELETE_D, Some(1));
+    run.line(rt.alloc(), &mut stage, DELETE_D, 1);
     assert!(rt; run.stopped);
-    assert!(rt; is_answered(&rt, alloc, &mut service, RECEIVE_FROM_D, NO_QUEUE));
-    assert!(rt; is_answered(&rt, alloc, &mut service, ENTER_LATER, ENTERED));
-    let found = places(alloc, &service.evidence(&rt, alloc)).expect(&rt, "one run");
+    assert!(rt; is_answered(&rt, &mut stage, RECEIVE_FROM_D, NO_QUEUE));
+    assert!(rt; is_answered(&rt, &mut stage, ENTER_LATER, ENTERED));
+    let found = places(rt.alloc(), &stage.evidence(&rt)).expect(&rt, "one run");
     assert!(rt; found.len() == 1 && found[0] == Place::InHome);
 }

@@ -48,19 +48,18 @@ fn is_even(counts: &[u32; 16], homes: usize, often: u32) -> bool {
 
 #[test]
 fn homes_are_chosen_evenly(rt: HostRuntime) {
-    let counts = picked(7, 100_000);
-    assert!(rt; is_even(&counts, 16, 6250), "{counts:?}");
+    assert!(rt; is_even(&picked(7, 100_000), 16, 6250));
     for place in 0..3 {
         let counts = drawn(&rt, rt.alloc(), place);
-        assert!(rt; is_even(&counts, 5, 20_000), "{counts:?} at {place}");
+        assert!(rt; is_even(&counts, 5, 20_000), "at {place}");
     }
-    assert_eq!(rt; drawn(&rt, rt.alloc(), 3), [0; 16]);
+    assert!(rt; drawn(&rt, rt.alloc(), 3) == [0; 16]);
 }
 
 // Three picks tell the first homes that a seed chooses.
 #[test]
 fn one_seed_gives_one_choice(rt: HostRuntime) {
     for times in 0..50 {
-        assert_eq!(rt; picked(11, times), picked(11, times));
+        assert!(rt; picked(11, times) == picked(11, times));
     }
 }

@@ -3,6 +3,8 @@ ghost use Rattle.std.specs.Prelude.{◌<◌, ◌≤◌, IfOk, IfSome};
 ghost use Rattle.sq_base.specs.Stamps.{stamp_end};
 ghost use Rattle.sq_shard.specs.Moves.{HasRow};
 
+use crate::choices::Choices;
+use crate::setup::{hello, home, receipt};
 use sq_base::ids::QueueNo;
 use sq_base::ranges::{Delay, MaxMessages, MaxReceives, Retention, Timeout};
 use sq_base::refusal::Refusal;
@@ -16,9 +18,8 @@ use sq_shard::plain::PlainStore;
 use sq_shard::shard::Shard;
 use sq_shard::slots::SlotStore;
 use sq_shard::store::Store;
-use sq_tests_values::choices::Choices;
-use sq_tests_values::setup::{hello, home, receipt};
 use std::alloc::Global;
+use std::process::Abort;
 
 // So many messages may be in flight.
 const FLIGHTS: u32 = 10;
@@ -348,20 +349,28 @@ fn found<S: Store>(home: &Shard<S>, moment: u64, dead: bool) -> Result<Option<Ro
     }
 }
 
+// Takes out these messages, which are the same.
+fn taken_out(pair: &mut Pair, moment: u64, row: &Row, other: &Row) -> (Told, Told)
+    requires row { HasRow pair.old.slots.home moment row.now }
+    requires other { HasRow pair.old.plain.home moment other.now }
+{
+    let row = pair.slots.take_out(moment, row);
+    let other = pair.plain.take_out(moment, other);
+    let told = Told::Left(row.serial.get());
+    if is_alike(&row, &other) {
+        (told, told)
+    } else {
+        (told, Told::Apart)
+    }
+}
+
 // Takes out a dead message, or a live one, where both find the same.
 fn leave(pair: &mut Pair, moment: u64, dead: bool) -> Result<(Told, Told), Refusal> {
     let this = found(&pair.slots, moment, dead)?;
     let that = found(&pair.plain, moment, dead)?;
     Ok(match (&this, &that) {
         (Some(row), Some(other)) if row.serial == other.serial => {
-            let row = pair.slots.take_out(moment, row);
-            let other = pair.plain.take_out(moment, other);
-            let told = Told::Left(row.serial.get());
-            if is_alike(&row, &other) {
-                (told, told)
-            } else {
-                (told, Told::Apart)
-            }
+            taken_out(pair, moment, row, other)
         }
         (Some(_), Some(_)) => (Told::Stays, Told::Stays),
         (None, None) => (Told::NoneLeft, Told::NoneLeft),
@@ -517,17 +526,17 @@ fn first_other(course: &mut Course, alloc: Global, steps: u64) -> (u64, [u64; KI
 }
 
 // The same of a course of its own.
-fn ran(alloc: Global, steps: u64) -> (u64, [u64; KINDS])
+fn ran(rt: &impl Abort, alloc: Global, steps: u64) -> (u64, [u64; KINDS])
     requires { steps ≤ 100000 }
 {
-    let mut course = Course::new(alloc);
+    let mut course = Box::new(alloc, Course::new(alloc)).expect(rt, "memory");
     first_other(&mut course, alloc, steps)
 }
 
 // Each kind of answer comes.
 #[test]
 fn both_stores_answer_alike(rt: HostRuntime) {
-    let (wrong, kinds) = ran(rt.alloc(), 100_000);
+    let (wrong, kinds) = ran(&rt, rt.alloc(), 100_000);
     assert_eq!(rt; wrong, 100_000);
     assert!(rt; kinds.iter().all(|count| 0 < *count), "{kinds:?}");
 }

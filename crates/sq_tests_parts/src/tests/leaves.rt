@@ -1,8 +1,13 @@
 //! A message that leaves a home for a move task.
+ghost use Rattle.sq_base.specs.Stamps.{Below};
+
 use super::homes::unopened;
 use crate::asks::{Ask, home_act};
+use crate::setup::{named, stamp};
 use sq_base::ids::QueueNo;
 use sq_base::refusal::Refusal;
+use sq_base::stamp::Stamp;
+use sq_history::act::HomeAct;
 use sq_history::recorded::Home;
 use sq_history::shared::HomeHalf;
 use sq_history::task_leave::TaskLeave;
@@ -11,7 +16,6 @@ use sq_model::item::{Item, ItemNo, TaskNo};
 use sq_model::replies::HomeReply;
 use sq_model::task::NamedQueue;
 use sq_task::task::MoveTask;
-use sq_tests_values::setup::{named, stamp};
 use std::alloc::Global;
 use std::process::Abort;
 
@@ -80,24 +84,36 @@ fn told_by(left: &Result<Option<(HomeHalf, Option<Item>)>, Refusal>) -> Told {
     }
 }
 
+// What is answered to a leave.
+fn left(alloc: Global, home: &mut Home, by: &Actor, at: Stamp, leave: &TaskLeave) -> Told
+    requires last { Below home.old.last at }
+    requires seen { Below by.now.seen at }
+{
+    told_by(&home.leave_task(alloc, by, at, None, leave))
+}
+
 // What is answered at this moment.
 fn leave(alloc: Global, home: &mut Home, moment: u32, asked: &Result<TaskLeave, Refusal>) -> Told {
     let by = actor();
     let at = stamp(moment as u64, 0);
-    let leave = match asked {
-        Ok(leave) => leave,
-        Err(refusal) => return Told::Refused(*refusal),
-    };
     if !home.last().is_below(at) || !by.seen.is_below(at) {
         return Told::Other;
     }
-    told_by(&home.leave_task(alloc, &by, at, None, leave))
+    match asked {
+        Ok(leave) => left(alloc, home, &by, at, leave),
+        Err(refusal) => Told::Refused(*refusal),
+    }
+}
+
+// Whether an act is done.
+fn acted(alloc: Global, home: &mut Home, moment: u32, act: HomeAct) -> bool {
+    home.step(alloc, &actor(), moment as u64, None, act).is_ok()
 }
 
 // Whether it is done.
 fn done(alloc: Global, home: &mut Home, moment: u32, ask: Ask) -> bool {
     match home_act(alloc, ask) {
-        Ok(act) => home.step(alloc, &actor(), moment as u64, None, act).is_ok(),
+        Ok(act) => acted(alloc, home, moment, act),
         Err(_) => false,
     }
 }

@@ -3,11 +3,13 @@ ghost use Rattle.std.specs.Prelude.{◌<◌};
 ghost use Rattle.sq_base.specs.Stamps.{stamp_end};
 
 use crate::asks::{Answers, Ask, answer_of, home_act};
+use crate::setup::{CLOCK_END, home, stamp};
 use sq_base::ids::QueueNo;
 use sq_base::ranges::{Delay, MaxReceives, Retention, Timeout};
 use sq_base::refusal::Refusal;
 use sq_base::settings::{Redrive, Settings};
 use sq_base::stamp::Stamp;
+use sq_history::act::HomeAct;
 use sq_history::record::HomeRecord;
 use sq_history::recorded::{Home, Recorded};
 use sq_model::event::Actor;
@@ -16,7 +18,6 @@ use sq_model::replies::HomeReply;
 use sq_model::same::{is_same_call, is_same_reply};
 use sq_shard::shard::Shard;
 use sq_shard::slots::SlotStore;
-use sq_tests_values::setup::{CLOCK_END, home, stamp};
 use std::alloc::Global;
 use std::process::Abort;
 
@@ -81,6 +82,11 @@ fn told_by(
     }
 }
 
+// What a home answers to an act.
+fn acted(alloc: Global, home: &mut Home, by: &Actor, now: u64, act: HomeAct) -> Answers {
+    told_by(&home.step(alloc, by, now, None, act), home, by)
+}
+
 // What a home answers an actor that did each event so far and has seen so much.
 fn asked(alloc: Global, home: &mut Home, seen: u64, now: u64, ask: Ask) -> Answers
     requires { seen < stamp_end }
@@ -91,7 +97,7 @@ fn asked(alloc: Global, home: &mut Home, seen: u64, now: u64, ask: Ask) -> Answe
         seen: stamp(seen, 3),
     };
     match home_act(alloc, ask) {
-        Ok(act) => told_by(&home.step(alloc, &by, now, None, act), home, &by),
+        Ok(act) => acted(alloc, home, &by, now, act),
         Err(refusal) => Answers::Refused(refusal),
     }
 }

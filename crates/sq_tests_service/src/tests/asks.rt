@@ -24,7 +24,6 @@ pub enum Ask {
     Send(u8),
     /// Receives a message, which is visible again at once.
     Receive(u8),
-    Delete(u8, Option<Handle>),
     DeleteQueue(u8),
     Purge(u8),
     /// Moves what is in a queue to another one, or to where it came from.
@@ -44,7 +43,6 @@ pub fn call_of(rt: &impl Abort, alloc: Global, ask: Ask) -> Call {
         Ask::Url(name) => Call::GetQueueUrl(named(rt, name)),
         Ask::Send(name) => send(rt, alloc, name),
         Ask::Receive(name) => receive(rt, name),
-        Ask::Delete(name, handle) => delete(rt, name, handle),
         Ask::DeleteQueue(name) => Call::DeleteQueue(named(rt, name)),
         Ask::Purge(name) => Call::PurgeQueue(named(rt, name)),
         Ask::Start(name, target) => start(rt, name, target),
@@ -95,7 +93,8 @@ fn receive(rt: &impl Abort, name: u8) -> Call {
     })
 }
 
-fn delete(rt: &impl Abort, name: u8, handle: Option<Handle>) -> Call {
+/// The call that deletes a message by its handle.
+pub fn delete(rt: &impl Abort, name: u8, handle: Option<Handle>) -> Call {
     Call::DeleteMessage(DeleteMessage {
         queue: named(rt, name),
         handle,
@@ -126,11 +125,25 @@ pub struct Got {
     pub handle: Handle,
 }
 
-/// The first message that was received, if one was.
-pub fn first_of(told: Result<Answer, Refusal>) -> Option<Got> {
+/// What a client has of an answer.
+#[derive(Clone, Copy)]
+pub struct Heard {
+    /// Whether the call was not refused.
+    pub done: bool,
+    /// The first message that was received, if one was.
+    pub got: Option<Got>,
+}
+
+pub fn heard_of(told: &Result<Answer, Refusal>) -> Heard {
     match told {
-        Ok(answer) => first(&answer),
-        Err(_) => None,
+        Ok(answer) => Heard {
+            done: true,
+            got: first(answer),
+        },
+        Err(_) => Heard {
+            done: false,
+            got: None,
+        },
     }
 }
 

@@ -2,6 +2,7 @@
 ghost use Rattle.std.specs.Prelude.{◌<◌};
 ghost use Rattle.sq_base.specs.Stamps.{stamp_end};
 
+use crate::setup::{hello, home};
 use sq_base::ranges::MaxMessages;
 use sq_base::refusal::Refusal;
 use sq_base::settings::Settings;
@@ -9,7 +10,6 @@ use sq_model::place::{Limits, Site};
 use sq_shard::shard::Shard;
 use sq_shard::slots::SlotStore;
 use sq_shard::store::Store;
-use sq_tests_values::setup::{hello, home};
 use std::alloc::Global;
 use std::process::Abort;
 

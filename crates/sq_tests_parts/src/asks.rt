@@ -1,4 +1,5 @@
 //! What is asked of a home and what it answers, in values that are copied.
+use crate::setup::{hello, receipt};
 use sq_base::ranges::{Delay, MaxMessages, Timeout};
 use sq_base::refusal::Refusal;
 use sq_base::row::Row;
@@ -6,7 +7,6 @@ use sq_base::settings::Settings;
 use sq_history::act::HomeAct;
 use sq_history::sent_body::SentBody;
 use sq_model::replies::HomeReply;
-use sq_tests_values::setup::{hello, receipt};
 use std::alloc::Global;
 
 /// What is asked of a home.

@@ -1,14 +1,14 @@
 //! Steps of several actors at several homes, and the one order of it all.
-use super::service::Service;
-use super::setup::{Line, make, options, play};
+use super::cues::{Asked, AtHome, Cue, act_of, played};
+use super::stage::{Stage, options};
 use sq_audit::merge::merge;
 use sq_audit::parts::Parts;
 use sq_audit::run::Run;
 use sq_audit::tagged::Tagged;
 use sq_base::refusal::Refusal;
-use sq_steps::act::{Act, Step};
-use sq_tests_homes::asks::{Answers, Ask, home_act};
-use sq_tests_values::setup::{CLOCK_END, home};
+use sq_steps::act::Step;
+use sq_tests_parts::asks::Answers;
+use sq_tests_parts::setup::CLOCK_END;
 use std::alloc::Global;
 use std::process::Abort;
 
@@ -35,52 +35,65 @@ fn order_of(rt: &impl Abort, alloc: Global, run: &Run<'_>) -> String {
     order
 }
 
-// Makes a queue at this moment, and does the steps of a script, which leave events in this order.
-fn leave(rt: &impl Abort, alloc: Global, moment: u64, lines: &[Line], order: &str) {
-    let mut service = Service::new(rt, alloc, options(2, 10, 16));
-    assert!(rt; make(alloc, &mut service, 0, moment, "q") == Answers::Number(1));
-    play(rt, alloc, &mut service, lines);
-    let evidence = service.evidence(rt, alloc);
+// The order of the events that these cues leave.
+fn left(rt: &impl Abort, alloc: Global, cues: &[Cue]) -> String {
+    let evidence = played(rt, alloc, options(2, 10, 16), cues, &[]);
     let run = merge(alloc, evidence.parts()).expect(rt, "one run");
-    assert_eq!(rt; order_of(rt, alloc, &run).as_str(), order);
+    order_of(rt, alloc, &run)
 }
+
+const NOTHING: Answers = Answers::GaveAll(0);
+
+const NO_SUCH_HOME: Answers = Answers::Refused(Refusal::QueueDoesNotExist);
+
+const LATE: Answers = Answers::Refused(Refusal::ClockRange);
 
 // The list of queues and two homes are opened, and two more actors look at both homes. There is no third home, and the clock has
 // an end: what is refused leaves no event.
+const THREE_ACTORS: &[Cue] = &[
+    Cue::Step(0, 0, Asked::Make("q"), Answers::Number(1)),
+    Cue::Step(0, 0, Asked::Home(0, AtHome::Open), Answers::Done),
+    Cue::Step(0, 0, Asked::Home(1, AtHome::Open), Answers::Done),
+    Cue::Step(5, 0, Asked::Home(2, AtHome::Look), NO_SUCH_HOME),
+    Cue::Step(5, CLOCK_END, Asked::Home(2, AtHome::Look), LATE),
+    Cue::Step(5, CLOCK_END, Asked::Home(0, AtHome::Look), LATE),
+    Cue::Step(1, 0, Asked::Home(0, AtHome::Look), NOTHING),
+    Cue::Step(2, 0, Asked::Home(1, AtHome::Look), NOTHING),
+    Cue::Step(1, 0, Asked::Home(1, AtHome::Look), NOTHING),
+    Cue::Step(2, 0, Asked::Home(0, AtHome::Look), NOTHING),
+];
+
 #[test]
 fn steps_of_three_actors_have_one_order(rt: HostRuntime) {
-    let nothing = Answers::GaveAll(0);
-    let no_such_home = Answers::Refused(Refusal::QueueDoesNotExist);
-    let late = Answers::Refused(Refusal::ClockRange);
-    let lines = [
-        (0, 0, 0, Ask::Open, Answers::Done),
-        (0, 0, 1, Ask::Open, Answers::Done),
-        (5, 0, 2, Ask::Look(None), no_such_home),
-        (5, CLOCK_END, 2, Ask::Look(None), late),
-        (5, CLOCK_END, 0, Ask::Look(None), late),
-        (1, 0, 0, Ask::Look(None), nothing),
-        (2, 0, 1, Ask::Look(None), nothing),
-        (1, 0, 1, Ask::Look(None), nothing),
-        (2, 0, 0, Ask::Look(None), nothing),
-    ];
-    let order = " 0@0.1 1@0.2 1@0.3 2@0.3 2@0.4 1@0.5 2@0.5";
-    leave(&rt, rt.alloc(), 0, &lines, order);
+    let order = left(&rt, rt.alloc(), THREE_ACTORS);
+    assert!(rt;
+        order.as_str() == " 0@0.1 1@0.2 1@0.3 2@0.3 2@0.4 1@0.5 2@0.5",
+        "{order}"
+    );
 }
 
 // Each step is of another actor, so that a stamp follows from its part alone. A message is given where it is.
+const BY_STAMP: &[Cue] = &[
+    Cue::Step(0, 1000, Asked::Make("q"), Answers::Number(1)),
+    Cue::Step(1, 1000, Asked::Home(0, AtHome::Open), Answers::Done),
+    Cue::Step(2, 2000, Asked::Home(0, AtHome::Purge), Answers::Done),
+    Cue::Step(3, 2000, Asked::Home(0, AtHome::Look), NOTHING),
+    Cue::Step(4, 1000, Asked::Home(1, AtHome::Open), Answers::Done),
+    Cue::Step(5, 1500, Asked::Home(1, AtHome::Send), Answers::Sent(0, 0)),
+    Cue::Step(
+        6,
+        2000,
+        Asked::Home(1, AtHome::Look),
+        Answers::Gave(1, 32_000),
+    ),
+    Cue::Step(7, 3000, Asked::Home(1, AtHome::Look), NOTHING),
+];
+
 #[test]
 fn events_are_listed_by_stamp(rt: HostRuntime) {
-    let lines = [
-        (1, 1000, 0, Ask::Open, Answers::Done),
-        (2, 2000, 0, Ask::Purge, Answers::Done),
-        (3, 2000, 0, Ask::Look(None), Answers::GaveAll(0)),
-        (4, 1000, 1, Ask::Open, Answers::Done),
-        (5, 1500, 1, Ask::Send(None), Answers::Sent(0, 0)),
-        (6, 2000, 1, Ask::Look(None), Answers::Gave(1, 32_000)),
-        (7, 3000, 1, Ask::Look(None), Answers::GaveAll(0)),
-    ];
-    let order = " 0@1000.0 1@1000.0 2@1000.0 2@1500.0 1@2000.0 2@2000.0 1@2000.1 2@3000.0";
-    leave(&rt, rt.alloc(), 1000, &lines, order);
+    let order = left(&rt, rt.alloc(), BY_STAMP);
+    let want = " 0@1000.0 1@1000.0 2@1000.0 2@1500.0 1@2000.0 2@2000.0 1@2000.1 2@3000.0";
+    assert!(rt; order.as_str() == want, "{order}");
 }
 
 // The stamp that an actor recorded of its step of this number; none where there is no such record.
@@ -99,10 +112,10 @@ fn recorded(parts: &Parts, actor: u32, place: usize) -> [u64; 2] {
 
 const NONE: [u64; 2] = [u64::MAX; 2];
 
-fn steps(rt: &impl Abort, alloc: Global, lines: &[(u32, u64, Ask)]) -> Vec<Step> {
+fn steps(rt: &impl Abort, alloc: Global, lines: &[(u32, Asked)]) -> Vec<Step> {
     let mut steps = Vec::new(alloc);
-    for (actor, number, ask) in lines {
-        let act = Act::Home(home(*number), home_act(alloc, *ask).expect(rt, "memory"));
+    for (actor, asked) in lines {
+        let act = act_of(alloc, *asked).expect(rt, "an act");
         let step = Step {
             actor: *actor,
             clock: 0,
@@ -123,17 +136,17 @@ fn are_recorded(parts: &Parts) -> bool {
 }
 
 // The second step is at a home that is not there.
+const RUN: &[(u32, Asked)] = &[
+    (1, Asked::Home(0, AtHome::Open)),
+    (1, Asked::Home(2, AtHome::Purge)),
+    (2, Asked::Home(0, AtHome::Purge)),
+    (1, Asked::Home(0, AtHome::Purge)),
+];
+
 #[test]
 fn a_run_goes_on_after_a_refusal(rt: HostRuntime) {
-    let lines = [
-        (1, 0, Ask::Open),
-        (1, 2, Ask::Purge),
-        (2, 0, Ask::Purge),
-        (1, 0, Ask::Purge),
-    ];
-    let steps = steps(&rt, rt.alloc(), &lines);
-    let mut service = Service::new(&rt, rt.alloc(), options(2, 10, 16));
-    assert_eq!(rt; service.run(rt.alloc(), &steps), 3);
-    let evidence = service.evidence(&rt, rt.alloc());
+    let mut stage = Stage::new(&rt, rt.alloc(), options(2, 10, 16));
+    assert!(rt; stage.run(&steps(&rt, rt.alloc(), RUN)) == 3);
+    let evidence = stage.evidence(&rt);
     assert!(rt; are_recorded(evidence.parts()));
 }

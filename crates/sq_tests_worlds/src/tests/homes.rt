@@ -1,8 +1,9 @@
 //! Lines of clients: what no row shows, since it follows from the seed or from a home that is closed.
-use super::service::Service;
-use super::setup::{Line, NO_FAULT, answered, fault, is_answered, options, play};
+use super::cues::{Asked, AtHome, Cue, play, played};
+use super::evidence::NO_FAULT;
+use super::stage::{Stage, options};
 use sq_opening::options::Options;
-use sq_tests_homes::asks::{Answers, Ask};
+use sq_tests_parts::asks::Answers;
 use std::alloc::Global;
 use std::process::Abort;
 
@@ -34,41 +35,29 @@ fn messages_in(reply: &[u8]) -> usize {
     objects.saturating_sub(1)
 }
 
-// The homes that 40 messages are put at.
-fn sent(rt: &impl Abort, alloc: Global, service: &mut Service) -> [u8; 40] {
-    let mut homes = [0; 40];
-    for home in &mut homes {
-        *home = home_in(
-            answered(rt, alloc, service, SEND)
-                .inner()
-                .written
-                .as_slice(),
-        );
-    }
-    homes
+// The home that a message is put at.
+fn sent(rt: &impl Abort, stage: &mut Stage) -> u8 {
+    home_in(stage.answered(rt, SEND).inner().written.as_slice())
 }
 
-// How many are given when they are asked for 60 times.
-fn given(rt: &impl Abort, alloc: Global, service: &mut Service) -> usize {
-    let mut all = 0usize;
-    for _ in 0..60 {
-        let count = messages_in(
-            answered(rt, alloc, service, RECEIVE)
-                .inner()
-                .written
-                .as_slice(),
-        );
-        all = all.saturating_add(count);
-    }
-    all
+// How many messages a receive gives.
+fn given(rt: &impl Abort, stage: &mut Stage) -> usize {
+    messages_in(stage.answered(rt, RECEIVE).inner().written.as_slice())
 }
 
 // The homes that 40 messages are put at, all of which are given then.
 fn chosen(rt: &impl Abort, alloc: Global, options: Options) -> [u8; 40] {
-    let mut service = Service::new(rt, alloc, options);
-    assert!(rt; is_answered(rt, alloc, &mut service, MAKE, MADE));
-    let homes = sent(rt, alloc, &mut service);
-    assert_eq!(rt; given(rt, alloc, &mut service), 40);
+    let mut stage = Stage::new(rt, alloc, options);
+    play(rt, alloc, &mut stage, &[Cue::Line(MAKE, MADE)]);
+    let mut homes = [0; 40];
+    for home in &mut homes {
+        *home = sent(rt, &mut stage);
+    }
+    let mut all = 0usize;
+    for _ in 0..60 {
+        all = all.saturating_add(given(rt, &mut stage));
+    }
+    assert_eq!(rt; all, 40);
     homes
 }
 
@@ -96,24 +85,23 @@ fn homes_are_chosen_from_the_seed(rt: HostRuntime) {
     assert!(rt; chosen(&rt, rt.alloc(), two_of_four(8)) != homes);
 }
 
-// Both homes are closed. To make the queue again passes over them.
-fn close_homes(rt: &impl Abort, alloc: Global, service: &mut Service) {
-    assert!(rt; is_answered(rt, alloc, service, MAKE, MADE));
-    let lines: [Line; 2] = [
-        (0, 0, 0, Ask::Close, Answers::Done),
-        (0, 0, 1, Ask::Close, Answers::Done),
-    ];
-    play(rt, alloc, service, &lines);
-    for (line, want) in [(MAKE, MADE), (SEND, NO_QUEUE), (RECEIVE, NO_QUEUE)] {
-        assert!(rt; is_answered(rt, alloc, service, line, want), "{line}");
-    }
-}
+// Both homes of a queue are closed.
+const CLOSE: &[Cue] = &[
+    Cue::Line(MAKE, MADE),
+    Cue::Step(0, 0, Asked::Home(0, AtHome::Close), Answers::Done),
+    Cue::Step(0, 0, Asked::Home(1, AtHome::Close), Answers::Done),
+];
+
+// To make the queue again passes over its homes.
+const CALL: &[Cue] = &[
+    Cue::Line(MAKE, MADE),
+    Cue::Line(SEND, NO_QUEUE),
+    Cue::Line(RECEIVE, NO_QUEUE),
+];
 
 // It all is one run.
 #[test]
 fn closed_homes_are_passed_over_and_refuse(rt: HostRuntime) {
-    let mut service = Service::new(&rt, rt.alloc(), options(2, 10, 2));
-    close_homes(&rt, rt.alloc(), &mut service);
-    let evidence = service.evidence(&rt, rt.alloc());
-    assert_eq!(rt; fault(rt.alloc(), &evidence), NO_FAULT);
+    let evidence = played(&rt, rt.alloc(), options(2, 10, 2), CLOSE, CALL);
+    assert!(rt; evidence.fault() == NO_FAULT);
 }

@@ -10,6 +10,7 @@ use sq_base::refusal::Refusal;
 use sq_base::row::Row;
 use sq_base::stamp::{Stamp, derived_order};
 use sq_model::item::{HeldItem, Item, ItemNo, Reason};
+use std::alloc::Global;
 use uuid::Uuid;
 
 fn handle_of(queue: u64, home: u64, slot: u32, serial: u64, receive: u64) -> Option<Handle> {
@@ -20,6 +21,16 @@ fn handle_of(queue: u64, home: u64, slot: u32, serial: u64, receive: u64) -> Opt
         serial: Serial::new(serial)?,
         receive: Receives::new(receive)?,
     })
+}
+
+// Whether a handle has this text, and this text is read as it.
+fn has_text(handle: &Option<Handle>, text: &[u8; 51]) -> bool {
+    let mut written = [0u8; 51];
+    if let Some(h) = handle {
+        h.fits();
+        write_handle(h, &mut written);
+    }
+    handle.is_some() && read_handle(text) == *handle && &written == text
 }
 
 #[test]
@@ -38,14 +49,7 @@ fn handles_have_their_texts(rt: HostRuntime) {
         ),
         (b"ffffffffffff-00f-ffffffff-3fffffffffffffff-ffffffff", last),
     ] {
-        assert!(rt; handle.is_some());
-        assert_eq!(rt; read_handle(text), handle);
-        let mut written = [0u8; 51];
-        if let Some(h) = &handle {
-            h.fits();
-            write_handle(h, &mut written);
-        }
-        assert_eq!(rt; &written, text);
+        assert!(rt; has_text(&handle, text));
     }
 }
 
@@ -77,6 +81,14 @@ fn id_of(queue: u64, home: u64, serial: u64) -> Option<MessageId> {
     })
 }
 
+// Whether an id has the UUID of this text, and that is read as it.
+fn has_uuid(id: &MessageId, text: &str) -> bool {
+    id.fits();
+    let mut buffer = Uuid::encode_buffer();
+    let uuid = id.to_uuid();
+    uuid.hyphenated().encode_lower(&mut buffer) == text && MessageId::from_uuid(&uuid) == Some(*id)
+}
+
 #[test]
 fn ids_have_their_uuids(rt: HostRuntime) {
     let ids = [
@@ -91,13 +103,19 @@ fn ids_have_their_uuids(rt: HostRuntime) {
         ),
     ];
     for (id, text) in ids {
-        assert!(rt; id.is_some());
-        if let Some(id) = id {
-            id.fits();
-            let mut buffer = Uuid::encode_buffer();
-            assert_eq!(rt; id.to_uuid().hyphenated().encode_lower(&mut buffer), text);
-            assert_eq!(rt; MessageId::from_uuid(&id.to_uuid()), Some(id));
-        }
+        let is_right = match id {
+            Some(id) => has_uuid(&id, text),
+            None => false,
+        };
+        assert!(rt; is_right, "{text}");
+    }
+}
+
+// Whether this is a UUID, and no message's.
+fn is_no_id(text: &str) -> bool {
+    match Uuid::parse_str(text) {
+        Ok(uuid) => MessageId::from_uuid(&uuid).is_none(),
+        Err(_) => false,
     }
 }
 
@@ -112,11 +130,7 @@ fn other_uuids_are_no_ids(rt: HostRuntime) {
         "67e55044-10b1-426f-9247-bb680e5fe0c8",
     ];
     for text in texts {
-        let uuid = Uuid::parse_str(text);
-        assert!(rt; uuid.is_ok());
-        if let Ok(uuid) = uuid {
-            assert!(rt; MessageId::from_uuid(&uuid).is_none());
-        }
+        assert!(rt; is_no_id(text), "{text}");
     }
 }
 
@@ -137,28 +151,40 @@ fn bodies_are_checked(rt: HostRuntime) {
         ),
     ];
     for (text, limit, want) in bodies {
-        assert_eq!(rt; Body::check(text, limit), want);
+        assert!(rt; Body::check(text, limit) == want, "{text}");
     }
+}
+
+fn copied(alloc: Global) -> Result<Body, Refusal> {
+    hello(alloc)?.copy()
+}
+
+fn is_hello(body: &Body) -> bool {
+    body.as_str() == "hello"
+        && body.len() == 5
+        && &body_md5(body) == b"5d41402abc4b2a76b9719d911017c592"
 }
 
 #[test]
 fn bodies_are_kept(rt: HostRuntime) {
-    let body = hello(rt.alloc()).expect(&rt, "memory");
-    let copy = body.copy().expect(&rt, "memory");
-    assert!(rt; copy.as_str() == "hello");
-    assert_eq!(rt; copy.len(), 5);
-    assert!(rt; &body_md5(&copy) == b"5d41402abc4b2a76b9719d911017c592");
-    assert!(rt; Body::new(rt.alloc(), "", BODY_LIMIT).is_err());
+    let copy = copied(rt.alloc()).expect(&rt, "memory");
+    assert!(rt; is_hello(&copy) && Body::new(rt.alloc(), "", BODY_LIMIT).is_err());
+}
+
+// What a check of these letters says.
+fn checked(letters: &[u8]) -> Option<Result<(), Refusal>> {
+    match str::from_utf8(letters) {
+        Ok(text) => Some(Body::check(text, BODY_LIMIT)),
+        Err(_) => None,
+    }
 }
 
 #[test]
 fn bodies_have_a_limit(rt: HostRuntime) {
     let letters = vec![in rt.alloc(); b'a'; BODY_LIMIT + 1].expect(&rt, "memory");
-    let most = str::from_utf8(&letters[1..]).expect(&rt, "letters");
-    assert_eq!(rt; Body::check(most, BODY_LIMIT), Ok(()));
-    let more = str::from_utf8(&letters).expect(&rt, "letters");
-    let long = Err(Refusal::InvalidParameterValue);
-    assert_eq!(rt; Body::check(more, BODY_LIMIT), long);
+    let most = checked(&letters[1..]);
+    let more = checked(&letters);
+    assert!(rt; most == Some(Ok(())) && more == Some(Err(Refusal::InvalidParameterValue)));
 }
 
 const LAST: u64 = 4_611_686_018_427_387_903;
@@ -179,8 +205,12 @@ fn stamps_follow(rt: HostRuntime) {
         (stamp(5, LAST), start, u64::MAX, Err(Refusal::ClockRange)),
     ];
     for (a, b, now, want) in steps {
-        assert_eq!(rt; Stamp::after(a, b, now), want);
+        assert!(rt; Stamp::after(a, b, now) == want, "{now}");
     }
+}
+
+#[test]
+fn stamps_are_in_order(rt: HostRuntime) {
     derived_order();
     assert!(rt; stamp(5, 9).is_below(stamp(6, 0)) && !stamp(5, 9).is_below(stamp(5, 9)));
 }
@@ -208,7 +238,7 @@ fn names_are_checked(rt: HostRuntime) {
         (&more, None),
     ];
     for (text, want) in names {
-        assert_eq!(rt; keeps(text), want);
+        assert!(rt; keeps(text) == want);
     }
 }
 
@@ -225,35 +255,49 @@ fn names_are_in_byte_order(rt: HostRuntime) {
     assert!(rt; is_before(b"B", b"a") && is_before(b"a", b"aa"));
 }
 
+// Those that no line has, and more.
+const REFUSALS: &[(Refusal, u8, &str)] = &[
+    (Refusal::NoMemory, 1, "NoMemory"),
+    (Refusal::Worn, 3, "Worn"),
+    (Refusal::QueueDeletedRecently, 11, "QueueDeletedRecently"),
+    (Refusal::PurgeQueueInProgress, 12, "PurgeQueueInProgress"),
+    (Refusal::EmptyBatchRequest, 17, "EmptyBatchRequest"),
+    (
+        Refusal::TooManyEntriesInBatchRequest,
+        18,
+        "TooManyEntriesInBatchRequest",
+    ),
+    (Refusal::InvalidBatchEntryId, 19, "InvalidBatchEntryId"),
+    (
+        Refusal::BatchEntryIdsNotDistinct,
+        20,
+        "BatchEntryIdsNotDistinct",
+    ),
+    (Refusal::BatchRequestTooLong, 21, "BatchRequestTooLong"),
+    (
+        Refusal::ResourceNotFoundException,
+        22,
+        "ResourceNotFoundException",
+    ),
+];
+
 #[test]
 fn refusals_have_names(rt: HostRuntime) {
-    for (refusal, number, name) in [
-        (Refusal::NoMemory, 1, "NoMemory"),
-        (Refusal::Worn, 3, "Worn"),
-        (Refusal::QueueDeletedRecently, 11, "QueueDeletedRecently"),
-        (Refusal::PurgeQueueInProgress, 12, "PurgeQueueInProgress"),
-        (Refusal::EmptyBatchRequest, 17, "EmptyBatchRequest"),
-        (
-            Refusal::TooManyEntriesInBatchRequest,
-            18,
-            "TooManyEntriesInBatchRequest",
-        ),
-        (Refusal::InvalidBatchEntryId, 19, "InvalidBatchEntryId"),
-        (
-            Refusal::BatchEntryIdsNotDistinct,
-            20,
-            "BatchEntryIdsNotDistinct",
-        ),
-        (Refusal::BatchRequestTooLong, 21, "BatchRequestTooLong"),
-        (
-            Refusal::ResourceNotFoundException,
-            22,
-            "ResourceNotFoundException",
-        ),
-    ] {
-        assert_eq!(rt; refusal.number(), number);
-        assert_eq!(rt; refusal.name(), name);
+    for (refusal, number, name) in REFUSALS.iter() {
+        assert!(rt;
+            refusal.number() == *number && refusal.name() == *name,
+            "{name}"
+        );
     }
+}
+
+fn is_the_item(kept: &Item) -> bool {
+    kept.number == ItemNo::first()
+        && kept.row.id == id(0)
+        && kept.row.slot == 3
+        && kept.source.get() == 2
+        && kept.target.get() == 1
+        && kept.homeward
 }
 
 #[test]
@@ -279,7 +323,5 @@ fn a_box_gives_its_item(rt: HostRuntime) {
         homeward: true,
     };
     let boxed = HeldItem::new(rt.alloc(), item).expect(&rt, "memory");
-    let kept = boxed.get();
-    assert!(rt; kept.number == ItemNo::first() && kept.row.id == id(0) && kept.row.slot == 3);
-    assert!(rt; kept.source.get() == 2 && kept.target.get() == 1 && kept.homeward);
+    assert!(rt; is_the_item(boxed.get()));
 }

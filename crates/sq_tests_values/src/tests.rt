@@ -1,7 +1,0 @@
-//! A module a subject.
-
-mod blocks;
-mod lines;
-mod samples;
-mod tasks;
-mod values;

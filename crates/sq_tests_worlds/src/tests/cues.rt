@@ -1,0 +1,176 @@
+//! What is done at a world, line by line and step by step, and what each must be told.
+use super::evidence::Evidence;
+use super::stage::Stage;
+use sq_base::ids::{HomeId, HomeNo, QueueNo};
+use sq_base::refusal::Refusal;
+use sq_model::directory::{Attributes, DirectoryCall};
+use sq_model::item::{ItemNo, TaskNo};
+use sq_model::task::NamedQueue;
+use sq_opening::options::Options;
+use sq_steps::act::{Act, SharedAct, TaskAct, TaskStart};
+use sq_tests_parts::asks::{Answers, Ask, home_act};
+use sq_tests_parts::setup::{home, named};
+use std::alloc::Global;
+use std::process::Abort;
+
+/// What is asked of a home: with the standard settings, of a message without a delay, for up to ten messages.
+#[derive(Clone, Copy)]
+pub enum AtHome {
+    Open,
+    Send,
+    Look,
+    Purge,
+    Close,
+}
+
+/// What a home does together with the ledger, with an item by its number.
+#[derive(Clone, Copy)]
+pub enum Move {
+    LeaveDead,
+    Enter(u64),
+    TurnBack(u64),
+    GiveBack(u64),
+    GiveUp(u64),
+}
+
+/// What no line asks. A queue is meant by its place in order of creation, and its first home by it.
+#[derive(Clone, Copy)]
+pub enum Asked {
+    /// A queue of this name, whose homes are not opened.
+    Make(&'static str),
+    /// At a home of the first queue, by the home's number.
+    Home(u64, AtHome),
+    Shared(u32, Move),
+    /// A task of a queue.
+    Start(u32),
+    Finish(u64),
+    /// The most recent task of a queue.
+    Last(u32),
+    Read(u64),
+}
+
+/// What is done, and what it must be told.
+#[derive(Clone, Copy)]
+pub enum Cue {
+    /// A line of a client or a mover, and its reply.
+    Line(&'static str, &'static str),
+    /// A line, whatever it is answered.
+    Any(&'static str),
+    /// A step of an actor, at a clock reading in ms.
+    Step(u32, u64, Asked, Answers),
+}
+
+fn queue(place: u32) -> QueueNo {
+    QueueNo::following(place)
+}
+
+fn task(number: u64) -> TaskNo {
+    TaskNo::new(number).unwrap_or(TaskNo::first())
+}
+
+fn item(number: u64) -> ItemNo {
+    ItemNo::new(number).unwrap_or(ItemNo::first())
+}
+
+fn ask_of(what: AtHome) -> Ask {
+    match what {
+        AtHome::Open => Ask::Open,
+        AtHome::Send => Ask::Send(None),
+        AtHome::Look => Ask::Look(None),
+        AtHome::Purge => Ask::Purge,
+        AtHome::Close => Ask::Close,
+    }
+}
+
+fn shared_act(what: Move) -> SharedAct {
+    match what {
+        Move::LeaveDead => SharedAct::LeaveDead,
+        Move::Enter(number) => SharedAct::Enter(item(number)),
+        Move::TurnBack(number) => SharedAct::TurnBack(item(number)),
+        Move::GiveBack(number) => SharedAct::GiveBack(item(number)),
+        Move::GiveUp(number) => SharedAct::GiveUp(item(number)),
+    }
+}
+
+fn start(place: u32) -> Result<TaskStart, Refusal> {
+    let source = NamedQueue {
+        number: queue(place),
+        name: named("letters")?,
+    };
+    Ok(TaskStart {
+        source,
+        destination: None,
+        rate: None,
+    })
+}
+
+/// The act that asks it.
+pub fn act_of(alloc: Global, asked: Asked) -> Result<Act, Refusal> {
+    Ok(match asked {
+        Asked::Make(name) => {
+            Act::Directory(DirectoryCall::Create(named(name)?, Attributes::none()))
+        }
+        Asked::Home(number, what) => Act::Home(home(number), home_act(alloc, ask_of(what))?),
+        Asked::Shared(place, what) => {
+            let id = HomeId {
+                queue: queue(place),
+                home: HomeNo::first(),
+            };
+            Act::Shared(id, shared_act(what))
+        }
+        Asked::Start(place) => Act::Ledger(TaskAct::Start(start(place)?)),
+        Asked::Finish(number) => Act::Ledger(TaskAct::Finish(task(number))),
+        Asked::Last(place) => Act::LastTask(queue(place)),
+        Asked::Read(number) => Act::ReadTask(task(number)),
+    })
+}
+
+// What is answered to a step.
+fn told(alloc: Global, stage: &mut Stage, actor: u32, clock: u64, asked: Asked) -> Answers {
+    match act_of(alloc, asked) {
+        Ok(act) => stage.told(actor, clock, act),
+        Err(refusal) => Answers::Refused(refusal),
+    }
+}
+
+/// Whether a line is answered with this one.
+pub fn is_answered(rt: &impl Abort, stage: &mut Stage, line: &str, want: &str) -> bool {
+    let writer = stage.answered(rt, line);
+    match writer.inner().written.as_slice() {
+        [text @ .., b'\n'] => text == want.as_bytes(),
+        _ => false,
+    }
+}
+
+// Whether it is told what it must be.
+fn is_right(rt: &impl Abort, alloc: Global, stage: &mut Stage, cue: &Cue) -> bool {
+    match cue {
+        Cue::Line(line, want) => is_answered(rt, stage, line, want),
+        Cue::Any(line) => {
+            let _ = stage.answered(rt, line);
+            true
+        }
+        Cue::Step(actor, clock, asked, want) => told(alloc, stage, *actor, *clock, *asked) == *want,
+    }
+}
+
+/// Does what the cues say, one after another.
+pub fn play(rt: &impl Abort, alloc: Global, stage: &mut Stage, cues: &[Cue]) {
+    for (place, cue) in cues.iter().enumerate() {
+        assert!(rt; is_right(rt, alloc, stage, cue), "cue {place}");
+    }
+}
+
+/// What a world leaves at which these cues were played, and then those.
+pub fn played(
+    rt: &impl Abort,
+    alloc: Global,
+    options: Options,
+    first: &[Cue],
+    then: &[Cue],
+) -> Evidence {
+    let mut stage = Stage::new(rt, alloc, options);
+    play(rt, alloc, &mut stage, first);
+    play(rt, alloc, &mut stage, then);
+    stage.evidence(rt)
+}

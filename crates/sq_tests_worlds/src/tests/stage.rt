@@ -1,0 +1,147 @@
+//! A world under test, in a box: a function that has one on its own stack is proved with all that it is made of, which takes up to ten
+//! times as long. So is one that has a step, a call or an answer there: few functions have.
+use super::evidence::Evidence;
+use sq_base::refusal::Refusal;
+use sq_calls::calls::{Answer, Call};
+use sq_calls::turns::Turn;
+use sq_lines::counted::Counted;
+use sq_merge::world::World;
+use sq_model::directory::DirectoryReply;
+use sq_model::ledger::LedgerReply;
+use sq_model::replies::HomeReply;
+use sq_opening::options::Options;
+use sq_steps::act::{Act, Outcome, Step};
+use sq_tests_parts::asks::{Answers, answer_of};
+use sq_tests_parts::streams::{Bytewise, Piecewise};
+use sq_wire::run::{ServeFault, run_script};
+use std::alloc::Global;
+use std::io::{Read, Write};
+use std::marker::Model;
+use std::process::Abort;
+
+/// A world, by which a service is tried.
+#[derive(Drop)]
+pub struct Stage {
+    alloc: Global,
+    world: Box<World>,
+}
+
+impl Model for Stage {
+    ghost use Rattle.std.specs.Prelude.{⊤};
+
+    ghost Value = { ⊤ };
+
+    ghost view = { λ s. tt };
+}
+
+/// Four queues of so many homes, all of which are asked.
+pub fn options(homes: u32, rows: u32, flights: u32) -> Options {
+    Options {
+        homes,
+        sample: homes,
+        queues: 4,
+        rows,
+        flights,
+        transit: 10,
+        seed: 7,
+    }
+}
+
+fn answer_of_home(reply: &HomeReply) -> Answers {
+    match reply {
+        HomeReply::Left(_) | HomeReply::Entered(_) => Answers::Moved,
+        _ => answer_of(reply),
+    }
+}
+
+fn answer_of_step(outcome: &Outcome) -> Answers {
+    match outcome {
+        Outcome::Home(reply) => answer_of_home(reply),
+        Outcome::Directory(DirectoryReply::Made(made)) => Answers::Number(made.queue.get()),
+        Outcome::Ledger(LedgerReply::Started(number)) => Answers::Number(number.get()),
+        Outcome::Ledger(LedgerReply::Finished) => Answers::Done,
+        Outcome::Task(task) | Outcome::LastTask(Some(task)) => Answers::Number(task.number.get()),
+        Outcome::LastTask(None) | Outcome::Nothing => Answers::Nothing,
+        _ => Answers::Other,
+    }
+}
+
+impl Stage {
+    pub fn new(rt: &impl Abort, alloc: Global, options: Options) -> Stage {
+        let world = World::new(alloc, options).expect(rt, "a world");
+        Stage {
+            alloc,
+            world: Box::new(alloc, world).expect(rt, "memory"),
+        }
+    }
+
+    /// Does a step, and tells the number of the queue at a place among all, where that step names them and this queue has that name;
+    /// 0 else.
+    pub fn named(&mut self, place: usize, name: &str) -> u64 {
+        let step = Step {
+            actor: 1,
+            clock: 0,
+            act: Act::Names,
+        };
+        match &self.world.step(self.alloc, &step) {
+            Ok(Outcome::Named(queues)) => match queues.as_slice().get(place) {
+                Some(queue) if queue.name.as_str() == name => queue.number.get(),
+                _ => 0,
+            },
+            _ => 0,
+        }
+    }
+
+    /// What an actor is answered that does this at a clock reading in ms.
+    pub fn told(&mut self, actor: u32, clock: u64, act: Act) -> Answers {
+        let step = Step { actor, clock, act };
+        match self.world.step(self.alloc, &step) {
+            Ok(outcome) => answer_of_step(&outcome),
+            Err(refusal) => Answers::Refused(refusal),
+        }
+    }
+
+    /// Does steps, and tells how many were not refused.
+    pub fn run(&mut self, steps: &[Step]) -> u64 {
+        self.world.run(self.alloc, steps)
+    }
+
+    /// Does what a client asks, up to so many steps.
+    pub fn until(
+        &mut self,
+        actor: u32,
+        clock: u64,
+        call: &Call,
+        steps: u64,
+    ) -> Result<Option<Answer>, Refusal> {
+        self.world.call_until(self.alloc, actor, clock, call, steps)
+    }
+
+    /// Does a turn, whatever it is answered.
+    pub fn turn(&mut self, actor: u32, clock: u64, turn: &Turn) {
+        let _ = self.world.turn(self.alloc, actor, clock, turn);
+    }
+
+    /// Answers the lines of a reader.
+    pub fn answer<R: Read, W: Write>(
+        &mut self,
+        reader: &mut Counted<R>,
+        writer: &mut Counted<W>,
+    ) -> Result<u64, ServeFault> {
+        run_script(self.alloc, reader, writer, &mut self.world)
+    }
+
+    /// What lines of clients and movers are answered: a writer that took it.
+    pub fn answered(&mut self, rt: &impl Abort, lines: &str) -> Counted<Bytewise> {
+        let mut reader = Counted::new(Piecewise::new(lines.as_bytes(), 0));
+        let mut writer = Counted::new(Bytewise::new(self.alloc, 0));
+        assert!(rt; self.answer(&mut reader, &mut writer).is_ok());
+        writer
+    }
+
+    /// What it leaves.
+    pub fn evidence(self, rt: &impl Abort) -> Evidence {
+        let parts = Box::into_inner(self.world).parts();
+        Evidence::new(rt, self.alloc, parts)
+    }
+}
