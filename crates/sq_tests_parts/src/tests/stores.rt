@@ -1,6 +1,7 @@
 //! The same steps, chosen at random, at two homes: one over rows in slots, and one over rows one after another.
 ghost use Rattle.std.specs.Prelude.{◌<◌, ◌≤◌, IfOk, IfSome};
 ghost use Rattle.sq_base.specs.Stamps.{stamp_end};
+ghost use Rattle.sq_shard.specs.Looks.{MayBeGiven};
 ghost use Rattle.sq_shard.specs.Moves.{HasRow};
 
 use crate::choices::Choices;
@@ -312,6 +313,24 @@ fn most_given(pair: &mut Pair, moment: u64, max: MaxMessages) -> Result<usize, R
     Ok(room.min(max.get()) as usize)
 }
 
+// What either gives where both chose the same.
+fn give(
+    pair: &mut Pair,
+    held: &mut Held,
+    moment: u64,
+    these: &Option<Rows>,
+    those: &Option<Rows>,
+) -> (Told, Told)
+    requires moment { moment < stamp_end }
+    requires these { MayBeGiven pair.old.slots.home moment these.now }
+    requires those { MayBeGiven pair.old.plain.home moment those.now }
+{
+    held.keep_look(these, those);
+    pair.slots.give(moment, None, these);
+    pair.plain.give(moment, None, those);
+    (gives(these), gives(those))
+}
+
 // What either gives where both choose the same. Else nothing is given, so that both go on with the same messages.
 fn look(
     alloc: Global,
@@ -325,13 +344,11 @@ fn look(
     let most = most_given(pair, moment, max)?;
     let these = pair.slots.choose(alloc, moment, max, None)?;
     let those = pair.plain.choose(alloc, moment, max, None)?;
-    if !are_alike(&these, &those) {
-        return Ok((would_give(&these, most), would_give(&those, most)));
+    if are_alike(&these, &those) {
+        Ok(give(pair, held, moment, &these, &those))
+    } else {
+        Ok((would_give(&these, most), would_give(&those, most)))
     }
-    held.keep_look(&these, &those);
-    pair.slots.give(moment, None, &these);
-    pair.plain.give(moment, None, &those);
-    Ok((gives(&these), gives(&those)))
 }
 
 // A dead message, or a live one.

@@ -42,8 +42,8 @@ pub enum Deed {
     Words,
     /// Calls and turns at random, while the clock goes on: how many messages were sent.
     Random(u64),
-    /// Lines, each call made by its own name: how many have their replies.
-    Lines(&'static [(&'static str, &'static str)]),
+    /// The lines of `lines.rt`, each call made by its own name: how many have their replies.
+    Lines,
     /// The lines of a connection: 1 where all is as it must be.
     Connect(&'static Connection),
     /// Sets the clock, in ms: 0.
@@ -146,7 +146,7 @@ impl<'s, 'a, D: Ledger, T: Ledger, R: Wait + Abort> Scene<'s, 'a, D, T, R> {
             Deed::Turns(number) => turns(self, client, number) as u64,
             Deed::Words => words(self, client),
             Deed::Random(calls) => random(self, client, calls),
-            Deed::Lines(asked) => lines(self, client, asked),
+            Deed::Lines => lines(self, client),
             Deed::Connect(connection) => serve_lines(self, client, connection) as u64,
             _ => self.show(deed),
         }

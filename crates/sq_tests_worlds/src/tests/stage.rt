@@ -9,6 +9,7 @@ use sq_merge::world::World;
 use sq_model::directory::DirectoryReply;
 use sq_model::ledger::LedgerReply;
 use sq_model::replies::HomeReply;
+use sq_model::task::NamedQueue;
 use sq_opening::options::Options;
 use sq_steps::act::{Act, Outcome, Step};
 use sq_tests_parts::asks::{Answers, answer_of};
@@ -66,6 +67,20 @@ fn answer_of_step(outcome: &Outcome) -> Answers {
     }
 }
 
+fn number_in(queues: &[NamedQueue], place: usize, name: &str) -> u64 {
+    match queues.get(place) {
+        Some(queue) if queue.name.as_str() == name => queue.number.get(),
+        _ => 0,
+    }
+}
+
+fn number_of(outcome: &Outcome, place: usize, name: &str) -> u64 {
+    match outcome {
+        Outcome::Named(queues) => number_in(queues.as_slice(), place, name),
+        _ => 0,
+    }
+}
+
 impl Stage {
     pub fn new(rt: &impl Abort, alloc: Global, options: Options) -> Stage {
         let world = World::new(alloc, options).expect(rt, "a world");
@@ -75,20 +90,16 @@ impl Stage {
         }
     }
 
-    /// Does a step, and tells the number of the queue at a place among all, where that step names them and this queue has that name;
-    /// 0 else.
+    /// The number of the queue at a place among all, where it has this name; 0 else.
     pub fn named(&mut self, place: usize, name: &str) -> u64 {
         let step = Step {
             actor: 1,
             clock: 0,
             act: Act::Names,
         };
-        match &self.world.step(self.alloc, &step) {
-            Ok(Outcome::Named(queues)) => match queues.as_slice().get(place) {
-                Some(queue) if queue.name.as_str() == name => queue.number.get(),
-                _ => 0,
-            },
-            _ => 0,
+        match self.world.step(self.alloc, &step) {
+            Ok(outcome) => number_of(&outcome, place, name),
+            Err(_) => 0,
         }
     }
 
