@@ -35,7 +35,11 @@ const BRING: &[Deed] = &[Deed::Turns(100), Deed::Receive(b'd')];
 #[test]
 fn a_mover_brings_a_dead_letter(rt: HostRuntime) {
     let told = tell(&rt, rt.alloc(), Setting::of(DEAD_LETTER, 1), &[BRING]);
-    must(&rt, &told, told.by[0] == 2 && told.seen.messages == Some(1));
+    must(
+        &rt,
+        &told,
+        told.by[0] == 11 && told.seen.messages == Some(1),
+    );
 }
 
 // The number of a turn's word; 0 where it is refused.
@@ -106,13 +110,17 @@ fn told_between<R: Threads + Wait + Abort + Sync>(
 #[test]
 fn a_mover_holds_no_source_while_its_item_is_on_the_way(rt: HostRuntime) {
     let told = told_between(&rt, rt.alloc(), 6, Ask::Receive(b'q'));
-    must(&rt, &told, told.by[0] == 2 && told.by[1] == 1 && told.met);
+    must(
+        &rt,
+        &told,
+        told.by[0] == 110 && told.by[1] == 10 && told.met,
+    );
 }
 
 // Whether both were answered, and left the message in one run.
 fn is_one_run(told: &Told) -> bool {
-    told.by[0] == 2
-        && told.by[1] == 1
+    told.by[0] == 110
+        && told.by[1] == 10
         && told.seen.sessions == [2, 2]
         && told.seen.messages == Some(1)
 }

@@ -19,7 +19,7 @@ fn a_message_is_sent_received_and_deleted(rt: HostRuntime) {
         events: [1, 0, 4],
         messages: Some(1),
     };
-    must(&rt, &told, told.by[0] == 2 && told.seen == seen);
+    must(&rt, &told, told.by[0] == 11 && told.seen == seen);
 }
 
 // A send looks its queue up, and puts its message.

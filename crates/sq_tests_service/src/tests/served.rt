@@ -95,5 +95,9 @@ const CONNECTIONS: &[Deed] = &[
 #[test]
 fn the_lines_of_a_client_are_answered_in_order(rt: HostRuntime) {
     let told = tell(&rt, rt.alloc(), Setting::of(NOTHING, 1), &[CONNECTIONS]);
-    must(&rt, &told, told.by[0] == 2 && told.seen.messages == Some(1));
+    must(
+        &rt,
+        &told,
+        told.by[0] == 11 && told.seen.messages == Some(1),
+    );
 }

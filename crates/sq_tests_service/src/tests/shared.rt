@@ -70,7 +70,7 @@ impl Signs {
     }
 }
 
-/// What the first client of a story does before they all act, and what that tells.
+/// What the first client of a story does before they all act, and what that tells, as digits.
 #[derive(Clone, Copy)]
 pub struct Start {
     pub deeds: &'static [Deed],
@@ -96,7 +96,7 @@ pub const HELD: Start = Start {
         Deed::Ask(Ask::Create(b'r', None)),
         Deed::NoSign,
     ],
-    tells: 2,
+    tells: 110,
 };
 
 /// Makes queues d and q, from which what was received once goes to d; and a dead letter in q, at 31000.
@@ -110,7 +110,7 @@ pub const DEAD_LETTER: Start = Start {
         Deed::Clock(31000),
         Deed::Receive(b'q'),
     ],
-    tells: 4,
+    tells: 1_101_100,
 };
 
 /// How a service under test is made, and a story begins.

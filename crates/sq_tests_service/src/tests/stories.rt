@@ -152,11 +152,13 @@ impl<'s, 'a, D: Ledger, T: Ledger, R: Wait + Abort> Scene<'s, 'a, D, T, R> {
         }
     }
 
-    // What all deeds of a client tell, in one sum.
+    // What the deeds of a client tell, as digits: so each number has its place, and none makes up for another.
     fn act(&self, client: &mut Client<D, T>, deeds: &[Deed]) -> u64 {
         let mut all = 0u64;
         for deed in deeds {
-            all = all.saturating_add(self.do_deed(client, *deed));
+            all = all
+                .saturating_mul(10)
+                .saturating_add(self.do_deed(client, *deed));
         }
         all
     }
@@ -165,7 +167,7 @@ impl<'s, 'a, D: Ledger, T: Ledger, R: Wait + Abort> Scene<'s, 'a, D, T, R> {
 /// What a story tells.
 #[derive(Clone, Copy, PartialEq, Eq, Debug)]
 pub struct Told {
-    /// What the deeds of each of the first eight clients tell, in one sum.
+    /// What the deeds of each of the first eight clients tell, as digits; a number above 9 stands alone.
     pub by: [u64; 8],
     /// Whether somebody who was held saw the sign.
     pub met: bool,

@@ -33,7 +33,7 @@ fn a_thread_inside_a_home_holds_up_no_other_queue(rt: HostRuntime) {
         ..Setting::of(HELD, 1)
     };
     let told = tell(&rt, rt.alloc(), setting, &[INSIDE, BESIDE]);
-    must(&rt, &told, told.by[0] == 1 && told.by[1] == 2 && told.met);
+    must(&rt, &told, told.by[0] == 1 && told.by[1] == 110 && told.met);
 }
 
 /// Queues of a run of many threads.
