@@ -17,7 +17,7 @@ use Rattle.sq_laws.proofs.LedgerLists.{found_number}
 use Rattle.sq_history.specs.declared.act.HomeAct.{HomeAct}
 use Rattle.sq_history.specs.Acts.{call_of}
 use Rattle.sq_history.specs.HistoryValue.{HistoryValue}
-use Rattle.sq_history.specs.Rooms.{KeepsRoom}
+use Rattle.sq_log.specs.Rooms.{KeepsRoom}
 use Rattle.sq_directory.specs.DirectoryHistory.{DirectoryHistory}
 use Rattle.sq_ledger.specs.LedgerHistory.{LedgerHistory}
 use Rattle.sq_steps.specs.Journals.{with_record, HomeMoves, DirectoryMoves, LedgerMoves}

@@ -29,7 +29,8 @@ use Rattle.sq_audit.specs.declared.check.AuditFault.TheVariants.{NoMemory, Recor
 use Rattle.sq_audit.specs.declared.check.Part.TheVariants as part
 use Rattle.sq_audit.specs.Faults.{EventIndex, InDirectory, InLedger, InHome, IsBy, HasNoRecord, Gap, TwoEvents, IsWrong, RecordFits, DirectoryFits, LedgerFits, HomeFits, LedgerHas, unmatched, IsRecordFault, IsAt, IsRecordedAt, IsEventFault, EventFits, HasEventFault, IsWithoutPartner}
 use Rattle.sq_history.specs.Histories.{IsKept}
-use Rattle.sq_history.specs.Events.{HasHomeEvent, IsEventAt}
+use Rattle.sq_log.specs.Events.{IsEventAt}
+use Rattle.sq_history.specs.Events.{HasHomeEvent}
 use Rattle.sq_directory.proofs.ElementLaws.{some_same, get_map, get_mapped, all_get}
 use Rattle.sq_steps.proofs.JournalListLaws.{journal_own, found_is, journal_once, same_place}
 use Rattle.sq_audit.proofs.ListLaws.{all_at}

@@ -3,8 +3,10 @@
 
 pub mod by_stamp;
 pub mod check;
+pub mod creations;
 pub mod homes;
 pub mod merge;
+pub mod names;
 pub mod parts;
 pub mod run;
 pub mod tagged;

@@ -10,9 +10,9 @@ ghost use Rattle.sq_audit.specs.HomeIds.{histories_of, IsNumbered};
 
 use crate::by_stamp::by_stamp;
 use crate::check::{AuditFault, Evidence, check};
+use crate::creations::creations;
 use crate::parts::Parts;
 use crate::run::Run;
-use sq_directory::creations::creations;
 use std::alloc::Global;
 
 /// All that was done to the parts of a service, sorted by stamp; at equal stamps the directory comes first, the ledger

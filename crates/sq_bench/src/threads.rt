@@ -7,7 +7,7 @@ use sq_base::name::QueueName;
 use sq_queue::actors::SEATS;
 use sq_server::clients::{create, delete, first_handle, receive, send};
 use sq_server::served::{Client, Served};
-use sq_shard::slots::SlotStore;
+use sq_store::slots::SlotStore;
 use std::alloc::Global;
 use std::marker::Brand;
 use std::sync::Wait;

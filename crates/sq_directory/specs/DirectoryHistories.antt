@@ -15,8 +15,8 @@ use Rattle.sq_model.specs.Policies.{has_list, lists_queues}
 use Rattle.sq_model.specs.Replays.{Replays, StampsRise}
 use Rattle.sq_model.specs.Systems.{DirectoryEvent, AreDirectory}
 use Rattle.sq_model.specs.RecordValues.{DirectoryRecordValue, directory_record_of}
-use Rattle.sq_history.specs.Rooms.{KeepsRoom}
-use Rattle.sq_history.specs.Logs.{event_by}
+use Rattle.sq_log.specs.Rooms.{KeepsRoom}
+use Rattle.sq_log.specs.Logs.{event_by}
 use Rattle.sq_directory.specs.DirectoryHistory.{DirectoryHistory}
 
 abbrev pub directory_event : StampValue → Actor → DirectoryCall → DirectoryReply → DirectoryEvent

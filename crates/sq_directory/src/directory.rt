@@ -13,8 +13,8 @@ use sq_base::ids::QueueNo;
 use sq_base::name::QueueName;
 use sq_base::refusal::Refusal;
 use sq_base::stamp::Stamp;
-use sq_history::log::Log;
 use sq_log::blocks::Blocks;
+use sq_log::log::Log;
 use sq_model::directory::{DirectoryCall, DirectoryReply};
 use sq_model::event::{Actor, Event};
 use sq_model::listed::Listed;
@@ -128,6 +128,6 @@ impl Directory {
         let step = self
             .log
             .add(stamp, by, part, (in_event, kept), (in_record, for_record));
-        Ok((answered, DirectoryRecord::new(step)))
+        Ok((answered, step))
     }
 }

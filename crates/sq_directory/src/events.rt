@@ -5,7 +5,7 @@ ghost use Rattle.sq_directory.specs.Events.{HasDirectoryEvent};
 use crate::directory::Directory;
 use crate::record::DirectoryRecord;
 use crate::same::{is_same_call, is_same_reply};
-use sq_history::events::event_of;
+use sq_log::events::event_of;
 
 /// Whether the directory's history has the event of this actor's record.
 pub fn has_directory_event(directory: &Directory, actor: u32, kept: &DirectoryRecord) -> bool

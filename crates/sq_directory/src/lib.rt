@@ -3,11 +3,9 @@
 
 pub mod attributes;
 pub mod copies;
-pub mod creations;
 pub mod directory;
 pub mod events;
 pub mod listing;
-pub mod names;
 pub mod queues;
 pub mod record;
 pub mod same;

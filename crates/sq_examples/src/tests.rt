@@ -3,6 +3,5 @@
 mod clients;
 mod dead_letters;
 mod send_and_receive;
-mod server_and_client;
 mod two_threads;
 mod worlds;

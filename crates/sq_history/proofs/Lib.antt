@@ -1,4 +1,3 @@
 pub mod HistoryLaws
 pub mod HalfLaws
 pub mod TaskLaws
-pub mod EventLaws

@@ -23,7 +23,7 @@ use Rattle.sq_history.specs.Histories.{RecordsShared}
 use Rattle.sq_history.specs.declared.shared.HomeHalf.{HomeHalf}
 use Rattle.sq_history.specs.declared.task_leave.Found.{Found}
 use Rattle.sq_history.specs.declared.task_leave.Found.TheVariants as found
-use Rattle.sq_history.specs.declared.task_leave.TaskLeave.{TaskLeave}
+use Rattle.sq_task.specs.declared.leave.TaskLeave.{TaskLeave}
 
 -- One event was added, of this call. What is answered, and what the ledger is told, is what the record says.
 pub record DoesHalf (old new : HistoryValue) (by : Actor) (stamp : StampValue) (name : Option (List ℕ)) (call : HomeCall) (half : HomeHalf) : Type 0 where

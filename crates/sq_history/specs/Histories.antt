@@ -16,10 +16,10 @@ use Rattle.sq_model.specs.Systems.{is_alone}
 use Rattle.sq_model.specs.RecordValues.{HomeRecordValue}
 use Rattle.sq_shard.specs.Moves.{KeepsRowRoom}
 use Rattle.sq_history.specs.Acts.{CopiesBytes, HoldsAny}
-use Rattle.sq_history.specs.Logs.{event_by, IsUnready}
-use Rattle.sq_history.specs.Rooms.{KeepsRoom}
+use Rattle.sq_log.specs.Logs.{event_by, IsUnready}
+use Rattle.sq_log.specs.Rooms.{KeepsRoom}
 use Rattle.sq_history.specs.HistoryValue.{HistoryValue}
-use Rattle.sq_history.specs.LogValue.{LogValue}
+use Rattle.sq_log.specs.LogValue.{LogValue}
 
 abbrev pub new_event : StampValue → Actor → HomeId → HomeCall → HomeReply → HomeEvent
 new_event stamp by home call reply = event_by stamp by (part.Home home) call reply

@@ -1,6 +1,3 @@
-pub mod Rooms
-pub mod LogValue
-pub mod Logs
 pub mod Acts
 pub mod HistoryValue
 pub mod Histories

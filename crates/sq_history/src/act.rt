@@ -19,7 +19,7 @@ use sq_model::held::Held;
 use sq_model::replies::{Counts, EnteredRow, HomeReply, SentMessage};
 use sq_model::rows::Rows;
 use sq_shard::shard::Shard;
-use sq_shard::store::Store;
+use sq_store::store::Store;
 use std::alloc::Global;
 use std::marker::Model;
 

@@ -16,7 +16,7 @@ use sq_model::item::{Item, ItemNo, Reason};
 use sq_model::replies::HomeReply;
 use sq_model::rows::copy_row;
 use sq_shard::shard::Shard;
-use sq_shard::store::Store;
+use sq_store::store::Store;
 use std::alloc::Global;
 
 // A dead letter on its way.

@@ -1,74 +1,11 @@
-//! Whether a history has the event of a record.
-ghost use Rattle.std.specs.Prelude.{◌≡◌, ◌↔◌, true, IfSome, IsSome, Some, option_map};
-ghost use Rattle.sq_model.specs.declared.event.Event.{Event as Done};
-ghost use Rattle.sq_history.specs.Events.{IsEventOf, IsEventAt, IsParted, Rises, HasHomeEvent, is_event_before};
+//! Whether a home's history has the event of a record.
+ghost use Rattle.std.specs.Prelude.{◌≡◌, ◌↔◌, true};
+ghost use Rattle.sq_history.specs.Events.{HasHomeEvent};
 
 use crate::record::LentHomeRecord;
 use crate::recorded::Home;
-use sq_base::stamp::Stamp;
-use sq_log::blocks::Blocks;
-use sq_model::event::{Event, StepRecord};
+use sq_log::events::event_of;
 use sq_model::same::{is_same_call, is_same_reply};
-
-/// The event that this actor's record is of, in the history of its part: the one at its index, where the place and the
-/// stamp are the same. It does not compare call and reply.
-pub fn event_of<'a, K, R>(
-    events: &'a Blocks<Event<K, R>>,
-    actor: u32,
-    kept: &StepRecord<K, R>,
-) -> Option<&'a Event<K, R>>
-    ensures found { IfSome result (λ e. IsEventOf events.now.items actor kept.now e.now) }
-    ensures none { (e : Done K R) → IsEventOf events.now.items actor kept.now e → IsSome result }
-{
-    if kept.index >= events.len() as u64 {
-        return None;
-    }
-    let event = &events[kept.index as usize];
-    if event.actor == actor && event.place == kept.place && event.stamp == kept.stamp {
-        Some(event)
-    } else {
-        None
-    }
-}
-
-// Whether an event is before a stamp.
-fn is_before<K, R>(event: &Event<K, R>, stamp: Stamp) -> bool
-    ensures { result ≡ is_event_before stamp event.now }
-{
-    event.stamp < stamp
-}
-
-// How many events are before a stamp, in a history whose stamps rise, by binary search.
-fn count_before<K, R>(events: &Blocks<Event<K, R>>, stamp: Stamp) -> usize
-    requires rises { Rises events.now.items }
-    ensures { IsParted stamp events.now.items result result }
-{
-    let mut low = 0;
-    let mut high = events.len();
-    while low < high {
-        let middle = low + (high - low) / 2;
-        if is_before(&events[middle], stamp) {
-            low = middle + 1;
-        } else {
-            high = middle;
-        }
-    }
-    low
-}
-
-/// The event of a stamp, in a history whose stamps rise, by binary search.
-pub fn event_at<'a, K, R>(events: &'a Blocks<Event<K, R>>, stamp: Stamp) -> Option<&'a Event<K, R>>
-    requires rises { Rises events.now.items }
-    ensures found { IfSome result (λ e. IsEventAt events.now.items stamp e.now) }
-    ensures only { (e : Done K R) → IsEventAt events.now.items stamp e → option_map (λ d. d.now) result ≡ Some e }
-{
-    let event = events.get(count_before(events, stamp))?;
-    if event.stamp == stamp {
-        Some(event)
-    } else {
-        None
-    }
-}
 
 /// Whether a home's history has the event of this actor's record.
 pub fn has_home_event(home: &Home, actor: u32, kept: &LentHomeRecord<'_>) -> bool

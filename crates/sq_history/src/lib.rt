@@ -4,8 +4,6 @@
 pub mod act;
 mod dead_leave;
 pub mod events;
-pub mod growing;
-pub mod log;
 pub mod record;
 pub mod recorded;
 pub mod sent_body;

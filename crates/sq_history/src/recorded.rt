@@ -5,23 +5,23 @@ ghost use Rattle.sq_model.specs.Homes.{Unopened as Never, Closed as Gone};
 ghost use Rattle.sq_model.specs.Replays.{StampsRise};
 ghost use Rattle.sq_history.specs.Acts.{call_of, rows_call};
 ghost use Rattle.sq_history.specs.Histories.{IsUnbegun, new_event, new_record};
-ghost use Rattle.sq_history.specs.Rooms.{IsReady, KeepsRoom};
+ghost use Rattle.sq_log.specs.Rooms.{IsReady, KeepsRoom};
 
 use crate::act::{Answer, HomeAct, RowAct};
-use crate::log::Log;
 use crate::record::HomeRecord;
 use sq_base::ids::HomeId;
 use sq_base::name::QueueName;
 use sq_base::refusal::Refusal;
 use sq_base::stamp::Stamp;
 use sq_log::blocks::Blocks;
+use sq_log::log::Log;
 use sq_model::calls::HomeCall;
 use sq_model::event::{Actor, Event};
 use sq_model::place::Component;
 use sq_model::replies::HomeReply;
 use sq_shard::shard::Shard;
-use sq_shard::slots::SlotStore;
-use sq_shard::store::Store;
+use sq_store::slots::SlotStore;
+use sq_store::store::Store;
 use std::alloc::Global;
 use std::marker::Model;
 
@@ -170,5 +170,5 @@ pub(crate) fn add_step(
         (kept_call, kept),
         (recorded_call, for_record),
     );
-    (answered, HomeRecord::new(step, home, name))
+    (answered, HomeRecord::new(step.into_step(), home, name))
 }

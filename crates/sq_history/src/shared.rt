@@ -12,25 +12,26 @@ ghost use Rattle.sq_model.specs.ItemActs.{call_with, replied_by};
 ghost use Rattle.sq_shard.specs.Moves.{KeepsRowRoom, item_refusal};
 ghost use Rattle.sq_history.specs.Halves.{DoesHalf, IsActRefused, IsLeaveRefused, IsItemRefused, IsTaker, IsTaskAnswer, IsTaskRefused, IsThrottled};
 ghost use Rattle.sq_history.specs.Histories.{new_event, new_record};
-ghost use Rattle.sq_history.specs.Rooms.{IsReady, KeepsRoom};
+ghost use Rattle.sq_log.specs.Rooms.{IsReady, KeepsRoom};
 
 use crate::act::Answer;
 use crate::dead_leave::leave_dead;
-use crate::log::Log;
 use crate::record::HomeRecord;
 use crate::recorded::{Recorded, add_step};
-use crate::task_leave::{TaskAnswer, TaskLeave, leave_for_task};
+use crate::task_leave::{TaskAnswer, leave_for_task};
 use sq_base::ids::HomeId;
 use sq_base::name::QueueName;
 use sq_base::refusal::Refusal;
 use sq_base::stamp::Stamp;
+use sq_log::log::Log;
 use sq_model::calls::HomeCall;
 use sq_model::event::Actor;
 use sq_model::item::{HeldItem, Item, ItemNo};
 use sq_model::replies::{EnteredRow, HomeReply};
 use sq_model::shared::ItemAct;
 use sq_shard::shard::Shard;
-use sq_shard::store::Store;
+use sq_store::store::Store;
+use sq_task::leave::TaskLeave;
 use std::alloc::Global;
 
 /// What a home's half of a step gives.

@@ -19,21 +19,9 @@ use sq_model::replies::HomeReply;
 use sq_model::rows::copy_row;
 use sq_model::task::Task;
 use sq_shard::shard::Shard;
-use sq_shard::store::Store;
+use sq_store::store::Store;
+use sq_task::leave::TaskLeave;
 use std::alloc::Global;
-
-/// A leave for a move task, with what the ledger says of it.
-#[derive(Drop)]
-pub struct TaskLeave {
-    /// The number of the task, as it was asked.
-    pub number: TaskNo,
-    /// The task, or why it takes no message of this home's queue.
-    pub task: Result<Task, Refusal>,
-    /// Whether its rate allows one at the stamp's moment.
-    pub allowed: bool,
-    /// The number of the next item, or why the ledger takes none in.
-    pub item: Result<ItemNo, Refusal>,
-}
 
 /// What a home answers, what the ledger is told, and the item that left.
 #[derive(Drop)]

@@ -34,8 +34,8 @@ use Rattle.sq_model.proofs.ReplayLaws.{replays_push}
 use Rattle.sq_laws.proofs.LedgerLists.{found_number, found_of_all, items_low, mapped_length, some_same}
 use Rattle.sq_laws.proofs.LedgerLaws.{ledger_holds}
 use Rattle.sq_task.specs.Counts.{unsettled}
-use Rattle.sq_history.specs.LogValue.{LogValue}
-use Rattle.sq_history.specs.Rooms.{GrowingValue, KeepsRoom}
+use Rattle.sq_log.specs.LogValue.{LogValue}
+use Rattle.sq_log.specs.Rooms.{GrowingValue, KeepsRoom}
 use Rattle.sq_ledger.specs.declared.tasks.TaskChange.TheVariants as to
 use Rattle.sq_ledger.specs.ItemMoves.{change_by, tasks_without}
 use Rattle.sq_ledger.specs.LedgerHistory.{LedgerHistory, history_of, items_after, ledger_with}

@@ -25,8 +25,8 @@ use Rattle.sq_laws.proofs.LedgerLaws.{last_is_active}
 use Rattle.sq_laws.proofs.Progress.{neither, passed}
 use Rattle.sq_task.specs.Counts.{settled, unsettled}
 use Rattle.sq_ledger.specs.declared.tasks.TaskChange.TheVariants as to
-use Rattle.sq_history.specs.LogValue.{LogValue}
-use Rattle.sq_history.specs.Rooms.{GrowingValue, KeepsRoom}
+use Rattle.sq_log.specs.LogValue.{LogValue}
+use Rattle.sq_log.specs.Rooms.{GrowingValue, KeepsRoom}
 use Rattle.sq_ledger.specs.LedgerHistory.{LedgerHistory, history_of, ledger_with}
 use Rattle.sq_ledger.specs.LedgerHistories.{IsLedgerKept, IsLedgerRefused, KeepsTaskRoom, LedgerRecords, MayStart, own_event, start_refusal}
 use Rattle.sq_ledger.specs.TaskIndexes.{MayChange, changed_by, newest, task_number}

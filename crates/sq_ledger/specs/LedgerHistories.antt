@@ -27,8 +27,8 @@ use Rattle.sq_model.specs.RecordValues.{LedgerRecordValue, record_of}
 use Rattle.sq_model.specs.Replays.{Replays, StampsRise}
 use Rattle.sq_model.specs.Systems.{AreLedger}
 use Rattle.sq_model.specs.Tasks.{is_active, may_leave, target_of}
-use Rattle.sq_history.specs.Logs.{event_by}
-use Rattle.sq_history.specs.Rooms.{IsReady, KeepsRoom}
+use Rattle.sq_log.specs.Logs.{event_by}
+use Rattle.sq_log.specs.Rooms.{IsReady, KeepsRoom}
 use Rattle.sq_ledger.specs.LedgerHistory.{LedgerHistory, LedgerValue}
 
 -- the event of a step of this home, as it stands in the ledger's history

@@ -8,8 +8,8 @@ use Rattle.sq_model.specs.declared.shared.ItemAct.{ItemAct}
 use Rattle.sq_model.specs.declared.shared.ItemAct.TheVariants.{Enter, TurnBack, GiveBack, GiveUp}
 use Rattle.sq_model.specs.Ledgers.{Ledger, LedgerEvent, items_without, turned_if}
 use Rattle.sq_model.specs.declared.task.Task.{Task}
-use Rattle.sq_history.specs.LogValue.{LogValue}
-use Rattle.sq_history.specs.Rooms.{GrowingValue}
+use Rattle.sq_log.specs.LogValue.{LogValue}
+use Rattle.sq_log.specs.Rooms.{GrowingValue}
 
 -- the items in transit, and for how many more there is memory
 pub record ItemsValue : Type 0 where

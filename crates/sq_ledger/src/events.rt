@@ -9,7 +9,7 @@ use crate::ledger::TransitLedger;
 use crate::record::LedgerRecord;
 use crate::same;
 use sq_base::ids::HomeId;
-use sq_history::events::{event_at, event_of};
+use sq_log::events::{event_at, event_of};
 use sq_model::calls::HomeCall;
 use sq_model::event::Event;
 use sq_model::ledger::{LedgerCall, LedgerReply};

@@ -6,7 +6,7 @@ ghost use Rattle.sq_model.specs.declared.replies.HomeReply.TheVariants.{Left};
 ghost use Rattle.sq_model.specs.declared.task.Task.{Task as Moving};
 ghost use Rattle.sq_model.specs.Ledgers.{HasRoom, has_number, is_task, item_of, opening_ledger, peek, room_refusal};
 ghost use Rattle.sq_model.specs.Replays.{StampsRise};
-ghost use Rattle.sq_history.specs.Rooms.{IsReady, KeepsRoom};
+ghost use Rattle.sq_log.specs.Rooms.{IsReady, KeepsRoom};
 ghost use Rattle.sq_ledger.specs.LedgerHistories.{DoesItem, IsLeaving, IsLedgerKept, IsNoneLeft, IsPrepared, LedgerShares, shared_event};
 ghost use Rattle.sq_ledger.specs.ItemMoves.{change_by, tasks_without};
 
@@ -15,8 +15,8 @@ use crate::tasks::{TaskChange, Tasks};
 use sq_base::ids::HomeId;
 use sq_base::refusal::Refusal;
 use sq_base::stamp::Stamp;
-use sq_history::log::Log;
 use sq_log::blocks::Blocks;
+use sq_log::log::Log;
 use sq_model::calls::HomeCall;
 use sq_model::event::{Actor, Event};
 use sq_model::item::{Item, ItemNo, Reason, TaskNo};

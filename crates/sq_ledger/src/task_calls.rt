@@ -9,7 +9,7 @@ ghost use Rattle.sq_model.specs.Ledgers.{HasRoom, MayTake, cancel_refusal, finis
 ghost use Rattle.sq_model.specs.Replays.{StampsRise};
 ghost use Rattle.sq_model.specs.Shared.{is_throttled, task_refusal};
 ghost use Rattle.sq_model.specs.Tasks.{is_running};
-ghost use Rattle.sq_history.specs.Rooms.{IsReady, KeepsRoom};
+ghost use Rattle.sq_log.specs.Rooms.{IsReady, KeepsRoom};
 ghost use Rattle.sq_ledger.specs.LedgerHistories.{IsLedgerRefused, LedgerRecords, MayStart, own_event, start_refusal};
 
 use crate::ledger::TransitLedger;
@@ -19,14 +19,14 @@ use sq_base::ids::{HomeId, QueueNo};
 use sq_base::ranges::{MaxResults, Rate};
 use sq_base::refusal::Refusal;
 use sq_base::stamp::Stamp;
-use sq_history::log::Log;
-use sq_history::task_leave::TaskLeave;
+use sq_log::log::Log;
 use sq_model::event::Actor;
 use sq_model::item::TaskNo;
 use sq_model::ledger::{LedgerCall, LedgerReply};
 use sq_model::listed::Listed;
 use sq_model::place::Component;
 use sq_model::task::{NamedQueue, Task};
+use sq_task::leave::TaskLeave;
 use std::alloc::Global;
 
 /// How many tasks may be active in all. Own.
@@ -308,5 +308,5 @@ fn add_own(
     ensures room { KeepsRoom log.old.room log.new.room }
     ensures for_record { result ≡ record { place = by.now.place; stamp = stamp; index = length log.old.events; call = for_record.0; reply = for_record.1 } }
 {
-    LedgerRecord::new(log.add(stamp, by, Component::Ledger, kept, for_record))
+    log.add(stamp, by, Component::Ledger, kept, for_record)
 }

@@ -3,7 +3,7 @@ ghost use Rattle.std.specs.Prelude.{◌≡◌, ◌≢◌, ◌+◌, ◌-◌, ◌<
 ghost use Rattle.sq_model.specs.declared.task.Task.{Task as TaskValue};
 ghost use Rattle.sq_model.specs.Ledgers.{changed_for, changed_task, is_task, TasksCount};
 ghost use Rattle.sq_model.specs.Tasks.{is_active, new_task};
-ghost use Rattle.sq_history.specs.Rooms.{IsReady, KeepsRoom};
+ghost use Rattle.sq_log.specs.Rooms.{IsReady, KeepsRoom};
 ghost use Rattle.sq_ledger.specs.TaskIndexes.{changed_by, how_many_active, newest, tasks_from, MayChange, MayChangeFor};
 
 use sq_base::ids::QueueNo;
@@ -54,7 +54,7 @@ pub struct Tasks {
 impl Model for Tasks {
     ghost use Rattle.std.specs.Prelude.{◌-◌, ◌≤◌, vec_len, vec_capacity};
     ghost use Rattle.sq_model.specs.declared.task.Task.{Task as TaskValue};
-    ghost use Rattle.sq_history.specs.Rooms.{GrowingValue};
+    ghost use Rattle.sq_log.specs.Rooms.{GrowingValue};
     ghost use Rattle.sq_ledger.specs.TaskIndexes.{AreTasks, tasks_in};
 
     ghost Value = { GrowingValue TaskValue };

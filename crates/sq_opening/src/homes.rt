@@ -13,7 +13,7 @@ use sq_history::recorded::{Home, Recorded};
 use sq_model::place::{Limits, Site};
 use sq_sample::sampler::HomeCount;
 use sq_shard::shard::Shard;
-use sq_shard::slots::SlotStore;
+use sq_store::slots::SlotStore;
 use std::alloc::Global;
 
 /// Why a step of a home that is not there is refused, at a clock reading in ms: as ClockRange, and then as QueueDoesNotExist.

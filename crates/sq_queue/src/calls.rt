@@ -14,7 +14,7 @@ use sq_actions::progress::Progress;
 use sq_base::refusal::Refusal;
 use sq_calls::calls::{Answer, Call};
 use sq_calls::turns::{Turn, Turned};
-use sq_shard::slots::SlotStore;
+use sq_store::slots::SlotStore;
 use std::sync::Wait;
 use std::sync::ledger::Ledger;
 

@@ -16,9 +16,9 @@ use sq_history::recorded::Home;
 use sq_model::place::Limits;
 use sq_opening::homes::{id_at, never_opened};
 use sq_sample::sampler::HomeCount;
-use sq_shard::slots::SlotStore;
 use sq_steps::journal::Journal;
 use sq_steps::journals::{Journals, are_distinct};
+use sq_store::slots::SlotStore;
 use std::alloc::{AllocError, Global};
 use std::sync::ledger::{Ledger, Share};
 

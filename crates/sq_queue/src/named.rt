@@ -15,7 +15,7 @@ use sq_calls::calls::{
 };
 use sq_model::directory::NamePrefix;
 use sq_model::item::TaskNo;
-use sq_shard::slots::SlotStore;
+use sq_store::slots::SlotStore;
 use std::sync::Wait;
 use std::sync::ledger::Ledger;
 

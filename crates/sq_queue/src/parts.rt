@@ -25,12 +25,12 @@ use sq_model::ledger::LedgerReply;
 use sq_model::listed::Listed;
 use sq_model::replies::HomeReply;
 use sq_model::task::{NamedQueue, Task};
-use sq_shard::slots::SlotStore;
-use sq_shard::store::Store;
 use sq_steps::act::{NextItem, SharedAct, TaskAct};
 use sq_steps::journal::{directory_step, home_step, ledger_step};
 use sq_steps::reads;
 use sq_steps::shared::shared_step;
+use sq_store::slots::SlotStore;
+use sq_store::store::Store;
 use std::alloc::Global;
 use std::sync::ledger::{Book, Ledger};
 

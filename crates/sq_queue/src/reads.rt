@@ -11,7 +11,7 @@ use sq_base::ids::QueueNo;
 use sq_base::refusal::Refusal;
 use sq_model::listed::Listed;
 use sq_model::task::{NamedQueue, Task};
-use sq_shard::slots::SlotStore;
+use sq_store::slots::SlotStore;
 use std::sync::Wait;
 use std::sync::ledger::Ledger;
 

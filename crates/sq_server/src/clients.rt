@@ -16,7 +16,7 @@ use sq_calls::calls::{
 use sq_model::directory::Attributes;
 use sq_model::policy::RedrivePolicy;
 use sq_replies::reply::handle_of;
-use sq_shard::slots::SlotStore;
+use sq_store::slots::SlotStore;
 use std::alloc::Global;
 use std::sync::Wait;
 use std::sync::ledger::Ledger;

@@ -8,7 +8,7 @@ use crate::served::{Client, Served};
 use crate::verdict::OneRun;
 use sq_audit::check::AuditFault;
 use sq_base::refusal::Refusal;
-use sq_shard::slots::SlotStore;
+use sq_store::slots::SlotStore;
 use std::alloc::{AllocError, Global};
 use std::sync::Wait;
 use std::sync::ledger::Ledger;

@@ -9,7 +9,7 @@ use sq_audit::check::AuditFault;
 use sq_audit::parts::Parts;
 use sq_queue::service::{Open, Serving};
 use sq_queue::session::Session;
-use sq_shard::slots::SlotStore;
+use sq_store::slots::SlotStore;
 use std::alloc::{AllocError, Global};
 use std::sync::Wait;
 use std::sync::ledger::Ledger;

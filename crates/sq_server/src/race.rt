@@ -18,7 +18,7 @@ use sq_mover::mover::Mover;
 use sq_program::reports::{no_memory, report_audit};
 use sq_program::results::print_race;
 use sq_queue::actors::SEATS;
-use sq_shard::slots::SlotStore;
+use sq_store::slots::SlotStore;
 use std::alloc::Global;
 use std::io::Write;
 use std::marker::Brand;

@@ -16,7 +16,7 @@ use sq_lines::counted::Counted;
 use sq_program::reports::{Failure, fail, no_memory, report_audit};
 use sq_program::results::{print_listening, print_verdict};
 use sq_queue::actors::SEATS;
-use sq_shard::slots::SlotStore;
+use sq_store::slots::SlotStore;
 use std::alloc::Global;
 use std::io::Write;
 use std::marker::Brand;

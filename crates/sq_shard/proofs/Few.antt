@@ -1,9 +1,8 @@
 -- Rows stay as few as they may be.
 use Rattle.std.proofs.Common.{◌≡◌, ℕ, ◌+◌, ◌<◌, ◌≤◌, List, [], ◌∷◌, ◌++◌, length, map, Option, Some, None, Bool, true, false, not, cond, arith, refl}
-use Rattle.std.specs.Prelude.{filter, count_by, nat_le}
+use Rattle.std.specs.Prelude.{filter, nat_le}
 use Rattle.std.proofs.lemmas.Grind.{common_steps}
 use Rattle.std.proofs.lemmas.List.{length-map}
-use Rattle.std.proofs.lemmas.List.Sums.{count_by-le-length}
 use Rattle.sq_base.specs.declared.refusal.Refusal.{Refusal}
 use Rattle.sq_base.specs.declared.refusal.Refusal.TheVariants.{OverLimit}
 use Rattle.sq_base.specs.declared.row.Row.{Row}
@@ -31,9 +30,6 @@ few_mapped f rows most le = rw length-map le
 pub few_pushed : (rows : List Row) (row : Row) (most : ℕ) → length rows < most → length (rows ++ row ∷ []) ≤ most
 few_pushed [] row most lt = omega (arith, lt)
 few_pushed (x ∷ rows) row most lt = let rest = few_pushed rows row (length rows + 1) (omega arith) in omega (arith, lt, rest)
-
-pub few_counted : (p : Row → Bool) (rows : List Row) (end : ℕ) → length rows < end → count_by p rows < end
-few_counted p rows end lt = let counted = count_by-le-length p rows in omega (arith, lt, counted)
 
 above : (a b : ℕ) → a < b → nat_le b a ≡ false
 above a b h = grind (arith, common_steps)

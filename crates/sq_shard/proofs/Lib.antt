@@ -1,14 +1,3 @@
-pub mod AgeLaws
-pub mod AtLaws
-pub mod DueLaws
 pub mod Few
-pub mod HeldLaws
-pub mod LiveLaws
-pub mod ListLaws
 pub mod LookLaws
-pub mod Lists
-pub mod MemoryLaws
 pub mod MoveLaws
-pub mod PickLaws
-pub mod ReceiveLaws
-pub mod SlotLaws

@@ -1,9 +1,9 @@
 -- What a look gives: no row where none is live, and rows with the slots that they have.
-use Rattle.std.proofs.Common.{◌≡◌, ℕ, ◌+◌, ◌<◌, ◌≤◌, Bool, true, false, cond, List, [], ◌∷◌, length, map, Option, Some, refl, sym, ap, ◌∙◌, subst, arith}
+use Rattle.std.proofs.Common.{◌≡◌, ℕ, ◌+◌, Bool, true, false, cond, List, [], ◌∷◌, length, map, Option, Some, refl, sym, ap, ◌∙◌, subst, arith}
 use Rattle.std.specs.Prelude.{filter, count_by, ◌||◌}
 use Rattle.std.specs.List.{All, Contains, list_any}
 use Rattle.std.proofs.lemmas.List.Sums.{length-filter}
-use Rattle.std.proofs.lemmas.List.Elements.{All-cons, All-contains, All-contains_itself, All-filter, All-map, All-nil, All-weaker}
+use Rattle.std.proofs.lemmas.List.Elements.{All-contains, All-contains_itself, All-filter, All-map, All-nil, All-weaker}
 use Rattle.sq_base.specs.declared.row.Row.{Row}
 use Rattle.sq_base.specs.declared.settings.Settings.{Settings}
 use Rattle.sq_model.specs.declared.calls.HomeCall.TheVariants.{Look}
@@ -13,7 +13,8 @@ use Rattle.sq_model.specs.Homes.{Serving, HomeStep}
 use Rattle.sq_model.specs.Rows.{is_live, received, trimmed, IsLook, RisesFrom}
 use Rattle.sq_slots.specs.Slots.{SerialsRise}
 use Rattle.sq_slots.proofs.RowLists.{same_serial}
-use Rattle.sq_shard.specs.Looks.{look_after, AreTheirs, HasItsSlot}
+use Rattle.sq_shard.specs.Looks.{look_after}
+use Rattle.sq_store.specs.Picked.{AreTheirs, HasItsSlot}
 
 none_filtered : (p : Row → Bool) (rows : List Row) → list_any p rows ≡ false → length (filter p rows) ≡ 0
 none_filtered p [] h = refl
@@ -45,12 +46,3 @@ looked_are_theirs s m until n rows next picked rises look =
     let given : List Row = map (received m until) (filter (is_live s m) rows) in
     let all_given : All (HasItsSlot rows) given = All-map (HasItsSlot rows) (received m until) (filter (is_live s m) rows) (All-filter (is_live s m) mine rows each) in
     record { distinct = look.distinct; slots = All-weaker (Contains given) (HasItsSlot rows) (λ row there. All-contains (HasItsSlot rows) given row all_given there) picked look.each }
-
-rises_upto : (low : ℕ) (rows : List Row) (next : ℕ) → RisesFrom low rows next → low ≤ next
-rises_upto low [] next h = h
-rises_upto low (row ∷ rows) next h = omega (arith, h.0, rises_upto (row.serial + 1) rows next h.1)
-
--- each serial is below the next one
-pub rises_below : (low : ℕ) (rows : List Row) (next : ℕ) → RisesFrom low rows next → All (λ (row : Row). row.serial < next) rows
-rises_below low [] next h = All-nil (λ (row : Row). row.serial < next)
-rises_below low (row ∷ rows) next h = All-cons (λ (r : Row). r.serial < next) row rows (omega (arith, rises_upto (row.serial + 1) rows next h.1)) (rises_below (row.serial + 1) rows next h.1)

@@ -1,7 +1,3 @@
 pub mod ShardValue
-pub mod Due
-pub mod Visible
-pub mod SlotStores
-pub mod Found
 pub mod Looks
 pub mod Moves

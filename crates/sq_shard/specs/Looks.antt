@@ -1,12 +1,13 @@
 -- A look, by what it gives: the rows, or none where too many are in flight.
 use Rattle.std.specs.Prelude.{◌≡◌, ℕ, ◌+◌, ◌<◌, true, List, length, map, Option, Some, None, unwrap_or}
-use Rattle.std.specs.List.{All, Contains, list_any}
+use Rattle.std.specs.List.{list_any}
 use Rattle.sq_base.specs.declared.row.Row.{Row}
 use Rattle.sq_model.specs.declared.place.Site.{Site}
 use Rattle.sq_model.specs.declared.replies.HomeReply.{HomeReply}
 use Rattle.sq_model.specs.declared.replies.HomeReply.TheVariants.{Looked, Over}
-use Rattle.sq_model.specs.Rows.{ms, trimmed, is_distinct, is_live, room, serials_of, received_if}
+use Rattle.sq_model.specs.Rows.{ms, trimmed, is_live, room, serials_of, received_if}
 use Rattle.sq_model.specs.Homes.{Home, Unopened, Serving, Closed}
+use Rattle.sq_store.specs.Picked.{AreTheirs}
 
 abbrev pub look_reply : Option (List Row) → HomeReply
 look_reply None = Over
@@ -29,15 +30,6 @@ GivesAny site Closed m = ⊥
 abbrev pub GivesRows : Option (List Row) → Type 0
 GivesRows None = ⊥
 GivesRows (Some picked) = 0 < length picked
-
--- a row has the slot of the one with its serial, where that one is there
-abbrev pub HasItsSlot : List Row → Row → Type 0
-HasItsSlot rows picked = (row : Row) → Contains rows row → row.serial ≡ picked.serial → row.slot ≡ picked.slot
-
--- rows that are picked: each once, and with the slot that it has
-pub record AreTheirs (rows picked : List Row) : Type 0 where
-  pub distinct : is_distinct (serials_of picked) ≡ true
-  pub slots : All (HasItsSlot rows) picked
 
 -- what was chosen at m is to be given
 abbrev pub MayBeGiven : Home → ℕ → Option (List Row) → Type 0

@@ -14,11 +14,7 @@ use Rattle.sq_model.specs.declared.item.Item.{Item}
 use Rattle.sq_model.specs.declared.shared.ItemAct.{ItemAct}
 use Rattle.sq_model.specs.declared.shared.ItemAct.TheVariants.{Enter, TurnBack, GiveBack, GiveUp}
 use Rattle.sq_model.specs.ItemActs.{is_its}
-
--- one of the rows that pass, any of them
-pub record IsOneOf (p : Row → Bool) (rows : List Row) (row : Row) : Type 0 where
-  pub passes : p row ≡ true
-  pub there : Contains rows row
+use Rattle.sq_store.specs.Picked.{IsOneOf}
 
 -- a dead row of the home at m
 abbrev pub IsDeadAt : Home → ℕ → Row → Type 0

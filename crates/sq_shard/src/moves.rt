@@ -7,15 +7,15 @@ ghost use Rattle.sq_model.specs.ItemActs.{call_with, is_its, may_act, replied_by
 ghost use Rattle.sq_model.specs.Homes.{Closed as Gone};
 ghost use Rattle.sq_shard.specs.Moves.{IsDeadAt, IsLiveAt, HasRow, GoesWithout, IsFor, KeepsRowRoom, PutsRow, has_live_row, is_opened, target_at, trimmed_home, coming_refusal, closed_refusal, item_refusal};
 
-use crate::rows;
+use crate::made;
 use crate::shard::{Shard, Status};
-use crate::store::Store;
 use sq_base::ids::{HomeId, QueueNo};
 use sq_base::refusal::Refusal;
 use sq_base::row::Row;
 use sq_model::item::Item;
 use sq_model::replies::EnteredRow;
 use sq_model::shared::ItemAct;
+use sq_store::store::Store;
 
 // The item, where it is there and is one for this home. Refused as UnsupportedOperation.
 fn its<'a>(act: ItemAct, home: &HomeId, item: Option<&'a Item>) -> Result<&'a Item, Refusal>
@@ -24,7 +24,7 @@ fn its<'a>(act: ItemAct, home: &HomeId, item: Option<&'a Item>) -> Result<&'a It
 {
     match item {
         Some(item) => {
-            if rows::may_act(act, home, item) {
+            if made::may_act(act, home, item) {
                 Ok(item)
             } else {
                 Err(Refusal::UnsupportedOperation)
@@ -165,7 +165,7 @@ impl<S: Store> Shard<S> {
         ensures err { OnErr result (self.new ≡ self.old) }
     {
         let serial = self.next;
-        let row = rows::entered_row(&self.site.home, serial, moment, item)?;
+        let row = made::entered_row(&self.site.home, serial, moment, item)?;
         let slot = self.put(moment, row)?;
         Ok(EnteredRow { serial, slot })
     }
@@ -182,7 +182,7 @@ impl<S: Store> Shard<S> {
         ensures err { OnErr result (self.new ≡ self.old) }
     {
         let serial = self.next;
-        let row = rows::returned_row(serial, moment, item)?;
+        let row = made::returned_row(serial, moment, item)?;
         let slot = self.put(moment, row)?;
         Ok(EnteredRow { serial, slot })
     }

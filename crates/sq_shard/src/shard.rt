@@ -10,8 +10,7 @@ ghost use Rattle.sq_shard.specs.Looks.{look_reply, look_after, GivesAny, GivesRo
 ghost use Rattle.sq_shard.specs.Moves.{IsPut, coming_refusal};
 ghost use Rattle.sq_model.specs.Rows.{ms};
 
-use crate::rows;
-use crate::store::Store;
+use crate::made;
 use sq_base::body::Body;
 use sq_base::ids::Serial;
 use sq_base::ranges::{Delay, MaxMessages, Timeout};
@@ -22,6 +21,7 @@ use sq_model::calls::Receipt;
 use sq_model::place::Site;
 use sq_model::replies::{Counts, SentMessage};
 use sq_model::rows::Rows;
+use sq_store::store::Store;
 use std::alloc::Global;
 use std::marker::Model;
 
@@ -164,8 +164,8 @@ impl<S: Store> Shard<S> {
         self.check_place(moment)?;
         let delay = delay.unwrap_or(self.settings.delay);
         let until = after_seconds(moment, delay.get());
-        let row = rows::sent_row(&self.site.home, self.next, moment, until, body);
-        let id = rows::fresh_id(&self.site.home, self.next);
+        let row = made::sent_row(&self.site.home, self.next, moment, until, body);
+        let id = made::fresh_id(&self.site.home, self.next);
         let slot = self.put(moment, row)?;
         Ok(SentMessage { id, slot })
     }

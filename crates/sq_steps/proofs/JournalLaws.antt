@@ -1,26 +1,19 @@
 -- What an actor has stays in order with one step more.
-use Rattle.std.proofs.Common.{◌≡◌, ℕ, ◌+◌, ◌<◌, true, false, List, [], ◌∷◌, ◌++◌, Option, refl, sym, ap, subst, inl, inr, arith}
+use Rattle.std.proofs.Common.{◌≡◌, ℕ, ◌+◌, ◌<◌, true, false, List, [], ◌∷◌, ◌++◌, Option, Ok, refl, sym, ap, subst, inl, inr, arith}
 use Rattle.std.specs.Prelude.{if◌then◌else◌}
 use Rattle.std.specs.List.{AllByRecursion}
 use Rattle.std.specs.Ordering.{is_lt}
 use Rattle.std.specs.Cmp.{IsStrictWeakOrder}
 use Rattle.std.proofs.lemmas.List.Sorted.{ranks_by}
 use Rattle.sq_base.specs.StampValue.{StampValue}
-use Rattle.sq_base.specs.Stamps.{Below, stamp_cmp}
+use Rattle.sq_base.specs.Stamps.{Below, after, stamp_cmp}
 use Rattle.sq_base.proofs.StampLaws.{stamps_total, after_above_second, below_or, below_less, below_not_less}
-use Rattle.sq_model.specs.declared.calls.HomeCall.{HomeCall}
-use Rattle.sq_model.specs.declared.directory.DirectoryCall.{DirectoryCall}
-use Rattle.sq_model.specs.declared.ledger.LedgerCall.{LedgerCall}
-use Rattle.sq_model.specs.RecordValues.{HomeRecordValue, DirectoryRecordValue, LedgerRecordValue, RecordValue, OfDirectory, OfLedger, OfHome, place_of_record, record_stamp, Journal, actor_of, RecordsRise}
+use Rattle.sq_model.specs.RecordValues.{HomeRecordValue, RecordValue, OfHome, place_of_record, record_stamp, Journal, actor_of, RecordsRise}
 use Rattle.sq_history.specs.HistoryValue.{HistoryValue}
-use Rattle.sq_history.specs.Histories.{RecordsStep}
-use Rattle.sq_directory.specs.DirectoryHistory.{DirectoryHistory}
-use Rattle.sq_directory.specs.DirectoryHistories.{DirectoryRecords}
 use Rattle.sq_directory.specs.Makers.{IsSeen}
 use Rattle.sq_model.specs.declared.replies.HomeReply.{HomeReply}
 use Rattle.sq_model.specs.declared.shared.SharedAct.{SharedAct}
 use Rattle.sq_ledger.specs.LedgerHistory.{LedgerHistory}
-use Rattle.sq_ledger.specs.LedgerHistories.{LedgerRecords}
 use Rattle.sq_steps.specs.SharedSteps.{BothDo}
 use Rattle.sq_steps.specs.Journals.{later, IsJournal, with_record}
 use Rattle.sq_directory.proofs.MakerLaws.{seen_below}
@@ -74,11 +67,10 @@ journal_above b stamp is less = record {
   saw = all_weaken (λ m. IsSeen (record_stamp m) b.seen) (λ m. IsSeen (record_stamp m) stamp) b.records (λ m h. inr (seen_below (record_stamp m) b.seen stamp h (less_below b.seen stamp less))) is.saw;
 }
 
--- the record of a step of a home is above what its actor has
-pub home_journal_more : (old new : HistoryValue) (journal : Journal) (now : ℕ) (name : Option (List ℕ)) (call : HomeCall) (its_record : HomeRecordValue) (room : ℕ)
-    → IsJournal journal → RecordsStep old new (actor_of journal) now name call its_record → IsJournal (with_record journal (OfHome its_record) room)
-home_journal_more old new journal now name call its_record room is more =
-    journal_more journal (OfHome its_record) room is (ap (λ (n : HomeRecordValue). n.place) more.record_is) (after_above_second old.last journal.seen now its_record.stamp more.stamped)
+-- the record of a step of a part is above what its actor has
+pub after_journal_more : (last : StampValue) (journal : Journal) (now : ℕ) (n : RecordValue) (room : ℕ)
+    → IsJournal journal → after last journal.seen now ≡ Ok (record_stamp n) → place_of_record n ≡ journal.next → IsJournal (with_record journal n room)
+after_journal_more last journal now n room is stamped place = journal_more journal n room is place (after_above_second last journal.seen now (record_stamp n) stamped)
 
 -- that of a step that the home shares with the ledger
 pub shared_journal_more : (old new : HistoryValue) (ledger after : LedgerHistory) (journal : Journal) (stamp : StampValue) (name : Option (List ℕ)) (act : SharedAct) (reply : HomeReply) (its_record : HomeRecordValue) (room : ℕ)
@@ -87,18 +79,6 @@ shared_journal_more old new ledger after journal stamp name act reply its_record
     let at_home = both.at_home in
     journal_more journal (OfHome its_record) room is (ap (λ (n : HomeRecordValue). n.place) at_home.record_is)
     (subst (λ (s : StampValue). Below journal.seen s) (sym (ap (λ (n : HomeRecordValue). n.stamp) at_home.record_is)) at_home.above_seen)
-
--- and so is that of a step of the directory
-pub directory_journal_more : (old new : DirectoryHistory) (journal : Journal) (now : ℕ) (call : DirectoryCall) (its_record : DirectoryRecordValue) (room : ℕ)
-    → IsJournal journal → DirectoryRecords old new (actor_of journal) now call its_record → IsJournal (with_record journal (OfDirectory its_record) room)
-directory_journal_more old new journal now call its_record room is more =
-    journal_more journal (OfDirectory its_record) room is (ap (λ (n : DirectoryRecordValue). n.place) more.record_is) (after_above_second old.last journal.seen now its_record.stamp more.stamped)
-
--- and of one of the ledger alone
-pub ledger_journal_more : (old new : LedgerHistory) (journal : Journal) (now : ℕ) (call : LedgerCall) (its_record : LedgerRecordValue) (room : ℕ)
-    → IsJournal journal → LedgerRecords old new (actor_of journal) now call its_record → IsJournal (with_record journal (OfLedger its_record) room)
-ledger_journal_more old new journal now call its_record room is more =
-    journal_more journal (OfLedger its_record) room is (ap (λ (n : LedgerRecordValue). n.place) more.record_is) (after_above_second old.last journal.seen now its_record.stamp more.stamped)
 
 -- of two stamps the later is not below either
 pub later_first : (a b : StampValue) → IsSeen a (later a b)

@@ -23,7 +23,7 @@ use Rattle.sq_model.specs.Tasks.{is_running, may_leave}
 use Rattle.sq_history.specs.Halves.{has_live_row, DoesHalf, IsTaker, IsTaskAnswer, IsTaskRefused, IsThrottled}
 use Rattle.sq_history.specs.HistoryValue.{HistoryValue}
 use Rattle.sq_history.specs.declared.shared.HomeHalf.{HomeHalf}
-use Rattle.sq_history.specs.declared.task_leave.TaskLeave.{TaskLeave}
+use Rattle.sq_task.specs.declared.leave.TaskLeave.{TaskLeave}
 use Rattle.sq_history.proofs.TaskLaws.{one_live}
 use Rattle.sq_ledger.specs.LedgerHistories.{IsLeaving}
 use Rattle.sq_steps.specs.SharedSteps.{IsPairRefused, IsToldLeft}

@@ -6,6 +6,7 @@ use Rattle.sq_base.specs.StampValue.{StampValue}
 use Rattle.sq_base.specs.Stamps.{start, stamp_end, stamp_cmp}
 use Rattle.sq_base.specs.declared.refusal.Refusal.{Refusal}
 use Rattle.sq_base.specs.declared.refusal.Refusal.TheVariants.{ClockRange, NoMemory, Worn}
+use Rattle.sq_model.specs.declared.event.Actor.{Actor}
 use Rattle.sq_model.specs.declared.calls.HomeCall.{HomeCall}
 use Rattle.sq_model.specs.declared.replies.HomeReply.{HomeReply}
 use Rattle.sq_model.specs.declared.directory.DirectoryCall.{DirectoryCall}
@@ -13,7 +14,7 @@ use Rattle.sq_model.specs.declared.directory.DirectoryReply.{DirectoryReply}
 use Rattle.sq_model.specs.declared.ledger.LedgerCall.{LedgerCall}
 use Rattle.sq_model.specs.declared.ledger.LedgerReply.{LedgerReply}
 use Rattle.sq_model.specs.RecordValues.{HomeRecordValue, DirectoryRecordValue, LedgerRecordValue, RecordValue, OfDirectory, OfLedger, OfHome, place_of_record, record_stamp, Journal, actor_of, RecordsRise}
-use Rattle.sq_history.specs.Rooms.{KeepsRoom}
+use Rattle.sq_log.specs.Rooms.{KeepsRoom}
 use Rattle.sq_history.specs.HistoryValue.{HistoryValue}
 use Rattle.sq_history.specs.Histories as home
 use Rattle.sq_directory.specs.DirectoryHistory.{DirectoryHistory}
@@ -52,29 +53,27 @@ later a b = if is_lt (stamp_cmp a b) then b else a
 abbrev pub having_seen : Journal → StampValue → Journal
 having_seen journal stamp = record journal { seen = later journal.seen stamp }
 
--- A home goes on by one event of the actor, that has the record of it and gets its reply.
-pub record HomeMoves (old new : HistoryValue) (journal recorded_in : Journal) (now : ℕ) (name : Option (List ℕ)) (call : HomeCall) (reply : HomeReply) : Type 0 where
-  pub its_record : HomeRecordValue
-  pub does : home.RecordsStep old new (actor_of journal) now name call its_record
-  pub answered : its_record.reply ≡ reply
-  pub recorded_as : recorded_in ≡ with_record journal (OfHome its_record) recorded_in.room
+-- A part goes on by one event of the actor, that has the record of it and gets its reply: for what such a part does, how its record is kept, and what that says was answered.
+pub record Moves {Part Call N Reply : Type 0} (Does : Part → Part → Actor → ℕ → Call → N → Type 0) (kept : N → RecordValue) (reply_of : N → Reply)
+    (old new : Part) (journal recorded_in : Journal) (now : ℕ) (call : Call) (reply : Reply) : Type 0 where
+  pub its_record : N
+  pub does : Does old new (actor_of journal) now call its_record
+  pub answered : reply_of its_record ≡ reply
+  pub recorded_as : recorded_in ≡ with_record journal (kept its_record) recorded_in.room
   pub room : KeepsRoom journal.room recorded_in.room
 
--- The directory goes on by one event of the actor, that has the record of it and gets its reply.
-pub record DirectoryMoves (old new : DirectoryHistory) (journal recorded_in : Journal) (now : ℕ) (call : DirectoryCall) (reply : DirectoryReply) : Type 0 where
-  pub its_record : DirectoryRecordValue
-  pub does : directory.DirectoryRecords old new (actor_of journal) now call its_record
-  pub answered : its_record.reply ≡ reply
-  pub recorded_as : recorded_in ≡ with_record journal (OfDirectory its_record) recorded_in.room
-  pub room : KeepsRoom journal.room recorded_in.room
+-- a home does, for an actor that used this name
+abbrev pub HomeMoves : HistoryValue → HistoryValue → Journal → Journal → ℕ → Option (List ℕ) → HomeCall → HomeReply → Type 0
+HomeMoves old new journal recorded_in now name call reply =
+    Moves (λ before after by at asked n. home.RecordsStep before after by at name asked n) OfHome (λ n. n.reply) old new journal recorded_in now call reply
 
--- The ledger goes on alone by one event of the actor, that has the record of it and gets its reply.
-pub record LedgerMoves (old new : LedgerHistory) (journal recorded_in : Journal) (now : ℕ) (call : LedgerCall) (reply : LedgerReply) : Type 0 where
-  pub its_record : LedgerRecordValue
-  pub does : ledger.LedgerRecords old new (actor_of journal) now call its_record
-  pub answered : its_record.reply ≡ reply
-  pub recorded_as : recorded_in ≡ with_record journal (OfLedger its_record) recorded_in.room
-  pub room : KeepsRoom journal.room recorded_in.room
+-- the directory does
+abbrev pub DirectoryMoves : DirectoryHistory → DirectoryHistory → Journal → Journal → ℕ → DirectoryCall → DirectoryReply → Type 0
+DirectoryMoves old new journal recorded_in now call reply = Moves directory.DirectoryRecords OfDirectory (λ n. n.reply) old new journal recorded_in now call reply
+
+-- the ledger does, alone
+abbrev pub LedgerMoves : LedgerHistory → LedgerHistory → Journal → Journal → ℕ → LedgerCall → LedgerReply → Type 0
+LedgerMoves old new journal recorded_in now call reply = Moves ledger.LedgerRecords OfLedger (λ n. n.reply) old new journal recorded_in now call reply
 
 -- an actor whose count of steps is at its end does no step
 abbrev pub worn_at : ℕ → Refusal
@@ -84,17 +83,18 @@ worn_at now = if nat_le stamp_end now then ClockRange else Worn
 abbrev pub IsNotReady : Journal → ℕ → Refusal → Type 0
 IsNotReady journal now e = ((journal.next ≡ last_place) × (e ≡ worn_at now)) ⊎ ((journal.next ≢ last_place) × (e ≡ NoMemory) × (journal.room ≡ 0))
 
--- why an actor's step of a home is refused
+-- why an actor's step of a part is refused: its own causes, or the part's
+abbrev pub IsStepRefused : {Part Call : Type 0} → (Part → Actor → ℕ → Call → Refusal → Type 0) → Part → Journal → ℕ → Call → Refusal → Type 0
+IsStepRefused {Part} {Call} refused old journal now call e = IsNotReady journal now e ⊎ ((journal.next ≢ last_place) × refused old (actor_of journal) now call e)
+
 abbrev pub IsHomeRefused : HistoryValue → Journal → ℕ → HomeCall → Refusal → Type 0
-IsHomeRefused old journal now call e = IsNotReady journal now e ⊎ ((journal.next ≢ last_place) × home.IsRefused old (actor_of journal) now call e)
+IsHomeRefused old journal now call e = IsStepRefused home.IsRefused old journal now call e
 
--- why an actor's step of the directory is refused
 abbrev pub IsDirectoryStepRefused : DirectoryHistory → Journal → ℕ → DirectoryCall → Refusal → Type 0
-IsDirectoryStepRefused old journal now call e = IsNotReady journal now e ⊎ ((journal.next ≢ last_place) × directory.IsDirectoryRefused old (actor_of journal) now call e)
+IsDirectoryStepRefused old journal now call e = IsStepRefused directory.IsDirectoryRefused old journal now call e
 
--- why an actor's step of the ledger alone is refused
 abbrev pub IsLedgerStepRefused : LedgerHistory → Journal → ℕ → LedgerCall → Refusal → Type 0
-IsLedgerStepRefused old journal now call e = IsNotReady journal now e ⊎ ((journal.next ≢ last_place) × ledger.IsLedgerRefused old (actor_of journal) now call e)
+IsLedgerStepRefused old journal now call e = IsStepRefused ledger.IsLedgerRefused old journal now call e
 
 -- this is the actor's of this number
 abbrev pub is_of_actor : ℕ → Journal → Bool

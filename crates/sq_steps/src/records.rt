@@ -3,7 +3,7 @@ ghost use Rattle.std.specs.Prelude.{◌≡◌, ◌<◌, ◌≤◌, ◌+◌, ◌+
 ghost use Rattle.std.specs.List.{list_any};
 ghost use Rattle.sq_base.specs.declared.refusal.Refusal.{Refusal as Why};
 ghost use Rattle.sq_model.specs.RecordValues.{OfDirectory, OfLedger, OfHome, place_of_record};
-ghost use Rattle.sq_history.specs.Rooms.{IsReady, KeepsRoom};
+ghost use Rattle.sq_log.specs.Rooms.{IsReady, KeepsRoom};
 ghost use Rattle.sq_steps.specs.Records.{IsFirstAt, IsKeptAs, least, place_of_kept, value_of_other, value_of_record, without_first};
 
 use crate::names::Names;
@@ -51,7 +51,7 @@ pub(crate) struct Records {
 impl Model for Records {
     ghost use Rattle.std.specs.Prelude.{◌≤◌, length};
     ghost use Rattle.std.specs.List.{AllByRecursion};
-    ghost use Rattle.sq_history.specs.Rooms.{GrowingValue};
+    ghost use Rattle.sq_log.specs.Rooms.{GrowingValue};
     ghost use Rattle.sq_model.specs.RecordValues.{RecordValue};
     ghost use Rattle.sq_steps.specs.Records.{IsIn, least, values_of_kept};
 

@@ -3,9 +3,9 @@ ghost use Rattle.std.specs.Prelude.{◌≡◌, ◌<◌, Ok, IfOk, IfErr, IfSome,
 ghost use Rattle.sq_base.specs.Stamps.{Below};
 ghost use Rattle.sq_model.specs.declared.shared.SharedAct.TheVariants as asks;
 ghost use Rattle.sq_model.specs.ItemActs.{asked_with};
-ghost use Rattle.sq_model.specs.Shared.{IsUnrecorded, shared_stamp};
+ghost use Rattle.sq_model.specs.Shared.{shared_stamp};
 ghost use Rattle.sq_ledger.specs.LedgerHistories.{IsPrepared, LedgerShares};
-ghost use Rattle.sq_steps.specs.SharedSteps.{BothDo, IsToldLeft, SharedMoves, IsUnmoved, IsPairRefused, IsSharedRefused};
+ghost use Rattle.sq_steps.specs.SharedSteps.{IsPairReady, IsSharedRefused, IsToldLeft, IsUnmoved, PairEnds, SharedMoves};
 
 use crate::act::SharedAct;
 use crate::journal::{Journal, count, ready};
@@ -44,17 +44,8 @@ fn leave_dead(
     stamp: Stamp,
     name: Option<QueueName>,
 ) -> Result<Option<(HomeReply, HomeRecord)>, Refusal>
-    requires prepared { IsPrepared ledger.old }
-    requires above_home { Below home.old.last stamp }
-    requires above_ledger { Below ledger.old.history.last stamp }
-    requires above_seen { Below by.now.seen stamp }
-    ensures does { IfOk result (λ told. IfSome told (BothDo home.old home.new ledger.old.history ledger.new.history by.now stamp name asks.LeaveDead)) }
-    ensures none { IfOk result (λ told. IfNone told (IsUnrecorded home.old.site home.old.home ledger.old.history.ledger stamp.moment asks.LeaveDead)) }
-    ensures none_home { IfOk result (λ told. IfNone told (home.new ≡ home.old)) }
-    ensures none_ledger { IfOk result (λ told. IfNone told (ledger.new.history ≡ ledger.old.history)) }
-    ensures refusal { IfErr result (IsPairRefused home.old ledger.old.history.ledger stamp.moment asks.LeaveDead) }
-    ensures home_err { OnErr result (home.new ≡ home.old) }
-    ensures ledger_err { OnErr result (ledger.new.history ≡ ledger.old.history) }
+    requires { IsPairReady home.old ledger.old by.now stamp }
+    ensures { PairEnds home.old home.new ledger.old.history ledger.new.history by.now stamp name asks.LeaveDead result }
 {
     let number = ledger.room();
     let Some((half, item)) = home.leave_dead(alloc, by, stamp, name, number)? else {
@@ -80,17 +71,8 @@ fn leave_task(
     name: Option<QueueName>,
     number: TaskNo,
 ) -> Result<Option<(HomeReply, HomeRecord)>, Refusal>
-    requires prepared { IsPrepared ledger.old }
-    requires above_home { Below home.old.last stamp }
-    requires above_ledger { Below ledger.old.history.last stamp }
-    requires above_seen { Below by.now.seen stamp }
-    ensures does { IfOk result (λ told. IfSome told (BothDo home.old home.new ledger.old.history ledger.new.history by.now stamp name (asks.LeaveTask number))) }
-    ensures none { IfOk result (λ told. IfNone told (IsUnrecorded home.old.site home.old.home ledger.old.history.ledger stamp.moment (asks.LeaveTask number))) }
-    ensures none_home { IfOk result (λ told. IfNone told (home.new ≡ home.old)) }
-    ensures none_ledger { IfOk result (λ told. IfNone told (ledger.new.history ≡ ledger.old.history)) }
-    ensures refusal { IfErr result (IsPairRefused home.old ledger.old.history.ledger stamp.moment (asks.LeaveTask number)) }
-    ensures home_err { OnErr result (home.new ≡ home.old) }
-    ensures ledger_err { OnErr result (ledger.new.history ≡ ledger.old.history) }
+    requires { IsPairReady home.old ledger.old by.now stamp }
+    ensures { PairEnds home.old home.new ledger.old.history ledger.new.history by.now stamp name (asks.LeaveTask number) result }
 {
     let asked = ledger.task_leave(&home.id(), number, stamp.moment);
     let Some((half, left)) = home.leave_task(alloc, by, stamp, name, &asked)? else {
@@ -145,15 +127,9 @@ fn item_step(
     name: Option<QueueName>,
     act: ItemAct,
     number: ItemNo,
-) -> Result<(HomeReply, HomeRecord), Refusal>
-    requires prepared { IsPrepared ledger.old }
-    requires above_home { Below home.old.last stamp }
-    requires above_ledger { Below ledger.old.history.last stamp }
-    requires above_seen { Below by.now.seen stamp }
-    ensures does { IfOk result (BothDo home.old home.new ledger.old.history ledger.new.history by.now stamp name (asked_with act number)) }
-    ensures refusal { IfErr result (IsPairRefused home.old ledger.old.history.ledger stamp.moment (asked_with act number)) }
-    ensures home_err { OnErr result (home.new ≡ home.old) }
-    ensures ledger_err { OnErr result (ledger.new.history ≡ ledger.old.history) }
+) -> Result<Option<(HomeReply, HomeRecord)>, Refusal>
+    requires { IsPairReady home.old ledger.old by.now stamp }
+    ensures { PairEnds home.old home.new ledger.old.history ledger.new.history by.now stamp name (asked_with act number) result }
 {
     let HomeHalf {
         answered,
@@ -161,7 +137,7 @@ fn item_step(
         its_record,
     } = home.item_step(alloc, by, stamp, name, act, ledger.item(number))?;
     ledger.item_step(by, stamp, its_record.home(), for_ledger, act, number);
-    Ok((answered, its_record))
+    Ok(Some((answered, its_record)))
 }
 
 // Both halves of a step; none where nothing leaves.
@@ -174,17 +150,8 @@ fn both_halves(
     name: Option<QueueName>,
     act: SharedAct,
 ) -> Result<Option<(HomeReply, HomeRecord)>, Refusal>
-    requires prepared { IsPrepared ledger.old }
-    requires above_home { Below home.old.last stamp }
-    requires above_ledger { Below ledger.old.history.last stamp }
-    requires above_seen { Below by.now.seen stamp }
-    ensures does { IfOk result (λ told. IfSome told (BothDo home.old home.new ledger.old.history ledger.new.history by.now stamp name act)) }
-    ensures none { IfOk result (λ told. IfNone told (IsUnrecorded home.old.site home.old.home ledger.old.history.ledger stamp.moment act)) }
-    ensures none_home { IfOk result (λ told. IfNone told (home.new ≡ home.old)) }
-    ensures none_ledger { IfOk result (λ told. IfNone told (ledger.new.history ≡ ledger.old.history)) }
-    ensures refusal { IfErr result (IsPairRefused home.old ledger.old.history.ledger stamp.moment act) }
-    ensures home_err { OnErr result (home.new ≡ home.old) }
-    ensures ledger_err { OnErr result (ledger.new.history ≡ ledger.old.history) }
+    requires { IsPairReady home.old ledger.old by.now stamp }
+    ensures { PairEnds home.old home.new ledger.old.history ledger.new.history by.now stamp name act result }
 {
     let (act, number) = match act {
         SharedAct::LeaveDead => return leave_dead(alloc, home, ledger, by, stamp, name),
@@ -196,7 +163,7 @@ fn both_halves(
         SharedAct::GiveBack(number) => (ItemAct::GiveBack, number),
         SharedAct::GiveUp(number) => (ItemAct::GiveUp, number),
     };
-    Ok(Some(item_step(alloc, home, ledger, by, stamp, name, act, number)?))
+    item_step(alloc, home, ledger, by, stamp, name, act, number)
 }
 
 /// A step of a home and the ledger that are lent, by an actor that is lent. All that grows in the ledger and in the

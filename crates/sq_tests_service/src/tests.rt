@@ -3,10 +3,9 @@
 
 mod asks;
 mod evidence;
-mod lines;
 mod movers;
+mod named;
 mod runs;
-mod served;
 mod shared;
 mod stories;
 mod threads;

@@ -6,6 +6,7 @@ use sq_base::name::QueueName;
 use sq_base::ranges::Timeout;
 use sq_calls::turns::{Turn, Turned};
 use sq_model::item::TaskNo;
+use sq_model::place::Place;
 use std::alloc::Global;
 use std::process::Abort;
 
@@ -38,5 +39,5 @@ fn a_dead_letter_is_moved_and_taken_back(rt: HostRuntime) {
     assert!(rt; world.does(5000, Turn::EnterTurn, Turned::Entered));
     let handle = receive(&mut world.at(2, 6000), orders, Timeout::of(30)).expect(&rt, "a message");
     assert!(rt; delete(&mut world.at(2, 7000), orders, handle));
-    assert_eq!(rt; world.place(&rt, &id), "deleted");
+    assert!(rt; world.place(&rt, &id) == Some(Place::Deleted));
 }

@@ -3,6 +3,7 @@ use super::clients::{create, delete, receive, send};
 use super::worlds::Opened;
 use sq_base::name::QueueName;
 use sq_base::ranges::Timeout;
+use sq_model::place::Place;
 
 #[test]
 fn a_message_is_sent_received_and_deleted(rt: HostRuntime) {
@@ -14,5 +15,5 @@ fn a_message_is_sent_received_and_deleted(rt: HostRuntime) {
     let handle = receive(&mut world.at(2, 2000), orders, half_a_minute).expect(&rt, "a message");
     assert!(rt; receive(&mut world.at(3, 2000), orders, half_a_minute).is_none());
     assert!(rt; delete(&mut world.at(2, 3000), orders, handle));
-    assert_eq!(rt; world.place(&rt, &id), "deleted");
+    assert!(rt; world.place(&rt, &id) == Some(Place::Deleted));
 }

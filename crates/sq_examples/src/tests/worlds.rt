@@ -7,9 +7,9 @@ use sq_base::refusal::Refusal;
 use sq_calls::calls::{Answer, Call};
 use sq_calls::turns::{Turn, Turned};
 use sq_merge::world::World;
+use sq_model::place::Place;
 use sq_opening::options::Options;
 use sq_places::message_pass::place_of;
-use sq_wire::audit::place_name;
 use std::alloc::Global;
 use std::marker::Model;
 use std::process::Abort;
@@ -80,7 +80,7 @@ impl Opened {
     }
 
     /// Ends it, holds what all actors did against the histories, and says where a message is.
-    pub fn place(self, rt: &impl Abort, id: &MessageId) -> &'static str {
+    pub fn place(self, rt: &impl Abort, id: &MessageId) -> Option<Place> {
         let parts = Box::into_inner(self.world).parts();
         let parts = Box::new(self.alloc, parts).expect(rt, "memory");
         place_in(rt, self.alloc, &parts, id)
@@ -88,12 +88,9 @@ impl Opened {
 }
 
 // Where a message is in the one run of all that was done.
-fn place_in(rt: &impl Abort, alloc: Global, parts: &Parts, id: &MessageId) -> &'static str {
+fn place_in(rt: &impl Abort, alloc: Global, parts: &Parts, id: &MessageId) -> Option<Place> {
     let run = merge(alloc, parts).expect(rt, "one run");
-    match place_of(&run, id) {
-        Some(place) => place_name(place),
-        None => "nowhere",
-    }
+    place_of(&run, id)
 }
 
 impl<'a> Client for Actor<'a> {

@@ -17,7 +17,7 @@ use sq_model::place::{Limits, Site};
 use sq_model::replies::HomeReply;
 use sq_model::same::{is_same_call, is_same_reply};
 use sq_shard::shard::Shard;
-use sq_shard::slots::SlotStore;
+use sq_store::slots::SlotStore;
 use std::alloc::Global;
 use std::process::Abort;
 

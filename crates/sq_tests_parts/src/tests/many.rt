@@ -8,8 +8,8 @@ use sq_base::refusal::Refusal;
 use sq_base::settings::Settings;
 use sq_model::place::{Limits, Site};
 use sq_shard::shard::Shard;
-use sq_shard::slots::SlotStore;
-use sq_shard::store::Store;
+use sq_store::slots::SlotStore;
+use sq_store::store::Store;
 use std::alloc::Global;
 use std::process::Abort;
 

@@ -15,10 +15,10 @@ use sq_model::calls::Receipt;
 use sq_model::place::{Limits, Site};
 use sq_model::replies::Counts;
 use sq_model::rows::{Rows, copy_row};
-use sq_shard::plain::PlainStore;
 use sq_shard::shard::Shard;
-use sq_shard::slots::SlotStore;
-use sq_shard::store::Store;
+use sq_store::plain::PlainStore;
+use sq_store::slots::SlotStore;
+use sq_store::store::Store;
 use std::alloc::Global;
 use std::process::Abort;
 

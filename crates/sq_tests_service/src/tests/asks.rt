@@ -1,16 +1,20 @@
 //! What clients ask in stories, and what they have of it. Each is a small value: a function that has a call or an answer on its own
 //! stack is proved with all kinds of them, which takes up to ten times as long.
 use sq_base::handle::Handle;
+use sq_base::ids::{HomeNo, QueueNo, Serial};
 use sq_base::name::QueueName;
 use sq_base::ranges::{MaxMessages, MaxReceives, MaxResults, Receives, Timeout};
 use sq_base::refusal::Refusal;
+use sq_calls::batches::{Batch, Entry, EntryAsk};
 use sq_calls::body_text::BodyText;
 use sq_calls::calls::{
-    Answer, AskedAttributes, Call, CreateQueue, DeleteMessage, ListMessageMoveTasks,
-    ReceiveMessage, SendMessage, StartMessageMoveTask,
+    Answer, AskedAttributes, AskedOfQueue, Call, ChangeMessageVisibility, CreateQueue,
+    DeleteMessage, GetQueueAttributes, ListMessageMoveTasks, ReceiveMessage, SendMessage,
+    SetQueueAttributes, StartMessageMoveTask,
 };
-use sq_model::directory::Attributes;
+use sq_model::directory::{Attributes, NamePrefix};
 use sq_model::item::TaskNo;
+use sq_model::listed::Listed;
 use sq_model::policy::RedrivePolicy;
 use std::alloc::Global;
 use std::process::Abort;
@@ -24,6 +28,21 @@ pub enum Ask {
     Send(u8),
     /// Receives a message, which is visible again at once.
     Receive(u8),
+    /// Receives a message, which is hidden for half a minute.
+    Hold(u8),
+    /// Shows the message at once that the first queue was sent as the first, or that serial.
+    Change(u8, u64),
+    /// Deletes it.
+    Delete(u8, u64),
+    /// One entry of each.
+    SendBatch(u8),
+    ChangeBatch(u8, u64),
+    DeleteBatch(u8, u64),
+    /// What is received from it once goes to another one from now on.
+    Set(u8, u8),
+    Get(u8),
+    List,
+    Sources(u8),
     DeleteQueue(u8),
     Purge(u8),
     /// Moves what is in a queue to another one, or to where it came from.
@@ -42,7 +61,22 @@ pub fn call_of(rt: &impl Abort, alloc: Global, ask: Ask) -> Call {
         Ask::Create(name, target) => create(rt, name, target),
         Ask::Url(name) => Call::GetQueueUrl(named(rt, name)),
         Ask::Send(name) => send(rt, alloc, name),
-        Ask::Receive(name) => receive(rt, name),
+        Ask::Receive(name) => receive(rt, name, 0),
+        Ask::Hold(name) => receive(rt, name, 30),
+        Ask::Change(name, serial) => change(rt, name, serial),
+        Ask::Delete(name, serial) => delete(rt, name, handle_of(serial)),
+        Ask::SendBatch(name) => batch(rt, alloc, name, send_entry(rt, alloc)),
+        Ask::ChangeBatch(name, serial) => batch(rt, alloc, name, change_entry(serial)),
+        Ask::DeleteBatch(name, serial) => batch(
+            rt,
+            alloc,
+            name,
+            EntryAsk::Delete(handle_of(serial)),
+        ),
+        Ask::Set(name, target) => set(rt, name, target),
+        Ask::Get(name) => get(rt, name),
+        Ask::List => Call::ListQueues(NamePrefix::Any),
+        Ask::Sources(name) => Call::ListDeadLetterSourceQueues(named(rt, name)),
         Ask::DeleteQueue(name) => Call::DeleteQueue(named(rt, name)),
         Ask::Purge(name) => Call::PurgeQueue(named(rt, name)),
         Ask::Start(name, target) => start(rt, name, target),
@@ -59,17 +93,48 @@ fn maybe_named(rt: &impl Abort, name: Option<u8>) -> Option<QueueName> {
     }
 }
 
-fn create(rt: &impl Abort, name: u8, target: Option<u8>) -> Call {
+// What is received once goes to this queue, if there is one.
+fn attributes(target: Option<QueueName>) -> Attributes {
     let mut attributes = Attributes::none();
-    if let Some(target) = maybe_named(rt, target) {
+    if let Some(target) = target {
         attributes.redrive = Some(Some(RedrivePolicy {
             target,
             max_receives: MaxReceives::of(1),
         }));
     }
+    attributes
+}
+
+fn create(rt: &impl Abort, name: u8, target: Option<u8>) -> Call {
     Call::CreateQueue(CreateQueue {
         name: named(rt, name),
-        attributes,
+        attributes: attributes(maybe_named(rt, target)),
+    })
+}
+
+fn set(rt: &impl Abort, name: u8, target: u8) -> Call {
+    Call::SetQueueAttributes(SetQueueAttributes {
+        queue: named(rt, name),
+        attributes: attributes(Some(named(rt, target))),
+    })
+}
+
+// All that is asked of a queue.
+fn get(rt: &impl Abort, name: u8) -> Call {
+    Call::GetQueueAttributes(GetQueueAttributes {
+        queue: named(rt, name),
+        asked: AskedOfQueue {
+            visible: true,
+            delayed: true,
+            flying: true,
+            delay: true,
+            retention: true,
+            arn: true,
+            wait_time: true,
+            allow: true,
+            redrive: true,
+            timeout: true,
+        },
     })
 }
 
@@ -81,15 +146,56 @@ fn send(rt: &impl Abort, alloc: Global, name: u8) -> Call {
     })
 }
 
-fn receive(rt: &impl Abort, name: u8) -> Call {
+fn receive(rt: &impl Abort, name: u8, timeout: u64) -> Call {
     Call::ReceiveMessage(ReceiveMessage {
         queue: named(rt, name),
         max: MaxMessages::of(1),
-        timeout: Some(Timeout::of(0)),
+        timeout: Timeout::new(timeout),
         attributes: AskedAttributes {
             receive_count: false,
             sent_timestamp: false,
         },
+    })
+}
+
+// The handle of the message of a serial at the only home of the first queue, where it has been received once and was alone there.
+fn handle_of(serial: u64) -> Option<Handle> {
+    Some(Handle {
+        queue: QueueNo::following(0),
+        home: HomeNo::first(),
+        slot: 0,
+        serial: Serial::new(serial)?,
+        receive: Receives::of(1),
+    })
+}
+
+fn change(rt: &impl Abort, name: u8, serial: u64) -> Call {
+    Call::ChangeMessageVisibility(ChangeMessageVisibility {
+        queue: named(rt, name),
+        handle: handle_of(serial),
+        timeout: Timeout::of(0),
+    })
+}
+
+fn send_entry(rt: &impl Abort, alloc: Global) -> EntryAsk {
+    EntryAsk::Send(BodyText::new(alloc, "hello").expect(rt, "memory"), None)
+}
+
+fn change_entry(serial: u64) -> EntryAsk {
+    EntryAsk::Change(handle_of(serial), Timeout::of(0))
+}
+
+// A batch of one entry.
+fn batch(rt: &impl Abort, alloc: Global, name: u8, ask: EntryAsk) -> Call {
+    let mut entries = Listed::new(alloc);
+    let entry = Entry {
+        id: named(rt, name),
+        ask,
+    };
+    assert!(rt; entries.push(entry).is_ok(), "memory");
+    Call::Batch(Batch {
+        queue: named(rt, name),
+        entries,
     })
 }
 

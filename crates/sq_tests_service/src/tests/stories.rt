@@ -4,16 +4,15 @@ ghost use Rattle.std.specs.Prelude.{◌≡◌};
 
 use super::asks::{Ask, Got, Heard, call_of, delete, heard_of};
 use super::evidence::Seen;
-use super::lines::lines;
 use super::movers::{turns, words};
-use super::served::{Connection, serve_lines};
+use super::named::is_done_by_name;
 use super::shared::{Client, Setting, Shared, Signs, is_set};
 use super::threads::random;
 use sq_base::handle::Handle;
 use sq_base::refusal::Refusal;
 use sq_calls::calls::{Answer, Call};
 use sq_queue::actors::SEATS;
-use sq_shard::slots::SlotStore;
+use sq_store::slots::SlotStore;
 use std::alloc::Global;
 use std::marker::Brand;
 use std::process::Abort;
@@ -28,6 +27,8 @@ use std::thread::Threads;
 pub enum Deed {
     /// A call: 1 where it is not refused.
     Ask(Ask),
+    /// The same by the name of the call.
+    Named(Ask),
     /// A receive: the serial of the message's id and one more, 0 where there is none. The message is visible again at once.
     Receive(u8),
     /// A message of a queue is received, and deleted by the handle that was given: 1 where both are done.
@@ -42,10 +43,6 @@ pub enum Deed {
     Words,
     /// Calls and turns at random, while the clock goes on: how many messages were sent.
     Random(u64),
-    /// The lines of `lines.rt`, each call made by its own name: how many have their replies.
-    Lines,
-    /// The lines of a connection: 1 where all is as it must be.
-    Connect(&'static Connection),
     /// Sets the clock, in ms: 0.
     Clock(u64),
     /// Waits until somebody is held: 1 where somebody is.
@@ -136,6 +133,7 @@ impl<'s, 'a, D: Ledger, T: Ledger, R: Wait + Abort> Scene<'s, 'a, D, T, R> {
     fn do_deed(&self, client: &mut Client<D, T>, deed: Deed) -> u64 {
         match deed {
             Deed::Ask(ask) => self.is_done(client, ask) as u64,
+            Deed::Named(ask) => is_done_by_name(self, client, ask) as u64,
             Deed::Receive(name) => match self.received(client, name) {
                 Some(got) => got.serial.saturating_add(1),
                 None => 0,
@@ -146,8 +144,6 @@ impl<'s, 'a, D: Ledger, T: Ledger, R: Wait + Abort> Scene<'s, 'a, D, T, R> {
             Deed::Turns(number) => turns(self, client, number) as u64,
             Deed::Words => words(self, client),
             Deed::Random(calls) => random(self, client, calls),
-            Deed::Lines => lines(self, client),
-            Deed::Connect(connection) => serve_lines(self, client, connection) as u64,
             _ => self.show(deed),
         }
     }

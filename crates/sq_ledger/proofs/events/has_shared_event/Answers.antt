@@ -1,6 +1,6 @@
 use Rattle.std.proofs.Common.{◌≡◌, refl, Some, ap, ◌∙◌}
 use Rattle.sq_model.specs.Systems.{as_ledger}
-use Rattle.sq_history.specs.Events.{IsEventAt}
+use Rattle.sq_log.specs.Events.{IsEventAt}
 use Rattle.sq_ledger.proofs.events.has_shared_event.Goals as goal
 
 pub returns-in-Some : goal.returns-in-Some

@@ -1,7 +1,11 @@
-use Rattle.sq_steps.proofs.JournalLaws.{directory_journal_more}
+use Rattle.std.proofs.Common.{ap}
+use Rattle.sq_model.specs.RecordValues.{DirectoryRecordValue, OfDirectory}
+use Rattle.sq_steps.proofs.JournalLaws.{after_journal_more}
 use Rattle.sq_steps.proofs.journal.directory_step.Goals as goal
 
 pub invariant_of-journal-2 : goal.invariant_of-journal-2
 invariant_of-journal-2 c =
+    let its_record = c.in_ok-reply.record in
+    let recorded = c.in_ok-reply.ensures.recorded in
     rw (c.count.ensures, c.step-2.ensures, c.push_directory.ensures.items, c.ready.ensures.items)
-    (directory_journal_more _ _ _ c.args.now _ c.in_ok-reply.record c.push_directory.new.self.room c.journal.invariant c.in_ok-reply.ensures.recorded)
+    (after_journal_more _ _ c.args.now (OfDirectory its_record) c.push_directory.new.self.room c.journal.invariant recorded.stamped (ap (λ (n : DirectoryRecordValue). n.place) recorded.record_is))

@@ -2,8 +2,8 @@ use Rattle.std.proofs.Common.{rules}
 use Rattle.sq_steps.proofs.SharedLaws.{half_does, item_out}
 use Rattle.sq_steps.proofs.shared.item_step.Goals as goal
 
-pub returns-in_err-answered-clause-refusal : goal.returns-in_err-answered-clause-refusal
-returns-in_err-answered-clause-refusal c =
+pub returns-in_err-answered : goal.returns-in_err-answered
+returns-in_err-answered c =
     let refused = item_out c.args.act c.args.home.now c.args.ledger.now.history.ledger c.args.stamp.moment c.args.number _ c.in_err-answered.field-0.0 c.item.ensures c.in_err-answered.ensures.refusal in
     search rules
 

@@ -6,8 +6,8 @@ use Rattle.sq_model.specs.Ledgers.{room_refusal}
 use Rattle.sq_steps.proofs.SharedLaws.{leave_refused, leaving_dead}
 use Rattle.sq_steps.proofs.shared.leave_dead.Goals as goal
 
-pub returns-in_err-half-clause-refusal : goal.returns-in_err-half-clause-refusal
-returns-in_err-half-clause-refusal c =
+pub returns-in_err-half : goal.returns-in_err-half
+returns-in_err-half c =
     let l = c.args.ledger.now.history.ledger in
     let room = c.room-number.ensures in
     let refused =

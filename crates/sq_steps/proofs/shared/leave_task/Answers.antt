@@ -13,9 +13,9 @@ said c =
     let m = ap (λ (s : StampValue). s.moment) c.stamp.view_is in
     record { of_number = e.number; task = rw c.id.ensures at e.task; no_task = rw c.id.ensures at e.no_task; allowed = rw m at e.allowed; item = e.item; has_room = e.has_room; passes = e.passes; ready = e.ready; no_room = e.no_room }
 
-pub returns-in_err-half-clause-refusal : goal.returns-in_err-half-clause-refusal
-returns-in_err-half-clause-refusal c =
-    let is = said (goal.at.returns-in_err-half-clause-refusal c).After-task_leave-asked in
+pub returns-in_err-half : goal.returns-in_err-half
+returns-in_err-half c =
+    let is = said (goal.at.returns-in_err-half c).After-task_leave-asked in
     let refused = task_refused c.args.home.now c.args.ledger.now.history.ledger c.args.ledger.now.item_reserved c.task_leave-asked.new.self.item_reserved c.args.stamp.moment c.args.number c.task_leave-asked.result c.in_err-half.field-0.0 is c.in_err-half.ensures.refusal in
     search rules
 

@@ -34,12 +34,12 @@ pub returns-in_err-kept-clause-err : goal.returns-in_err-kept-clause-err
 returns-in_err-kept-clause-err c = let same = uncopied (goal.at.returns-in_err-kept-clause-err c).In_err-kept in rw same (search rules)
 
 pub invariant_of-self-2 : goal.invariant_of-self-2
-invariant_of-self-2 c = directory_kept_more _ _ c.args.by.now c.args.now c.args.call.now c.new.result c.self.invariant c.add-step.ensures.rising (search rules)
+invariant_of-self-2 c = directory_kept_more _ _ c.args.by.now c.args.now c.args.call.now c.add-step.result c.self.invariant c.add-step.ensures.rising (search rules)
 
 pub returns-clause-made : goal.returns-clause-made
 returns-clause-made c =
-    let answered : c.new.result.reply ≡ c.in_ok-answered.answered = search rules in
+    let answered : c.add-step.result.reply ≡ c.in_ok-answered.answered = search rules in
     let old : DirectoryHistory = record { directory = c.self.inside.queues; last = c.self.inside.log.last; events = c.self.inside.log.events; room = c.self.inside.log.room } in
     let new : DirectoryHistory = record { directory = c.answer.new.self; last = c.add-step.new.self.last; events = c.add-step.new.self.events; room = c.add-step.new.self.room } in
-    let made = answered_by_name old new c.args.by.now c.args.now c.args.call.now c.new.result c.self.invariant (search rules) in
+    let made = answered_by_name old new c.args.by.now c.args.now c.args.call.now c.add-step.result c.self.invariant (search rules) in
     subst (λ (r : DirectoryReply). IsAnsweredByName c.add-step.new.self.events c.add-step.new.self.last c.args.call.now r) answered made

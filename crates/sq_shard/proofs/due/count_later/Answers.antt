@@ -1,6 +1,0 @@
-use Rattle.std.proofs.Common.{arith}
-use Rattle.sq_shard.proofs.DueLaws.{count_later}
-use Rattle.sq_shard.proofs.due.count_later.Goals as goal
-
-pub returns : goal.returns
-returns c = omega (arith, count_later c.args.moment c.args.index.now.deadlines)

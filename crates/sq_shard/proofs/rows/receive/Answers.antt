@@ -1,7 +1,0 @@
-use Rattle.std.proofs.Common.{arith}
-use Rattle.sq_model.specs.Rows.{received_if, serials_of}
-use Rattle.sq_shard.proofs.Lists.{map_over_at}
-use Rattle.sq_shard.proofs.rows.receive.Goals as goal
-
-pub loop-row-preserved : goal.loop-row-preserved
-loop-row-preserved c = rw c.receive_row.ensures (map_over_at (received_if c.args.settings.now (serials_of c.args.picked.now) c.args.moment c.args.until) c.args.rows.now c.loop-row.rows c.loop-row.row-index c.row-item.result (omega arith) (omega arith) c.loop-row.invariant)

@@ -1,5 +1,0 @@
-use Rattle.sq_shard.proofs.LookLaws.{rises_below}
-use Rattle.sq_shard.proofs.slots.SlotStoreStore.insert.Goals as goal
-
-pub put-requires-clause-above : goal.put-requires-clause-above
-put-requires-clause-above c = rises_below 0 c.args.self.now.table.rows c.args.row.serial c.requires.rising

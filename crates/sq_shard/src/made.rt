@@ -1,0 +1,95 @@
+//! Rows that a home makes: of a message that is sent, and of an item that comes in or comes back.
+ghost use Rattle.std.specs.Prelude.{◌≡◌, IfOk, IfErr};
+ghost use Rattle.sq_model.specs.Homes as homes;
+ghost use Rattle.sq_model.specs.ItemActs as acts;
+
+use sq_base::body::Body;
+use sq_base::ids::{HomeId, Serial};
+use sq_base::message_id::MessageId;
+use sq_base::refusal::Refusal;
+use sq_base::row::Row;
+use sq_model::item::{Item, Reason};
+use sq_model::rows::copy_row;
+use sq_model::shared::ItemAct;
+
+/// The id of the row to which a home gives a serial.
+pub fn fresh_id(home: &HomeId, serial: Serial) -> MessageId
+    ensures { result ≡ homes.fresh_id home.now serial }
+{
+    MessageId {
+        queue: home.queue,
+        home: home.home,
+        serial,
+    }
+}
+
+/// A message that is sent, before it has a slot.
+pub fn sent_row(home: &HomeId, serial: Serial, moment: u64, until: u64, body: Body) -> Row
+    ensures { result ≡ homes.sent_row home.now serial 0 moment until body }
+{
+    let id = fresh_id(home, serial);
+    let lineage = fresh_id(home, serial);
+    Row {
+        id,
+        lineage,
+        body,
+        serial,
+        slot: 0,
+        enqueued: moment,
+        visible_from: until,
+        receives: 0,
+        last_receive: None,
+        origin: None,
+    }
+}
+
+// A row at a home that it is new to, before it has a slot: visible at once, and never received there. Refused as
+// NoMemory.
+fn moved_row(serial: Serial, moment: u64, row: &Row) -> Result<Row, Refusal>
+    ensures moved { IfOk result (λ moved. moved ≡ homes.moved serial 0 moment row.now) }
+    ensures err { IfErr result (λ e. e ≡ Refusal.NoMemory) }
+{
+    let mut moved = copy_row(row)?;
+    moved.serial = serial;
+    moved.slot = 0;
+    moved.visible_from = moment;
+    moved.receives = 0;
+    moved.last_receive = None;
+    Ok(moved)
+}
+
+/// The row of an item that comes in at its target, before it has a slot: a dead letter stays the same message and
+/// remembers its source, and a task makes a new message of it. Refused as NoMemory.
+pub fn entered_row(home: &HomeId, serial: Serial, moment: u64, item: &Item) -> Result<Row, Refusal>
+    ensures entered { IfOk result (λ row. row ≡ homes.entered_row home.now serial 0 moment item.now) }
+    ensures err { IfErr result (λ e. e ≡ Refusal.NoMemory) }
+{
+    let mut row = moved_row(serial, moment, &item.row)?;
+    match item.reason {
+        Reason::DeadLetter => row.origin = Some(item.source),
+        Reason::Task(_) => {
+            row.id = fresh_id(home, serial);
+            row.enqueued = moment;
+            row.origin = None;
+        }
+    }
+    Ok(row)
+}
+
+/// The row of an item that comes back to its source, before it has a slot. Refused as NoMemory.
+pub fn returned_row(serial: Serial, moment: u64, item: &Item) -> Result<Row, Refusal>
+    ensures returned { IfOk result (λ row. row ≡ homes.returned_row serial 0 moment item.now) }
+    ensures err { IfErr result (λ e. e ≡ Refusal.NoMemory) }
+{
+    moved_row(serial, moment, &item.row)
+}
+
+/// Whether an item is one for this home: on its way to it, or on its way back.
+pub fn may_act(act: ItemAct, home: &HomeId, item: &Item) -> bool
+    ensures { result ≡ acts.may_act act home.now item.now }
+{
+    match act {
+        ItemAct::Enter | ItemAct::TurnBack => !item.homeward && item.target == home.queue,
+        ItemAct::GiveBack | ItemAct::GiveUp => item.homeward && item.source == home.queue,
+    }
+}

@@ -1,0 +1,12 @@
+pub mod AgeLaws
+pub mod AtLaws
+pub mod DueLaws
+pub mod FoundLaws
+pub mod HeldLaws
+pub mod LiveLaws
+pub mod ListLaws
+pub mod Lists
+pub mod MemoryLaws
+pub mod PickLaws
+pub mod ReceiveLaws
+pub mod SlotLaws

@@ -1,0 +1,12 @@
+use Rattle.std.proofs.Common.{◌≡◌, ◌≤◌, [], take}
+use Rattle.std.specs.Prelude.{count_by}
+use Rattle.sq_deadline.specs.Deadlines.{is_due}
+use Rattle.sq_store.specs.Found.{found, is_kept_and, is_wanted}
+use Rattle.sq_store.proofs.due.first_of.Given as goal
+
+-- those passed over are due, and none of them is looked for
+abbrev pub invariant-loop-place : goal.invariant-loop-place
+invariant-loop-place l = record {
+  due : l.place ≤ count_by (is_due l.moment) l.index.deadlines;
+  none : found (is_kept_and (is_wanted l.what l.settings l.moment) l.settings l.moment) l.table.rows (take l.place l.index.deadlines) ≡ [];
+}

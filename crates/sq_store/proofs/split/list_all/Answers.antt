@@ -1,0 +1,57 @@
+use Rattle.std.proofs.Common.{rules, ◌≡◌, ◌<◌, ◌∙◌, Some, None, List, take, subst, arith}
+use Rattle.std.specs.Prelude.{slice_get}
+use Rattle.std.proofs.lemmas.List.{take_all}
+use Rattle.sq_deadline.specs.declared.deadline.Deadline.{Deadline}
+use Rattle.sq_store.specs.Found.{found, row_of}
+use Rattle.sq_store.specs.SlotStores.{AreVisible, any_row}
+use Rattle.sq_store.proofs.ListLaws.{all_listed, its_slot, listed_more, none_is_past, none_more, room_for_next, slot_fits}
+use Rattle.sq_store.proofs.MemoryLaws.{HasRoom, keeps_on}
+use Rattle.sq_store.proofs.split.list_all.Goals as goal
+use Rattle.sq_store.proofs.split.list_all.Goals.{After-at, in-Some+in-Some-at, in-Some+in_default-at, in_default}
+
+pub returns : goal.returns
+returns c =
+    let ages = c.args.ages.now.deadlines in
+    let rows = c.args.table.now.rows in
+    let whole : take c.loop-place.place ages ≡ ages = take_all c.loop-place.place ages (omega arith) in
+    let listed : AreVisible (found any_row rows ages) c.loop-place.visible = subst (λ (ds : List Deadline). AreVisible (found any_row rows ds) c.loop-place.visible) whole c.loop-place.invariant.listed in
+    record { held = all_listed rows ages c.loop-place.visible c.len.ensures.apart c.requires.aged listed; most = c.loop-place.invariant.most; space = c.loop-place.invariant.space }
+
+room : (c : After-at) → HasRoom c.loop-place.visible
+room c = room_for_next c.args.table.now.rows c.args.ages.now.deadlines c.loop-place.place c.args.visible.now c.loop-place.visible c.requires.aged (omega arith) c.requires.memory c.loop-place.invariant.space c.loop-place.invariant.listed
+
+pub set-requires-clause-fresh : goal.set-requires-clause-fresh
+set-requires-clause-fresh c = λ is. (room (goal.at.set-requires-clause-fresh c).After-at).fresh
+
+pub set-requires-clause-again : goal.set-requires-clause-again
+set-requires-clause-again c = λ is. (room (goal.at.set-requires-clause-again c).After-at).again
+
+pub set-requires-clause-spent : goal.set-requires-clause-spent
+set-requires-clause-spent c = λ is. (room (goal.at.set-requires-clause-spent c).After-at).spent
+
+pub loop-place-preserved : goal.loop-place-preserved
+loop-place-preserved c =
+    let rows = c.args.table.now.rows in
+    let ages = c.args.ages.now.deadlines in
+    let place = c.loop-place.place in
+    elim c.match-nth.branch [
+      | in-Some+in-Some-at w ↦ (
+          let d = w.in-Some.age.now in
+          let row = w.in-Some-at.row.now in
+          let at : slice_get ages place ≡ Some d = search rules in
+          let is : row_of rows d ≡ Some row = search rules in
+          let fits : row.slot < 4294967296 = rw (its_slot rows d row is) (slot_fits 0 ages place d c.nth.ensures.order at) in
+          rw w.visible-is (record {
+            listed = listed_more rows ages place d row c.loop-place.visible w.set.new.self w.at.ensures.apart c.requires.aged at is fits w.set.ensures.ordered w.set.ensures.set c.loop-place.invariant.listed;
+            most = w.set.ensures.set.most ∙ c.loop-place.invariant.most;
+            space = keeps_on c.args.visible.now c.loop-place.visible w.set.new.self c.loop-place.invariant.space w.set.ensures.set.space;
+          }))
+      | in-Some+in_default-at w ↦ (
+          let d = w.in-Some.age.now in
+          let at : slice_get ages place ≡ Some d = search rules in
+          let none : row_of rows d ≡ None = search rules in
+          rw (w.visible-is, none_more rows ages place d at none) (record { listed = c.loop-place.invariant.listed; most = c.loop-place.invariant.most; space = c.loop-place.invariant.space }))
+      | in_default w ↦ (
+          let none : slice_get ages place ≡ None = search rules in
+          absurd (omega (arith, none_is_past ages place none)))
+    ]

@@ -1,0 +1,156 @@
+//! What a store of rows in slots finds by what is due.
+ghost use Rattle.std.specs.Prelude.{◌≡◌, ◌++◌, ◌≤◌, [], count_by, false, length, map, nat_le, nat_lt, take, IfErr, IfNone, IfSome, OnOk};
+ghost use Rattle.std.specs.List.{list_any};
+ghost use Rattle.sq_model.specs.Rows as model;
+ghost use Rattle.sq_slots.specs.Slots.{AreApart};
+ghost use Rattle.sq_store.specs.Found.{found_due, is_kept_and, is_wanted as wanted};
+ghost use Rattle.sq_store.specs.Picked.{IsOneOf};
+ghost use Rattle.sq_store.specs.SlotStores.{IsFromBefore};
+
+use crate::rows;
+use crate::slots::SlotStore;
+use sq_base::ids::Serial;
+use sq_base::refusal::Refusal;
+use sq_base::row::Row;
+use sq_base::settings::Settings;
+use sq_deadline::index::DeadlineIndex;
+use sq_model::listed::Listed;
+use sq_slots::table::SlotTable;
+
+/// Which rows are looked for.
+#[derive(Clone, Copy, PartialEq, Eq, Debug)]
+pub(crate) enum Wanted {
+    Live,
+    Dead,
+}
+
+// Whether a row is not past its retention, and is one that is looked for.
+fn is_wanted(what: Wanted, settings: &Settings, moment: u64, row: &Row) -> bool
+    ensures { result ≡ is_kept_and (wanted what settings.now moment) settings.now moment row.now }
+{
+    rows::is_kept(settings, moment, row)
+        && match what {
+            Wanted::Live => rows::is_live(settings, moment, row),
+            Wanted::Dead => rows::is_dead(settings, moment, row),
+        }
+}
+
+// The first row that is looked for, of those whose deadlines are due. It takes time by the rows that are due before it.
+pub(crate) fn first_of<'a>(
+    table: &'a SlotTable,
+    index: &DeadlineIndex,
+    what: Wanted,
+    settings: &Settings,
+    moment: u64,
+) -> Option<&'a Row>
+    ensures one { IfSome result (λ row. IsOneOf (wanted what settings.now moment) (model.trimmed settings.now moment table.now.rows) row.now) }
+    ensures none { IfNone result (found_due (is_kept_and (wanted what settings.now moment) settings.now moment) table.now.rows moment index.now.deadlines ≡ []) }
+    ensures apart { AreApart table.now.rows }
+{
+    if table.len() == 0 {
+        return None;
+    }
+    for place in 0..index.len() {
+        let due = index.nth_due(place, moment)?;
+        if let Some(row) = table.at(due.slot) {
+            if is_wanted(what, settings, moment, row) {
+                return Some(row);
+            }
+        }
+    }
+    None
+}
+
+// Copies the live ones of the rows whose deadlines are due, up to so many in all, as they stand after a receive that hides
+// them until a moment. It takes time by the rows that are due, up to the last one of these.
+pub(crate) fn pick_of(
+    picked: &mut Listed<Row>,
+    table: &SlotTable,
+    index: &DeadlineIndex,
+    settings: &Settings,
+    moment: u64,
+    until: u64,
+    max: usize,
+) -> Result<(), Refusal>
+    requires { length picked.old ≤ max }
+    ensures picked { OnOk result (picked.new ≡ take max (picked.old ++ map (model.received moment until) (found_due (is_kept_and (model.is_live settings.now moment) settings.now moment) table.now.rows moment index.now.deadlines))) }
+    ensures err { IfErr result (λ e. e ≡ Refusal.NoMemory) }
+    ensures apart { AreApart table.now.rows }
+{
+    if table.len() == 0 {
+        return Ok(());
+    }
+    for place in 0..index.len() {
+        if picked.len() == max {
+            return Ok(());
+        }
+        let Some(due) = index.nth_due(place, moment) else {
+            return Ok(());
+        };
+        if let Some(row) = table.at(due.slot) {
+            if is_wanted(Wanted::Live, settings, moment, row) {
+                picked.push(rows::received_copy(row, moment, until)?)?;
+            }
+        }
+    }
+    Ok(())
+}
+
+// How many rows are in flight, of those whose deadlines are due. It takes time by them.
+pub(crate) fn count_flying_of(
+    table: &SlotTable,
+    index: &DeadlineIndex,
+    due: u64,
+    moment: u64,
+) -> usize
+    ensures { result ≡ length (found_due (model.is_flying moment) table.now.rows due index.now.deadlines) }
+{
+    let mut count = 0;
+    for place in 0..index.len() {
+        let Some(deadline) = index.nth_due(place, due) else {
+            return count;
+        };
+        if let Some(row) = table.at(deadline.slot) {
+            if rows::is_flying(moment, row) {
+                count += 1;
+            }
+        }
+    }
+    count
+}
+
+// How many of these are due later than at a moment, found by binary search.
+fn count_later(index: &DeadlineIndex, moment: u64) -> usize
+    ensures { result ≡ count_by (λ d. nat_lt moment d.moment) index.now.deadlines }
+{
+    index.len() - index.count_due(moment)
+}
+
+impl SlotStore {
+    // The slot and the serial of the row that is there longest, where it came at this moment or before it, found by search.
+    pub(crate) fn oldest(&self, bound: u64) -> Option<(u32, Serial)>
+        ensures row { IfSome result (λ at. IsFromBefore bound self.now.table.rows at.0 at.1) }
+        ensures none { IfNone result (list_any (λ row. nat_le row.enqueued bound) self.now.table.rows ≡ false) }
+    {
+        let slot = self.ages.due(bound)?.slot;
+        let row = self.table.at(slot)?;
+        Some((slot, row.serial))
+    }
+
+    // How many rows are in flight: those that were received, less those of them that are visible again.
+    pub(crate) fn count_flying_rows(&self, moment: u64) -> usize
+        ensures count { result ≡ count_by (model.is_flying moment) self.now.table.rows }
+        ensures apart { AreApart self.now.table.rows }
+    {
+        let visible = &self.visible;
+        let received = self.table.len() - visible.fresh.len();
+        received - visible.again.count_due(moment) - visible.spent.count_due(moment)
+    }
+
+    // How many rows are delayed.
+    pub(crate) fn count_delayed_rows(&self, moment: u64) -> usize
+        ensures { result ≡ count_by (model.is_delayed moment) self.now.table.rows }
+    {
+        count_later(&self.visible.fresh, moment)
+    }
+}

@@ -1,0 +1,266 @@
+//! Rows in slots, found by what is due.
+ghost use Rattle.std.specs.Prelude.{◌≡◌, ◌≤◌, [], map};
+ghost use Rattle.sq_store.specs.SlotStores.{received_at, reserved_in};
+
+use crate::due::{Wanted, count_flying_of, first_of, pick_of};
+use crate::rows;
+use crate::store::Store;
+use crate::visible::VisibleFrom;
+use sq_base::ids::Serial;
+use sq_base::ranges::Timeout;
+use sq_base::refusal::Refusal;
+use sq_base::row::Row;
+use sq_base::settings::Settings;
+use sq_deadline::index::DeadlineIndex;
+use sq_model::calls::Receipt;
+use sq_model::listed::Listed;
+use sq_model::replies::Counts;
+use sq_slots::table::SlotTable;
+use std::alloc::Global;
+use std::marker::Model;
+
+/// The store of a home: rows in slots, and in order from when each is visible and since when it is in the queue.
+///
+/// A call takes time by the logarithm of the rows that are there, for each row that it says that it walks; those that say none walk
+/// none. No call walks a row that is neither due nor asked for, but a trim under another maxReceiveCount, and one that takes out all.
+#[derive(Drop)]
+pub struct SlotStore {
+    pub(crate) table: SlotTable,
+    pub(crate) visible: VisibleFrom,
+    pub(crate) ages: DeadlineIndex,
+}
+
+impl Model for SlotStore {
+    ghost use Rattle.sq_store.specs.SlotStores.{SlotValue, IsIndexed};
+
+    ghost Value = { SlotValue };
+
+    ghost view = { λ s. record { table = s.table; visible = s.visible; ages = s.ages } };
+
+    ghost invariant = { λ s. IsIndexed s.table.rows s.visible s.ages };
+}
+
+impl SlotStore {
+    /// A store without rows, which takes no memory yet.
+    pub fn new(alloc: Global) -> SlotStore
+        ensures { result.table.rows ≡ [] }
+    {
+        SlotStore {
+            table: SlotTable::new(alloc),
+            visible: VisibleFrom::new(alloc),
+            ages: DeadlineIndex::new(alloc),
+        }
+    }
+
+    // Receives the row of a slot and a serial, where it is live.
+    fn receive_row(
+        &mut self,
+        settings: &Settings,
+        slot: u32,
+        serial: Serial,
+        moment: u64,
+        until: u64,
+    )
+        ensures rows { self.new.table.rows ≡ map (received_at settings.now slot serial moment until) self.old.table.rows }
+        ensures reserved { reserved_in self.old ≤ reserved_in self.new }
+    {
+        let Some(row) = self.table.get(slot, serial) else {
+            return;
+        };
+        if rows::is_live(settings, moment, row) {
+            let receives = row.receives + 1;
+            self.revise(slot, serial, receives, until, Some(moment));
+        }
+    }
+}
+
+impl Store for SlotStore {
+    ghost rows = { λ s. s.table.rows };
+
+    ghost reserved = { λ s. reserved_in s };
+
+    // Found by binary search.
+    fn count_kept(&self, settings: &Settings, moment: u64) -> usize {
+        match rows::expired_bound(settings, moment) {
+            Some(bound) => self.table.len() - self.ages.count_due(bound),
+            None => self.table.len(),
+        }
+    }
+
+    // It takes time by the rows that a trim does not keep.
+    fn count_flying(&self, settings: &Settings, moment: u64) -> usize {
+        let flying = self.count_flying_rows(moment);
+        match rows::expired_bound(settings, moment) {
+            Some(bound) => flying - count_flying_of(&self.table, &self.ages, bound, moment),
+            None => flying,
+        }
+    }
+
+    fn has_live(&self, settings: &Settings, moment: u64) -> bool {
+        self.find_live(settings, moment).is_some()
+    }
+
+    // It takes time by the rows that are due before it and not dead.
+    fn find_dead(&self, settings: &Settings, moment: u64) -> Option<&Row> {
+        let Some(redrive) = &settings.redrive else {
+            return None;
+        };
+        let (table, visible) = (&self.table, &self.visible);
+        if let Some(row) = first_of(table, &visible.spent, Wanted::Dead, settings, moment) {
+            return Some(row);
+        }
+        if visible.most <= redrive.max_receives.get() {
+            return None;
+        }
+        first_of(table, &visible.again, Wanted::Dead, settings, moment)
+    }
+
+    // It takes time by the rows that are due before it and not live.
+    fn find_live(&self, settings: &Settings, moment: u64) -> Option<&Row> {
+        let (table, visible) = (&self.table, &self.visible);
+        if let Some(row) = first_of(table, &visible.fresh, Wanted::Live, settings, moment) {
+            return Some(row);
+        }
+        if let Some(row) = first_of(table, &visible.again, Wanted::Live, settings, moment) {
+            return Some(row);
+        }
+        if rows::most_under(&settings.redrive) <= visible.most {
+            return None;
+        }
+        first_of(table, &visible.spent, Wanted::Live, settings, moment)
+    }
+
+    // It is found by its slot, in no time that grows.
+    fn has_held(&self, settings: &Settings, moment: u64, receipt: &Receipt) -> bool {
+        match self.table.get(receipt.slot, receipt.serial) {
+            Some(row) => {
+                rows::is_kept(settings, moment, row) && rows::is_held(moment, receipt, row)
+            }
+            None => false,
+        }
+    }
+
+    // It is found by its slot, in no time that grows.
+    fn has_late(
+        &self,
+        settings: &Settings,
+        moment: u64,
+        receipt: &Receipt,
+        timeout: Timeout,
+    ) -> bool {
+        let Some(row) = self.table.get(receipt.slot, receipt.serial) else {
+            return false;
+        };
+        self.has_held(settings, moment, receipt) && rows::is_late(moment, timeout, row.last_receive)
+    }
+
+    // Found by binary search.
+    fn count(&self, moment: u64) -> Counts {
+        let flying = self.count_flying_rows(moment);
+        let delayed = self.count_delayed_rows(moment);
+        let visible = self.table.len() - flying - delayed;
+        Counts {
+            visible: visible as u32,
+            flying: flying as u32,
+            delayed: delayed as u32,
+        }
+    }
+
+    // Those first that have been visible longest, by the oldest of those never received and of the others. It takes time by them,
+    // and by the rows that are due before them and not live.
+    fn pick(
+        &self,
+        alloc: Global,
+        settings: &Settings,
+        moment: u64,
+        until: u64,
+        max: usize,
+    ) -> Result<Listed<Row>, Refusal> {
+        let (table, visible) = (&self.table, &self.visible);
+        let (first, second) = visible.in_turn(moment);
+        let mut picked = Listed::new(alloc);
+        pick_of(&mut picked, table, first, settings, moment, until, max)?;
+        pick_of(&mut picked, table, second, settings, moment, until, max)?;
+        if visible.most < rows::most_under(&settings.redrive) {
+            pick_of(
+                &mut picked,
+                table,
+                &visible.spent,
+                settings,
+                moment,
+                until,
+                max,
+            )?;
+        }
+        Ok(picked)
+    }
+
+    // In the table and in every list.
+    fn spare(&self) -> usize {
+        let lists = self.visible.space().min(self.ages.space());
+        self.table.spare().min(lists - self.table.len())
+    }
+
+    // In the table and in every list, in time by the memory that it lacks.
+    fn reserve(&mut self) -> Result<(), Refusal> {
+        self.table.reserve()?;
+        let count = self.table.len() + 1;
+        self.visible.reserve(count)?;
+        self.ages.reserve(count.saturating_sub(self.ages.len()))
+    }
+
+    // One after another; and keeps the rows apart that these settings make spent. It takes time by the rows that it leaves out; and
+    // by all rows, where the number of receives that makes a row spent has changed.
+    fn trim(&mut self, settings: &Settings, moment: u64) {
+        self.split(rows::most_under(&settings.redrive));
+        let Some(bound) = rows::expired_bound(settings, moment) else {
+            return;
+        };
+        while let Some(at) = self.oldest(bound) {
+            self.remove(at.0, at.1);
+        }
+    }
+
+    fn insert(&mut self, row: Row) -> u32 {
+        self.put(row)
+    }
+
+    // In time by these, each found by its slot.
+    fn receive(&mut self, settings: &Settings, picked: &[Row], moment: u64, until: u64) {
+        for row in picked {
+            self.receive_row(settings, row.slot, row.serial, moment, until);
+        }
+    }
+
+    // It is found by its slot.
+    fn take(&mut self, receipt: &Receipt) {
+        let Some(row) = self.table.get(receipt.slot, receipt.serial) else {
+            return;
+        };
+        if row.receives == receipt.receive.get() {
+            self.remove(receipt.slot, receipt.serial);
+        }
+    }
+
+    fn take_out(&mut self, slot: u32, serial: Serial) -> Option<Row> {
+        self.remove(slot, serial)
+    }
+
+    // It is found by its slot.
+    fn change(&mut self, receipt: &Receipt, moment: u64, until: u64) {
+        let Some(row) = self.table.get(receipt.slot, receipt.serial) else {
+            return;
+        };
+        if rows::is_held(moment, receipt, row) {
+            let (receives, last_receive) = (row.receives, row.last_receive);
+            self.revise(receipt.slot, receipt.serial, receives, until, last_receive);
+        }
+    }
+
+    // In time by their number.
+    fn clear(&mut self) {
+        self.table.clear();
+        self.visible.empty();
+        self.ages.empty();
+    }
+}

@@ -1,0 +1,98 @@
+//! Each call by its own name.
+use super::asks::{Ask, call_of};
+use super::evidence::Seen;
+use super::shared::{Client, QUEUE, Setting};
+use super::stories::{Deed, Scene, must, tell};
+use sq_base::refusal::Refusal;
+use sq_calls::batches::{Batch, EntryAsk};
+use sq_calls::calls::{Answer, Call};
+use std::process::Abort;
+use std::sync::Wait;
+use std::sync::ledger::Ledger;
+
+// A batch, by the name of what its first entry asks.
+fn batch<D: Ledger, T: Ledger, R: Wait>(
+    at: &Scene<'_, '_, D, T, R>,
+    client: &mut Client<D, T>,
+    batch: Batch,
+) -> Result<Answer, Refusal> {
+    let (rt, service, session) = (at.rt, at.service.service(), client.session());
+    let asks = batch.entries.as_slice().first().map(|entry| &entry.ask);
+    match asks {
+        Some(EntryAsk::Delete(_)) => service.delete_batch(rt, session, batch),
+        Some(EntryAsk::Change(_, _)) => service.change_batch(rt, session, batch),
+        _ => service.send_batch(rt, session, batch),
+    }
+}
+
+// A call by its name; first those on messages, then those on queues.
+fn by_name<D: Ledger, T: Ledger, R: Wait>(
+    at: &Scene<'_, '_, D, T, R>,
+    client: &mut Client<D, T>,
+    call: Call,
+) -> Result<Answer, Refusal> {
+    let (rt, service) = (at.rt, at.service.service());
+    match call {
+        Call::SendMessage(request) => service.send(rt, client.session(), request),
+        Call::ReceiveMessage(request) => service.receive(rt, client.session(), request),
+        Call::DeleteMessage(request) => service.delete(rt, client.session(), request),
+        Call::ChangeMessageVisibility(request) => service.change(rt, client.session(), request),
+        Call::Batch(entries) => batch(at, client, entries),
+        Call::StartMessageMoveTask(request) => service.start_move(rt, client.session(), request),
+        Call::CancelMessageMoveTask(task) => service.cancel_move(rt, client.session(), task),
+        Call::ListMessageMoveTasks(request) => service.list_moves(rt, client.session(), request),
+        Call::CreateQueue(request) => service.create(rt, client.session(), request),
+        Call::GetQueueUrl(name) => service.url(rt, client.session(), name),
+        Call::ListQueues(prefix) => service.list(rt, client.session(), prefix),
+        Call::SetQueueAttributes(request) => service.set(rt, client.session(), request),
+        Call::GetQueueAttributes(request) => service.get(rt, client.session(), request),
+        Call::PurgeQueue(name) => service.purge(rt, client.session(), name),
+        Call::DeleteQueue(name) => service.delete_queue(rt, client.session(), name),
+        Call::ListDeadLetterSourceQueues(name) => service.sources(rt, client.session(), name),
+    }
+}
+
+/// Does what a client asks by the name of the call, and tells whether it is not refused.
+pub fn is_done_by_name<D: Ledger, T: Ledger, R: Wait + Abort>(
+    at: &Scene<'_, '_, D, T, R>,
+    client: &mut Client<D, T>,
+    ask: Ask,
+) -> bool {
+    by_name(at, client, call_of(at.rt, at.alloc, ask)).is_ok()
+}
+
+const EACH: &[Deed] = &[
+    Deed::Clock(1000),
+    Deed::Named(Ask::Create(b'd', None)),
+    Deed::Named(Ask::Url(b'd')),
+    Deed::Named(Ask::List),
+    Deed::Named(Ask::Set(b'q', b'd')),
+    Deed::Named(Ask::Sources(b'd')),
+    Deed::Named(Ask::Send(b'q')),
+    Deed::Named(Ask::Hold(b'q')),
+    Deed::Named(Ask::Change(b'q', 0)),
+    Deed::Named(Ask::Delete(b'q', 0)),
+    Deed::Named(Ask::SendBatch(b'q')),
+    Deed::Ask(Ask::Hold(b'q')),
+    Deed::Named(Ask::ChangeBatch(b'q', 1)),
+    Deed::Named(Ask::DeleteBatch(b'q', 1)),
+    Deed::Named(Ask::Get(b'q')),
+    Deed::Named(Ask::Purge(b'q')),
+    Deed::Named(Ask::Start(b'd', Some(b'q'))),
+    Deed::Named(Ask::ListTasks(b'd')),
+    Deed::Named(Ask::Cancel(1)),
+    Deed::Named(Ask::DeleteQueue(b'q')),
+];
+
+// An event of the directory of each call on queues, one of the ledger of each on tasks, and one of the home of all that is asked there.
+#[test]
+fn each_call_by_its_name_does_its_steps(rt: HostRuntime) {
+    let told = tell(&rt, rt.alloc(), Setting::of(QUEUE, 1), &[EACH]);
+    let seen = Seen {
+        sessions: [1, 1],
+        events: [9, 3, 13],
+        messages: Some(2),
+    };
+    let all = told.by[0] == 1_111_111_111_111_111_111;
+    must(&rt, &told, all && told.seen == seen);
+}
