@@ -57,7 +57,8 @@ class Kept:
             self.goals[name] = dict([*({**was, **now} if sum_of in was else {**now, **was}).items()][:SUMS])
 
     def write(self, names):
-        """Writes the lines of these edits, and no others."""
-        with open(self.file, "w", encoding="utf-8") as file:
+        """Writes the lines of these edits, and no others. The file is never half of what it was."""
+        with open(f"{self.file}.new", "w", encoding="utf-8") as file:
             for name in sorted(it for it in self.goals if it in names):
                 file.writelines(f"{name} {sum_of} {' '.join(goals)}\n" for sum_of, goals in self.goals[name].items())
+        os.replace(file.name, self.file)
