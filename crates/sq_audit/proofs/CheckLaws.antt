@@ -31,7 +31,7 @@ use Rattle.sq_audit.specs.Faults.{EventIndex, InDirectory, InLedger, InHome, IsB
 use Rattle.sq_history.specs.Histories.{IsKept}
 use Rattle.sq_log.specs.Events.{IsEventAt}
 use Rattle.sq_history.specs.Events.{HasHomeEvent}
-use Rattle.sq_directory.proofs.ElementLaws.{some_same, get_map, get_mapped, all_get}
+use Rattle.sq_model.proofs.ElementLaws.{some_same, get_map, get_mapped, all_get}
 use Rattle.sq_steps.proofs.JournalListLaws.{journal_own, found_is, journal_once, same_place}
 use Rattle.sq_audit.proofs.ListLaws.{all_at}
 use Rattle.sq_audit.proofs.HomeIdLaws.{place_found, place_back, place_none}

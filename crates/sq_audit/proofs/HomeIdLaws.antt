@@ -8,7 +8,7 @@ use Rattle.std.proofs.lemmas.Grind.{common_steps}
 use Rattle.sq_base.specs.declared.ids.HomeId.{HomeId}
 use Rattle.sq_history.specs.HistoryValue.{HistoryValue}
 use Rattle.sq_audit.specs.HomeIds.{home_id, IsNumbered, home_index}
-use Rattle.sq_directory.proofs.ElementLaws.{some_same}
+use Rattle.sq_model.proofs.ElementLaws.{some_same}
 
 pub same_id : (x y : HomeId) → x.queue ≡ y.queue → x.home ≡ y.home → x ≡ y
 same_id x y q h = ap (λ (n : ℕ). record { queue = n; home = x.home }) q ∙ ap (λ (n : ℕ). record { queue = y.queue; home = n }) h

@@ -16,7 +16,7 @@ use Rattle.sq_audit.proofs.ActorLaws.{all_rise, in_directory, in_home}
 use Rattle.sq_audit.proofs.CheckLaws.{nat_compare, records_rise, home_once, recorded_as}
 use Rattle.sq_audit.proofs.SharedLaws.{event_home, in_ledger}
 use Rattle.sq_steps.proofs.JournalListLaws.{journal_once}
-use Rattle.sq_directory.proofs.ElementLaws.{some_same, get_map}
+use Rattle.sq_model.proofs.ElementLaws.{some_same, get_map}
 
 -- what stands as the ledger's is its own
 own_at : (ts : List Tag) → LedgerIsAlone ts → (i : ℕ) (e : LedgerEvent) → slice_get ts i ≡ Some (OfLedger e) → is_own e.call ≡ true

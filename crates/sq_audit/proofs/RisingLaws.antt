@@ -7,7 +7,7 @@ use Rattle.sq_base.specs.Stamps.{Below}
 use Rattle.sq_base.proofs.StampLaws.{below_trans, below_not_itself}
 use Rattle.sq_model.specs.declared.event.Event.{Event}
 use Rattle.sq_model.specs.Replays.{StampsRise}
-use Rattle.sq_directory.proofs.ElementLaws.{some_same, all_get}
+use Rattle.sq_model.proofs.ElementLaws.{some_same, all_get}
 use Rattle.sq_steps.proofs.FilterLaws.{all_filter}
 
 -- what stands later has a higher stamp

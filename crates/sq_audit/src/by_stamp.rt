@@ -1,6 +1,5 @@
 //! All events of the system in one order.
 ghost use Rattle.std.specs.Prelude.{◌≡◌, ◌≤◌, ◌-◌, ◌^◌, ◌++◌, min, map, filter, length, ℕ, true, All, OnOk, IfOk};
-ghost use Rattle.sq_model.specs.Ledgers.{is_own};
 ghost use Rattle.sq_model.specs.Matches.{IsPaired};
 ghost use Rattle.sq_model.specs.Systems.{OfDirectory, OfLedger, OfHome, IsRun};
 ghost use Rattle.sq_model.specs.Merges.{IsMerged};
@@ -15,8 +14,8 @@ ghost use Rattle.sq_audit.specs.SystemNow.{by_part, events_of, own_events, syste
 use crate::tagged::Tagged;
 use sq_directory::directory::Directory;
 use sq_history::recorded::Home;
+use sq_ledger::events::is_own;
 use sq_ledger::ledger::TransitLedger;
-use sq_model::ledger::LedgerCall;
 use std::alloc::{AllocError, Global};
 
 /// All events of the directory, of the ledger alone and of the homes, sorted by stamp; at equal stamps the directory comes
@@ -88,19 +87,6 @@ fn count_own(ledger: &TransitLedger) -> usize
         }
     }
     count
-}
-
-// Whether the ledger does not share a call with a home.
-fn is_own(call: &LedgerCall) -> bool
-    ensures { result ≡ is_own call.now }
-{
-    match call {
-        LedgerCall::AtHome(_, _) => false,
-        LedgerCall::StartTask(_, _, _)
-        | LedgerCall::CancelTask(_)
-        | LedgerCall::ListTasks(_, _)
-        | LedgerCall::FinishTask(_) => true,
-    }
 }
 
 fn add_directory<'a>(all: &mut Vec<Tagged<'a>>, directory: &'a Directory) -> Result<(), AllocError>

@@ -1,7 +1,9 @@
 //! Message bodies: which texts they are, and their digest.
 ghost use Rattle.std.specs.Prelude.{◌≡◌, ◌⊎◌, length, IfOk, IfErr, OnOk, MatchResult};
+ghost use Rattle.std.specs.Cmp.{partial_equiv_from_equiv};
+ghost use Rattle.std.specs.Cmp.Lexicographic.{nat_list_eq_equiv};
 ghost use Rattle.std.specs.List.{list_all};
-ghost use Rattle.std.specs.Str.{chars};
+ghost use Rattle.std.specs.Str.{bytes_eq, chars};
 ghost use Rattle.md5.specs.Md5.{md5};
 ghost use Rattle.hex.specs.Hex.{encode_lower};
 ghost use Rattle.sq_base.specs.Bodies.{allowed, is_short, body_check};
@@ -101,6 +103,16 @@ impl Body {
         ensures { result ≡ length self.now }
     {
         self.held.text.len()
+    }
+}
+
+impl PartialEq for Body {
+    ghost eq = { bytes_eq };
+
+    ghost laws = { partial_equiv_from_equiv nat_list_eq_equiv };
+
+    fn eq(&self, other: &Body) -> bool {
+        self.as_str() == other.as_str()
     }
 }
 

@@ -4,7 +4,7 @@ use crate::ids::{QueueNo, Serial};
 use crate::message_id::MessageId;
 
 /// Moments are in ms.
-#[derive(Drop)]
+#[derive(PartialEq, Drop)]
 pub struct Row {
     pub id: MessageId,
     /// The id of the first send.

@@ -1,5 +1,4 @@
 pub mod DirectoryLaws
-pub mod ElementLaws
 pub mod MakerLaws
 pub mod PolicyLaws
 pub mod StoredLaws

@@ -23,7 +23,7 @@ use Rattle.sq_model.specs.declared.directory.QueueAttributes.{QueueAttributes}
 use Rattle.sq_model.specs.declared.event.Actor.{Actor}
 use Rattle.sq_model.specs.RecordValues.{DirectoryRecordValue}
 use Rattle.sq_directory.specs.DirectoryHistories.{DirectoryRecords, IsDirectoryKept, directory_event}
-use Rattle.sq_directory.proofs.ElementLaws.{get_cases, get_mapped, get_new, get_old, some_same}
+use Rattle.sq_model.proofs.ElementLaws.{get_cases, get_mapped, get_new, get_old, some_same}
 
 pub seen_below : (a b c : StampValue) → IsSeen a b → Below b c → Below a c
 seen_below a b c (inl h) below = subst (λ (x : StampValue). Below x c) (sym h) below

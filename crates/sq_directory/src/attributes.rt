@@ -3,7 +3,6 @@ ghost use Rattle.std.specs.Prelude.{◌≡◌, option_map};
 ghost use Rattle.sq_model.specs.Policies.{agrees_allow, agrees_redrive, permits};
 ghost use Rattle.sq_model.specs.Directories.{number_named, is_or_none, agrees, may_have, may_target, redrive_to, plain_queue, with_attributes};
 
-use crate::same::{is_same_allow, is_same_redrive};
 use crate::stored::{NamedQueues, given_settings};
 use sq_base::ids::QueueNo;
 use sq_base::name::QueueName;
@@ -132,7 +131,7 @@ fn agrees_redrive(given: &Option<Option<RedrivePolicy>>, policy: &Option<Redrive
     ensures { result ≡ agrees_redrive given.now policy.now }
 {
     match given {
-        Some(given) => is_same_redrive(given, policy),
+        Some(given) => *given == *policy,
         None => true,
     }
 }
@@ -141,7 +140,7 @@ fn agrees_allow(given: &Option<Option<AllowPolicy>>, policy: &Option<AllowPolicy
     ensures { result ≡ agrees_allow given.now policy.now }
 {
     match given {
-        Some(given) => is_same_allow(given, policy),
+        Some(given) => given == policy,
         None => true,
     }
 }

@@ -69,13 +69,14 @@ impl Directory {
         self.log.last()
     }
 
-    /// The number of the queue of this name.
-    pub fn find(&self, name: &QueueName) -> Option<QueueNo>
+    /// The number of the queue of this name. It is looked for first at this index in the order of creation, which is set to its own:
+    /// so one that is looked up again is found without its hash.
+    pub fn find(&self, near: &mut usize, name: &QueueName) -> Option<QueueNo>
         ensures number { result ≡ number_named name.now self.now.directory.queues }
         // It was made by its name.
         ensures made { IfSome result (IsMadeBy self.now.events self.now.last name.now) }
     {
-        self.queues.find(name)
+        self.queues.find(near, name)
     }
 
     /// The names and numbers of all queues, in order of creation. Refused as NoMemory, where there are any.

@@ -8,5 +8,4 @@ pub mod events;
 pub mod listing;
 pub mod queues;
 pub mod record;
-pub mod same;
 pub mod stored;

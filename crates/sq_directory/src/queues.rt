@@ -9,7 +9,7 @@ ghost use Rattle.sq_model.specs.declared.directory.Queue.{Queue as QueueValue};
 ghost use Rattle.sq_model.specs.Policies.{has_list, lists_queues};
 ghost use Rattle.sq_directory.specs.DirectoryHistories.{IsUnanswered};
 
-use crate::attributes::{agrees, given_redrive, may_have, new_queue, number_named};
+use crate::attributes::{agrees, given_redrive, may_have, new_queue};
 use crate::copies::copy_allow;
 use crate::listing::{Listing, all_named, as_named, listed_names};
 use crate::stored::{NamedQueues, given_settings};
@@ -67,11 +67,12 @@ impl Queues {
         })
     }
 
-    /// The number of the queue of this name.
-    pub fn find(&self, name: &QueueName) -> Option<QueueNo>
+    /// The number of the queue of this name: it is looked for at this index first.
+    pub fn find(&self, near: &mut usize, name: &QueueName) -> Option<QueueNo>
         ensures { result ≡ number_named name.now self.now.queues }
     {
-        number_named(&self.queues, name)
+        let queue = self.queues.get_near(near, name)?;
+        Some(queue.number)
     }
 
     /// The names and numbers of all queues, in order of creation. Refused as NoMemory, where there are any.

@@ -47,6 +47,20 @@ impl NamedQueues {
         self.queues.get(name)
     }
 
+    /// The queue of a name: it is looked for at this index first, which is that of the last one that was found.
+    pub fn get_near(&self, near: &mut usize, name: &QueueName) -> Option<&Queue>
+        ensures { option_map (λ queue. queue.now) result ≡ queue_of name.now self.now.queues }
+    {
+        if let Some((key, queue)) = self.queues.get_index(*near) {
+            if key == name {
+                return Some(queue);
+            }
+        }
+        let (index, _, queue) = self.queues.get_full(name)?;
+        *near = index;
+        Some(queue)
+    }
+
     /// How many queues are there.
     pub fn len(&self) -> usize
         ensures { result ≡ length self.now.queues }

@@ -1,20 +1,26 @@
 //! What the homes share with the ledger.
 ghost use Rattle.std.specs.Prelude.{◌≡◌, ◌↔◌, true};
 ghost use Rattle.sq_model.specs.Matches.{InLedger};
+ghost use Rattle.sq_model.specs.Ledgers.{is_own};
 ghost use Rattle.sq_model.specs.Passages.{is_alone, is_leave};
 ghost use Rattle.sq_model.specs.Systems.{as_ledger};
 ghost use Rattle.sq_ledger.specs.Events.{HasLedgerEvent};
 
 use crate::ledger::TransitLedger;
 use crate::record::LedgerRecord;
-use crate::same;
 use sq_base::ids::HomeId;
-use sq_log::events::{event_at, event_of};
+use sq_log::events::{event_at, event_of, is_told};
 use sq_model::calls::HomeCall;
 use sq_model::event::Event;
 use sq_model::ledger::{LedgerCall, LedgerReply};
 use sq_model::replies::HomeReply;
-use sq_model::same::{is_same_call, is_same_reply};
+
+/// Whether a call is the ledger's alone; the others it shares with homes.
+pub fn is_own(call: &LedgerCall) -> bool
+    ensures { result ≡ is_own call.now }
+{
+    !matches!(call, LedgerCall::AtHome(_, _))
+}
 
 /// Whether a call is a home's alone; the others are shared with the ledger.
 pub fn is_alone(call: &HomeCall) -> bool
@@ -38,6 +44,14 @@ pub fn is_leave(call: &HomeCall) -> bool
     matches!(call, HomeCall::LeaveDead | HomeCall::LeaveTask(_))
 }
 
+// Whether a call and its reply are those of an event.
+#[tactic(auto, using(sq_model::proofs::EqualLaws::equal_call, sq_model::proofs::EqualLaws::equal_reply))]
+fn is_done(call: &HomeCall, reply: &HomeReply, event: &Event<HomeCall, HomeReply>) -> bool
+    ensures { result ≡ true ↔ (call.now ≡ event.now.call) × (reply.now ≡ event.now.reply) }
+{
+    *call == event.call && *reply == event.reply
+}
+
 /// Whether an event of the ledger is the one of a home, as it stands in the ledger's history.
 pub fn is_shared_event(
     kept: &Event<LedgerCall, LedgerReply>,
@@ -53,8 +67,7 @@ pub fn is_shared_event(
                 && kept.actor == event.actor
                 && kept.place == event.place
                 && kept.component == event.component
-                && is_same_call(call, &event.call)
-                && is_same_reply(reply, &event.reply)
+                && is_done(call, reply, event)
         }
         _ => false,
     }
@@ -79,9 +92,8 @@ pub fn has_ledger_event(ledger: &TransitLedger, actor: u32, kept: &LedgerRecord)
     ensures { result ≡ true ↔ HasLedgerEvent ledger.now.history.events actor kept.now }
 {
     let step = kept.step();
-    event_of(ledger.events(), actor, step).is_some_and(|event| {
-        same::is_own(&event.call)
-            && same::is_same_call(&event.call, &step.call)
-            && same::is_same_reply(&event.reply, &step.reply)
-    })
+    let Some(event) = event_of(ledger.events(), actor, step) else {
+        return false;
+    };
+    is_own(&event.call) && is_told(event, step)
 }

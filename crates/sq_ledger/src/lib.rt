@@ -5,6 +5,5 @@ pub mod events;
 pub mod items;
 pub mod ledger;
 pub mod record;
-pub mod same;
 pub mod task_calls;
 pub mod tasks;

@@ -1,4 +1,5 @@
 //! Which event of a history a record is of, and which has a stamp.
+ghost use Rattle.std.specs.Bool.{Decides};
 ghost use Rattle.std.specs.Prelude.{◌≡◌, IfSome, IsSome, Some, option_map};
 ghost use Rattle.sq_model.specs.declared.event.Event.{Event as Done};
 ghost use Rattle.sq_log.specs.Events.{IsEventOf, IsEventAt, IsParted, Rises, is_event_before};
@@ -26,6 +27,13 @@ pub fn event_of<'a, K, R>(
     } else {
         None
     }
+}
+
+/// Whether an event was asked and answered what a record tells, by an equality of calls and of replies that finds what is the same.
+pub fn is_told<K: PartialEq, R: PartialEq>(event: &Event<K, R>, kept: &StepRecord<K, R>) -> bool
+    ensures { ((a b : K) → Decides (K.eq a b) (a ≡ b)) → ((a b : R) → Decides (R.eq a b) (a ≡ b)) → Decides result ((event.now.call ≡ kept.now.call) × (event.now.reply ≡ kept.now.reply)) }
+{
+    event.call == kept.call && event.reply == kept.reply
 }
 
 // Whether an event is before a stamp.

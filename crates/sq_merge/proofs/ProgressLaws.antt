@@ -9,7 +9,7 @@ use Rattle.std.proofs.Math.Seq.{get_or-append_seam, set-append_seam}
 use Rattle.sq_base.specs.declared.refusal.Refusal.{Refusal}
 use Rattle.sq_calls.specs.declared.turns.Turn.{Turn}
 use Rattle.sq_calls.specs.declared.turns.Turned.{Turned}
-use Rattle.sq_directory.proofs.ElementLaws.{some_same}
+use Rattle.sq_model.proofs.ElementLaws.{some_same}
 use Rattle.sq_audit.proofs.ActorLaws.{same_number}
 use Rattle.sq_actions.specs.declared.progress.Progress.{Progress}
 use Rattle.sq_actions.specs.Performs.{Performs, LeavesRecords}

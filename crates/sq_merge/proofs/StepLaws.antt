@@ -34,7 +34,7 @@ use Rattle.sq_merge.specs.Worlds.{IsHomeOf, IsKeptWorld, HomeStepped, SharedStep
 use Rattle.sq_opening.specs.declared.options.Options.{Options}
 use Rattle.sq_merge.specs.Openings.{new_world}
 use Rattle.sq_opening.specs.Openings.{never_opened, never_opened_homes, limits_of, IsServed}
-use Rattle.sq_directory.proofs.ElementLaws.{some_same, get_cases, get_mapped, get_within}
+use Rattle.sq_model.proofs.ElementLaws.{some_same, get_cases, get_mapped, get_within}
 use Rattle.sq_steps.proofs.JournalListLaws.{journal_own, lost_there, opened_put, opened_is, kept_front}
 use Rattle.sq_audit.proofs.HomeIdLaws.{place_found, place_none}
 

@@ -35,7 +35,7 @@ use Rattle.sq_merge.specs.declared.progress.ActorProgress.{ActorProgress}
 use Rattle.sq_audit.specs.HomeIds.{home_history, histories_of, home_id}
 use Rattle.sq_merge.specs.Worlds.{IsKnown, IsKeptWorld, HomeStepped, SharedStepped, DirectoryStepped, LedgerStepped, having_seen_at}
 use Rattle.sq_directory.proofs.MakerLaws.{seen_below}
-use Rattle.sq_directory.proofs.ElementLaws.{get_old, get_new, get_cases, get_map, get_mapped, get_same, set_cases, set_kept}
+use Rattle.sq_model.proofs.ElementLaws.{get_old, get_new, get_cases, get_map, get_mapped, get_same, set_cases, set_kept}
 use Rattle.sq_steps.proofs.JournalListLaws.{journal_there, journal_own, put_cases, put_there, put_kept, put_distinct}
 use Rattle.sq_audit.proofs.CheckLaws.{fits_match}
 

@@ -375,7 +375,7 @@ impl World {
         ensures refusal { IfErr result (NameRefused self.old actor name.now) }
         ensures err { OnErr result (self.new ≡ self.old) }
     {
-        let Some(queue) = self.directory.find(name) else {
+        let Some(queue) = self.directory.find(&mut 0, name) else {
             return Err(Refusal::QueueDoesNotExist);
         };
         self.see_directory(alloc, actor)?;

@@ -1,3 +1,5 @@
 pub mod RowLaws
 pub mod SlotLaws
 pub mod ReplayLaws
+pub mod EqualLaws
+pub mod ElementLaws

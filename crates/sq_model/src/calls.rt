@@ -15,7 +15,7 @@ pub struct Receipt {
 }
 
 /// The steps of a home, those that it shares with the ledger among them.
-#[derive(Drop)]
+#[derive(PartialEq, Drop)]
 pub enum HomeCall {
     /// Takes settings of this version, where it is above the home's own, and opens a home that was never opened.
     Configure(Held<Settings>, u64),

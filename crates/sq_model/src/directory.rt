@@ -13,7 +13,7 @@ use std::alloc::Global;
 
 /// The attributes that a queue is asked to have (SQS API Reference, CreateQueue and SetQueueAttributes). One that is not
 /// given has its default in a new queue, and stays as it is in one that is there. A policy that is given as none is unset.
-#[derive(Drop)]
+#[derive(PartialEq, Drop)]
 pub struct Attributes {
     pub redrive: Option<Option<RedrivePolicy>>,
     pub allow: Option<Option<AllowPolicy>>,
@@ -94,7 +94,7 @@ pub enum NamePrefix {
 }
 
 /// The steps of the directory that are recorded.
-#[derive(Drop)]
+#[derive(PartialEq, Drop)]
 pub enum DirectoryCall {
     /// Makes a queue of this name, or finds the one that is there (SQS API Reference, CreateQueue).
     Create(QueueName, Attributes),
@@ -123,7 +123,7 @@ pub struct QueueSettings {
 }
 
 /// A queue with all its attributes.
-#[derive(Drop)]
+#[derive(PartialEq, Drop)]
 pub struct QueueAttributes {
     pub queue: QueueNo,
     pub settings: Settings,
@@ -132,7 +132,7 @@ pub struct QueueAttributes {
 }
 
 /// The answers to these steps.
-#[derive(Drop)]
+#[derive(PartialEq, Drop)]
 pub enum DirectoryReply {
     Made(QueueSettings),
     Changed(QueueSettings),

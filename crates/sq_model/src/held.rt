@@ -20,6 +20,16 @@ impl<T> Model for Held<T> {
     ghost view = { λ held. arc_value held.value };
 }
 
+impl<T: PartialEq> PartialEq for Held<T> {
+    ghost eq = { T.eq };
+
+    ghost laws = { T.laws };
+
+    fn eq(&self, other: &Held<T>) -> bool {
+        *self.value == *other.value
+    }
+}
+
 impl<T: Drop> Held<T> {
     /// Refused only where memory is out.
     pub fn new(alloc: Global, value: T) -> Result<Held<T>, Refusal>

@@ -112,7 +112,7 @@ pub enum Reason {
 }
 
 /// A message that left a home and is in no home.
-#[derive(Drop)]
+#[derive(PartialEq, Drop)]
 pub struct Item {
     pub number: ItemNo,
     /// As it stood in the home that it left.

@@ -8,7 +8,7 @@ use sq_base::ids::{HomeId, QueueNo};
 use sq_base::ranges::{MaxResults, Rate};
 
 /// The steps of the ledger that are recorded.
-#[derive(Drop)]
+#[derive(PartialEq, Drop)]
 pub enum LedgerCall {
     /// A step that it shares with this home.
     AtHome(HomeId, HomeCall),
@@ -23,7 +23,7 @@ pub enum LedgerCall {
 }
 
 /// The answers to these steps.
-#[derive(Drop)]
+#[derive(PartialEq, Drop)]
 pub enum LedgerReply {
     /// What the home answers.
     AtHome(HomeReply),

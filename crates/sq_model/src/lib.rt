@@ -12,6 +12,5 @@ pub mod place;
 pub mod policy;
 pub mod replies;
 pub mod rows;
-pub mod same;
 pub mod shared;
 pub mod task;

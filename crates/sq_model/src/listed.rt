@@ -62,6 +62,18 @@ impl<T: Drop> Listed<T> {
     }
 }
 
+impl<T: PartialEq> PartialEq for Listed<T> {
+    ghost use Rattle.std.specs.Cmp.Lexicographic.{pointwise, lists_per};
+
+    ghost eq = { pointwise T.eq };
+
+    ghost laws = { lists_per T.laws };
+
+    fn eq(&self, other: &Listed<T>) -> bool {
+        self.items.as_slice() == other.items.as_slice()
+    }
+}
+
 impl<T: Copy> Listed<T> {
     /// The same things. Refused as NoMemory, where there are any.
     pub fn copy(&self, alloc: Global) -> Result<Listed<T>, Refusal>

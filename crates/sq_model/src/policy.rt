@@ -18,7 +18,7 @@ pub struct RedrivePolicy {
 }
 
 /// Which queues may name this one for their dead letters (SQS API Reference, CreateQueue: RedriveAllowPolicy).
-#[derive(Drop)]
+#[derive(PartialEq, Drop)]
 pub enum AllowPolicy {
     AllowAll,
     DenyAll,
@@ -26,7 +26,7 @@ pub enum AllowPolicy {
 }
 
 /// The names of 1 to 10 queues, in the order in which they were given.
-#[derive(Drop)]
+#[derive(PartialEq, Drop)]
 pub struct SourceNames {
     names: Listed<QueueName>,
 }
@@ -37,6 +37,8 @@ impl Model for SourceNames {
     ghost Value = { List (List ℕ) };
 
     ghost view = { λ n. n.names };
+
+    ghost inverse = { λ v. record { names = v } };
 
     ghost invariant = { λ n. (1 ≤ length n.names) × (length n.names ≤ 10) };
 }

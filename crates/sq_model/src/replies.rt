@@ -27,7 +27,7 @@ pub struct Counts {
 }
 
 /// The answers to the steps of a home that are recorded.
-#[derive(Drop)]
+#[derive(PartialEq, Drop)]
 pub enum HomeReply {
     /// It was done, and there is nothing to tell.
     Done,

@@ -77,6 +77,20 @@ impl Rows {
     }
 }
 
+impl PartialEq for Rows {
+    ghost use Rattle.std.specs.Cmp.Lexicographic.{pointwise, lists_per};
+    ghost use Rattle.sq_base.specs.contracts.row.RowPartialEq.TheImpl as row_eq;
+    ghost use Rattle.sq_base.specs.contracts.row.RowPartialEq.TheImpl.Laws as row_laws;
+
+    ghost eq = { pointwise row_eq.ghosts.eq };
+
+    ghost laws = { lists_per row_laws.laws-law };
+
+    fn eq(&self, other: &Rows) -> bool {
+        self.as_slice() == other.as_slice()
+    }
+}
+
 /// The same row.
 pub fn copy_row(row: &Row) -> Result<Row, Refusal>
     ensures copy { IfOk result (λ copy. copy ≡ row.now) }

@@ -38,7 +38,7 @@ use Rattle.sq_places.specs.AllPlaces.{ArePlaces, after_send, after_move, sent_pl
 use Rattle.sq_places.proofs.StateLaws.{GoesBy, mirrors}
 use Rattle.sq_places.proofs.MessageStateLaws.{sends_first}
 use Rattle.sq_places.proofs.FollowLaws.{home_one_way, home_transit, ledger_stays, opened, own_step, step_counts}
-use Rattle.sq_directory.proofs.ElementLaws.{get_same, get_other}
+use Rattle.sq_model.proofs.ElementLaws.{get_same, get_other}
 use Rattle.sq_places.proofs.ListLaws.{length_grown, get_grown}
 
 abbrev placed_of : Ending → MessageId × Place

@@ -31,7 +31,7 @@ use Rattle.sq_places.specs.declared.message_pass.MessageState.TheVariants.{Unsen
 use Rattle.sq_places.specs.declared.message_pass.MessagePass.{MessagePass}
 use Rattle.sq_places.specs.RowStates.{next_policy, states_of, Effect, Stays, Arrives, Looks, Leaves, Departs, Enters, Drops, effect_of, effect_sends, effect_outs, effect_ins}
 use Rattle.sq_places.specs.MessagePasses.{policy_step, policy_at, trimmed_state, state_after, is_state_in, known_policy, next_state, next_pass, pass_step, pass_from, pass_start, answer}
-use Rattle.sq_directory.proofs.ElementLaws.{get_same, get_other}
+use Rattle.sq_model.proofs.ElementLaws.{get_same, get_other}
 use Rattle.sq_places.proofs.StateLaws.{GoesBy, Passes, mirrors, passes}
 use Rattle.sq_places.proofs.MessageStateLaws.{mine, rows_at, sent_at, going_at, place_from, place_now, same_home_row, FollowsEvent, follows_event}
 

@@ -9,7 +9,7 @@ use Rattle.std.proofs.lemmas.List.Sums.{sum_by-append}
 use Rattle.std.proofs.lemmas.List.Folds.{fold-map}
 use Rattle.sq_history.specs.HistoryValue.{HistoryValue}
 use Rattle.sq_audit.specs.HomeIds.{home_id, IsNumbered}
-use Rattle.sq_directory.proofs.ElementLaws.{get_cases}
+use Rattle.sq_model.proofs.ElementLaws.{get_cases}
 
 none_of : {A : Type 0} (xs : List A) → length xs ≡ 0 → xs ≡ []
 none_of [] h = refl

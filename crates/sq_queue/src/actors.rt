@@ -3,6 +3,7 @@ ghost use Rattle.std.specs.Prelude.{◌≡◌, ◌+◌, IfOk, IfErr, OnErr, OnOk
 ghost use Rattle.sq_queue.specs.SessionValue.{new_session};
 
 use crate::session::Session;
+use crate::stay::Stay;
 use sq_base::refusal::Refusal;
 use sq_sample::sampler::Sampler;
 use sq_steps::journal::Journal;
@@ -52,6 +53,8 @@ impl<D: Ledger, T: Ledger> Actors<D, T> {
             of_directory,
             of_ledger,
             sampler: Sampler::new(seed.wrapping_add(number as u64)),
+            stay: Stay::nowhere(),
+            near: 0,
         })
     }
 

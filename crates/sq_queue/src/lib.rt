@@ -11,4 +11,5 @@ pub mod parts;
 pub mod reads;
 pub mod service;
 pub mod session;
+mod stay;
 pub mod threads;

@@ -67,7 +67,9 @@ impl Placed<SlotStore> {
             return Err(Refusal::QueueDoesNotExist);
         }
         let Placed { home, .. } = self;
-        home_step(alloc, home, &mut session.journal, now, name, act)
+        let told = home_step(alloc, home, &mut session.journal, now, name, act);
+        session.note(id.home, &told);
+        told
     }
 }
 
@@ -117,7 +119,8 @@ impl<D: Ledger> CountedDirectory<D> {
         ensures refused { IfErr result (λ e. (e ≡ Refusal.QueueDoesNotExist) × (number_named name.now self.now.directory.directory.queues ≡ None)) }
         ensures err { OnErr result (session.new ≡ session.old) }
     {
-        reads::resolve(&self.directory, &mut session.journal, name)
+        let Session { journal, near, .. } = session;
+        reads::resolve(&self.directory, journal, near, name)
     }
 
     /// Reads the names and numbers of all queues, in order of creation.

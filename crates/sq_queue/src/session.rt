@@ -3,8 +3,10 @@ ghost use Rattle.std.specs.Prelude.{◌≡◌, ◌≤◌, ◌<◌, IfOk, IfErr, 
 ghost use Rattle.rand.specs.Sample.{IsSampleOf};
 ghost use Rattle.sq_queue.specs.Tallies.{directory_records, ledger_records};
 
+use crate::stay::{Stay, begin_with};
 use sq_base::ids::HomeNo;
 use sq_base::refusal::Refusal;
+use sq_model::replies::HomeReply;
 use sq_sample::sampler::{HomeCount, Sampler};
 use sq_steps::journal::Journal;
 use std::alloc::Global;
@@ -22,6 +24,9 @@ pub struct Session<D: Ledger, T: Ledger> {
     pub(crate) of_directory: Share<D>,
     pub(crate) of_ledger: Share<T>,
     pub(crate) sampler: Sampler,
+    pub(crate) stay: Stay,
+    /// The index of the queue that was looked up last.
+    pub(crate) near: usize,
 }
 
 impl<D: Ledger, T: Ledger> Model for Session<D, T> {
@@ -64,15 +69,18 @@ impl<D: Ledger, T: Ledger> Session<D, T> {
         let _ = &self.journal;
     }
 
-    // One home of a queue.
+    // One home of a queue: where it stays, or another.
     pub(crate) fn pick(&mut self, homes: HomeCount) -> HomeNo
         ensures below { result < homes }
         ensures unchanged { self.new ≡ self.old }
     {
-        self.sampler.pick(homes)
+        match self.stay.next(homes) {
+            Some(home) => home,
+            None => self.sampler.pick(homes),
+        }
     }
 
-    // Distinct homes of a queue. Refused only where memory is out.
+    // Distinct homes of a queue, the one where it stays before the others. Refused only where memory is out.
     pub(crate) fn draw(
         &mut self,
         alloc: Global,
@@ -85,6 +93,28 @@ impl<D: Ledger, T: Ledger> Session<D, T> {
         ensures refused { IfErr result (λ e. e ≡ Refusal.NoMemory) }
         ensures unchanged { self.new ≡ self.old }
     {
-        self.sampler.draw(alloc, homes, count)
+        let mut drawn = self.sampler.draw(alloc, homes, count)?;
+        if let Some(home) = self.stay.next(homes) {
+            begin_with(&mut drawn, home, homes);
+        }
+        Ok(drawn)
+    }
+
+    // Where the next calls go: to a home that took or gave a message, and to one that did not no more.
+    pub(crate) fn note(&mut self, home: HomeNo, told: &Result<HomeReply, Refusal>)
+        ensures { self.new ≡ self.old }
+    {
+        match told {
+            Ok(HomeReply::Sent(_)) => self.stay.begin(home),
+            Ok(HomeReply::Looked(rows)) => {
+                if rows.len() > 0 {
+                    self.stay.begin(home);
+                } else {
+                    self.stay.end(home);
+                }
+            }
+            Ok(HomeReply::Over) | Err(_) => self.stay.end(home),
+            _ => (),
+        }
     }
 }

@@ -173,9 +173,3 @@ gone_out Closed s v n m rows rest row taken rises has at takes = absurd has
 gone_out Serving s v n m rows rest row taken rises has at takes =
     let same = taken_same (trimmed s m rows) rest n row taken (rises_trimmed s m 0 rows n rises) has takes at in
     record { serves = refl; same = same; without = (rest, subst (λ (x : Row). Takes x (trimmed s m rows) rest) same takes, refl) }
-
--- and it is found
-pub is_found : (status : Status) (s : Settings) (v n m : ℕ) (rows : List Row) (row : Row) → HasRow (home_with status s v n rows) m row → list_any (is_at row.slot row.serial) (trimmed s m rows) ≡ true
-is_found Unopened s v n m rows row has = absurd has
-is_found Closed s v n m rows row has = absurd has
-is_found Serving s v n m rows row has = found_there (trimmed s m rows) row has

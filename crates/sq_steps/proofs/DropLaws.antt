@@ -11,7 +11,7 @@ use Rattle.sq_directory.specs.Makers.{IsSeen}
 use Rattle.sq_steps.specs.Records.{without_first}
 use Rattle.sq_steps.specs.Journals.{IsJournal, is_of_actor, journal_of, without_record, without_record_of, AreDistinct}
 use Rattle.sq_steps.proofs.JournalListLaws.{journal_own, found_there, differ, journal_once, same_place}
-use Rattle.sq_directory.proofs.ElementLaws.{all_get, some_same}
+use Rattle.sq_model.proofs.ElementLaws.{all_get, some_same}
 use Rattle.sq_steps.proofs.FilterLaws.{all_filter}
 
 rise_filter : (p : RecordValue → Bool) (ns : List RecordValue) → RecordsRise ns → RecordsRise (filter p ns)

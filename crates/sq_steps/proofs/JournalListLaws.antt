@@ -6,7 +6,7 @@ use Rattle.std.proofs.lemmas.Bool.{eqb-true}
 use Rattle.std.proofs.lemmas.Grind.{common_steps}
 use Rattle.sq_model.specs.RecordValues.{Journal}
 use Rattle.sq_steps.specs.Journals.{is_of_actor, new_journal, journal_of, index_in, opened, put_journal, AreDistinct}
-use Rattle.sq_directory.proofs.ElementLaws.{some_same, all_get}
+use Rattle.sq_model.proofs.ElementLaws.{some_same, all_get}
 use Rattle.std.proofs.Math.Seq.{take-length}
 use Rattle.std.proofs.lemmas.Option.{slice_get_read}
 

@@ -19,10 +19,12 @@ use sq_model::listed::Listed;
 use sq_model::task::{NamedQueue, Task};
 use std::alloc::Global;
 
-/// The number of the queue of this name, which the actor knows by it then. Refused as QueueDoesNotExist.
+/// The number of the queue of this name, which the actor knows by it then; it is looked for at this index first. Refused as
+/// QueueDoesNotExist.
 pub fn resolve(
     directory: &Directory,
     journal: &mut Journal,
+    near: &mut usize,
     name: &QueueName,
 ) -> Result<QueueNo, Refusal>
     ensures found { IfOk result (λ queue. number_named name.now directory.now.directory.queues ≡ Some queue) }
@@ -31,7 +33,7 @@ pub fn resolve(
     ensures refused { IfErr result (λ e. (e ≡ Refusal.QueueDoesNotExist) × (number_named name.now directory.now.directory.queues ≡ None)) }
     ensures err { OnErr result (journal.new ≡ journal.old) }
 {
-    let Some(queue) = directory.find(name) else {
+    let Some(queue) = directory.find(near, name) else {
         return Err(Refusal::QueueDoesNotExist);
     };
     journal.see(directory.last());

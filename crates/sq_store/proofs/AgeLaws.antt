@@ -72,13 +72,6 @@ pub any_same : (p q : Row → Bool) → ((r : Row) → p r ≡ q r) → (rows : 
 any_same p q same [] = refl
 any_same p q same (r ∷ rs) = rw (same r, any_same p q same rs) refl
 
--- fewer are left
-pub fewer_are_left : (slot serial : ℕ) (rows : List Row) (row : Row) → IsBetween slot serial rows row → length (filter (is_away slot serial) rows) < length rows
-fewer_are_left slot serial rows row there =
-    let whole = length-append there.before (row ∷ there.after) in
-    let rest = length-append there.before there.after in
-    rw there.away (subst (λ (rs : List Row). length (there.before ++ there.after) < length rs) (sym there.whole) (omega (arith, whole, rest)))
-
 pub none_goes : (s : Settings) (m : ℕ) → ((row : Row) → is_expired s m row ≡ false) → (rows : List Row) → trimmed s m rows ≡ rows
 none_goes s m none [] = refl
 none_goes s m none (r ∷ rs) = rw (none r) (ap (λ (xs : List Row). r ∷ xs) (none_goes s m none rs))

@@ -114,8 +114,3 @@ one_passes : (p : Row → Bool) (rows : List Row) (row : Row) (place : ℕ) → 
 one_passes p [] row place lt is passes = absurd (omega (arith, lt))
 one_passes p (r ∷ rows) row zero lt is passes = or_left (p r) (list_any p rows) (subst (λ (x : Row). p x ≡ true) (sym is) passes)
 one_passes p (r ∷ rows) row (suc place) lt is passes = elim (p r) as (λ b. (b || list_any p rows) ≡ true) [ true ↦ refl | false ↦ one_passes p rows row place (omega (arith, lt)) is passes ]
-
--- whether one is found is whether one passes
-pub is_any_found : {R : Type 0} (p : Row → Bool) (now : R → Row) (rows : List Row) (o : Option R) → IfSome o (λ r. IsOneOf p rows (now r)) → IfNone o (list_any p rows ≡ false) → is_some o ≡ list_any p rows
-is_any_found p now rows (Some r) one none = sym (one_passes p rows (now r) one.there.0 one.there.1 one.there.2 one.passes)
-is_any_found p now rows None one none = sym none

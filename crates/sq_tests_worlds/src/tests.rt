@@ -1,12 +1,22 @@
-//! A module a subject. `stage` has the world under test, `cues` what is done there, and `evidence` what it leaves.
+//! A module a subject. `home_steps` has the home that `leaves` begins with too. `stage` has the world under test, `cues` what is
+//! done there, and `evidence` what it leaves.
 
+mod blocks;
 mod cues;
 mod evidence;
+mod home_steps;
 mod homes;
+mod leaves;
+mod lines;
+mod many;
 mod mixed;
 mod moves;
 mod order;
 mod queues;
+mod samples;
 mod scripts;
 mod stage;
 mod stops;
+mod stores;
+mod tasks;
+mod values;

@@ -111,6 +111,24 @@ fn new_worker<D: Ledger, T: Ledger, R: Wait + Abort>(
     }
 }
 
+// Two workers, of whom the first has made a queue.
+fn hire<D: Ledger, T: Ledger, R: Wait + Abort>(
+    rt: &R,
+    alloc: Global,
+    shop: &Shop<D, T, SlotStore>,
+    queue: QueueName,
+) -> Vec<Worker<D, T>> {
+    let mut first = new_worker(rt, alloc, shop);
+    let mut maker = Caller {
+        rt,
+        shop,
+        session: &mut first.session,
+    };
+    assert!(rt; create(&mut maker, queue, None));
+    let second = new_worker(rt, alloc, shop);
+    vec![in alloc; first, second].expect(rt, "memory")
+}
+
 // A service, whose two counts have names.
 fn open<D: Ledger, T: Ledger>(
     rt: &impl Abort,
@@ -134,16 +152,12 @@ fn open<D: Ledger, T: Ledger>(
     }
 }
 
-// All that a service leaves, with what its sessions did.
-fn close<D: Ledger, T: Ledger>(
+// The sessions of these workers.
+fn sessions_of<D: Ledger, T: Ledger>(
     rt: &impl Abort,
     alloc: Global,
-    shop: Shop<D, T, SlotStore>,
     workers: Vec<Worker<D, T>>,
-) -> Box<Parts>
-    requires of_directory { D.parts ≡ 4294967296 }
-    requires of_ledger { T.parts ≡ 4294967296 }
-{
+) -> Vec<Session<D, T>> {
     let mut sessions = Vec::new(alloc);
     for worker in workers {
         match sessions.push(Box::into_inner(worker.session)) {
@@ -151,6 +165,19 @@ fn close<D: Ledger, T: Ledger>(
             Err(_) => panic!(rt; "memory"),
         }
     }
+    sessions
+}
+
+// All that a service leaves, with what these sessions did.
+fn close<D: Ledger, T: Ledger>(
+    rt: &impl Abort,
+    alloc: Global,
+    shop: Shop<D, T, SlotStore>,
+    sessions: Vec<Session<D, T>>,
+) -> Box<Parts>
+    requires of_directory { D.parts ≡ 4294967296 }
+    requires of_ledger { T.parts ≡ 4294967296 }
+{
     match Box::into_inner(shop.service).finish(sessions) {
         Ok(parts) => Box::new(alloc, parts).expect(rt, "memory"),
         Err(_) => panic!(rt; "memory"),
@@ -175,15 +202,7 @@ fn share<R: Threads + Wait + Abort + Sync, D: Ledger + Send + Sync, T: Ledger + 
 {
     let orders = QueueName::new(b"orders").expect(rt, "a name");
     let shop: Shop<D, T, SlotStore> = open(rt, alloc, of_directory, of_ledger);
-    let mut first = new_worker(rt, alloc, &shop);
-    let mut maker = Caller {
-        rt,
-        shop: &shop,
-        session: &mut first.session,
-    };
-    assert!(rt; create(&mut maker, orders, None));
-    let second = new_worker(rt, alloc, &shop);
-    let mut workers = vec![in alloc; first, second].expect(rt, "memory");
+    let mut workers = hire(rt, alloc, &shop, orders);
     thread::for_each_mut(
         rt,
         &mut workers,
@@ -191,7 +210,7 @@ fn share<R: Threads + Wait + Abort + Sync, D: Ledger + Send + Sync, T: Ledger + 
         &|_: usize, worker: &mut Worker<D, T>| work(rt, alloc, &shop, worker, orders),
     );
     let received = workers.iter().filter(|worker| worker.received).count();
-    let parts = close(rt, alloc, shop, workers);
+    let parts = close(rt, alloc, shop, sessions_of(rt, alloc, workers));
     (received, messages(rt, alloc, &parts))
 }
 

@@ -5,7 +5,7 @@ use super::stories::{Deed, Scene, must, tell};
 use sq_actions::progress::Progress;
 use sq_calls::turns::Turn;
 use sq_model::item::TaskNo;
-use sq_tests_parts::choices::Choices;
+use sq_tests_kit::choices::Choices;
 use std::process::Abort;
 use std::sync::Wait;
 use std::sync::atomic::Ordering;

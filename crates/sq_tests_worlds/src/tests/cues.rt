@@ -8,8 +8,8 @@ use sq_model::item::{ItemNo, TaskNo};
 use sq_model::task::NamedQueue;
 use sq_opening::options::Options;
 use sq_steps::act::{Act, SharedAct, TaskAct, TaskStart};
-use sq_tests_parts::asks::{Answers, Ask, home_act};
-use sq_tests_parts::setup::{home, named};
+use sq_tests_kit::asks::{Answers, Ask, home_act};
+use sq_tests_kit::setup::{home, named};
 use std::alloc::Global;
 use std::process::Abort;
 
@@ -38,6 +38,8 @@ pub enum Move {
 pub enum Asked {
     /// A queue of this name, whose homes are not opened.
     Make(&'static str),
+    /// The numbers and names of all queues.
+    Names,
     /// At a home of the first queue, by the home's number.
     Home(u64, AtHome),
     Shared(u32, Move),
@@ -110,6 +112,7 @@ pub fn act_of(alloc: Global, asked: Asked) -> Result<Act, Refusal> {
         Asked::Make(name) => {
             Act::Directory(DirectoryCall::Create(named(name)?, Attributes::none()))
         }
+        Asked::Names => Act::Names,
         Asked::Home(number, what) => Act::Home(home(number), home_act(alloc, ask_of(what))?),
         Asked::Shared(place, what) => {
             let id = HomeId {

@@ -3,7 +3,7 @@ use super::cues::{Asked, AtHome, Cue, play, played};
 use super::evidence::NO_FAULT;
 use super::stage::{Stage, options};
 use sq_opening::options::Options;
-use sq_tests_parts::asks::Answers;
+use sq_tests_kit::asks::Answers;
 use std::alloc::Global;
 use std::process::Abort;
 
@@ -61,6 +61,11 @@ fn chosen(rt: &impl Abort, alloc: Global, options: Options) -> [u8; 40] {
     homes
 }
 
+// Whether each of these digits is among the others.
+fn has_each(all: &[u8], digits: &[u8]) -> bool {
+    digits.iter().all(|digit| all.contains(digit))
+}
+
 // So many homes of which two are asked at a time.
 fn two_of_four(seed: u64) -> Options {
     let mut options = options(4, 40, 160);
@@ -73,9 +78,7 @@ fn two_of_four(seed: u64) -> Options {
 #[test]
 fn homes_are_chosen_and_reached(rt: HostRuntime) {
     let homes = chosen(&rt, rt.alloc(), two_of_four(7));
-    for digit in b"0123" {
-        assert!(rt; homes.contains(digit), "no message at {digit}");
-    }
+    assert!(rt; has_each(&homes, b"0123"));
 }
 
 #[test]

@@ -6,8 +6,8 @@ use sq_audit::parts::Parts;
 use sq_base::name::QueueName;
 use sq_model::directory::{Attributes, DirectoryCall};
 use sq_steps::journal::{Journal, directory_step};
-use sq_tests_parts::asks::Answers;
-use sq_tests_parts::setup::named;
+use sq_tests_kit::asks::Answers;
+use sq_tests_kit::setup::named;
 use std::alloc::Global;
 use std::process::Abort;
 
@@ -28,11 +28,20 @@ fn with_none(rt: &impl Abort, alloc: Global, mix: Mix) -> Fault {
     evidence.fault()
 }
 
+// Whether an actor does this to the list of queues.
+fn is_done(alloc: Global, parts: &mut Parts, journal: &mut Journal, call: &DirectoryCall) -> bool {
+    directory_step(alloc, &mut parts.directory, journal, 1000, call).is_ok()
+}
+
+// Whether an actor makes a queue.
+fn is_made(alloc: Global, parts: &mut Parts, journal: &mut Journal, name: QueueName) -> bool {
+    let call = DirectoryCall::Create(name, Attributes::none());
+    is_done(alloc, parts, journal, &call)
+}
+
 // Whether another actor of the same number, who has seen nothing, makes a queue.
 fn is_made_by_another(alloc: Global, parts: &mut Parts, name: QueueName) -> bool {
-    let mut other = Journal::new(alloc, 3);
-    let call = DirectoryCall::Create(name, Attributes::none());
-    directory_step(alloc, &mut parts.directory, &mut other, 1000, &call).is_ok()
+    is_made(alloc, parts, &mut Journal::new(alloc, 3), name)
 }
 
 fn with_an_actor_twice(rt: &impl Abort, alloc: Global) -> Fault {

@@ -4,8 +4,8 @@ use super::evidence::{Evidence, Fault, Mix, NO_FAULT, missing, must};
 use super::stage::{Stage, options};
 use sq_base::refusal::Refusal;
 use sq_opening::options::Options;
-use sq_tests_parts::asks::Answers;
-use sq_tests_parts::setup::CLOCK_END;
+use sq_tests_kit::asks::Answers;
+use sq_tests_kit::setup::CLOCK_END;
 use std::alloc::Global;
 use std::process::Abort;
 

@@ -7,8 +7,8 @@ use sq_audit::run::Run;
 use sq_audit::tagged::Tagged;
 use sq_base::refusal::Refusal;
 use sq_steps::act::Step;
-use sq_tests_parts::asks::Answers;
-use sq_tests_parts::setup::CLOCK_END;
+use sq_tests_kit::asks::Answers;
+use sq_tests_kit::setup::CLOCK_END;
 use std::alloc::Global;
 use std::process::Abort;
 

@@ -3,7 +3,7 @@ use super::stage::{Stage, options};
 use sq_base::refusal::Refusal;
 use sq_lines::counted::Counted;
 use sq_replies::reply::reply_text;
-use sq_tests_parts::streams::{Answered, Asking, Batches, Bytewise, Piecewise, Whole};
+use sq_tests_kit::streams::{Answered, Asking, Batches, Bytewise, Piecewise, Whole};
 use sq_wire::run::ServeFault;
 use std::alloc::Global;
 use std::io::{Read, Write};

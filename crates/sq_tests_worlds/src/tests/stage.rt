@@ -12,8 +12,8 @@ use sq_model::replies::HomeReply;
 use sq_model::task::NamedQueue;
 use sq_opening::options::Options;
 use sq_steps::act::{Act, Outcome, Step};
-use sq_tests_parts::asks::{Answers, answer_of};
-use sq_tests_parts::streams::{Bytewise, Piecewise};
+use sq_tests_kit::asks::{Answers, answer_of};
+use sq_tests_kit::streams::{Bytewise, Piecewise};
 use sq_wire::run::{ServeFault, run_script};
 use std::alloc::Global;
 use std::io::{Read, Write};
@@ -55,6 +55,18 @@ fn answer_of_home(reply: &HomeReply) -> Answers {
     }
 }
 
+// Of each queue the number, as six digits, and the first letter of its name.
+fn numbers_of(queues: &[NamedQueue]) -> u64 {
+    let mut all = 0u64;
+    for queue in queues {
+        let letter = queue.name.as_bytes()[0] as u64;
+        all = all
+            .saturating_mul(1_000_000)
+            .saturating_add(queue.number.get() * 1000 + letter);
+    }
+    all
+}
+
 fn answer_of_step(outcome: &Outcome) -> Answers {
     match outcome {
         Outcome::Home(reply) => answer_of_home(reply),
@@ -63,21 +75,8 @@ fn answer_of_step(outcome: &Outcome) -> Answers {
         Outcome::Ledger(LedgerReply::Finished) => Answers::Done,
         Outcome::Task(task) | Outcome::LastTask(Some(task)) => Answers::Number(task.number.get()),
         Outcome::LastTask(None) | Outcome::Nothing => Answers::Nothing,
+        Outcome::Named(queues) => Answers::Number(numbers_of(queues.as_slice())),
         _ => Answers::Other,
-    }
-}
-
-fn number_in(queues: &[NamedQueue], place: usize, name: &str) -> u64 {
-    match queues.get(place) {
-        Some(queue) if queue.name.as_str() == name => queue.number.get(),
-        _ => 0,
-    }
-}
-
-fn number_of(outcome: &Outcome, place: usize, name: &str) -> u64 {
-    match outcome {
-        Outcome::Named(queues) => number_in(queues.as_slice(), place, name),
-        _ => 0,
     }
 }
 
@@ -90,23 +89,14 @@ impl Stage {
         }
     }
 
-    /// The number of the queue at a place among all, where it has this name; 0 else.
-    pub fn named(&mut self, place: usize, name: &str) -> u64 {
-        let step = Step {
-            actor: 1,
-            clock: 0,
-            act: Act::Names,
-        };
-        match self.world.step(self.alloc, &step) {
-            Ok(outcome) => number_of(&outcome, place, name),
-            Err(_) => 0,
-        }
-    }
-
     /// What an actor is answered that does this at a clock reading in ms.
     pub fn told(&mut self, actor: u32, clock: u64, act: Act) -> Answers {
-        let step = Step { actor, clock, act };
-        match self.world.step(self.alloc, &step) {
+        self.answer_to(&Step { actor, clock, act })
+    }
+
+    // What is answered to a step.
+    fn answer_to(&mut self, step: &Step) -> Answers {
+        match self.world.step(self.alloc, step) {
             Ok(outcome) => answer_of_step(&outcome),
             Err(refusal) => Answers::Refused(refusal),
         }

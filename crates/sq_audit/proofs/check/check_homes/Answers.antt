@@ -3,7 +3,7 @@ use Rattle.sq_audit.specs.HomeIds.{home_history, histories_of}
 use Rattle.sq_audit.specs.EvidenceValue.{EvidenceValue}
 use Rattle.sq_audit.specs.declared.check.Part.TheVariants.{Home}
 use Rattle.sq_audit.specs.Faults.{HomeFits, HasEventFault}
-use Rattle.sq_directory.proofs.ElementLaws.{below_more}
+use Rattle.sq_model.proofs.ElementLaws.{below_more}
 use Rattle.sq_audit.proofs.CheckLaws.{read_home, home_fits, home_wrong, all_homes}
 use Rattle.sq_audit.proofs.check.check_homes.Goals as goal
 

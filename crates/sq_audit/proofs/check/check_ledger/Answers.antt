@@ -5,7 +5,7 @@ use Rattle.sq_model.specs.Matches.{InHome, IsOfLedger, IsRecorded}
 use Rattle.sq_audit.specs.EvidenceValue.{EvidenceValue}
 use Rattle.sq_audit.specs.Faults.{HomeHas, LedgerFits}
 use Rattle.sq_audit.proofs.CheckLaws.{all_shared}
-use Rattle.sq_directory.proofs.ElementLaws.{below_more, some_same}
+use Rattle.sq_model.proofs.ElementLaws.{below_more, some_same}
 use Rattle.sq_audit.proofs.check.check_ledger.Goals as goal
 
 pub check_ledger_event-requires-clause-shared : goal.check_ledger_event-requires-clause-shared

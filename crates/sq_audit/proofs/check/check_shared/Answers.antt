@@ -1,6 +1,6 @@
 use Rattle.std.proofs.Common.{rules, ◌<◌, ℕ, length}
 use Rattle.sq_audit.specs.Faults.{LedgerHas}
-use Rattle.sq_directory.proofs.ElementLaws.{below_more}
+use Rattle.sq_model.proofs.ElementLaws.{below_more}
 use Rattle.sq_audit.proofs.CheckLaws.{all_partners}
 use Rattle.sq_audit.proofs.check.check_shared.Goals as goal
 

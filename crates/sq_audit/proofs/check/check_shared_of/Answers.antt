@@ -4,7 +4,7 @@ use Rattle.std.proofs.lemmas.List.{length-map}
 use Rattle.sq_model.specs.Matches.{HomeHistory}
 use Rattle.sq_audit.specs.HomeIds.{home_history, histories_of}
 use Rattle.sq_audit.specs.Faults.{LedgerHas}
-use Rattle.sq_directory.proofs.ElementLaws.{below_more, some_same}
+use Rattle.sq_model.proofs.ElementLaws.{below_more, some_same}
 use Rattle.sq_audit.proofs.CheckLaws.{ledger_has, ledger_lacks, read_home}
 use Rattle.sq_audit.proofs.check.check_shared_of.Goals.{After-events-events, After-check_partner}
 use Rattle.sq_audit.proofs.check.check_shared_of.Goals as goal

@@ -3,7 +3,7 @@ use Rattle.std.proofs.lemmas.Option.{slice_get_within}
 use Rattle.sq_base.specs.Stamps.{Below}
 use Rattle.sq_model.specs.Systems.{DirectoryEvent}
 use Rattle.sq_model.specs.Matches.{IsCreate}
-use Rattle.sq_directory.proofs.ElementLaws.{some_same, below_more}
+use Rattle.sq_model.proofs.ElementLaws.{some_same, below_more}
 use Rattle.sq_audit.proofs.names.is_named_by_any.Goals as goal
 
 pub loop-index-preserved : goal.loop-index-preserved

@@ -1,0 +1,82 @@
+//! The home that a session stays at for a while.
+ghost use Rattle.std.specs.Prelude.{◌≡◌, ◌<◌, ◌-◌, ◌&&◌, None, Some, if◌then◌else◌, length, nat_eq, nat_lt};
+ghost use Rattle.rand.specs.Sample.{IsSampleOf};
+
+use sq_base::ids::HomeNo;
+use sq_sample::sampler::HomeCount;
+
+/// How many choices in a row may fall on a home.
+const LONGEST: u8 = 16;
+
+/// Where a session last sent or found a message, and how many more choices fall there. What lies there is near its processor, and
+/// other sessions seldom have its lock. Which homes are chosen is not promised.
+#[derive(Drop)]
+pub(crate) struct Stay {
+    home: HomeNo,
+    left: u8,
+}
+
+impl Stay {
+    /// No home: the next choice is a random one.
+    pub(crate) fn nowhere() -> Stay
+        ensures { result.left ≡ 0 }
+    {
+        Stay {
+            home: HomeNo::first(),
+            left: 0,
+        }
+    }
+
+    /// The home that the next choice falls on, if it stays at one.
+    pub(crate) fn next(&mut self, homes: HomeCount) -> Option<HomeNo>
+        ensures next { result ≡ (if nat_lt 0 self.old.left && nat_lt self.old.home homes then Some self.old.home else None) }
+        ensures home { self.new.home ≡ self.old.home }
+        ensures left { self.new.left ≡ self.old.left - 1 }
+    {
+        if self.left == 0 {
+            return None;
+        }
+        self.left -= 1;
+        if (self.home.get() as u32) < homes.get() {
+            Some(self.home)
+        } else {
+            None
+        }
+    }
+
+    /// A message was sent or found at a home: a stay there begins, or goes on if it is not over.
+    pub(crate) fn begin(&mut self, home: HomeNo)
+        ensures home { self.new.home ≡ home }
+        ensures left { self.new.left ≡ (if nat_lt 0 self.old.left && nat_eq self.old.home home then self.old.left else 16) }
+    {
+        if self.left == 0 || self.home != home {
+            *self = Stay {
+                home,
+                left: LONGEST,
+            };
+        }
+    }
+
+    /// No message was found at a home, or it refused: a stay there is over.
+    pub(crate) fn end(&mut self, home: HomeNo)
+        ensures home { self.new.home ≡ self.old.home }
+        ensures left { self.new.left ≡ (if nat_eq self.old.home home then 0 else self.old.left) }
+    {
+        if self.home == home {
+            self.left = 0;
+        }
+    }
+}
+
+/// Makes a home the first of those drawn, in place of another if it is not among them.
+pub(crate) fn begin_with(drawn: &mut Vec<HomeNo>, home: HomeNo, homes: HomeCount)
+    requires below { home < homes }
+    requires some { 0 < length drawn.old.items }
+    requires sample { IsSampleOf homes (length drawn.old.items) drawn.old.items }
+    ensures sample { IsSampleOf homes (length drawn.old.items) drawn.new.items }
+{
+    match drawn.iter().position(|it| *it == home) {
+        Some(place) => drawn.swap(0, place),
+        None => drawn[0] = home,
+    }
+}
