@@ -5,14 +5,15 @@ ghost use Rattle.rand.specs.Sample.{IsSampleOf};
 use sq_base::ids::HomeNo;
 use sq_sample::sampler::HomeCount;
 
-/// How many choices in a row may fall on a home.
-const LONGEST: u8 = 16;
+/// Sixteen choices in a row fall on a home, and the one after them falls anywhere.
+const LONGEST: u8 = 17;
 
-/// Where a session last sent or found a message, and how many more choices fall there. What lies there is near its processor, and
-/// other sessions seldom have its lock. Which homes are chosen is not promised.
+/// Where a session last sent or found a message. What lies there is near its processor, and other sessions seldom have its lock. Which
+/// homes are chosen is not promised.
 #[derive(Drop)]
 pub(crate) struct Stay {
     home: HomeNo,
+    /// How many more choices there are until one falls anywhere, that one among them; 0 where it stays nowhere.
     left: u8,
 }
 
@@ -29,25 +30,23 @@ impl Stay {
 
     /// The home that the next choice falls on, if it stays at one.
     pub(crate) fn next(&mut self, homes: HomeCount) -> Option<HomeNo>
-        ensures next { result ≡ (if nat_lt 0 self.old.left && nat_lt self.old.home homes then Some self.old.home else None) }
+        ensures next { result ≡ (if nat_lt 1 self.old.left && nat_lt self.old.home homes then Some self.old.home else None) }
         ensures home { self.new.home ≡ self.old.home }
         ensures left { self.new.left ≡ self.old.left - 1 }
     {
-        if self.left == 0 {
-            return None;
-        }
-        self.left -= 1;
-        if (self.home.get() as u32) < homes.get() {
+        self.left = self.left.saturating_sub(1);
+        if self.left > 0 && (self.home.get() as u32) < homes.get() {
             Some(self.home)
         } else {
             None
         }
     }
 
-    /// A message was sent or found at a home: a stay there begins, or goes on if it is not over.
+    /// A message was sent or found at a home: a stay there begins, or goes on. After its last choice it is over until one falls
+    /// anywhere.
     pub(crate) fn begin(&mut self, home: HomeNo)
         ensures home { self.new.home ≡ home }
-        ensures left { self.new.left ≡ (if nat_lt 0 self.old.left && nat_eq self.old.home home then self.old.left else 16) }
+        ensures left { self.new.left ≡ (if nat_lt 0 self.old.left && nat_eq self.old.home home then self.old.left else 17) }
     {
         if self.left == 0 || self.home != home {
             *self = Stay {
