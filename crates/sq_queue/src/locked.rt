@@ -7,7 +7,7 @@ ghost use Rattle.sq_actions.specs.Performs.{LeavesRecords, Performs};
 ghost use Rattle.sq_queue.specs.Sections.{IsSection, around};
 ghost use Rattle.sq_queue.specs.Services.{service_counts};
 
-use crate::service::{Clock, Gate, Service, take_lock};
+use crate::service::{Clock, Gate, Service, take_lock, take_lock_noting};
 use crate::session::Session;
 use sq_actions::lock_steps::LockSteps;
 use sq_actions::progress::Progress;
@@ -101,10 +101,12 @@ impl<'a, C: Clock + Drop, G: Gate + Drop, D: Ledger, T: Ledger, R: Wait> LockSte
         let Some(index) = home_index(self.service.per_queue, count, &id) else {
             return Err(no_such_home(now));
         };
-        let mut part = take_lock(self.rt, &self.service.homes[index]);
+        let mut was_taken = false;
+        let mut part = take_lock_noting(self.rt, &self.service.homes[index], &mut was_taken);
         self.service.gate.inside(&part.home);
         let session = &mut *self.session;
-        part.step(self.service.alloc, session, now, Some(of.name), &id, act)
+        let name = Some(of.name);
+        part.step(self.service.alloc, session, now, name, &id, act, was_taken)
     }
 
     fn shared_step(

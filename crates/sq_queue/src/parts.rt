@@ -46,7 +46,8 @@ pub struct Placed<S: Store> {
 pub type PlacedHome = Placed<SlotStore>;
 
 impl Placed<SlotStore> {
-    /// A step of the home, where it is the one that is meant; where it is not, which never is, QueueDoesNotExist.
+    /// A step of the home, where it is the one that is meant; where it is not, which never is, QueueDoesNotExist. A session stays at no
+    /// home whose lock was taken.
     pub(crate) fn step<D: Ledger, T: Ledger>(
         &mut self,
         alloc: Global,
@@ -55,6 +56,7 @@ impl Placed<SlotStore> {
         name: Option<QueueName>,
         id: &HomeId,
         act: HomeAct,
+        was_taken: bool,
     ) -> Result<HomeReply, Refusal>
         ensures step { IfOk result (λ reply. HomeMoves self.old.home self.new.home session.old.journal session.new.journal now name (call_of act) reply) }
         ensures at { OnOk result (self.old.id ≡ id.now) }
@@ -68,7 +70,7 @@ impl Placed<SlotStore> {
         }
         let Placed { home, .. } = self;
         let told = home_step(alloc, home, &mut session.journal, now, name, act);
-        session.note(id.home, &told);
+        session.note(id.home, was_taken, &told);
         told
     }
 }

@@ -94,6 +94,19 @@ pub(crate) fn take_lock<'a, T, R: Wait>(rt: &R, lock: &'a Lock<T>) -> MutexGuard
     lock.lock(rt)
 }
 
+/// Takes a lock, and notes whether another thread had it.
+pub(crate) fn take_lock_noting<'a, T, R: Wait>(
+    rt: &R,
+    lock: &'a Lock<T>,
+    was_taken: &mut bool,
+) -> MutexGuard<'a, T> {
+    if let Some(guard) = lock.try_lock() {
+        return guard;
+    }
+    *was_taken = true;
+    take_lock(rt, lock)
+}
+
 /// The parts of a service, each under a lock of its own. A thread holds one lock, or that of a home and then that of the
 /// ledger, and no others together; that of the actors is held alone.
 ///

@@ -100,10 +100,15 @@ impl<D: Ledger, T: Ledger> Session<D, T> {
         Ok(drawn)
     }
 
-    // Where the next calls go: to a home that took or gave a message, and to one that did not no more.
-    pub(crate) fn note(&mut self, home: HomeNo, told: &Result<HomeReply, Refusal>)
+    // Where the next calls go: to a home that took or gave a message, and no more to one that did not, nor to one that another thread
+    // was at.
+    pub(crate) fn note(&mut self, home: HomeNo, was_taken: bool, told: &Result<HomeReply, Refusal>)
         ensures { self.new ≡ self.old }
     {
+        if was_taken {
+            self.stay.end(home);
+            return;
+        }
         match told {
             Ok(HomeReply::Sent(_)) => self.stay.begin(home),
             Ok(HomeReply::Looked(rows)) => {
