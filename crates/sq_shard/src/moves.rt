@@ -15,7 +15,7 @@ use sq_base::row::Row;
 use sq_model::item::Item;
 use sq_model::replies::EnteredRow;
 use sq_model::shared::ItemAct;
-use sq_store::store::Store;
+use sq_store::store::{At, Store};
 
 // The item, where it is there and is one for this home. Refused as UnsupportedOperation.
 fn its<'a>(act: ItemAct, home: &HomeId, item: Option<&'a Item>) -> Result<&'a Item, Refusal>
@@ -45,7 +45,8 @@ impl<S: Store> Shard<S> {
         let Status::Serving = self.status else {
             return Err(Refusal::QueueDoesNotExist);
         };
-        Ok(self.store.find_dead(&self.settings, moment))
+        let settings = self.settings;
+        Ok(self.store.find_dead(&At { settings, moment }))
     }
 
     /// A live message, any of them, as it stands; none where none is live.
@@ -53,8 +54,9 @@ impl<S: Store> Shard<S> {
         ensures found { IfSome result (λ row. IsLiveAt self.now.home moment row.now) }
         ensures none { IfNone result (has_live_row self.now.home moment ≡ false) }
     {
+        let settings = self.settings;
         match self.status {
-            Status::Serving => self.store.find_live(&self.settings, moment),
+            Status::Serving => self.store.find_live(&At { settings, moment }),
             Status::Unopened | Status::Closed => None,
         }
     }
@@ -73,12 +75,8 @@ impl<S: Store> Shard<S> {
         ensures site { self.new.site ≡ self.old.site }
         ensures room { self.new.room ≡ self.old.room }
     {
-        let Shard {
-            store,
-            settings,
-            ..
-        } = self;
-        store.trim(settings, moment);
+        let settings = self.settings;
+        self.store.trim(&At { settings, moment });
     }
 
     /// The queue that dead messages leave for.
@@ -99,7 +97,9 @@ impl<S: Store> Shard<S> {
         ensures site { self.new.site ≡ self.old.site }
         ensures room { self.new.room ≡ self.old.room }
     {
-        self.store.trim(&self.settings, moment);
+        let settings = self.settings;
+        let at = At { settings, moment };
+        self.store.trim(&at);
         match self.store.take_out(row.slot, row.serial) {
             Some(row) => row,
             None => unreachable!(),

@@ -21,7 +21,7 @@ use sq_model::calls::Receipt;
 use sq_model::place::Site;
 use sq_model::replies::{Counts, SentMessage};
 use sq_model::rows::Rows;
-use sq_store::store::Store;
+use sq_store::store::{At, Store};
 use std::alloc::Global;
 use std::marker::Model;
 
@@ -132,7 +132,10 @@ impl<S: Store> Shard<S> {
                 Ok(())
             }
             Status::Serving => {
-                self.store.trim(&self.settings, moment);
+                self.store.trim(&At {
+                    settings: self.settings,
+                    moment,
+                });
                 if self.version < version {
                     self.settings = settings;
                     self.version = version;
@@ -182,7 +185,8 @@ impl<S: Store> Shard<S> {
         if Serial::new(self.next.get() + 1).is_none() {
             return Err(Refusal::Worn);
         }
-        if self.store.count_kept(&self.settings, moment) >= self.site.limits.rows as usize {
+        let settings = self.settings;
+        if self.store.count_kept(&At { settings, moment }) >= self.site.limits.rows as usize {
             return Err(Refusal::OverLimit);
         }
         Ok(())
@@ -198,7 +202,8 @@ impl<S: Store> Shard<S> {
         ensures err { OnErr result (self.new ≡ self.old) }
     {
         make_room(&mut self.store, self.room)?;
-        self.store.trim(&self.settings, moment);
+        let settings = self.settings;
+        self.store.trim(&At { settings, moment });
         let mut row = row;
         row.serial = self.next;
         let slot = self.store.insert(row);
@@ -231,17 +236,19 @@ impl<S: Store> Shard<S> {
             return Err(Refusal::QueueDoesNotExist);
         };
         // Nor is any asked for where nothing is given.
-        if !self.store.has_live(&self.settings, moment) {
+        let settings = self.settings;
+        let at = At { settings, moment };
+        if !self.store.has_live(&at) {
             return Ok(Some(Rows::none()));
         }
-        let flying = self.store.count_flying(&self.settings, moment);
+        let flying = self.store.count_flying(&at);
         let room = (self.site.limits.flights as usize).saturating_sub(flying);
         if room == 0 {
             return Ok(None);
         }
         let until = after_seconds(moment, timeout.unwrap_or(self.settings.timeout).get());
         let most = room.min(max.get() as usize);
-        let picked = self.store.pick(alloc, &self.settings, moment, until, most)?;
+        let picked = self.store.pick(alloc, &at, until, most)?;
         Ok(Some(Rows::of(alloc, picked)?))
     }
 
@@ -258,12 +265,12 @@ impl<S: Store> Shard<S> {
         let Status::Serving = self.status else {
             return;
         };
-        self.store.trim(&self.settings, moment);
+        let settings = self.settings;
+        let at = At { settings, moment };
+        self.store.trim(&at);
         let until = after_seconds(moment, timeout.unwrap_or(self.settings.timeout).get());
         match picked {
-            Some(picked) => self
-                .store
-                .receive(&self.settings, picked.as_slice(), moment, until),
+            Some(picked) => self.store.receive(&at, picked.as_slice(), until),
             None => {}
         }
     }
@@ -306,7 +313,8 @@ impl<S: Store> Shard<S> {
         if receipt.serial >= self.next {
             return Err(Refusal::ReceiptHandleIsInvalid);
         }
-        self.store.trim(&self.settings, moment);
+        let settings = self.settings;
+        self.store.trim(&At { settings, moment });
         self.store.take(&receipt);
         Ok(())
     }
@@ -331,17 +339,16 @@ impl<S: Store> Shard<S> {
         if self.next <= receipt.serial {
             return Err(Refusal::ReceiptHandleIsInvalid);
         }
-        if !self.store.has_held(&self.settings, moment, &receipt) {
+        let settings = self.settings;
+        let at = At { settings, moment };
+        if !self.store.has_held(&at, &receipt) {
             return Err(Refusal::MessageNotInflight);
         }
-        if self
-            .store
-            .has_late(&self.settings, moment, &receipt, timeout)
-        {
+        if self.store.has_late(&at, &receipt, timeout) {
             return Err(Refusal::InvalidParameterValue);
         }
         let until = after_seconds(moment, timeout.get());
-        self.store.trim(&self.settings, moment);
+        self.store.trim(&at);
         self.store.change(&receipt, moment, until);
         Ok(())
     }
@@ -376,7 +383,8 @@ impl<S: Store> Shard<S> {
         let Status::Serving = self.status else {
             return Err(Refusal::QueueDoesNotExist);
         };
-        self.store.trim(&self.settings, moment);
+        let settings = self.settings;
+        self.store.trim(&At { settings, moment });
         Ok(self.store.count(moment))
     }
 

@@ -9,10 +9,10 @@ ghost use Rattle.sq_store.specs.SlotStores.{IsFromBefore};
 
 use crate::rows;
 use crate::slots::SlotStore;
+use crate::store::At;
 use sq_base::ids::Serial;
 use sq_base::refusal::Refusal;
 use sq_base::row::Row;
-use sq_base::settings::Settings;
 use sq_deadline::index::DeadlineIndex;
 use sq_model::listed::Listed;
 use sq_slots::table::SlotTable;
@@ -25,13 +25,13 @@ pub(crate) enum Wanted {
 }
 
 // Whether a row is not past its retention, and is one that is looked for.
-fn is_wanted(what: Wanted, settings: &Settings, moment: u64, row: &Row) -> bool
-    ensures { result ≡ is_kept_and (wanted what settings.now moment) settings.now moment row.now }
+fn is_wanted(what: Wanted, at: &At, row: &Row) -> bool
+    ensures { result ≡ is_kept_and (wanted what at.now.settings at.now.moment) at.now.settings at.now.moment row.now }
 {
-    rows::is_kept(settings, moment, row)
+    rows::is_kept(at, row)
         && match what {
-            Wanted::Live => rows::is_live(settings, moment, row),
-            Wanted::Dead => rows::is_dead(settings, moment, row),
+            Wanted::Live => rows::is_live(at, row),
+            Wanted::Dead => rows::is_dead(at, row),
         }
 }
 
@@ -40,20 +40,19 @@ pub(crate) fn first_of<'a>(
     table: &'a SlotTable,
     index: &DeadlineIndex,
     what: Wanted,
-    settings: &Settings,
-    moment: u64,
+    at: &At,
 ) -> Option<&'a Row>
-    ensures one { IfSome result (λ row. IsOneOf (wanted what settings.now moment) (model.trimmed settings.now moment table.now.rows) row.now) }
-    ensures none { IfNone result (found_due (is_kept_and (wanted what settings.now moment) settings.now moment) table.now.rows moment index.now.deadlines ≡ []) }
+    ensures one { IfSome result (λ row. IsOneOf (wanted what at.now.settings at.now.moment) (model.trimmed at.now.settings at.now.moment table.now.rows) row.now) }
+    ensures none { IfNone result (found_due (is_kept_and (wanted what at.now.settings at.now.moment) at.now.settings at.now.moment) table.now.rows at.now.moment index.now.deadlines ≡ []) }
     ensures apart { AreApart table.now.rows }
 {
     if table.len() == 0 {
         return None;
     }
     for place in 0..index.len() {
-        let due = index.nth_due(place, moment)?;
+        let due = index.nth_due(place, at.moment)?;
         if let Some(row) = table.at(due.slot) {
-            if is_wanted(what, settings, moment, row) {
+            if is_wanted(what, at, row) {
                 return Some(row);
             }
         }
@@ -67,13 +66,12 @@ pub(crate) fn pick_of(
     picked: &mut Listed<Row>,
     table: &SlotTable,
     index: &DeadlineIndex,
-    settings: &Settings,
-    moment: u64,
+    at: &At,
     until: u64,
     max: usize,
 ) -> Result<(), Refusal>
     requires { length picked.old ≤ max }
-    ensures picked { OnOk result (picked.new ≡ take max (picked.old ++ map (model.received moment until) (found_due (is_kept_and (model.is_live settings.now moment) settings.now moment) table.now.rows moment index.now.deadlines))) }
+    ensures picked { OnOk result (picked.new ≡ take max (picked.old ++ map (model.received at.now.moment until) (found_due (is_kept_and (model.is_live at.now.settings at.now.moment) at.now.settings at.now.moment) table.now.rows at.now.moment index.now.deadlines))) }
     ensures err { IfErr result (λ e. e ≡ Refusal.NoMemory) }
     ensures apart { AreApart table.now.rows }
 {
@@ -84,12 +82,12 @@ pub(crate) fn pick_of(
         if picked.len() == max {
             return Ok(());
         }
-        let Some(due) = index.nth_due(place, moment) else {
+        let Some(due) = index.nth_due(place, at.moment) else {
             return Ok(());
         };
         if let Some(row) = table.at(due.slot) {
-            if is_wanted(Wanted::Live, settings, moment, row) {
-                picked.push(rows::received_copy(row, moment, until)?)?;
+            if is_wanted(Wanted::Live, at, row) {
+                picked.push(rows::received_copy(row, at.moment, until)?)?;
             }
         }
     }

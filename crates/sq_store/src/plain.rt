@@ -5,12 +5,11 @@ ghost use Rattle.sq_model.specs.Rows as model;
 ghost use Rattle.sq_slots.specs.Slots.{is_at};
 
 use crate::rows;
-use crate::store::Store;
+use crate::store::{At, Store};
 use sq_base::ids::Serial;
 use sq_base::ranges::Timeout;
 use sq_base::refusal::Refusal;
 use sq_base::row::Row;
-use sq_base::settings::Settings;
 use sq_model::calls::Receipt;
 use sq_model::listed::Listed;
 use sq_model::replies::Counts;
@@ -41,19 +40,19 @@ fn index_at(rows: &[Row], slot: u32, serial: Serial) -> Option<usize>
 }
 
 // Where the first dead one of the kept rows is.
-fn first_dead(rows: &[Row], settings: &Settings, moment: u64) -> Option<usize>
-    ensures { result ≡ position (λ row. not (model.is_expired settings.now moment row) && model.is_dead settings.now moment row) rows.now }
+fn first_dead(rows: &[Row], at: &At) -> Option<usize>
+    ensures { result ≡ position (λ row. not (model.is_expired at.now.settings at.now.moment row) && model.is_dead at.now.settings at.now.moment row) rows.now }
 {
-    rows.iter().position(|row| rows::is_kept(settings, moment, row)
-        && rows::is_dead(settings, moment, row))
+    rows.iter()
+        .position(|row| rows::is_kept(at, row) && rows::is_dead(at, row))
 }
 
 // Where the first live one of the kept rows is.
-fn first_live(rows: &[Row], settings: &Settings, moment: u64) -> Option<usize>
-    ensures { result ≡ position (λ row. not (model.is_expired settings.now moment row) && model.is_live settings.now moment row) rows.now }
+fn first_live(rows: &[Row], at: &At) -> Option<usize>
+    ensures { result ≡ position (λ row. not (model.is_expired at.now.settings at.now.moment row) && model.is_live at.now.settings at.now.moment row) rows.now }
 {
-    rows.iter().position(|row| rows::is_kept(settings, moment, row)
-        && rows::is_live(settings, moment, row))
+    rows.iter()
+        .position(|row| rows::is_kept(at, row) && rows::is_live(at, row))
 }
 
 fn count_visible(rows: &[Row], moment: u64) -> usize
@@ -82,21 +81,17 @@ fn count_delayed(rows: &[Row], moment: u64) -> usize
 fn pick_first(
     alloc: Global,
     rows: &[Row],
-    settings: &Settings,
-    moment: u64,
+    at: &At,
     until: u64,
     max: usize,
 ) -> Result<Listed<Row>, Refusal>
-    ensures picked { IfOk result (λ picked. picked ≡ take max (map (model.received moment until) (filter (model.is_live settings.now moment) (model.trimmed settings.now moment rows.now)))) }
+    ensures picked { IfOk result (λ picked. picked ≡ take max (map (model.received at.now.moment until) (filter (model.is_live at.now.settings at.now.moment) (model.trimmed at.now.settings at.now.moment rows.now)))) }
     ensures err { IfErr result (λ e. e ≡ Refusal.NoMemory) }
 {
     let mut picked = Listed::new(alloc);
     for row in rows {
-        if picked.len() < max
-            && rows::is_kept(settings, moment, row)
-            && rows::is_live(settings, moment, row)
-        {
-            picked.push(rows::received_copy(row, moment, until)?)?;
+        if picked.len() < max && rows::is_kept(at, row) && rows::is_live(at, row) {
+            picked.push(rows::received_copy(row, at.moment, until)?)?;
         }
     }
     Ok(picked)
@@ -108,12 +103,12 @@ fn has_serial(rows: &[Row], serial: Serial) -> bool
     rows.iter().map(|row| row.serial).any(|c| c == serial)
 }
 
-fn receive_row(row: &mut Row, settings: &Settings, picked: &[Row], moment: u64, until: u64)
-    ensures { row.new ≡ model.received_if settings.now (model.serials_of picked.now) moment until row.old }
+fn receive_row(row: &mut Row, at: &At, picked: &[Row], until: u64)
+    ensures { row.new ≡ model.received_if at.now.settings (model.serials_of picked.now) at.now.moment until row.old }
 {
-    if rows::is_live(settings, moment, row) && has_serial(picked, row.serial) {
+    if rows::is_live(at, row) && has_serial(picked, row.serial) {
         row.receives += 1;
-        row.last_receive = Some(moment);
+        row.last_receive = Some(at.moment);
         row.visible_from = until;
     }
 }
@@ -156,61 +151,54 @@ impl Store for PlainStore {
 
     ghost reserved = { λ s. vec_capacity s.rows - vec_len s.rows };
 
-    fn count_kept(&self, settings: &Settings, moment: u64) -> usize {
+    fn count_kept(&self, at: &At) -> usize {
         self.rows
             .iter()
-            .filter(|row| rows::is_kept(settings, moment, row))
+            .filter(|row| rows::is_kept(at, row))
             .count()
     }
 
-    fn count_flying(&self, settings: &Settings, moment: u64) -> usize {
+    fn count_flying(&self, at: &At) -> usize {
         self.rows
             .iter()
-            .filter(|row| rows::is_kept(settings, moment, row))
-            .filter(|row| rows::is_flying(moment, row))
+            .filter(|row| rows::is_kept(at, row))
+            .filter(|row| rows::is_flying(at.moment, row))
             .count()
     }
 
-    fn has_live(&self, settings: &Settings, moment: u64) -> bool {
+    fn has_live(&self, at: &At) -> bool {
         self.rows
             .iter()
-            .filter(|row| rows::is_kept(settings, moment, row))
-            .any(|row| rows::is_live(settings, moment, row))
+            .filter(|row| rows::is_kept(at, row))
+            .any(|row| rows::is_live(at, row))
     }
 
-    fn find_dead(&self, settings: &Settings, moment: u64) -> Option<&Row> {
-        match first_dead(&self.rows, settings, moment) {
-            Some(at) => Some(&self.rows[at]),
+    fn find_dead(&self, at: &At) -> Option<&Row> {
+        match first_dead(&self.rows, at) {
+            Some(first) => Some(&self.rows[first]),
             None => None,
         }
     }
 
-    fn find_live(&self, settings: &Settings, moment: u64) -> Option<&Row> {
-        match first_live(&self.rows, settings, moment) {
+    fn find_live(&self, at: &At) -> Option<&Row> {
+        match first_live(&self.rows, at) {
             Some(place) => Some(&self.rows[place]),
             None => None,
         }
     }
 
-    fn has_held(&self, settings: &Settings, moment: u64, receipt: &Receipt) -> bool {
+    fn has_held(&self, at: &At, receipt: &Receipt) -> bool {
         self.rows
             .iter()
-            .filter(|row| rows::is_kept(settings, moment, row))
-            .any(|row| rows::is_held(moment, receipt, row))
+            .filter(|row| rows::is_kept(at, row))
+            .any(|row| rows::is_held(at.moment, receipt, row))
     }
 
-    fn has_late(
-        &self,
-        settings: &Settings,
-        moment: u64,
-        receipt: &Receipt,
-        timeout: Timeout,
-    ) -> bool {
-        self.rows
-            .iter()
-            .filter(|row| rows::is_kept(settings, moment, row))
-            .any(|row| rows::is_held(moment, receipt, row)
-                && rows::is_late(moment, timeout, row.last_receive))
+    fn has_late(&self, at: &At, receipt: &Receipt, timeout: Timeout) -> bool {
+        self.rows.iter().filter(|row| rows::is_kept(at, row)).any(|row| {
+            rows::is_held(at.moment, receipt, row)
+                && rows::is_late(at.moment, timeout, row.last_receive)
+        })
     }
 
     #[tactic(auto, using(crate::proofs::FoundLaws::few_counted))]
@@ -222,15 +210,8 @@ impl Store for PlainStore {
         }
     }
 
-    fn pick(
-        &self,
-        alloc: Global,
-        settings: &Settings,
-        moment: u64,
-        until: u64,
-        max: usize,
-    ) -> Result<Listed<Row>, Refusal> {
-        pick_first(alloc, &self.rows, settings, moment, until, max)
+    fn pick(&self, alloc: Global, at: &At, until: u64, max: usize) -> Result<Listed<Row>, Refusal> {
+        pick_first(alloc, &self.rows, at, until, max)
     }
 
     fn spare(&self) -> usize {
@@ -242,8 +223,8 @@ impl Store for PlainStore {
         Ok(())
     }
 
-    fn trim(&mut self, settings: &Settings, moment: u64) {
-        self.rows.retain(|row| rows::is_kept(settings, moment, row))
+    fn trim(&mut self, at: &At) {
+        self.rows.retain(|row| rows::is_kept(at, row))
     }
 
     fn insert(&mut self, row: Row) -> u32 {
@@ -255,9 +236,9 @@ impl Store for PlainStore {
         slot
     }
 
-    fn receive(&mut self, settings: &Settings, picked: &[Row], moment: u64, until: u64) {
+    fn receive(&mut self, at: &At, picked: &[Row], until: u64) {
         for row in self.rows.iter_mut() {
-            receive_row(row, settings, picked, moment, until);
+            receive_row(row, at, picked, until);
         }
     }
 

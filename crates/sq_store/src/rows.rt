@@ -5,28 +5,30 @@ ghost use Rattle.sq_model.specs.Rows as model;
 ghost use Rattle.sq_slots.specs.Slots as slots;
 ghost use Rattle.sq_store.specs.Due as due;
 
+use crate::store::At;
 use sq_base::ids::Serial;
 use sq_base::ranges::Timeout;
 use sq_base::refusal::Refusal;
 use sq_base::row::Row;
-use sq_base::settings::{Redrive, Settings};
+use sq_base::settings::Redrive;
 use sq_model::calls::Receipt;
 use sq_model::rows::copy_row;
 
 /// Whether a row is not past its retention.
-pub(crate) fn is_kept(settings: &Settings, moment: u64, row: &Row) -> bool
-    ensures { result ≡ not (model.is_expired settings.now moment row.now) }
+pub(crate) fn is_kept(at: &At, row: &Row) -> bool
+    ensures { result ≡ not (model.is_expired at.now.settings at.now.moment row.now) }
 {
-    let retention = settings.retention.get() as u64 * 1000;
-    moment < retention || moment - retention < row.enqueued
+    let retention = at.settings.retention.get() as u64 * 1000;
+    at.moment < retention || at.moment - retention < row.enqueued
 }
 
 /// The last moment at which a row that is past its retention now came in; none where no row can be past it.
-pub(crate) fn expired_bound(settings: &Settings, moment: u64) -> Option<u64>
-    ensures some { IfSome result (λ bound. (row : RowValue) → model.is_expired settings.now moment row ≡ nat_le row.enqueued bound) }
-    ensures none { IfNone result ((row : RowValue) → model.is_expired settings.now moment row ≡ false) }
+pub(crate) fn expired_bound(at: &At) -> Option<u64>
+    ensures some { IfSome result (λ bound. (row : RowValue) → model.is_expired at.now.settings at.now.moment row ≡ nat_le row.enqueued bound) }
+    ensures none { IfNone result ((row : RowValue) → model.is_expired at.now.settings at.now.moment row ≡ false) }
 {
-    moment.checked_sub(settings.retention.get() as u64 * 1000)
+    at.moment
+        .checked_sub(at.settings.retention.get() as u64 * 1000)
 }
 
 /// How often a row is received until a look gives it no more: as the policy says, or as often as can be counted.
@@ -56,17 +58,17 @@ fn is_spent(policy: &Option<Redrive>, row: &Row) -> bool
 }
 
 /// Whether a row is dead: visible, and received as often as the policy lets it be.
-pub(crate) fn is_dead(settings: &Settings, moment: u64, row: &Row) -> bool
-    ensures { result ≡ model.is_dead settings.now moment row.now }
+pub(crate) fn is_dead(at: &At, row: &Row) -> bool
+    ensures { result ≡ model.is_dead at.now.settings at.now.moment row.now }
 {
-    row.visible_from <= moment && is_spent(&settings.redrive, row)
+    row.visible_from <= at.moment && is_spent(&at.settings.redrive, row)
 }
 
 /// Whether a look may give a row: visible, not dead, and received less often than can be counted.
-pub(crate) fn is_live(settings: &Settings, moment: u64, row: &Row) -> bool
-    ensures { result ≡ model.is_live settings.now moment row.now }
+pub(crate) fn is_live(at: &At, row: &Row) -> bool
+    ensures { result ≡ model.is_live at.now.settings at.now.moment row.now }
 {
-    row.visible_from <= moment && !is_dead(settings, moment, row) && row.receives < u32::MAX
+    row.visible_from <= at.moment && !is_dead(at, row) && row.receives < u32::MAX
 }
 
 /// Whether slot, serial and receive number of a row are those of a receipt.

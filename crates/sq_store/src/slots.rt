@@ -4,13 +4,12 @@ ghost use Rattle.sq_store.specs.SlotStores.{received_at, reserved_in};
 
 use crate::due::{Wanted, count_flying_of, first_of, pick_of};
 use crate::rows;
-use crate::store::Store;
+use crate::store::{At, Store};
 use crate::visible::VisibleFrom;
 use sq_base::ids::Serial;
 use sq_base::ranges::Timeout;
 use sq_base::refusal::Refusal;
 use sq_base::row::Row;
-use sq_base::settings::Settings;
 use sq_deadline::index::DeadlineIndex;
 use sq_model::calls::Receipt;
 use sq_model::listed::Listed;
@@ -53,23 +52,16 @@ impl SlotStore {
     }
 
     // Receives the row of a slot and a serial, where it is live.
-    fn receive_row(
-        &mut self,
-        settings: &Settings,
-        slot: u32,
-        serial: Serial,
-        moment: u64,
-        until: u64,
-    )
-        ensures rows { self.new.table.rows ≡ map (received_at settings.now slot serial moment until) self.old.table.rows }
+    fn receive_row(&mut self, at: &At, slot: u32, serial: Serial, until: u64)
+        ensures rows { self.new.table.rows ≡ map (received_at at.now.settings slot serial at.now.moment until) self.old.table.rows }
         ensures reserved { reserved_in self.old ≤ reserved_in self.new }
     {
         let Some(row) = self.table.get(slot, serial) else {
             return;
         };
-        if rows::is_live(settings, moment, row) {
+        if rows::is_live(at, row) {
             let receives = row.receives + 1;
-            self.revise(slot, serial, receives, until, Some(moment));
+            self.revise(slot, serial, receives, until, Some(at.moment));
         }
     }
 }
@@ -80,78 +72,70 @@ impl Store for SlotStore {
     ghost reserved = { λ s. reserved_in s };
 
     // Found by binary search.
-    fn count_kept(&self, settings: &Settings, moment: u64) -> usize {
-        match rows::expired_bound(settings, moment) {
+    fn count_kept(&self, at: &At) -> usize {
+        match rows::expired_bound(at) {
             Some(bound) => self.table.len() - self.ages.count_due(bound),
             None => self.table.len(),
         }
     }
 
     // It takes time by the rows that a trim does not keep.
-    fn count_flying(&self, settings: &Settings, moment: u64) -> usize {
-        let flying = self.count_flying_rows(moment);
-        match rows::expired_bound(settings, moment) {
-            Some(bound) => flying - count_flying_of(&self.table, &self.ages, bound, moment),
+    fn count_flying(&self, at: &At) -> usize {
+        let flying = self.count_flying_rows(at.moment);
+        match rows::expired_bound(at) {
+            Some(bound) => flying - count_flying_of(&self.table, &self.ages, bound, at.moment),
             None => flying,
         }
     }
 
-    fn has_live(&self, settings: &Settings, moment: u64) -> bool {
-        self.find_live(settings, moment).is_some()
+    fn has_live(&self, at: &At) -> bool {
+        self.find_live(at).is_some()
     }
 
     // It takes time by the rows that are due before it and not dead.
-    fn find_dead(&self, settings: &Settings, moment: u64) -> Option<&Row> {
-        let Some(redrive) = &settings.redrive else {
+    fn find_dead(&self, at: &At) -> Option<&Row> {
+        let Some(redrive) = &at.settings.redrive else {
             return None;
         };
         let (table, visible) = (&self.table, &self.visible);
-        if let Some(row) = first_of(table, &visible.spent, Wanted::Dead, settings, moment) {
+        if let Some(row) = first_of(table, &visible.spent, Wanted::Dead, at) {
             return Some(row);
         }
         if visible.most <= redrive.max_receives.get() {
             return None;
         }
-        first_of(table, &visible.again, Wanted::Dead, settings, moment)
+        first_of(table, &visible.again, Wanted::Dead, at)
     }
 
     // It takes time by the rows that are due before it and not live.
-    fn find_live(&self, settings: &Settings, moment: u64) -> Option<&Row> {
+    fn find_live(&self, at: &At) -> Option<&Row> {
         let (table, visible) = (&self.table, &self.visible);
-        if let Some(row) = first_of(table, &visible.fresh, Wanted::Live, settings, moment) {
+        if let Some(row) = first_of(table, &visible.fresh, Wanted::Live, at) {
             return Some(row);
         }
-        if let Some(row) = first_of(table, &visible.again, Wanted::Live, settings, moment) {
+        if let Some(row) = first_of(table, &visible.again, Wanted::Live, at) {
             return Some(row);
         }
-        if rows::most_under(&settings.redrive) <= visible.most {
+        if rows::most_under(&at.settings.redrive) <= visible.most {
             return None;
         }
-        first_of(table, &visible.spent, Wanted::Live, settings, moment)
+        first_of(table, &visible.spent, Wanted::Live, at)
     }
 
     // It is found by its slot, in no time that grows.
-    fn has_held(&self, settings: &Settings, moment: u64, receipt: &Receipt) -> bool {
+    fn has_held(&self, at: &At, receipt: &Receipt) -> bool {
         match self.table.get(receipt.slot, receipt.serial) {
-            Some(row) => {
-                rows::is_kept(settings, moment, row) && rows::is_held(moment, receipt, row)
-            }
+            Some(row) => rows::is_kept(at, row) && rows::is_held(at.moment, receipt, row),
             None => false,
         }
     }
 
     // It is found by its slot, in no time that grows.
-    fn has_late(
-        &self,
-        settings: &Settings,
-        moment: u64,
-        receipt: &Receipt,
-        timeout: Timeout,
-    ) -> bool {
+    fn has_late(&self, at: &At, receipt: &Receipt, timeout: Timeout) -> bool {
         let Some(row) = self.table.get(receipt.slot, receipt.serial) else {
             return false;
         };
-        self.has_held(settings, moment, receipt) && rows::is_late(moment, timeout, row.last_receive)
+        self.has_held(at, receipt) && rows::is_late(at.moment, timeout, row.last_receive)
     }
 
     // Found by binary search.
@@ -168,29 +152,14 @@ impl Store for SlotStore {
 
     // Those first that have been visible longest, by the oldest of those never received and of the others. It takes time by them,
     // and by the rows that are due before them and not live.
-    fn pick(
-        &self,
-        alloc: Global,
-        settings: &Settings,
-        moment: u64,
-        until: u64,
-        max: usize,
-    ) -> Result<Listed<Row>, Refusal> {
+    fn pick(&self, alloc: Global, at: &At, until: u64, max: usize) -> Result<Listed<Row>, Refusal> {
         let (table, visible) = (&self.table, &self.visible);
-        let (first, second) = visible.in_turn(moment);
+        let (first, second) = visible.in_turn(at.moment);
         let mut picked = Listed::new(alloc);
-        pick_of(&mut picked, table, first, settings, moment, until, max)?;
-        pick_of(&mut picked, table, second, settings, moment, until, max)?;
-        if visible.most < rows::most_under(&settings.redrive) {
-            pick_of(
-                &mut picked,
-                table,
-                &visible.spent,
-                settings,
-                moment,
-                until,
-                max,
-            )?;
+        pick_of(&mut picked, table, first, at, until, max)?;
+        pick_of(&mut picked, table, second, at, until, max)?;
+        if visible.most < rows::most_under(&at.settings.redrive) {
+            pick_of(&mut picked, table, &visible.spent, at, until, max)?;
         }
         Ok(picked)
     }
@@ -211,13 +180,13 @@ impl Store for SlotStore {
 
     // One after another; and keeps the rows apart that these settings make spent. It takes time by the rows that it leaves out; and
     // by all rows, where the number of receives that makes a row spent has changed.
-    fn trim(&mut self, settings: &Settings, moment: u64) {
-        self.split(rows::most_under(&settings.redrive));
-        let Some(bound) = rows::expired_bound(settings, moment) else {
+    fn trim(&mut self, at: &At) {
+        self.split(rows::most_under(&at.settings.redrive));
+        let Some(bound) = rows::expired_bound(at) else {
             return;
         };
-        while let Some(at) = self.oldest(bound) {
-            self.remove(at.0, at.1);
+        while let Some(oldest) = self.oldest(bound) {
+            self.remove(oldest.0, oldest.1);
         }
     }
 
@@ -226,9 +195,9 @@ impl Store for SlotStore {
     }
 
     // In time by these, each found by its slot.
-    fn receive(&mut self, settings: &Settings, picked: &[Row], moment: u64, until: u64) {
+    fn receive(&mut self, at: &At, picked: &[Row], until: u64) {
         for row in picked {
-            self.receive_row(settings, row.slot, row.serial, moment, until);
+            self.receive_row(at, row.slot, row.serial, until);
         }
     }
 

@@ -17,6 +17,13 @@ use sq_model::listed::Listed;
 use sq_model::replies::Counts;
 use std::alloc::Global;
 
+/// The settings of a home, and the moment of a step there, in ms.
+#[derive(Clone, Copy)]
+pub struct At {
+    pub settings: Settings,
+    pub moment: u64,
+}
+
 /// The rows of a home, in whatever form they are kept. Moments are in ms.
 pub trait Store: Drop {
     /// The rows, in the order in which they came.
@@ -26,41 +33,35 @@ pub trait Store: Drop {
     ghost reserved: { Self → ℕ };
 
     /// How many rows a trim at this moment keeps.
-    fn count_kept(&self, settings: &Settings, moment: u64) -> usize
-        ensures { result ≡ length (trimmed settings.now moment (rows self.now)) };
+    fn count_kept(&self, at: &At) -> usize
+        ensures { result ≡ length (trimmed at.now.settings at.now.moment (rows self.now)) };
 
     /// How many of the rows that a trim at this moment keeps are in flight.
-    fn count_flying(&self, settings: &Settings, moment: u64) -> usize
-        ensures { result ≡ count_by (is_flying moment) (trimmed settings.now moment (rows self.now)) };
+    fn count_flying(&self, at: &At) -> usize
+        ensures { result ≡ count_by (is_flying at.now.moment) (trimmed at.now.settings at.now.moment (rows self.now)) };
 
     /// Whether one of them is live.
-    fn has_live(&self, settings: &Settings, moment: u64) -> bool
-        ensures { result ≡ list_any (is_live settings.now moment) (trimmed settings.now moment (rows self.now)) };
+    fn has_live(&self, at: &At) -> bool
+        ensures { result ≡ list_any (is_live at.now.settings at.now.moment) (trimmed at.now.settings at.now.moment (rows self.now)) };
 
     /// A dead one of them, any.
-    fn find_dead(&self, settings: &Settings, moment: u64) -> Option<&Row>
-        ensures one { IfSome result (λ row. IsOneOf (is_dead settings.now moment) (trimmed settings.now moment (rows self.now)) row.now) }
-        ensures none { IfNone result (list_any (is_dead settings.now moment) (trimmed settings.now moment (rows self.now)) ≡ false) };
+    fn find_dead(&self, at: &At) -> Option<&Row>
+        ensures one { IfSome result (λ row. IsOneOf (is_dead at.now.settings at.now.moment) (trimmed at.now.settings at.now.moment (rows self.now)) row.now) }
+        ensures none { IfNone result (list_any (is_dead at.now.settings at.now.moment) (trimmed at.now.settings at.now.moment (rows self.now)) ≡ false) };
 
     /// A live one of them, any.
-    fn find_live(&self, settings: &Settings, moment: u64) -> Option<&Row>
-        ensures one { IfSome result (λ row. IsOneOf (is_live settings.now moment) (trimmed settings.now moment (rows self.now)) row.now) }
-        ensures none { IfNone result (list_any (is_live settings.now moment) (trimmed settings.now moment (rows self.now)) ≡ false) };
+    fn find_live(&self, at: &At) -> Option<&Row>
+        ensures one { IfSome result (λ row. IsOneOf (is_live at.now.settings at.now.moment) (trimmed at.now.settings at.now.moment (rows self.now)) row.now) }
+        ensures none { IfNone result (list_any (is_live at.now.settings at.now.moment) (trimmed at.now.settings at.now.moment (rows self.now)) ≡ false) };
 
     /// Whether one of them is the row of a receipt, and in flight.
-    fn has_held(&self, settings: &Settings, moment: u64, receipt: &Receipt) -> bool
-        ensures { result ≡ list_any (is_held moment receipt.now) (trimmed settings.now moment (rows self.now)) };
+    fn has_held(&self, at: &At, receipt: &Receipt) -> bool
+        ensures { result ≡ list_any (is_held at.now.moment receipt.now) (trimmed at.now.settings at.now.moment (rows self.now)) };
 
     /// Whether that row would be hidden for more than 12 hours after its last receive, if it were hidden for so many
     /// seconds from the moment on.
-    fn has_late(
-        &self,
-        settings: &Settings,
-        moment: u64,
-        receipt: &Receipt,
-        timeout: Timeout,
-    ) -> bool
-        ensures { result ≡ list_any (λ row. is_held moment receipt.now row && is_late (moment + ms timeout) row.last_receive) (trimmed settings.now moment (rows self.now)) };
+    fn has_late(&self, at: &At, receipt: &Receipt, timeout: Timeout) -> bool
+        ensures { result ≡ list_any (λ row. is_held at.now.moment receipt.now row && is_late (at.now.moment + ms timeout) row.last_receive) (trimmed at.now.settings at.now.moment (rows self.now)) };
 
     /// How many rows are in which state, of those that are there.
     fn count(&self, moment: u64) -> Counts
@@ -68,16 +69,9 @@ pub trait Store: Drop {
         ensures { result ≡ counts_of moment (rows self.now) };
 
     /// Up to `max` of the live ones, as they stand after a receive that hides them until a moment. Refused as NoMemory.
-    fn pick(
-        &self,
-        alloc: Global,
-        settings: &Settings,
-        moment: u64,
-        until: u64,
-        max: usize,
-    ) -> Result<Listed<Row>, Refusal>
+    fn pick(&self, alloc: Global, at: &At, until: u64, max: usize) -> Result<Listed<Row>, Refusal>
         requires { (next : ℕ) × RisesFrom 0 (rows self.now) next }
-        ensures look { IfOk result (λ picked. IsLook settings.now moment until max (trimmed settings.now moment (rows self.now)) picked) }
+        ensures look { IfOk result (λ picked. IsLook at.now.settings at.now.moment until max (trimmed at.now.settings at.now.moment (rows self.now)) picked) }
         ensures err { IfErr result (λ e. e ≡ Refusal.NoMemory) };
 
     /// For how many more rows there is memory.
@@ -92,8 +86,8 @@ pub trait Store: Drop {
         ensures err { IfErr result (λ e. e ≡ Refusal.NoMemory) };
 
     /// Leaves out the rows past their retention.
-    fn trim(&mut self, settings: &Settings, moment: u64)
-        ensures rows { rows self.new ≡ trimmed settings.now moment (rows self.old) }
+    fn trim(&mut self, at: &At)
+        ensures rows { rows self.new ≡ trimmed at.now.settings at.now.moment (rows self.old) }
         ensures reserved { reserved self.old ≤ reserved self.new };
 
     /// Puts a row last, whose serial is above all, in a slot that no row has, and gives the slot.
@@ -107,9 +101,9 @@ pub trait Store: Drop {
 
     /// Receives at a moment the live rows with the serials of these, which have the slots that they have here, and hides them
     /// until another.
-    fn receive(&mut self, settings: &Settings, picked: &[Row], moment: u64, until: u64)
+    fn receive(&mut self, at: &At, picked: &[Row], until: u64)
         requires picked { AreTheirs (rows self.old) picked.now }
-        ensures rows { rows self.new ≡ map (received_if settings.now (serials_of picked.now) moment until) (rows self.old) }
+        ensures rows { rows self.new ≡ map (received_if at.now.settings (serials_of picked.now) at.now.moment until) (rows self.old) }
         ensures reserved { reserved self.old ≤ reserved self.new };
 
     /// Takes out the row on which slot, serial and receive number agree.

@@ -14,30 +14,30 @@ use Rattle.sq_store.proofs.due.pick_of.Goals.{in-Some-at+then-is_wanted+in_ok-re
 
 pub returns-then-len-eq0-clause-picked : goal.returns-then-len-eq0-clause-picked
 returns-then-len-eq0-clause-picked c =
-    rw (found_in_none (is_kept_and (is_live c.args.settings.now c.args.moment) c.args.settings.now c.args.moment) c.args.table.now.rows c.args.moment c.args.index.now.deadlines (omega arith), append-nil c.args.picked.now)
+    rw (found_in_none (is_kept_and (is_live c.args.at.now.settings c.args.at.now.moment) c.args.at.now.settings c.args.at.now.moment) c.args.table.now.rows c.args.at.now.moment c.args.index.now.deadlines (omega arith), append-nil c.args.picked.now)
     (sym (take_all c.args.max c.args.picked.now c.requires))
 
 pub returns-then-len-max-clause-picked : goal.returns-then-len-max-clause-picked
 returns-then-len-max-clause-picked c =
-    picked_full (is_kept_and (is_live c.args.settings.now c.args.moment) c.args.settings.now c.args.moment) (received c.args.moment c.args.until) c.args.table.now.rows c.args.moment c.args.max c.args.index.now.deadlines
+    picked_full (is_kept_and (is_live c.args.at.now.settings c.args.at.now.moment) c.args.at.now.settings c.args.at.now.moment) (received c.args.at.now.moment c.args.until) c.args.table.now.rows c.args.at.now.moment c.args.max c.args.index.now.deadlines
     c.loop-place.place c.args.picked.now c.loop-place.picked c.loop-place.invariant.picked c.len-place-end.ensures.order c.loop-place.invariant.due (omega arith)
 
 pub returns-in_default-clause-picked : goal.returns-in_default-clause-picked
 returns-in_default-clause-picked c =
-    let p = is_kept_and (is_live c.args.settings.now c.args.moment) c.args.settings.now c.args.moment in
-    let at : if_due c.args.moment (slice_get c.args.index.now.deadlines c.loop-place.place) ≡ None = search rules in
-    picked_all p (received c.args.moment c.args.until) c.args.table.now.rows c.args.moment c.args.max c.args.index.now.deadlines c.loop-place.place c.args.picked.now c.loop-place.picked c.loop-place.invariant.picked
-    (found_before p c.args.table.now.rows c.args.moment c.args.index.now.deadlines c.loop-place.place c.nth_due.ensures.order c.loop-place.invariant.due at) c.loop-place.invariant.few
+    let p = is_kept_and (is_live c.args.at.now.settings c.args.at.now.moment) c.args.at.now.settings c.args.at.now.moment in
+    let at : if_due c.args.at.now.moment (slice_get c.args.index.now.deadlines c.loop-place.place) ≡ None = search rules in
+    picked_all p (received c.args.at.now.moment c.args.until) c.args.table.now.rows c.args.at.now.moment c.args.max c.args.index.now.deadlines c.loop-place.place c.args.picked.now c.loop-place.picked c.loop-place.invariant.picked
+    (found_before p c.args.table.now.rows c.args.at.now.moment c.args.index.now.deadlines c.loop-place.place c.nth_due.ensures.order c.loop-place.invariant.due at) c.loop-place.invariant.few
 
 pub loop-place-preserved : goal.loop-place-preserved
 loop-place-preserved c =
     let d = c.in-Some.due.now in
-    let p = is_kept_and (is_live c.args.settings.now c.args.moment) c.args.settings.now c.args.moment in
-    let f = received c.args.moment c.args.until in
+    let p = is_kept_and (is_live c.args.at.now.settings c.args.at.now.moment) c.args.at.now.settings c.args.at.now.moment in
+    let f = received c.args.at.now.moment c.args.until in
     let rows = c.args.table.now.rows in
     let ds = c.args.index.now.deadlines in
     let place = c.loop-place.place in
-    let at : if_due c.args.moment (slice_get ds place) ≡ Some d = search rules in
+    let at : if_due c.args.at.now.moment (slice_get ds place) ≡ Some d = search rules in
     let new : List Row = filter p (cons_option (row_of rows d) []) in
     let added : c.match-at.picked ≡ c.loop-place.picked ++ map f new = elim c.match-at.branch [
       | in-Some-at+then-is_wanted+in_ok-received_copy+in_ok-push w ↦ let yes : p w.in-Some-at.row.now ≡ true = sym w.is_wanted.ensures ∙ w.if-is_wanted.true in rw (← w.in-Some-at.ensures.row, yes)
@@ -45,9 +45,9 @@ loop-place-preserved c =
       | in-Some-at+else-is_wanted w ↦ let none : p w.in-Some-at.row.now ≡ false = sym w.is_wanted.ensures ∙ w.if-is_wanted.false in rw (← w.in-Some-at.ensures.row, none, append-nil c.loop-place.picked) w.picked-is
       | in_default-at w ↦ rw (← w.in_default-at.ensures.row, append-nil c.loop-place.picked) w.picked-is
     ] in
-    let more = found_more p rows ds place d (due_at c.args.moment d ds place at).0 in
+    let more = found_more p rows ds place d (due_at c.args.at.now.moment d ds place at).0 in
     record {
-      due = walks_on c.args.moment ds place d c.nth_due.ensures.order at;
+      due = walks_on c.args.at.now.moment ds place d c.nth_due.ensures.order at;
       picked = added ∙ ap (λ (rs : List Row). rs ++ map f new) c.loop-place.invariant.picked ∙ append_assoc c.args.picked.now (map f (found p rows (take place ds))) (map f new)
           ∙ ap (λ (rs : List Row). c.args.picked.now ++ rs) (sym (map-append f (found p rows (take place ds)) new) ∙ ap (map f) (sym more));
       few = let long : length c.match-at.picked ≡ length c.loop-place.picked + length new = rw (added, length-append c.loop-place.picked (map f new), length-map new f) refl in
@@ -56,6 +56,6 @@ loop-place-preserved c =
 
 pub returns-clause-picked : goal.returns-clause-picked
 returns-clause-picked c =
-    let p = is_kept_and (is_live c.args.settings.now c.args.moment) c.args.settings.now c.args.moment in
-    picked_all p (received c.args.moment c.args.until) c.args.table.now.rows c.args.moment c.args.max c.args.index.now.deadlines c.loop-place.place c.args.picked.now c.loop-place.picked c.loop-place.invariant.picked
-    (found_at_end p c.args.table.now.rows c.args.moment c.args.index.now.deadlines c.loop-place.place c.len-place-end.ensures.order c.loop-place.invariant.due (omega arith)) c.loop-place.invariant.few
+    let p = is_kept_and (is_live c.args.at.now.settings c.args.at.now.moment) c.args.at.now.settings c.args.at.now.moment in
+    picked_all p (received c.args.at.now.moment c.args.until) c.args.table.now.rows c.args.at.now.moment c.args.max c.args.index.now.deadlines c.loop-place.place c.args.picked.now c.loop-place.picked c.loop-place.invariant.picked
+    (found_at_end p c.args.table.now.rows c.args.at.now.moment c.args.index.now.deadlines c.loop-place.place c.len-place-end.ensures.order c.loop-place.invariant.due (omega arith)) c.loop-place.invariant.few

@@ -8,7 +8,7 @@ use Rattle.sq_store.proofs.due.pick_of.Given as goal
 -- those walked over are due, and the live ones are picked
 abbrev pub invariant-loop-place : goal.invariant-loop-place
 invariant-loop-place l = record {
-  due : l.place ≤ count_by (is_due l.moment) l.index.deadlines;
-  picked : l.picked ≡ l.initial.picked ++ map (received l.moment l.until) (found (is_kept_and (is_live l.settings l.moment) l.settings l.moment) l.table.rows (take l.place l.index.deadlines));
+  due : l.place ≤ count_by (is_due l.at.moment) l.index.deadlines;
+  picked : l.picked ≡ l.initial.picked ++ map (received l.at.moment l.until) (found (is_kept_and (is_live l.at.settings l.at.moment) l.at.settings l.at.moment) l.table.rows (take l.place l.index.deadlines));
   few : length l.picked ≤ l.max;
 }

@@ -5,8 +5,8 @@ use Rattle.sq_store.proofs.plain.PlainStoreStore.find_dead.Goals as goal
 
 pub returns-in-Some-clause-one : goal.returns-in-Some-clause-one
 returns-in-Some-clause-one c =
-    one_kept (λ row. not (is_expired c.args.settings.now c.args.moment row)) (is_dead c.args.settings.now c.args.moment) c.args.self.now.rows.items c.in-Some.at _ (search rules) (search rules)
+    one_kept (λ row. not (is_expired c.args.at.now.settings c.args.at.now.moment row)) (is_dead c.args.at.now.settings c.args.at.now.moment) c.args.self.now.rows.items c.in-Some.first _ (search rules) (search rules)
 
 pub returns-in-None-clause-none : goal.returns-in-None-clause-none
 returns-in-None-clause-none c =
-    none_kept (λ row. not (is_expired c.args.settings.now c.args.moment row)) (is_dead c.args.settings.now c.args.moment) c.args.self.now.rows.items (none_passes _ c.args.self.now.rows.items (search rules))
+    none_kept (λ row. not (is_expired c.args.at.now.settings c.args.at.now.moment row)) (is_dead c.args.at.now.settings c.args.at.now.moment) c.args.self.now.rows.items (none_passes _ c.args.self.now.rows.items (search rules))

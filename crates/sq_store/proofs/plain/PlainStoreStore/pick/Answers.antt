@@ -8,8 +8,8 @@ use Rattle.sq_store.proofs.plain.PlainStoreStore.pick.Goals as goal
 
 pub returns-clause-look : goal.returns-clause-look
 returns-clause-look c =
-    let s = c.args.settings.now in
-    let m = c.args.moment in
+    let s = c.args.at.now.settings in
+    let m = c.args.at.now.moment in
     let rows = c.args.self.now.rows.items in
     let look = first_is_look s m c.args.until c.args.max (trimmed s m rows) c.requires.0 (rises_trimmed s m 0 rows c.requires.0 c.requires.1) in
     IfOk-weaker c.pick_first.result _ _ (λ picked e. subst (λ (g : List Row). IsLook s m c.args.until c.args.max (trimmed s m rows) g)

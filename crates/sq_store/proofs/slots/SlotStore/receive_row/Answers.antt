@@ -11,7 +11,7 @@ use Rattle.sq_store.proofs.slots.SlotStore.receive_row.Goals.{After-is_live}
 pub returns-in_default-clause-rows : goal.returns-in_default-clause-rows
 returns-in_default-clause-rows c =
     let none : find (is_at c.args.slot c.args.serial) c.self.inside.table.rows ≡ None = search rules in
-    rw (← c.self.view_is) (sym (map_none c.args.slot c.args.serial (received_at c.args.settings.now c.args.slot c.args.serial c.args.moment c.args.until) (λ r other. rw other refl) c.self.inside.table.rows none))
+    rw (← c.self.view_is) (sym (map_none c.args.slot c.args.serial (received_at c.args.at.now.settings c.args.slot c.args.serial c.args.at.now.moment c.args.until) (λ r other. rw other refl) c.self.inside.table.rows none))
 
 -- the row of the slot and the serial, between the others
 split : (c : After-is_live) → IsBetween c.args.slot c.args.serial c.self.inside.table.rows c.in-Some.row.now
@@ -20,21 +20,21 @@ split c =
     stands_between _ _ 0 c.self.inside.table.rows c.in-Some.row.now c.get.ensures.apart.rise c.get.ensures.apart.slots there
 
 -- no other is received
-received : (c : After-is_live) → map (received_at c.args.settings.now c.args.slot c.args.serial c.args.moment c.args.until) c.self.inside.table.rows
-    ≡ (split c).before ++ received_at c.args.settings.now c.args.slot c.args.serial c.args.moment c.args.until c.in-Some.row.now ∷ (split c).after
-received c = map_at c.args.slot c.args.serial c.self.inside.table.rows c.in-Some.row.now (split c) (received_at c.args.settings.now c.args.slot c.args.serial c.args.moment c.args.until) (λ r other. rw (not_there c.args.slot c.args.serial r other) refl)
+received : (c : After-is_live) → map (received_at c.args.at.now.settings c.args.slot c.args.serial c.args.at.now.moment c.args.until) c.self.inside.table.rows
+    ≡ (split c).before ++ received_at c.args.at.now.settings c.args.slot c.args.serial c.args.at.now.moment c.args.until c.in-Some.row.now ∷ (split c).after
+received c = map_at c.args.slot c.args.serial c.self.inside.table.rows c.in-Some.row.now (split c) (received_at c.args.at.now.settings c.args.slot c.args.serial c.args.at.now.moment c.args.until) (λ r other. rw (not_there c.args.slot c.args.serial r other) refl)
 
 pub returns-then-is_live-clause-rows : goal.returns-then-is_live-clause-rows
 returns-then-is_live-clause-rows c =
     let after = (goal.at.returns-then-is_live-clause-rows c).After-is_live in
     let s = split after in
     let row = c.in-Some.row.now in
-    let live : is_live c.args.settings.now c.args.moment row ≡ true = search rules in
-    c.revise.ensures.rows ∙ rw (← c.self.view_is) (s.changed (row.receives + 1) c.args.until (Some c.args.moment) ∙ sym (received after ∙ rw (s.at, live) refl))
+    let live : is_live c.args.at.now.settings c.args.at.now.moment row ≡ true = search rules in
+    c.revise.ensures.rows ∙ rw (← c.self.view_is) (s.changed (row.receives + 1) c.args.until (Some c.args.at.now.moment) ∙ sym (received after ∙ rw (s.at, live) refl))
 
 pub returns-else-is_live-clause-rows : goal.returns-else-is_live-clause-rows
 returns-else-is_live-clause-rows c =
     let after = (goal.at.returns-else-is_live-clause-rows c).After-is_live in
     let s = split after in
-    let live : is_live c.args.settings.now c.args.moment c.in-Some.row.now ≡ false = search rules in
+    let live : is_live c.args.at.now.settings c.args.at.now.moment c.in-Some.row.now ≡ false = search rules in
     rw (← c.self.view_is) (sym (received after ∙ rw (s.at, live) (sym s.whole)))

@@ -5,16 +5,16 @@ use Rattle.sq_store.proofs.slots.SlotStoreStore.count_flying.Goals as goal
 pub overflow_sub-result : goal.overflow_sub-result
 overflow_sub-result c =
     let own = rw (← c.self.view_is) at c.count_flying_rows-flying.ensures.apart in
-    let kept = flying_kept c.args.settings.now c.args.moment c.in-Some.bound c.self.inside.table.rows c.self.inside.ages.deadlines own.slots c.self.invariant.aged c.in-Some.ensures.some in
+    let kept = flying_kept c.args.at.now.settings c.args.at.now.moment c.in-Some.bound c.self.inside.table.rows c.self.inside.ages.deadlines own.slots c.self.invariant.aged c.in-Some.ensures.some in
     let all = rw (← c.self.view_is) at c.count_flying_rows-flying.ensures.count in
     omega (arith, kept, all, c.count_flying_of.ensures)
 
 pub returns-in-Some : goal.returns-in-Some
 returns-in-Some c =
     let own = rw (← c.self.view_is) at c.count_flying_rows-flying.ensures.apart in
-    let kept = flying_kept c.args.settings.now c.args.moment c.in-Some.bound c.self.inside.table.rows c.self.inside.ages.deadlines own.slots c.self.invariant.aged c.in-Some.ensures.some in
+    let kept = flying_kept c.args.at.now.settings c.args.at.now.moment c.in-Some.bound c.self.inside.table.rows c.self.inside.ages.deadlines own.slots c.self.invariant.aged c.in-Some.ensures.some in
     let all = rw (← c.self.view_is) at c.count_flying_rows-flying.ensures.count in
     rw (← c.self.view_is) (omega (arith, kept, all, c.count_flying_of.ensures))
 
 pub returns-in-None : goal.returns-in-None
-returns-in-None c = c.count_flying_rows-flying.ensures.count ∙ sym (all_flying_kept c.args.settings.now c.args.moment c.args.self.now.table.rows c.in-None.ensures.none)
+returns-in-None c = c.count_flying_rows-flying.ensures.count ∙ sym (all_flying_kept c.args.at.now.settings c.args.at.now.moment c.args.self.now.table.rows c.in-None.ensures.none)

@@ -4,8 +4,8 @@ use Rattle.sq_store.proofs.slots.SlotStoreStore.pick.Goals.{then-visible-most_un
 
 pub returns-clause-look : goal.returns-clause-look
 returns-clause-look c =
-    let s = c.args.settings.now in
-    let m = c.args.moment in
+    let s = c.args.at.now.settings in
+    let m = c.args.at.now.moment in
     let rows = c.self.inside.table.rows in
     let v = c.self.inside.visible in
     let first = rw c.new-picked.ensures at c.in_ok-pick_of.ensures.picked in

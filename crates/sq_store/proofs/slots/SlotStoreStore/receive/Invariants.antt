@@ -4,4 +4,4 @@ use Rattle.sq_store.specs.SlotStores.{reserved_in}
 use Rattle.sq_store.proofs.slots.SlotStoreStore.receive.Given as goal
 
 abbrev pub invariant-loop-row : goal.invariant-loop-row
-invariant-loop-row l = (l.self.table.rows ≡ map (received_if l.settings (serials_of (take l.row-index l.picked)) l.moment l.until) l.initial.self.table.rows) × (reserved_in l.initial.self ≤ reserved_in l.self)
+invariant-loop-row l = (l.self.table.rows ≡ map (received_if l.at.settings (serials_of (take l.row-index l.picked)) l.at.moment l.until) l.initial.self.table.rows) × (reserved_in l.initial.self ≤ reserved_in l.self)
