@@ -51,8 +51,8 @@ answered_found stepped counts At F old mid new name queue answered h same rest a
 
 -- and on one that was not
 pub answered_lost : {S : Type 0} (stepped : S → Ask → Result Gave Refusal → S → Type 0) (At : ℕ → List Done → Result Answer Refusal → Type 0) (old new : S) (name : List ℕ) (answered : Result Answer Refusal) (e : Refusal)
-    → answered ≡ Err e → MayRefuse (Resolve name) e → stepped old (Resolve name) (Err e) new → Performs stepped (ByName name At) old answered new
-answered_lost stepped At old new name answered e is may h = answered_one stepped (ByName name At) old old new answered (named name (Err e)) refl h (inl (e, may, refl, is))
+    → MayRefuse (Resolve name) e → stepped old (Resolve name) (Err e) new → answered ≡ Err e → Performs stepped (ByName name At) old answered new
+answered_lost stepped At old new name answered e may h is = answered_one stepped (ByName name At) old old new answered (named name (Err e)) refl h (inl (e, may, refl, is))
 
 -- a call whose first step the directory answered
 pub answered_directed : {S : Type 0} (stepped : S → Ask → Result Gave Refusal → S → Type 0) (counts : S → HomeCounts) (call : DirectoryCall) (After : HomeCounts → DirectoryReply → List Done → Result Answer Refusal → Type 0) (F : List Done → Result Answer Refusal → Type 0) (old mid new : S) (by : DirectoryReply) (answered : Result Answer Refusal)

@@ -1,12 +1,10 @@
-use Rattle.std.proofs.Common.{rules, ◌≡◌, Err}
+use Rattle.std.proofs.Common.{rules}
 use Rattle.sq_actions.specs.Fits.{ReceiveAt}
 use Rattle.sq_actions.proofs.ClientLaws.{answered_found, answered_lost}
 use Rattle.sq_actions.proofs.client.receive.Goals as goal
 
 pub returns-in_err-of : goal.returns-in_err-of
-returns-in_err-of g c =
-    let is : c.from_residual.result ≡ Err c.in_err-of.field-0.0 = search rules in
-    answered_lost _ _ _ _ _ _ _ is c.in_err-of.ensures.refusal c.in_err-of.ensures.did
+returns-in_err-of g c = answered_lost _ _ _ _ _ _ _ c.in_err-of.ensures.refusal c.in_err-of.ensures.did (search rules)
 
 pub returns : goal.returns
 returns g c =

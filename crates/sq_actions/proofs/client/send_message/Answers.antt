@@ -1,4 +1,4 @@
-use Rattle.std.proofs.Common.{rules, ◌≡◌, Err}
+use Rattle.std.proofs.Common.{rules}
 use Rattle.sq_calls.specs.declared.batches.EntryAsk.TheVariants.{Send}
 use Rattle.sq_actions.specs.Entries.{OneFits}
 use Rattle.sq_actions.proofs.ClientLaws.{answered_found, answered_lost}
@@ -6,9 +6,7 @@ use Rattle.sq_actions.proofs.EntryLaws.{answered_as_entry}
 use Rattle.sq_actions.proofs.client.send_message.Goals as goal
 
 pub returns-in_err-of : goal.returns-in_err-of
-returns-in_err-of g c =
-    let is : c.from_residual.result ≡ Err c.in_err-of.field-0.0 = search rules in
-    answered_lost _ _ _ _ _ _ _ is c.in_err-of.ensures.refusal c.in_err-of.ensures.did
+returns-in_err-of g c = answered_lost _ _ _ _ _ _ _ c.in_err-of.ensures.refusal c.in_err-of.ensures.did (search rules)
 
 pub returns : goal.returns
 returns g c =
