@@ -1,24 +1,16 @@
-//! What a service leaves, in a box, and what tests look at of it.
+//! What a service leaves, and what tests look at of it.
 use sq_audit::merge::merge;
 use sq_audit::parts::Parts;
 use sq_places::places::places_of;
+use sq_tests_kit::hidden::Hidden;
 use std::alloc::Global;
-use std::marker::Model;
 use std::process::Abort;
 
 /// The parts of a service with their histories, and what each session kept of its steps.
 #[derive(Drop)]
 pub struct Evidence {
     alloc: Global,
-    parts: Box<Parts>,
-}
-
-impl Model for Evidence {
-    ghost use Rattle.std.specs.Prelude.{⊤};
-
-    ghost Value = { ⊤ };
-
-    ghost view = { λ e. tt };
+    parts: Hidden<Parts>,
 }
 
 /// What a test looks at of it.
@@ -36,13 +28,13 @@ impl Evidence {
     pub fn new(rt: &impl Abort, alloc: Global, parts: Parts) -> Evidence {
         Evidence {
             alloc,
-            parts: Box::new(alloc, parts).expect(rt, "memory"),
+            parts: Hidden::new(rt, alloc, parts),
         }
     }
 
     /// What a test looks at of it.
     pub fn seen(&self) -> Seen {
-        let parts = &self.parts;
+        let parts = self.parts.get();
         Seen {
             sessions: [parts.made, parts.records.as_slice().len() as u64],
             events: [

@@ -1,5 +1,4 @@
-//! A service under test and its sessions, each in a box: a function that has one on its own stack is
-//! proved with all that it is made of, which takes up to ten times as long.
+//! A service under test and its sessions, each hidden.
 ghost use Rattle.std.specs.Prelude.{◌≡◌};
 
 use super::asks::Ask;
@@ -17,8 +16,8 @@ use sq_queue::service::{Clock, Gate, Service, Serving};
 use sq_queue::session::Session;
 use sq_store::slots::SlotStore;
 use sq_store::store::Store;
+use sq_tests_kit::hidden::Hidden;
 use std::alloc::Global;
-use std::marker::Model;
 use std::process::Abort;
 use std::sync::Wait;
 use std::sync::atomic::{AtomicU64, Ordering};
@@ -201,27 +200,19 @@ fn options(homes: u32) -> Options {
 /// A service that threads share.
 #[derive(Drop)]
 pub struct Shared<'a, D: Ledger, T: Ledger, S: Store> {
-    service: Box<Serving<Hand<'a>, Door<'a>, D, T, S>>,
+    service: Hidden<Serving<Hand<'a>, Door<'a>, D, T, S>>,
 }
 
 /// A session of it.
 #[derive(Drop)]
 pub struct Client<D: Ledger, T: Ledger> {
-    session: Box<Session<D, T>>,
-}
-
-impl<D: Ledger, T: Ledger> Model for Client<D, T> {
-    ghost use Rattle.std.specs.Prelude.{⊤};
-
-    ghost Value = { ⊤ };
-
-    ghost view = { λ c. tt };
+    session: Hidden<Session<D, T>>,
 }
 
 impl<D: Ledger, T: Ledger> Client<D, T> {
     /// Its session itself.
     pub fn session(&mut self) -> &mut Session<D, T> {
-        &mut self.session
+        self.session.get_mut()
     }
 }
 
@@ -253,20 +244,20 @@ impl<'a, D: Ledger, T: Ledger> Shared<'a, D, T, SlotStore> {
         )
         .expect(rt, "a service");
         Shared {
-            service: Box::new(alloc, service).expect(rt, "memory"),
+            service: Hidden::new(rt, alloc, service),
         }
     }
 
     /// The service itself.
     pub fn service(&self) -> &Serving<Hand<'a>, Door<'a>, D, T, SlotStore> {
-        &self.service
+        self.service.get()
     }
 
     /// A new client.
     pub fn client<R: Wait + Abort>(&self, rt: &R, alloc: Global) -> Client<D, T> {
-        let session = self.service.session(rt).expect(rt, "a number");
+        let session = self.service.get().session(rt).expect(rt, "a number");
         Client {
-            session: Box::new(alloc, session).expect(rt, "memory"),
+            session: Hidden::new(rt, alloc, session),
         }
     }
 
@@ -277,7 +268,7 @@ impl<'a, D: Ledger, T: Ledger> Shared<'a, D, T, SlotStore> {
         client: &mut Client<D, T>,
         call: &Call,
     ) -> Result<Answer, Refusal> {
-        self.service.call(rt, &mut client.session, call)
+        self.service.get().call(rt, client.session.get_mut(), call)
     }
 
     /// Does a turn of a mover that is so far.
@@ -288,12 +279,14 @@ impl<'a, D: Ledger, T: Ledger> Shared<'a, D, T, SlotStore> {
         progress: &mut Progress,
         turn: &Turn,
     ) -> Result<Turned, Refusal> {
-        self.service.turn(rt, &mut client.session, progress, turn)
+        self.service
+            .get()
+            .turn(rt, client.session.get_mut(), progress, turn)
     }
 
     /// Takes a client back.
     pub fn retire<R: Wait + Abort>(&self, rt: &R, client: Client<D, T>) {
-        match self.service.retire(rt, Box::into_inner(client.session)) {
+        match self.service.get().retire(rt, client.session.into_inner()) {
             Ok(()) => {}
             Err(_) => assert!(rt; false, "memory"),
         }
@@ -305,7 +298,7 @@ impl<'a, D: Ledger, T: Ledger> Shared<'a, D, T, SlotStore> {
         requires of_ledger { T.parts ≡ 4294967296 }
     {
         let sessions = sessions_of(rt, alloc, clients);
-        match Box::into_inner(self.service).finish(sessions) {
+        match self.service.into_inner().finish(sessions) {
             Ok(parts) => Evidence::new(rt, alloc, parts),
             Err(_) => panic!(rt; "memory"),
         }
@@ -320,7 +313,7 @@ fn sessions_of<D: Ledger, T: Ledger>(
 ) -> Vec<Session<D, T>> {
     let mut sessions = Vec::new(alloc);
     for client in clients {
-        match sessions.push(Box::into_inner(client.session)) {
+        match sessions.push(client.session.into_inner()) {
             Ok(()) => {}
             Err(_) => assert!(rt; false, "memory"),
         }

@@ -1,10 +1,10 @@
-//! What a world leaves, in a box, and what an audit finds wrong with it.
+//! What a world leaves, and what an audit finds wrong with it.
 use sq_audit::check::AuditFault;
 use sq_audit::merge::merge;
 use sq_audit::parts::Parts;
 use sq_places::places::places_of;
+use sq_tests_kit::hidden::Hidden;
 use std::alloc::Global;
-use std::marker::Model;
 use std::mem::swap;
 use std::process::Abort;
 
@@ -12,15 +12,7 @@ use std::process::Abort;
 #[derive(Drop)]
 pub struct Evidence {
     alloc: Global,
-    parts: Box<Parts>,
-}
-
-impl Model for Evidence {
-    ghost use Rattle.std.specs.Prelude.{⊤};
-
-    ghost Value = { ⊤ };
-
-    ghost view = { λ e. tt };
+    parts: Hidden<Parts>,
 }
 
 /// What an audit finds wrong, in numbers: its kind, and what it is of.
@@ -73,21 +65,21 @@ impl Evidence {
     pub fn new(rt: &impl Abort, alloc: Global, parts: Parts) -> Evidence {
         Evidence {
             alloc,
-            parts: Box::new(alloc, parts).expect(rt, "memory"),
+            parts: Hidden::new(rt, alloc, parts),
         }
     }
 
     pub fn parts(&self) -> &Parts {
-        &self.parts
+        self.parts.get()
     }
 
     pub fn parts_mut(&mut self) -> &mut Parts {
-        &mut self.parts
+        self.parts.get_mut()
     }
 
     /// What the audit finds wrong.
     pub fn fault(&self) -> Fault {
-        match merge(self.alloc, &self.parts).err() {
+        match merge(self.alloc, self.parts.get()).err() {
             Some(fault) => numbers_of(fault),
             None => NO_FAULT,
         }
@@ -95,7 +87,7 @@ impl Evidence {
 
     /// Takes some parts of the other's in place of its own, which go there.
     pub fn mix(&mut self, other: &mut Evidence, mix: Mix) {
-        let (parts, others) = (&mut *self.parts, &mut *other.parts);
+        let (parts, others) = (self.parts.get_mut(), other.parts.get_mut());
         if mix.directory {
             swap(&mut parts.directory, &mut others.directory);
         }
@@ -113,14 +105,14 @@ impl Evidence {
     /// Takes a record of an actor out, and again: whether it was there.
     pub fn drop_twice(&mut self, actor: u32, record: u64) -> [bool; 2] {
         [
-            self.parts.drop_record(actor, record),
-            self.parts.drop_record(actor, record),
+            self.parts.get_mut().drop_record(actor, record),
+            self.parts.get_mut().drop_record(actor, record),
         ]
     }
 
     /// How many messages there were; none where the evidence is not of one run.
     pub fn messages(&self) -> Option<u64> {
-        messages(self.alloc, &self.parts)
+        messages(self.alloc, self.parts.get())
     }
 }
 

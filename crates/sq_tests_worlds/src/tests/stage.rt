@@ -1,5 +1,5 @@
-//! A world under test, in a box: a function that has one on its own stack is proved with all that it is made of, which takes up to ten
-//! times as long. So is one that has a step, a call or an answer there: few functions have.
+//! A world under test, hidden. A function that has a step, a call or an answer on its own stack is proved with all that it is made of too:
+//! few functions have.
 use super::evidence::Evidence;
 use sq_base::refusal::Refusal;
 use sq_calls::calls::{Answer, Call};
@@ -13,26 +13,18 @@ use sq_model::task::NamedQueue;
 use sq_opening::options::Options;
 use sq_steps::act::{Act, Outcome, Step};
 use sq_tests_kit::asks::{Answers, answer_of};
+use sq_tests_kit::hidden::Hidden;
 use sq_tests_kit::streams::{Bytewise, Piecewise};
 use sq_wire::run::{ServeFault, run_script};
 use std::alloc::Global;
 use std::io::{Read, Write};
-use std::marker::Model;
 use std::process::Abort;
 
 /// A world, by which a service is tried.
 #[derive(Drop)]
 pub struct Stage {
     alloc: Global,
-    world: Box<World>,
-}
-
-impl Model for Stage {
-    ghost use Rattle.std.specs.Prelude.{⊤};
-
-    ghost Value = { ⊤ };
-
-    ghost view = { λ s. tt };
+    world: Hidden<World>,
 }
 
 /// Four queues of so many homes, all of which are asked.
@@ -85,7 +77,7 @@ impl Stage {
         let world = World::new(alloc, options).expect(rt, "a world");
         Stage {
             alloc,
-            world: Box::new(alloc, world).expect(rt, "memory"),
+            world: Hidden::new(rt, alloc, world),
         }
     }
 
@@ -96,7 +88,7 @@ impl Stage {
 
     // What is answered to a step.
     fn answer_to(&mut self, step: &Step) -> Answers {
-        match self.world.step(self.alloc, step) {
+        match self.world.get_mut().step(self.alloc, step) {
             Ok(outcome) => answer_of_step(&outcome),
             Err(refusal) => Answers::Refused(refusal),
         }
@@ -104,7 +96,7 @@ impl Stage {
 
     /// Does steps, and tells how many were not refused.
     pub fn run(&mut self, steps: &[Step]) -> u64 {
-        self.world.run(self.alloc, steps)
+        self.world.get_mut().run(self.alloc, steps)
     }
 
     /// Does what a client asks, up to so many steps.
@@ -115,12 +107,14 @@ impl Stage {
         call: &Call,
         steps: u64,
     ) -> Result<Option<Answer>, Refusal> {
-        self.world.call_until(self.alloc, actor, clock, call, steps)
+        self.world
+            .get_mut()
+            .call_until(self.alloc, actor, clock, call, steps)
     }
 
     /// Does a turn, whatever it is answered.
     pub fn turn(&mut self, actor: u32, clock: u64, turn: &Turn) {
-        let _ = self.world.turn(self.alloc, actor, clock, turn);
+        let _ = self.world.get_mut().turn(self.alloc, actor, clock, turn);
     }
 
     /// Answers the lines of a reader.
@@ -129,7 +123,7 @@ impl Stage {
         reader: &mut Counted<R>,
         writer: &mut Counted<W>,
     ) -> Result<u64, ServeFault> {
-        run_script(self.alloc, reader, writer, &mut self.world)
+        run_script(self.alloc, reader, writer, self.world.get_mut())
     }
 
     /// What lines of clients and movers are answered: a writer that took it.
@@ -142,7 +136,7 @@ impl Stage {
 
     /// What it leaves.
     pub fn evidence(self, rt: &impl Abort) -> Evidence {
-        let parts = Box::into_inner(self.world).parts();
+        let parts = self.world.into_inner().parts();
         Evidence::new(rt, self.alloc, parts)
     }
 }

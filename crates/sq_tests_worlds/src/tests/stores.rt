@@ -1,7 +1,7 @@
-//! The same steps, chosen at random, at two homes: one over rows in slots, and one over rows one after another.
-ghost use Rattle.std.specs.Prelude.{◌<◌, ◌≤◌, IfOk, IfSome};
+//! The same steps, chosen at random, at two homes: one over rows in slots, and one over rows one after another. Both answer the same:
+//! they may only choose the order of messages, and here a look gives all that are live, and all that leave go at once.
+ghost use Rattle.std.specs.Prelude.{◌≡◌, ◌<◌, ◌≤◌, [], IfOk, IfSome};
 ghost use Rattle.sq_base.specs.Stamps.{stamp_end};
-ghost use Rattle.sq_shard.specs.Looks.{MayBeGiven};
 ghost use Rattle.sq_shard.specs.Moves.{HasRow};
 
 use sq_base::ids::QueueNo;
@@ -12,7 +12,7 @@ use sq_base::settings::{Redrive, Settings};
 use sq_model::calls::Receipt;
 use sq_model::place::{Limits, Site};
 use sq_model::replies::Counts;
-use sq_model::rows::{Rows, copy_row};
+use sq_model::rows::copy_row;
 use sq_shard::shard::Shard;
 use sq_store::plain::PlainStore;
 use sq_store::slots::SlotStore;
@@ -22,63 +22,59 @@ use sq_tests_kit::setup::{hello, home, receipt};
 use std::alloc::Global;
 use std::process::Abort;
 
-// So many messages may be in flight.
-const FLIGHTS: u32 = 10;
+// As many messages as a look may give, and as may be in flight.
+const MOST: u32 = 10;
 
-// The homes, which hold the same messages, each in slots of its own.
-#[derive(Drop)]
-struct Pair {
-    slots: Shard<SlotStore>,
-    plain: Shard<PlainStore>,
+// Messages, in any order: how many, and a sum of what they are but for their slots.
+#[derive(Clone, Copy, PartialEq, Eq)]
+struct Sum {
+    count: u64,
+    sum: u64,
 }
 
-// What is asked of a home that gives no message.
-#[derive(Clone, Copy)]
-enum Asked {
-    Configure(Settings, u64),
-    Send(Option<Delay>),
-    Delete(Receipt),
-    Change(Receipt, Timeout),
-    Purge,
-    Count,
-    Trim,
+impl Sum {
+    fn none() -> Sum {
+        Sum { count: 0, sum: 0 }
+    }
+
+    fn add(&mut self, row: &Row) {
+        let moments = row.enqueued
+            ^ row.visible_from.rotate_left(20)
+            ^ row.last_receive.unwrap_or(1).rotate_left(40);
+        let numbers = row.serial.get().wrapping_mul(1_000_003)
+            ^ (row.receives as u64).rotate_left(50);
+        self.count = self.count.saturating_add(1);
+        self.sum = self.sum.wrapping_add(
+            (moments ^ numbers).wrapping_mul(6_364_136_223_846_793_005),
+        );
+    }
 }
 
-// What a home answers, but for slots.
+// What a home answers.
 #[derive(Clone, Copy, PartialEq, Eq)]
 enum Told {
     Done,
     // The serial.
     Sent(u64),
     Counted(Counts),
-    // How many messages a look gives.
-    Gives(usize),
-    // How many messages a look would give. They stay, since the homes would give others.
-    WouldGive(usize),
+    Given(Sum),
     // Too many are in flight for a look.
     Over,
-    // The serial of the message that is taken out.
-    Left(u64),
-    // None is there to be taken out.
-    NoneLeft,
-    // None is taken out, since the homes found others.
-    Stays,
+    Left(Sum),
     Refused(Refusal),
-    // The homes give other messages, which they may not.
-    Apart,
 }
 
 // The answers that come, one of each kind.
-const KINDS: usize = 15;
+const KINDS: usize = 13;
 
 // The number of a refusal's kind.
 fn refused(refusal: Refusal) -> usize {
     match refusal {
-        Refusal::QueueDoesNotExist => 10,
-        Refusal::OverLimit => 11,
-        Refusal::ReceiptHandleIsInvalid => 12,
-        Refusal::MessageNotInflight => 13,
-        Refusal::InvalidParameterValue => 14,
+        Refusal::QueueDoesNotExist => 8,
+        Refusal::OverLimit => 9,
+        Refusal::ReceiptHandleIsInvalid => 10,
+        Refusal::MessageNotInflight => 11,
+        Refusal::InvalidParameterValue => 12,
         _ => KINDS,
     }
 }
@@ -89,452 +85,226 @@ fn kind(told: Told) -> usize {
         Told::Done => 0,
         Told::Sent(_) => 1,
         Told::Counted(_) => 2,
-        Told::Gives(count) => if count == 0 { 3 } else { 4 },
-        Told::WouldGive(_) => 5,
-        Told::Over => 6,
-        Told::Left(_) => 7,
-        Told::NoneLeft => 8,
-        Told::Stays => 9,
+        Told::Over => 3,
+        Told::Given(rows) => 4 + (rows.count == 0) as usize,
+        Told::Left(rows) => 6 + (rows.count == 0) as usize,
         Told::Refused(refusal) => refused(refusal),
-        Told::Apart => KINDS,
     }
 }
 
-fn site() -> Site {
-    Site {
-        home: home(0),
-        limits: Limits {
-            rows: 20,
-            flights: FLIGHTS,
-        },
-    }
+// A home, its messages that were given, and what its next steps go by.
+#[derive(Drop)]
+struct Course<S: Store> {
+    home: Shard<S>,
+    given: [Receipt; 8],
+    choices: Choices,
 }
 
-fn new_pair(alloc: Global) -> Pair {
-    Pair {
-        slots: Shard::unopened(site(), SlotStore::new(alloc)),
-        plain: Shard::unopened(site(), PlainStore::new(alloc)),
-    }
-}
-
-fn done(answer: Result<(), Refusal>) -> Told {
-    match answer {
-        Ok(()) => Told::Done,
-        Err(refusal) => Told::Refused(refusal),
-    }
-}
-
-fn sent<S: Store>(
-    alloc: Global,
-    home: &mut Shard<S>,
-    moment: u64,
-    delay: Option<Delay>,
-) -> Result<Told, Refusal>
-    requires { moment < stamp_end }
-{
-    let sent = home.send(moment, hello(alloc)?, delay)?;
-    Ok(Told::Sent(sent.id.serial.get()))
-}
-
-fn counted<S: Store>(home: &mut Shard<S>, moment: u64) -> Result<Told, Refusal> {
-    Ok(Told::Counted(home.count(moment)?))
-}
-
-fn trimmed<S: Store>(home: &mut Shard<S>, moment: u64) -> Told {
-    home.trim(moment);
-    Told::Done
-}
-
-fn answer<S: Store>(alloc: Global, home: &mut Shard<S>, moment: u64, asked: Asked) -> Told
-    requires { moment < stamp_end }
-{
-    let answer = match asked {
-        Asked::Send(delay) => sent(alloc, home, moment, delay),
-        Asked::Count => counted(home, moment),
-        Asked::Trim => Ok(trimmed(home, moment)),
-        Asked::Configure(settings, version) => Ok(done(home.configure(moment, settings, version))),
-        Asked::Delete(receipt) => Ok(done(home.delete(moment, receipt))),
-        Asked::Change(receipt, timeout) => Ok(done(home.change(moment, receipt, timeout))),
-        Asked::Purge => Ok(done(home.purge(moment))),
-    };
-    match answer {
-        Ok(told) => told,
-        Err(refusal) => Told::Refused(refusal),
-    }
-}
-
-// Whether two rows are the same, but for their slots.
-fn is_alike(row: &Row, other: &Row) -> bool {
-    row.id == other.id
-        && row.lineage == other.lineage
-        && row.body.as_str() == other.body.as_str()
-        && row.serial == other.serial
-        && row.enqueued == other.enqueued
-        && row.visible_from == other.visible_from
-        && row.receives == other.receives
-        && row.last_receive == other.last_receive
-        && row.origin == other.origin
-}
-
-// The row with the serial of this one.
-fn row_of<'a>(rows: &'a [Row], wanted: &Row) -> Option<&'a Row> {
-    for row in rows {
-        if row.serial == wanted.serial {
-            return Some(row);
-        }
-    }
-    None
-}
-
-// Whether each of these rows is among the others, but for its slot.
-fn are_there(rows: &[Row], others: &[Row]) -> bool {
-    for row in rows {
-        let is_there = match row_of(others, row) {
-            Some(other) => is_alike(row, other),
-            None => false,
+impl<S: Store> Course<S> {
+    fn new(store: S) -> Course<S>
+        requires { S.rows store ≡ [] }
+    {
+        let limits = Limits {
+            rows: MOST + 2,
+            flights: MOST,
         };
-        if !is_there {
-            return false;
-        }
-    }
-    true
-}
-
-// Whether two looks give the same rows, in any order.
-fn are_alike(these: &Option<Rows>, those: &Option<Rows>) -> bool {
-    match (these, those) {
-        (Some(rows), Some(others)) => {
-            rows.len() == others.len() && are_there(rows.as_slice(), others.as_slice())
-        }
-        (None, None) => true,
-        _ => false,
-    }
-}
-
-// A message that was given, with its slot at either home.
-#[derive(Clone, Copy)]
-struct Given {
-    slots: u32,
-    plain: u32,
-    serial: u64,
-    receive: u64,
-}
-
-// The last ones.
-#[derive(Clone, Copy)]
-struct Held {
-    next: usize,
-    messages: [Given; 8],
-}
-
-impl Held {
-    fn new() -> Held {
-        let none = Given {
-            slots: 0,
-            plain: 0,
-            serial: 0,
-            receive: 1,
+        let site = Site {
+            home: home(0),
+            limits,
         };
-        Held {
-            next: 0,
-            messages: [none; 8],
+        Course {
+            home: Shard::unopened(site, store),
+            given: [receipt(0, 0, 1); 8],
+            choices: Choices { state: 1 },
         }
     }
 
-    fn keep(&mut self, message: Given) {
-        if let Some(kept) = self.messages.get_mut(self.next) {
-            *kept = message;
-        }
-        self.next = if self.next < 7 { self.next + 1 } else { 0 };
-    }
-
-    fn keep_rows(&mut self, rows: &[Row], others: &[Row]) {
-        for row in rows {
-            if let Some(other) = row_of(others, row) {
-                self.keep(Given {
-                    slots: row.slot,
-                    plain: other.slot,
-                    serial: row.serial.get(),
-                    receive: row.receives as u64,
-                });
+    // Keeps the receipt of a message that was given, whatever the order: of those that have one place the latest stays.
+    fn keep(&mut self, row: &Row) {
+        let place = row.serial.get() % 8;
+        if let Some(kept) = self.given.get_mut(place as usize) {
+            if kept.serial.get() <= row.serial.get() {
+                *kept = receipt(row.slot, row.serial.get(), row.receives as u64);
             }
         }
     }
 
-    fn keep_look(&mut self, these: &Option<Rows>, those: &Option<Rows>) {
-        if let (Some(rows), Some(others)) = (these, those) {
-            self.keep_rows(rows.as_slice(), others.as_slice());
-        }
-    }
-
-    // One of them, by a serial or a receive number that may be another.
-    fn receipts(&self, choices: &mut Choices) -> (Receipt, Receipt) {
-        let message = self.messages[choices.below(8) as usize];
-        let serial = match choices.below(16) {
-            0 => message.serial.saturating_add(1_000_000),
-            1 => message.serial.saturating_sub(1),
-            _ => message.serial,
+    // One of those that were given, by a serial or a receive number that may be another.
+    fn receipt(&mut self) -> Receipt {
+        let given = self.given[self.choices.below(8) as usize];
+        let serial = given.serial.get();
+        let serial = match self.choices.below(16) {
+            0 => serial.saturating_add(1_000_000),
+            1 => serial.saturating_sub(1),
+            _ => serial,
         };
-        let receive = match choices.below(16) {
-            0 => message.receive.saturating_add(1),
-            1 => message.receive.saturating_sub(1),
-            _ => message.receive,
+        let receive = given.receive.get() as u64;
+        let receive = match self.choices.below(16) {
+            0 => receive.saturating_add(1),
+            1 => receive.saturating_sub(1),
+            _ => receive,
         };
-        (
-            receipt(message.slots, serial, receive),
-            receipt(message.plain, serial, receive),
-        )
+        receipt(given.slot, serial, receive)
     }
-}
 
-// What a look gives.
-fn gives(picked: &Option<Rows>) -> Told {
-    match picked {
-        Some(rows) => Told::Gives(rows.len()),
-        None => Told::Over,
-    }
-}
-
-// What it gives where the homes chose others. Where it gives fewer than it may, it gives all that are live, so there are no others.
-fn would_give(picked: &Option<Rows>, most: usize) -> Told {
-    match picked {
-        Some(rows) if rows.len() < most => Told::Apart,
-        Some(rows) => Told::WouldGive(rows.len()),
-        None => Told::Over,
-    }
-}
-
-// How many messages a look may give. Both homes are counted, since a count lets go of what is past its retention.
-fn most_given(pair: &mut Pair, moment: u64, max: MaxMessages) -> Result<usize, Refusal> {
-    let counts = pair.slots.count(moment)?;
-    let wanted = pair.plain.count(moment)?;
-    let flying = counts.flying.max(wanted.flying);
-    let room = FLIGHTS.saturating_sub(flying);
-    Ok(room.min(max.get()) as usize)
-}
-
-// What either gives where both chose the same.
-fn give(
-    pair: &mut Pair,
-    held: &mut Held,
-    moment: u64,
-    these: &Option<Rows>,
-    those: &Option<Rows>,
-) -> (Told, Told)
-    requires moment { moment < stamp_end }
-    requires these { MayBeGiven pair.old.slots.home moment these.now }
-    requires those { MayBeGiven pair.old.plain.home moment those.now }
-{
-    held.keep_look(these, those);
-    pair.slots.give(moment, None, these);
-    pair.plain.give(moment, None, those);
-    (gives(these), gives(those))
-}
-
-// What either gives where both choose the same. Else nothing is given, so that both go on with the same messages.
-fn look(
-    alloc: Global,
-    pair: &mut Pair,
-    held: &mut Held,
-    moment: u64,
-    max: MaxMessages,
-) -> Result<(Told, Told), Refusal>
-    requires { moment < stamp_end }
-{
-    let most = most_given(pair, moment, max)?;
-    let these = pair.slots.choose(alloc, moment, max, None)?;
-    let those = pair.plain.choose(alloc, moment, max, None)?;
-    if are_alike(&these, &those) {
-        Ok(give(pair, held, moment, &these, &those))
-    } else {
-        Ok((would_give(&these, most), would_give(&those, most)))
-    }
-}
-
-// A dead message, or a live one.
-fn found<S: Store>(home: &Shard<S>, moment: u64, dead: bool) -> Result<Option<Row>, Refusal>
-    ensures { IfOk result (λ found. IfSome found (HasRow home.now.home moment)) }
-{
-    let found = if dead {
-        home.find_dead(moment)?
-    } else {
-        home.find_live(moment)
-    };
-    match found {
-        Some(row) => Ok(Some(copy_row(row)?)),
-        None => Ok(None),
-    }
-}
-
-// Takes out these messages, which are the same.
-fn taken_out(pair: &mut Pair, moment: u64, row: &Row, other: &Row) -> (Told, Told)
-    requires row { HasRow pair.old.slots.home moment row.now }
-    requires other { HasRow pair.old.plain.home moment other.now }
-{
-    let row = pair.slots.take_out(moment, row);
-    let other = pair.plain.take_out(moment, other);
-    let told = Told::Left(row.serial.get());
-    if is_alike(&row, &other) {
-        (told, told)
-    } else {
-        (told, Told::Apart)
-    }
-}
-
-// Takes out a dead message, or a live one, where both find the same.
-fn leave(pair: &mut Pair, moment: u64, dead: bool) -> Result<(Told, Told), Refusal> {
-    let this = found(&pair.slots, moment, dead)?;
-    let that = found(&pair.plain, moment, dead)?;
-    Ok(match (&this, &that) {
-        (Some(row), Some(other)) if row.serial == other.serial => {
-            taken_out(pair, moment, row, other)
-        }
-        (Some(_), Some(_)) => (Told::Stays, Told::Stays),
-        (None, None) => (Told::NoneLeft, Told::NoneLeft),
-        _ => (Told::Stays, Told::Apart),
-    })
-}
-
-// A message is kept for one to three minutes, hidden for up to 20 seconds, and dead after one to three receives, if ever.
-fn settings(choices: &mut Choices) -> Settings {
-    let mut settings = Settings::standard();
-    settings.retention = Retention::of(60 + choices.below(120) as u32);
-    settings.timeout = Timeout::of(choices.below(20) as u32);
-    settings.delay = Delay::of(choices.below(2) as u32);
-    if choices.below(4) != 0 {
-        settings.redrive = Some(Redrive {
-            target: QueueNo::following(0),
-            max_receives: MaxReceives::of(1 + choices.below(3) as u32),
-        });
-    }
-    settings
-}
-
-// Up to five seconds or none, or the home's.
-fn delay(choices: &mut Choices) -> Option<Delay> {
-    match choices.below(4) {
-        0 => Some(Delay::of(choices.below(6) as u32)),
-        _ => None,
-    }
-}
-
-// As many as can be asked for, or any number.
-fn max_messages(choices: &mut Choices) -> MaxMessages {
-    match choices.below(2) {
-        0 => MaxMessages::of(10),
-        _ => MaxMessages::of(1 + choices.below(10) as u32),
-    }
-}
-
-// Up to a minute, or 12 hours.
-fn timeout(choices: &mut Choices) -> Timeout {
-    match choices.below(4) {
-        0 => Timeout::of(43_200),
-        _ => Timeout::of(choices.below(60) as u32),
-    }
-}
-
-fn both(asked: Asked) -> (Asked, Asked) {
-    let same = asked;
-    (asked, same)
-}
-
-// What is asked of either. The homes are opened at the 20th step or after it; one time in ten the settings have an older version.
-fn next_asked(choices: &mut Choices, held: &Held, number: u64) -> (Asked, Asked)
-    requires { number < 100000 }
-{
-    match choices.below(400) {
-        0..10 if 20 <= number => {
-            let version = if choices.below(10) == 0 {
-                0
-            } else {
-                number + 1
-            };
-            both(Asked::Configure(settings(choices), version))
-        }
-        10..110 => both(Asked::Send(delay(choices))),
-        110..250 => {
-            let (this, that) = held.receipts(choices);
-            (Asked::Delete(this), Asked::Delete(that))
-        }
-        250..350 => {
-            let timeout = timeout(choices);
-            let (this, that) = held.receipts(choices);
-            (Asked::Change(this, timeout), Asked::Change(that, timeout))
-        }
-        350 => both(Asked::Purge),
-        351..370 => both(Asked::Trim),
-        _ => both(Asked::Count),
-    }
-}
-
-// Both homes, and what of them the next choices go by.
-#[derive(Drop)]
-struct Course {
-    pair: Pair,
-    choices: Choices,
-    held: Held,
-}
-
-impl Course {
-    fn new(alloc: Global) -> Course {
-        Course {
-            pair: new_pair(alloc),
-            choices: Choices { state: 1 },
-            held: Held::new(),
+    // Up to a minute, or 12 hours.
+    fn timeout(&mut self) -> Timeout {
+        match self.choices.below(4) {
+            0 => Timeout::of(43_200),
+            _ => Timeout::of(self.choices.below(60) as u32),
         }
     }
 
-    // What either answers at the next step, or refuses.
-    fn step(&mut self, alloc: Global, number: u64) -> Result<(Told, Told), Refusal>
+    // A message is kept for one to three minutes, hidden for up to 20 seconds, and dead after one to three receives, if ever.
+    fn settings(&mut self) -> Settings {
+        let mut settings = Settings::standard();
+        settings.retention = Retention::of(60 + self.choices.below(120) as u32);
+        settings.timeout = Timeout::of(self.choices.below(20) as u32);
+        settings.delay = Delay::of(self.choices.below(2) as u32);
+        if self.choices.below(4) != 0 {
+            settings.redrive = Some(Redrive {
+                target: QueueNo::following(0),
+                max_receives: MaxReceives::of(1 + self.choices.below(3) as u32),
+            });
+        }
+        settings
+    }
+
+    // The home is opened at the 20th step or after it; one time in ten the settings have an older version.
+    fn configure(&mut self, moment: u64, number: u64) -> Result<Told, Refusal>
         requires { number < 100000 }
     {
-        let Course {
-            pair,
-            choices,
-            held,
-        } = self;
-        // The clock goes forward by 200 ms a step, and is up to 20 seconds ahead.
-        let moment = number * 200 + choices.below(20_000);
-        match choices.below(10) {
-            0..3 => {
-                let max = max_messages(choices);
-                look(alloc, pair, held, moment, max)
-            }
-            3 => {
-                let dead = choices.below(2) == 0;
-                leave(pair, moment, dead)
-            }
-            _ => {
-                let (this, that) = next_asked(choices, held, number);
-                let told = answer(alloc, &mut pair.slots, moment, this);
-                Ok((told, answer(alloc, &mut pair.plain, moment, that)))
-            }
+        if number < 20 {
+            return Ok(Told::Done);
+        }
+        let version = if self.choices.below(10) == 0 {
+            0
+        } else {
+            number + 1
+        };
+        let settings = self.settings();
+        self.home.configure(moment, settings, version)?;
+        Ok(Told::Done)
+    }
+
+    // By a delay of up to five seconds, or the home's.
+    fn send(&mut self, alloc: Global, moment: u64) -> Result<Told, Refusal>
+        requires { moment < stamp_end }
+    {
+        let delay = match self.choices.below(4) {
+            0 => Some(Delay::of(self.choices.below(6) as u32)),
+            _ => None,
+        };
+        let sent = self.home.send(moment, hello(alloc)?, delay)?;
+        Ok(Told::Sent(sent.id.serial.get()))
+    }
+
+    // A home that would have to choose is only counted.
+    fn look(&mut self, alloc: Global, moment: u64) -> Result<Told, Refusal>
+        requires { moment < stamp_end }
+    {
+        let counts = self.home.count(moment)?;
+        let room = MOST.saturating_sub(counts.flying);
+        if 0 < room && room < counts.visible {
+            return Ok(Told::Counted(counts));
+        }
+        let Some(rows) = self.home.look(alloc, moment, MaxMessages::of(MOST), None)? else {
+            return Ok(Told::Over);
+        };
+        let mut sum = Sum::none();
+        for row in rows.as_slice() {
+            sum.add(row);
+            self.keep(row);
+        }
+        Ok(Told::Given(sum))
+    }
+
+    // A dead message, or a live one.
+    fn found(&self, moment: u64, dead: bool) -> Result<Option<Row>, Refusal>
+        ensures { IfOk result (λ found. IfSome found (HasRow self.now.home.home moment)) }
+    {
+        let found = if dead {
+            self.home.find_dead(moment)?
+        } else {
+            self.home.find_live(moment)
+        };
+        match found {
+            Some(row) => Ok(Some(copy_row(row)?)),
+            None => Ok(None),
         }
     }
-}
 
-// What either answers at a step, where both answer the same and may.
-fn same(course: &mut Course, alloc: Global, number: u64) -> Option<Told>
-    requires { number < 100000 }
-{
-    match course.step(alloc, number) {
-        Ok((told, wanted)) if told == wanted && told != Told::Apart => Some(told),
-        Ok(_) => None,
-        Err(refusal) => Some(Told::Refused(refusal)),
+    // Takes out all that are dead, or all that are live.
+    fn leave(&mut self, moment: u64, dead: bool) -> Result<Told, Refusal> {
+        let mut sum = Sum::none();
+        for _ in 0..MOST + 2 {
+            let Some(row) = self.found(moment, dead)? else {
+                break;
+            };
+            let row = self.home.take_out(moment, &row);
+            sum.add(&row);
+        }
+        Ok(Told::Left(sum))
+    }
+
+    // A step that gives no message.
+    fn other(&mut self, alloc: Global, moment: u64, number: u64) -> Result<Told, Refusal>
+        requires moment { moment < stamp_end }
+        requires number { number < 100000 }
+    {
+        match self.choices.below(400) {
+            0..10 => return self.configure(moment, number),
+            10..110 => return self.send(alloc, moment),
+            110..240 => {
+                let receipt = self.receipt();
+                self.home.delete(moment, receipt)?;
+            }
+            240..350 => {
+                let receipt = self.receipt();
+                let timeout = self.timeout();
+                self.home.change(moment, receipt, timeout)?;
+            }
+            350 => self.home.purge(moment)?,
+            351..370 => self.home.trim(moment),
+            _ => return Ok(Told::Counted(self.home.count(moment)?)),
+        }
+        Ok(Told::Done)
+    }
+
+    // The clock goes forward by 200 ms a step, and is up to 20 seconds ahead.
+    fn step(&mut self, alloc: Global, number: u64) -> Told
+        requires { number < 100000 }
+    {
+        let moment = number * 200 + self.choices.below(20_000);
+        let answer = match self.choices.below(40) {
+            0..10 => self.look(alloc, moment),
+            10 => self.leave(moment, false),
+            11..14 => self.leave(moment, true),
+            _ => self.other(alloc, moment, number),
+        };
+        match answer {
+            Ok(told) => told,
+            Err(refusal) => Told::Refused(refusal),
+        }
     }
 }
 
 // The first of so many steps that the homes answer otherwise, or their number where there is none; and how often each kind of answer
 // came.
-fn first_other(course: &mut Course, alloc: Global, steps: u64) -> (u64, [u64; KINDS])
+fn first_other<S: Store, T: Store>(
+    alloc: Global,
+    one: &mut Course<S>,
+    other: &mut Course<T>,
+    steps: u64,
+) -> (u64, [u64; KINDS])
     requires { steps ≤ 100000 }
 {
     let mut kinds = [0; KINDS];
     for number in 0..steps {
-        let Some(told) = same(course, alloc, number) else {
+        let told = one.step(alloc, number);
+        if told != other.step(alloc, number) {
             return (number, kinds);
-        };
+        }
         if let Some(count) = kinds.get_mut(kind(told)) {
             *count = count.saturating_add(1);
         }
@@ -542,18 +312,15 @@ fn first_other(course: &mut Course, alloc: Global, steps: u64) -> (u64, [u64; KI
     (steps, kinds)
 }
 
-// The same of a course of its own.
-fn ran(rt: &impl Abort, alloc: Global, steps: u64) -> (u64, [u64; KINDS])
-    requires { steps ≤ 100000 }
-{
-    let mut course = Box::new(alloc, Course::new(alloc)).expect(rt, "memory");
-    first_other(&mut course, alloc, steps)
-}
-
 // Each kind of answer comes.
 #[test]
 fn both_stores_answer_alike(rt: HostRuntime) {
-    let (wrong, kinds) = ran(&rt, rt.alloc(), 100_000);
-    assert_eq!(rt; wrong, 100_000);
-    assert!(rt; kinds.iter().all(|count| 0 < *count), "{kinds:?}");
+    let alloc = rt.alloc();
+    let mut slots = Box::new(alloc, Course::new(SlotStore::new(alloc))).expect(&rt, "memory");
+    let mut plain = Box::new(alloc, Course::new(PlainStore::new(alloc))).expect(&rt, "memory");
+    let (same, kinds) = first_other(alloc, &mut slots, &mut plain, 100_000);
+    assert!(rt;
+        same == 100_000 && kinds.iter().all(|count| 0 < *count),
+        "{same}: {kinds:?}"
+    );
 }
