@@ -1,7 +1,7 @@
 //! A value that contracts do not see.
+use sq_base::refusal::Refusal;
 use std::alloc::Global;
 use std::marker::Model;
-use std::process::Abort;
 
 /// A value in a box, of which contracts see nothing. A world or a service has a great many fields, all of which a function is proved with
 /// that has one on its own stack, or sees one: with a hidden one it takes a tenth of the time.
@@ -18,11 +18,11 @@ impl<T> Model for Hidden<T> {
     ghost view = { λ h. tt };
 }
 
-impl<T> Hidden<T> {
-    pub fn new(rt: &impl Abort, alloc: Global, value: T) -> Hidden<T> {
-        Hidden {
-            value: Box::new(alloc, value).expect(rt, "memory"),
-        }
+impl<T: Drop> Hidden<T> {
+    pub fn new(alloc: Global, value: T) -> Result<Hidden<T>, Refusal> {
+        Ok(Hidden {
+            value: Box::new(alloc, value)?,
+        })
     }
 
     pub fn get(&self) -> &T {

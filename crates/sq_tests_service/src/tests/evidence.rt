@@ -28,7 +28,7 @@ impl Evidence {
     pub fn new(rt: &impl Abort, alloc: Global, parts: Parts) -> Evidence {
         Evidence {
             alloc,
-            parts: Hidden::new(rt, alloc, parts),
+            parts: Hidden::new(alloc, parts).expect(rt, "memory"),
         }
     }
 

@@ -244,7 +244,7 @@ impl<'a, D: Ledger, T: Ledger> Shared<'a, D, T, SlotStore> {
         )
         .expect(rt, "a service");
         Shared {
-            service: Hidden::new(rt, alloc, service),
+            service: Hidden::new(alloc, service).expect(rt, "memory"),
         }
     }
 
@@ -257,7 +257,7 @@ impl<'a, D: Ledger, T: Ledger> Shared<'a, D, T, SlotStore> {
     pub fn client<R: Wait + Abort>(&self, rt: &R, alloc: Global) -> Client<D, T> {
         let session = self.service.get().session(rt).expect(rt, "a number");
         Client {
-            session: Hidden::new(rt, alloc, session),
+            session: Hidden::new(alloc, session).expect(rt, "memory"),
         }
     }
 

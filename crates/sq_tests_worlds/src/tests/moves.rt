@@ -138,13 +138,13 @@ enum First {
     DeadForE,
 }
 
-fn first_cues(first: First) -> &'static [Cue] {
+fn begin(rt: &impl Abort, alloc: Global, stage: &mut Stage, first: First) {
     match first {
-        First::Dead => &DEAD,
-        First::OtherDead => &OTHER_DEAD,
-        First::SentThere => &SENT_THERE,
-        First::DeadForD => &DEAD_FOR_D,
-        First::DeadForE => &DEAD_FOR_E,
+        First::Dead => play(rt, alloc, stage, &DEAD),
+        First::OtherDead => play(rt, alloc, stage, &OTHER_DEAD),
+        First::SentThere => play(rt, alloc, stage, &SENT_THERE),
+        First::DeadForD => play(rt, alloc, stage, &DEAD_FOR_D),
+        First::DeadForE => play(rt, alloc, stage, &DEAD_FOR_E),
     }
 }
 
@@ -191,7 +191,7 @@ type Story = (First, &'static [Then]);
 fn lived(rt: &impl Abort, alloc: Global, story: Story) -> Evidence {
     let (first, then) = story;
     let mut stage = Stage::new(rt, alloc, few(10, 10));
-    play(rt, alloc, &mut stage, first_cues(first));
+    begin(rt, alloc, &mut stage, first);
     for line in then {
         play(rt, alloc, &mut stage, &[cue_of(*line)]);
     }

@@ -2,7 +2,6 @@
 use super::cues::{Asked, AtHome, Cue, act_of, played};
 use super::stage::{Stage, options};
 use sq_audit::merge::merge;
-use sq_audit::parts::Parts;
 use sq_audit::run::Run;
 use sq_audit::tagged::Tagged;
 use sq_base::refusal::Refusal;
@@ -13,33 +12,41 @@ use std::alloc::Global;
 use std::process::Abort;
 
 // The number of the part of an event: 0 for the list of queues, then one more for each home, and the last one for the ledger alone.
-fn part_of(event: &Tagged<'_>) -> u32 {
+fn part_of(event: &Tagged<'_>) -> u64 {
     match event {
         Tagged::Directory(_) => 0,
-        Tagged::Home(place, _) => place.saturating_add(1),
-        Tagged::Ledger(_) => u32::MAX,
+        Tagged::Home(place, _) => *place as u64 + 1,
+        Tagged::Ledger(_) => u64::MAX,
     }
 }
 
-// The events of a run as a text, each as the number of its part and its stamp.
-fn order_of(rt: &impl Abort, alloc: Global, run: &Run<'_>) -> String {
-    let mut order = String::new(alloc);
-    for at in 0..run.len() {
-        let event = run.event(at).expect(rt, "an event");
-        let (part, stamp) = (part_of(&event), event.stamp());
-        let text = format!(in alloc; " {part}@{}.{}", stamp.moment, stamp.count);
-        order
-            .push_str(text.expect(rt, "memory").as_str())
-            .expect(rt, "memory");
-    }
-    order
+// An event by the number of its part and its stamp, a moment and a count.
+type Listed = [u64; 3];
+
+// Whether an event of a run is this one.
+fn is_event(run: &Run<'_>, at: usize, want: &Listed) -> bool {
+    let Some(event) = run.event(at) else {
+        return false;
+    };
+    let stamp = event.stamp();
+    [part_of(&event), stamp.moment, stamp.count] == *want
 }
 
-// The order of the events that these cues leave.
-fn left(rt: &impl Abort, alloc: Global, cues: &[Cue]) -> String {
+// The place of the first event of a run that is not the one of this list, or the list's length; and how many events there are.
+fn compared(run: &Run<'_>, wants: &[Listed]) -> [usize; 2] {
+    for (at, want) in wants.iter().enumerate() {
+        if !is_event(run, at, want) {
+            return [at, run.len()];
+        }
+    }
+    [wants.len(), run.len()]
+}
+
+// What is so compared with the run that these cues leave.
+fn left(rt: &impl Abort, alloc: Global, cues: &[Cue], wants: &[Listed]) -> [usize; 2] {
     let evidence = played(rt, alloc, options(2, 10, 16), cues, &[]);
     let run = merge(alloc, evidence.parts()).expect(rt, "one run");
-    order_of(rt, alloc, &run)
+    compared(&run, wants)
 }
 
 const NOTHING: Answers = Answers::GaveAll(0);
@@ -65,11 +72,17 @@ const THREE_ACTORS: &[Cue] = &[
 
 #[test]
 fn steps_of_three_actors_have_one_order(rt: HostRuntime) {
-    let order = left(&rt, rt.alloc(), THREE_ACTORS);
-    assert!(rt;
-        order.as_str() == " 0@0.1 1@0.2 1@0.3 2@0.3 2@0.4 1@0.5 2@0.5",
-        "{order}"
-    );
+    let wants: [Listed; 7] = [
+        [0, 0, 1],
+        [1, 0, 2],
+        [1, 0, 3],
+        [2, 0, 3],
+        [2, 0, 4],
+        [1, 0, 5],
+        [2, 0, 5],
+    ];
+    let found = left(&rt, rt.alloc(), THREE_ACTORS, &wants);
+    assert!(rt; found == [7, 7], "{found:?}");
 }
 
 // Each step is of another actor, so that a stamp follows from its part alone. A message is given where it is.
@@ -91,26 +104,19 @@ const BY_STAMP: &[Cue] = &[
 
 #[test]
 fn events_are_listed_by_stamp(rt: HostRuntime) {
-    let order = left(&rt, rt.alloc(), BY_STAMP);
-    let want = " 0@1000.0 1@1000.0 2@1000.0 2@1500.0 1@2000.0 2@2000.0 1@2000.1 2@3000.0";
-    assert!(rt; order.as_str() == want, "{order}");
+    let wants: [Listed; 8] = [
+        [0, 1000, 0],
+        [1, 1000, 0],
+        [2, 1000, 0],
+        [2, 1500, 0],
+        [1, 2000, 0],
+        [2, 2000, 0],
+        [1, 2000, 1],
+        [2, 3000, 0],
+    ];
+    let found = left(&rt, rt.alloc(), BY_STAMP, &wants);
+    assert!(rt; found == [8, 8], "{found:?}");
 }
-
-// The stamp that an actor recorded of its step of this number; none where there is no such record.
-fn recorded(parts: &Parts, actor: u32, place: usize) -> [u64; 2] {
-    for journal in parts.records.as_slice() {
-        if journal.actor() == actor {
-            if place >= journal.len() {
-                return NONE;
-            }
-            let stamp = journal.record(place).stamp();
-            return [stamp.moment, stamp.count];
-        }
-    }
-    NONE
-}
-
-const NONE: [u64; 2] = [u64::MAX; 2];
 
 fn steps(rt: &impl Abort, alloc: Global, lines: &[(u32, Asked)]) -> Vec<Step> {
     let mut steps = Vec::new(alloc);
@@ -126,15 +132,6 @@ fn steps(rt: &impl Abort, alloc: Global, lines: &[(u32, Asked)]) -> Vec<Step> {
     steps
 }
 
-// Whether the actors recorded the steps that were not refused.
-fn are_recorded(parts: &Parts) -> bool {
-    recorded(parts, 1, 0) == [0, 1]
-        && recorded(parts, 1, 1) == [0, 3]
-        && recorded(parts, 1, 2) == NONE
-        && recorded(parts, 2, 0) == [0, 2]
-        && recorded(parts, 3, 0) == NONE
-}
-
 // The second step is at a home that is not there.
 const RUN: &[(u32, Asked)] = &[
     (1, Asked::Home(0, AtHome::Open)),
@@ -147,6 +144,13 @@ const RUN: &[(u32, Asked)] = &[
 fn a_run_goes_on_after_a_refusal(rt: HostRuntime) {
     let mut stage = Stage::new(&rt, rt.alloc(), options(2, 10, 16));
     assert!(rt; stage.run(&steps(&rt, rt.alloc(), RUN)) == 3);
-    let evidence = stage.evidence(&rt);
-    assert!(rt; are_recorded(evidence.parts()));
+    let mut evidence = stage.evidence(&rt);
+    // The last record of each actor: it is there, and none after it.
+    let last = [
+        evidence.drop_twice(1, 1),
+        evidence.drop_twice(1, 2),
+        evidence.drop_twice(2, 0),
+        evidence.drop_twice(3, 0),
+    ];
+    assert!(rt; last == [[true, false], [false; 2], [true, false], [false; 2]]);
 }

@@ -77,7 +77,7 @@ impl Stage {
         let world = World::new(alloc, options).expect(rt, "a world");
         Stage {
             alloc,
-            world: Hidden::new(rt, alloc, world),
+            world: Hidden::new(alloc, world).expect(rt, "memory"),
         }
     }
 
