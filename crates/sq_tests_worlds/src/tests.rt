@@ -17,6 +17,5 @@ mod samples;
 mod scripts;
 mod stage;
 mod stops;
-mod stores;
 mod tasks;
 mod values;

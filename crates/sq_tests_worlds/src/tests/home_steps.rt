@@ -1,5 +1,6 @@
-//! What is asked of one home that no client asks, with values from the rules of the queue; each step has its event and its record.
-ghost use Rattle.std.specs.Prelude.{◌<◌};
+//! What is asked of one home that no client asks, with values from the rules of the queue; each step has its event and its record. The
+//! home is over rows in slots, and over rows one after another.
+ghost use Rattle.std.specs.Prelude.{◌≡◌, ◌<◌, []};
 ghost use Rattle.sq_base.specs.Stamps.{stamp_end};
 
 use sq_base::ids::QueueNo;
@@ -9,12 +10,14 @@ use sq_base::settings::{Redrive, Settings};
 use sq_base::stamp::Stamp;
 use sq_history::act::HomeAct;
 use sq_history::record::HomeRecord;
-use sq_history::recorded::{Home, Recorded};
+use sq_history::recorded::Recorded;
 use sq_model::event::Actor;
 use sq_model::place::{Limits, Site};
 use sq_model::replies::HomeReply;
 use sq_shard::shard::Shard;
+use sq_store::plain::PlainStore;
 use sq_store::slots::SlotStore;
+use sq_store::store::Store;
 use sq_tests_kit::asks::{Answers, Ask, answer_of, home_act};
 use sq_tests_kit::setup::{CLOCK_END, home, stamp};
 use std::alloc::Global;
@@ -22,7 +25,9 @@ use std::process::Abort;
 
 /// A home of so many messages, all of which may be in flight. It is in a box: a function that has a home on its own stack is proved
 /// with all that it is made of.
-pub fn unopened(rt: &impl Abort, alloc: Global, rows: u32) -> Box<Home> {
+pub fn unopened<S: Store>(rt: &impl Abort, alloc: Global, store: S, rows: u32) -> Box<Recorded<S>>
+    requires { S.rows store ≡ [] }
+{
     let limits = Limits {
         rows,
         flights: rows,
@@ -31,12 +36,12 @@ pub fn unopened(rt: &impl Abort, alloc: Global, rows: u32) -> Box<Home> {
         home: home(0),
         limits,
     };
-    let home = Recorded::unopened(alloc, Shard::unopened(site, SlotStore::new(alloc)));
+    let home = Recorded::unopened(alloc, Shard::unopened(site, store));
     Box::new(alloc, home).expect(rt, "memory")
 }
 
 // Whether the record is of this home's last event, with the number of the actor's step.
-fn is_of_the_last(record: &HomeRecord, home: &Home, by: &Actor) -> bool {
+fn is_of_the_last<S: Store>(record: &HomeRecord, home: &Recorded<S>, by: &Actor) -> bool {
     let step = record.step();
     let at = step.index as usize;
     let events = home.events();
@@ -58,9 +63,9 @@ fn is_of_the_last(record: &HomeRecord, home: &Home, by: &Actor) -> bool {
 
 // What is told by the answer to an actor's step: what its record says, which is of the home's last event. Where it is refused there is
 // no event more. Anything else is `Other`.
-fn told_by(
+fn told_by<S: Store>(
     answered: &Result<(HomeReply, HomeRecord), Refusal>,
-    home: &Home,
+    home: &Recorded<S>,
     by: &Actor,
 ) -> Answers {
     match answered {
@@ -82,12 +87,18 @@ fn told_by(
 }
 
 // What a home answers to an act.
-fn acted(alloc: Global, home: &mut Home, by: &Actor, now: u64, act: HomeAct) -> Answers {
+fn acted<S: Store>(
+    alloc: Global,
+    home: &mut Recorded<S>,
+    by: &Actor,
+    now: u64,
+    act: HomeAct,
+) -> Answers {
     told_by(&home.step(alloc, by, now, None, act), home, by)
 }
 
 // What a home answers an actor that did each event so far and has seen so much.
-fn asked(alloc: Global, home: &mut Home, seen: u64, now: u64, ask: Ask) -> Answers
+fn asked<S: Store>(alloc: Global, home: &mut Recorded<S>, seen: u64, now: u64, ask: Ask) -> Answers
     requires { seen < stamp_end }
 {
     let by = Actor {
@@ -105,7 +116,7 @@ fn asked(alloc: Global, home: &mut Home, seen: u64, now: u64, ask: Ask) -> Answe
 type Line = (u64, Ask, Answers);
 
 // Whether a home answers as a line says. One that is refused for want of memory is asked again.
-fn is_right(alloc: Global, home: &mut Home, seen: u64, line: &Line) -> bool
+fn is_right<S: Store>(alloc: Global, home: &mut Recorded<S>, seen: u64, line: &Line) -> bool
     requires { seen < stamp_end }
 {
     let (now, ask, want) = line;
@@ -123,7 +134,7 @@ fn is_right(alloc: Global, home: &mut Home, seen: u64, line: &Line) -> bool
 
 // The place of the first line that a home answers otherwise, to an actor that has seen so much; how many there are, where it answers all
 // as they say.
-fn first_wrong(alloc: Global, home: &mut Home, seen: u64, lines: &[Line]) -> usize
+fn first_wrong<S: Store>(alloc: Global, home: &mut Recorded<S>, seen: u64, lines: &[Line]) -> usize
     requires { seen < stamp_end }
 {
     for (place, line) in lines.iter().enumerate() {
@@ -134,10 +145,20 @@ fn first_wrong(alloc: Global, home: &mut Home, seen: u64, lines: &[Line]) -> usi
     lines.len()
 }
 
-// The same of a home of its own.
-fn played(rt: &impl Abort, alloc: Global, lines: &[Line]) -> usize {
-    let mut home = unopened(rt, alloc, 10);
+// The same of a home of its own over this store.
+fn wrong_over<S: Store>(rt: &impl Abort, alloc: Global, store: S, lines: &[Line]) -> usize
+    requires { S.rows store ≡ [] }
+{
+    let mut home = unopened(rt, alloc, store, 10);
     first_wrong(alloc, &mut home, 0, lines)
+}
+
+// Over either store.
+fn played(rt: &impl Abort, alloc: Global, lines: &[Line]) -> [usize; 2] {
+    [
+        wrong_over(rt, alloc, SlotStore::new(alloc), lines),
+        wrong_over(rt, alloc, PlainStore::new(alloc), lines),
+    ]
 }
 
 // The standard settings with these two in place of their own, in seconds.
@@ -185,7 +206,7 @@ fn messages_are_counted_and_purged(rt: HostRuntime) {
             (1_031_000, Ask::Count, Answers::Counts(1, 0, 0)),
         ],
     );
-    assert_eq!(rt; wrong, 17);
+    assert_eq!(rt; wrong, [17, 17]);
 }
 
 // A home serves from its opening to its end.
@@ -215,12 +236,12 @@ fn a_home_that_does_not_serve_refuses(rt: HostRuntime) {
             (1000, Ask::Close, refused),
         ],
     );
-    assert_eq!(rt; wrong, 14);
+    assert_eq!(rt; wrong, [14, 14]);
 }
 
 // The same to an actor that has seen 5000 ms, of a home with room for one message; and whether it is closed then, at this stamp.
 fn ended(rt: &impl Abort, alloc: Global, lines: &[Line], last: Stamp) -> (usize, bool) {
-    let mut home = unopened(rt, alloc, 1);
+    let mut home = unopened(rt, alloc, SlotStore::new(alloc), 1);
     let wrong = first_wrong(alloc, &mut home, 5000, lines);
     (wrong, home.last() == last && home.is_closed())
 }

@@ -12,6 +12,7 @@ use sq_model::event::Actor;
 use sq_model::item::{Item, ItemNo, TaskNo};
 use sq_model::replies::HomeReply;
 use sq_model::task::NamedQueue;
+use sq_store::slots::SlotStore;
 use sq_task::leave::TaskLeave;
 use sq_task::task::MoveTask;
 use sq_tests_kit::asks::{Ask, home_act};
@@ -145,7 +146,7 @@ fn first_wrong(alloc: Global, home: &mut Home, lines: &[Line]) -> usize {
 
 // The same of a home of its own, which has room for two messages.
 fn played(rt: &impl Abort, alloc: Global, lines: &[Line]) -> usize {
-    let mut home = unopened(rt, alloc, 2);
+    let mut home = unopened(rt, alloc, SlotStore::new(alloc), 2);
     first_wrong(alloc, &mut home, lines)
 }
 
