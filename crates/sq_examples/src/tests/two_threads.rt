@@ -160,10 +160,8 @@ fn sessions_of<D: Ledger, T: Ledger>(
 ) -> Vec<Session<D, T>> {
     let mut sessions = Vec::new(alloc);
     for worker in workers {
-        match sessions.push(Box::into_inner(worker.session)) {
-            Ok(()) => {}
-            Err(_) => panic!(rt; "memory"),
-        }
+        let session = Box::into_inner(worker.session);
+        assert!(rt; sessions.push(session).is_ok(), "memory");
     }
     sessions
 }

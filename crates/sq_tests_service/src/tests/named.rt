@@ -25,14 +25,15 @@ fn batch<D: Ledger, T: Ledger, R: Wait>(
     }
 }
 
-// A call by its name; first those on messages, then those on queues.
-fn by_name<D: Ledger, T: Ledger, R: Wait>(
+/// Does what a client asks by the name of the call, and tells whether it is not refused; first the calls on messages, then those on
+/// queues.
+pub fn is_done_by_name<D: Ledger, T: Ledger, R: Wait + Abort>(
     at: &Scene<'_, '_, D, T, R>,
     client: &mut Client<D, T>,
-    call: Call,
-) -> Result<Answer, Refusal> {
+    ask: Ask,
+) -> bool {
     let (rt, service) = (at.rt, at.service.service());
-    match call {
+    let told = match call_of(rt, at.alloc, ask) {
         Call::SendMessage(request) => service.send(rt, client.session(), request),
         Call::ReceiveMessage(request) => service.receive(rt, client.session(), request),
         Call::DeleteMessage(request) => service.delete(rt, client.session(), request),
@@ -49,16 +50,8 @@ fn by_name<D: Ledger, T: Ledger, R: Wait>(
         Call::PurgeQueue(name) => service.purge(rt, client.session(), name),
         Call::DeleteQueue(name) => service.delete_queue(rt, client.session(), name),
         Call::ListDeadLetterSourceQueues(name) => service.sources(rt, client.session(), name),
-    }
-}
-
-/// Does what a client asks by the name of the call, and tells whether it is not refused.
-pub fn is_done_by_name<D: Ledger, T: Ledger, R: Wait + Abort>(
-    at: &Scene<'_, '_, D, T, R>,
-    client: &mut Client<D, T>,
-    ask: Ask,
-) -> bool {
-    by_name(at, client, call_of(at.rt, at.alloc, ask)).is_ok()
+    };
+    told.is_ok()
 }
 
 const EACH: &[Deed] = &[

@@ -286,10 +286,8 @@ impl<'a, D: Ledger, T: Ledger> Shared<'a, D, T, SlotStore> {
 
     /// Takes a client back.
     pub fn retire<R: Wait + Abort>(&self, rt: &R, client: Client<D, T>) {
-        match self.service.get().retire(rt, client.session.into_inner()) {
-            Ok(()) => {}
-            Err(_) => assert!(rt; false, "memory"),
-        }
+        let taken = self.service.get().retire(rt, client.session.into_inner());
+        assert!(rt; taken.is_ok(), "memory");
     }
 
     /// Ends it, with these clients.
@@ -313,10 +311,10 @@ fn sessions_of<D: Ledger, T: Ledger>(
 ) -> Vec<Session<D, T>> {
     let mut sessions = Vec::new(alloc);
     for client in clients {
-        match sessions.push(client.session.into_inner()) {
-            Ok(()) => {}
-            Err(_) => assert!(rt; false, "memory"),
-        }
+        assert!(rt;
+            sessions.push(client.session.into_inner()).is_ok(),
+            "memory"
+        );
     }
     sessions
 }

@@ -10,7 +10,7 @@ use super::shared::{Client, Setting, Shared, Signs, is_set};
 use super::threads::random;
 use sq_base::handle::Handle;
 use sq_base::refusal::Refusal;
-use sq_calls::calls::{Answer, Call};
+use sq_calls::calls::Answer;
 use sq_queue::actors::SEATS;
 use sq_store::slots::SlotStore;
 use std::alloc::Global;
@@ -72,27 +72,26 @@ fn is_stopped(told: Result<Option<Answer>, Refusal>) -> bool {
 }
 
 impl<'s, 'a, D: Ledger, T: Ledger, R: Wait + Abort> Scene<'s, 'a, D, T, R> {
-    // What a client has of the answer to a call.
-    fn heard(&self, client: &mut Client<D, T>, call: &Call) -> Heard {
-        heard_of(&self.service.call(self.rt, client, call))
+    // What a client has of the answer to what it asks.
+    fn heard(&self, client: &mut Client<D, T>, ask: Ask) -> Heard {
+        let call = call_of(self.rt, self.alloc, ask);
+        heard_of(&self.service.call(self.rt, client, &call))
     }
 
     /// Does what a client asks, and tells whether it is not refused.
     pub fn is_done(&self, client: &mut Client<D, T>, ask: Ask) -> bool {
-        let call = call_of(self.rt, self.alloc, ask);
-        self.heard(client, &call).done
+        self.heard(client, ask).done
     }
 
     /// The message that a queue gives to a client; it is visible again at once.
     pub fn received(&self, client: &mut Client<D, T>, name: u8) -> Option<Got> {
-        let call = call_of(self.rt, self.alloc, Ask::Receive(name));
-        self.heard(client, &call).got
+        self.heard(client, Ask::Receive(name)).got
     }
 
     // Deletes a message by its handle, and tells whether that is not refused.
     fn is_deleted(&self, client: &mut Client<D, T>, name: u8, handle: Option<Handle>) -> bool {
         let call = delete(self.rt, name, handle);
-        self.heard(client, &call).done
+        heard_of(&self.service.call(self.rt, client, &call)).done
     }
 
     /// A message is received, and deleted by the handle that was given; without a handle where there is none.
@@ -191,10 +190,7 @@ fn begun<D: Ledger, T: Ledger, R: Wait + Abort>(
             let told = at.act(&mut client, setting.begin.deeds);
             assert!(at.rt; told == setting.begin.tells, "begun: {told}");
         }
-        match workers.push(Worker { client, told: 0 }) {
-            Ok(()) => {}
-            Err(_) => assert!(at.rt; false, "memory"),
-        }
+        assert!(at.rt; workers.push(Worker { client, told: 0 }).is_ok(), "memory");
     }
     workers
 }
@@ -245,10 +241,7 @@ fn apart<D: Ledger, T: Ledger, R: Wait + Abort>(
         if place % 2 == 1 {
             service.retire(rt, worker.client);
         } else {
-            match left.push(worker.client) {
-                Ok(()) => {}
-                Err(_) => assert!(rt; false, "memory"),
-            }
+            assert!(rt; left.push(worker.client).is_ok(), "memory");
         }
         place = place.saturating_add(1);
     }
