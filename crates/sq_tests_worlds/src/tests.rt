@@ -17,5 +17,6 @@ mod samples;
 mod scripts;
 mod stage;
 mod stops;
+mod stores;
 mod tasks;
 mod values;

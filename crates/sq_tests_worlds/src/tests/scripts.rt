@@ -1,6 +1,8 @@
-//! Runs over a reader and a writer that fail. Whole scripts are in `rows/`.
+//! Runs over a reader and a writer that fail, and refusals that no line has. Whole scripts are in `rows/`.
 use super::stage::{Stage, options};
+use sq_base::refusal::Refusal;
 use sq_lines::counted::Counted;
+use sq_replies::reply::reply_text;
 use sq_tests_kit::streams::{Answered, Asking, Batches, Bytewise, Piecewise, Whole};
 use sq_wire::run::ServeFault;
 use std::alloc::Global;
@@ -195,4 +197,18 @@ fn a_long_reply_goes_out_after_those_that_wait(rt: HostRuntime) {
         &[MAKE_A, long.as_slice(), asked.as_slice()],
     );
     assert!(rt; found == [0, 4, 4, 5, 4], "{found:?}");
+}
+
+// Whether a refusal is written so.
+fn is_written(rt: &impl Abort, alloc: Global, refusal: Refusal, want: &str) -> bool {
+    let text = reply_text(alloc, &Err(refusal)).expect(rt, "memory");
+    text.as_bytes() == want.as_bytes()
+}
+
+#[test]
+fn refusals_that_no_line_has_are_written(rt: HostRuntime) {
+    let no_memory = r#"{"Error":{"Code":"NoMemory","Number":1}}"#;
+    assert!(rt; is_written(&rt, rt.alloc(), Refusal::NoMemory, no_memory));
+    let worn = r#"{"Error":{"Code":"Worn","Number":3}}"#;
+    assert!(rt; is_written(&rt, rt.alloc(), Refusal::Worn, worn));
 }
