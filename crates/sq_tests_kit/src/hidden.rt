@@ -4,7 +4,7 @@ use std::alloc::Global;
 use std::marker::Model;
 
 /// A value in a box, of which contracts see nothing. A world or a service has a great many fields, all of which a function is proved with
-/// that has one on its own stack, or sees one: with a hidden one it takes a tenth of the time.
+/// that has one on its own stack, or sees one.
 #[derive(Drop)]
 pub struct Hidden<T> {
     value: Box<T>,

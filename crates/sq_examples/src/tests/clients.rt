@@ -19,6 +19,35 @@ pub trait Client {
     fn call(&mut self, call: &Call) -> Result<Answer, Refusal>;
 }
 
+// What a client keeps of an answer.
+#[derive(Clone, Copy)]
+enum Kept {
+    // The id of the message that was sent.
+    Sent(MessageId),
+    // The receipt handle of the first message that was received.
+    Received(Handle),
+    Nothing,
+}
+
+fn kept_of(answer: &Answer) -> Kept {
+    match answer {
+        Answer::Sent(id, _) => Kept::Sent(*id),
+        Answer::Received(received) => match received.rows().first() {
+            Some(row) => Kept::Received(handle_of(received.home(), row)),
+            None => Kept::Nothing,
+        },
+        _ => Kept::Nothing,
+    }
+}
+
+// What a client keeps of the answer to a call; none where it is refused.
+fn ask<C: Client>(client: &mut C, call: &Call) -> Option<Kept> {
+    match client.call(call) {
+        Ok(answer) => Some(kept_of(&answer)),
+        Err(_) => None,
+    }
+}
+
 /// Makes a queue, and tells whether it is made. What was received from it once goes to the queue of dead letters, if one is named.
 pub fn create<C: Client>(client: &mut C, name: QueueName, dead_letters: Option<QueueName>) -> bool {
     let mut attributes = Attributes::none();
@@ -29,7 +58,7 @@ pub fn create<C: Client>(client: &mut C, name: QueueName, dead_letters: Option<Q
         }));
     }
     let call = Call::CreateQueue(CreateQueue { name, attributes });
-    client.call(&call).is_ok()
+    ask(client, &call).is_some()
 }
 
 /// Sends a message, and so has its id.
@@ -45,13 +74,8 @@ pub fn send<C: Client>(
         body,
         delay: None,
     });
-    sent(client.call(&call))
-}
-
-// The id of the message that was sent.
-fn sent(told: Result<Answer, Refusal>) -> Option<MessageId> {
-    match &told {
-        Ok(Answer::Sent(id, _)) => Some(*id),
+    match ask(client, &call) {
+        Some(Kept::Sent(id)) => Some(id),
         _ => None,
     }
 }
@@ -67,24 +91,10 @@ pub fn receive<C: Client>(client: &mut C, queue: QueueName, timeout: Timeout) ->
             sent_timestamp: false,
         },
     });
-    received(client.call(&call))
-}
-
-// The receipt handle of the first message that was received.
-fn received(told: Result<Answer, Refusal>) -> Option<Handle> {
-    match told {
-        Ok(answer) => first_handle(&answer),
-        Err(_) => None,
+    match ask(client, &call) {
+        Some(Kept::Received(handle)) => Some(handle),
+        _ => None,
     }
-}
-
-// That of an answer.
-fn first_handle(answer: &Answer) -> Option<Handle> {
-    let Answer::Received(received) = answer else {
-        return None;
-    };
-    let row = received.rows().first()?;
-    Some(handle_of(received.home(), row))
 }
 
 /// Deletes a message by its receipt handle, and tells whether that is answered.
@@ -93,7 +103,7 @@ pub fn delete<C: Client>(client: &mut C, queue: QueueName, handle: Handle) -> bo
         queue,
         handle: Some(handle),
     });
-    client.call(&call).is_ok()
+    ask(client, &call).is_some()
 }
 
 /// Begins to move all messages of a queue of dead letters to where they came from, and tells whether that is answered.
@@ -103,5 +113,5 @@ pub fn redrive<C: Client>(client: &mut C, dead_letters: QueueName) -> bool {
         destination: None,
         rate: None,
     });
-    client.call(&call).is_ok()
+    ask(client, &call).is_some()
 }

@@ -18,6 +18,7 @@ use std::alloc::Global;
 use std::marker::{Brand, Model};
 use std::process::Abort;
 use std::sync::Wait;
+use std::sync::atomic::{AtomicU64, Ordering};
 use std::sync::ledger::{Blank, Ledger};
 use std::thread;
 use std::thread::Threads;
@@ -60,13 +61,6 @@ impl<D: Ledger, T: Ledger> Shop<D, T, SlotStore> {
     }
 }
 
-/// A thread: its session, and whether it received a message.
-#[derive(Drop)]
-struct Worker<D: Ledger, T: Ledger> {
-    session: Box<Session<D, T>>,
-    received: bool,
-}
-
 /// A session that calls.
 #[derive(Drop)]
 struct Caller<'a, D: Ledger, T: Ledger, R> {
@@ -81,52 +75,35 @@ impl<'a, D: Ledger, T: Ledger, R: Wait> Client for Caller<'a, D, T, R> {
     }
 }
 
-// A client sends a message and receives one.
-fn work<D: Ledger, T: Ledger, R: Wait>(
+// Whether a session sends a message and receives one.
+fn is_served<D: Ledger, T: Ledger, R: Wait>(
     rt: &R,
     alloc: Global,
     shop: &Shop<D, T, SlotStore>,
-    worker: &mut Worker<D, T>,
+    session: &mut Session<D, T>,
     queue: QueueName,
-) {
-    let mut client = Caller {
-        rt,
-        shop,
-        session: &mut worker.session,
-    };
-    let sent = send(&mut client, alloc, queue, "hello").is_some();
-    worker.received = sent && receive(&mut client, queue, Timeout::of(30)).is_some();
+) -> bool {
+    let mut client = Caller { rt, shop, session };
+    send(&mut client, alloc, queue, "hello").is_some()
+        && receive(&mut client, queue, Timeout::of(30)).is_some()
 }
 
-// A worker with a session of its own.
-fn new_worker<D: Ledger, T: Ledger, R: Wait + Abort>(
-    rt: &R,
-    alloc: Global,
-    shop: &Shop<D, T, SlotStore>,
-) -> Worker<D, T> {
-    let session = shop.service.session(rt).expect(rt, "a number");
-    Worker {
-        session: Box::new(alloc, session).expect(rt, "memory"),
-        received: false,
-    }
-}
-
-// Two workers, of whom the first has made a queue.
-fn hire<D: Ledger, T: Ledger, R: Wait + Abort>(
+// Two sessions, of which the first has made a queue.
+fn begin<D: Ledger, T: Ledger, R: Wait + Abort>(
     rt: &R,
     alloc: Global,
     shop: &Shop<D, T, SlotStore>,
     queue: QueueName,
-) -> Vec<Worker<D, T>> {
-    let mut first = new_worker(rt, alloc, shop);
+) -> Vec<Session<D, T>> {
+    let mut session = shop.service.session(rt).expect(rt, "a number");
     let mut maker = Caller {
         rt,
         shop,
-        session: &mut first.session,
+        session: &mut session,
     };
     assert!(rt; create(&mut maker, queue, None));
-    let second = new_worker(rt, alloc, shop);
-    vec![in alloc; first, second].expect(rt, "memory")
+    let second = shop.service.session(rt).expect(rt, "a number");
+    vec![in alloc; session, second].expect(rt, "memory")
 }
 
 // A service, whose two counts have names.
@@ -152,20 +129,6 @@ fn open<D: Ledger, T: Ledger>(
     }
 }
 
-// The sessions of these workers.
-fn sessions_of<D: Ledger, T: Ledger>(
-    rt: &impl Abort,
-    alloc: Global,
-    workers: Vec<Worker<D, T>>,
-) -> Vec<Session<D, T>> {
-    let mut sessions = Vec::new(alloc);
-    for worker in workers {
-        let session = Box::into_inner(worker.session);
-        assert!(rt; sessions.push(session).is_ok(), "memory");
-    }
-    sessions
-}
-
 // All that a service leaves, with what these sessions did.
 fn close<D: Ledger, T: Ledger>(
     rt: &impl Abort,
@@ -188,32 +151,35 @@ fn messages(rt: &impl Abort, alloc: Global, parts: &Parts) -> usize {
     run.lineages(alloc).expect(rt, "memory").len()
 }
 
-// Two threads work at one service; how many received a message, and how many messages there were.
+// Two threads call at one service; how many received a message, and how many messages there were.
 fn share<R: Threads + Wait + Abort + Sync, D: Ledger + Send + Sync, T: Ledger + Send + Sync>(
     rt: &R,
     alloc: Global,
     of_directory: Blank,
     of_ledger: Blank,
-) -> (usize, usize)
+) -> (u64, usize)
     requires of_directory { (of_directory.name ≡ D.name) × (of_directory.parts ≡ D.parts) × (D.parts ≡ 4294967296) }
     requires of_ledger { (of_ledger.name ≡ T.name) × (of_ledger.parts ≡ T.parts) × (T.parts ≡ 4294967296) }
 {
     let orders = QueueName::new(b"orders").expect(rt, "a name");
     let shop: Shop<D, T, SlotStore> = open(rt, alloc, of_directory, of_ledger);
-    let mut workers = hire(rt, alloc, &shop, orders);
+    let mut sessions = begin(rt, alloc, &shop, orders);
+    let received = AtomicU64::new(0);
     thread::for_each_mut(
         rt,
-        &mut workers,
+        &mut sessions,
         2,
-        &|_: usize, worker: &mut Worker<D, T>| work(rt, alloc, &shop, worker, orders),
+        &|_: usize, session: &mut Session<D, T>| {
+            let served = is_served(rt, alloc, &shop, session, orders) as u64;
+            received.fetch_add(served, Ordering::SeqCst);
+        },
     );
-    let received = workers.iter().filter(|worker| worker.received).count();
-    let parts = close(rt, alloc, shop, sessions_of(rt, alloc, workers));
-    (received, messages(rt, alloc, &parts))
+    let parts = close(rt, alloc, shop, sessions);
+    (received.load(Ordering::SeqCst), messages(rt, alloc, &parts))
 }
 
 // At a service of their own.
-fn meet<R: Threads + Wait + Abort + Sync>(rt: &R, alloc: Global) -> (usize, usize) {
+fn meet<R: Threads + Wait + Abort + Sync>(rt: &R, alloc: Global) -> (u64, usize) {
     share::<R, Brand, Brand>(rt, alloc, Blank::new(SEATS), Blank::new(SEATS))
 }
 

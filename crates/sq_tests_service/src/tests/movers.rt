@@ -65,7 +65,7 @@ pub fn words<D: Ledger, T: Ledger, R: Wait + Abort>(
     let mut tried = 0;
     let dead = word(dead_turn(service, rt, client.session(), &named(rt, b'q')));
     let entered = word(enter_turn(service, rt, client.session(), &mut tried));
-    assert!(rt; at.is_done(client, Ask::Start(b'd', None)), "a task");
+    assert!(rt; at.heard(client, Ask::Start(b'd', None)).done, "a task");
     let mut walk = Walk::new(TaskNo::new(1).expect(rt, "a number"));
     let mut words = dead.saturating_mul(10).saturating_add(entered);
     for turn in 2..8usize {

@@ -4,10 +4,6 @@ ghost use Rattle.std.specs.Prelude.{◌≡◌};
 use super::asks::Ask;
 use super::evidence::Evidence;
 use super::stories::Deed;
-use sq_actions::progress::Progress;
-use sq_base::refusal::Refusal;
-use sq_calls::calls::{Answer, Call};
-use sq_calls::turns::{Turn, Turned};
 use sq_directory::directory::Directory;
 use sq_history::recorded::Home;
 use sq_ledger::ledger::TransitLedger;
@@ -214,6 +210,10 @@ impl<D: Ledger, T: Ledger> Client<D, T> {
     pub fn session(&mut self) -> &mut Session<D, T> {
         self.session.get_mut()
     }
+
+    pub fn into_session(self) -> Session<D, T> {
+        self.session.into_inner()
+    }
 }
 
 impl<'a, D: Ledger, T: Ledger> Shared<'a, D, T, SlotStore> {
@@ -261,60 +261,22 @@ impl<'a, D: Ledger, T: Ledger> Shared<'a, D, T, SlotStore> {
         }
     }
 
-    /// Does what a client asks.
-    pub fn call<R: Wait>(
-        &self,
-        rt: &R,
-        client: &mut Client<D, T>,
-        call: &Call,
-    ) -> Result<Answer, Refusal> {
-        self.service.get().call(rt, client.session.get_mut(), call)
+    /// Takes a session back.
+    pub fn retire<R: Wait + Abort>(&self, rt: &R, session: Session<D, T>) {
+        match self.service.get().retire(rt, session) {
+            Ok(()) => {}
+            Err(_) => panic!(rt; "memory"),
+        }
     }
 
-    /// Does a turn of a mover that is so far.
-    pub fn turn<R: Wait>(
-        &self,
-        rt: &R,
-        client: &mut Client<D, T>,
-        progress: &mut Progress,
-        turn: &Turn,
-    ) -> Result<Turned, Refusal> {
-        self.service
-            .get()
-            .turn(rt, client.session.get_mut(), progress, turn)
-    }
-
-    /// Takes a client back.
-    pub fn retire<R: Wait + Abort>(&self, rt: &R, client: Client<D, T>) {
-        let taken = self.service.get().retire(rt, client.session.into_inner());
-        assert!(rt; taken.is_ok(), "memory");
-    }
-
-    /// Ends it, with these clients.
-    pub fn finish(self, rt: &impl Abort, alloc: Global, clients: Vec<Client<D, T>>) -> Evidence
+    /// Ends it, with these sessions.
+    pub fn finish(self, rt: &impl Abort, alloc: Global, sessions: Vec<Session<D, T>>) -> Evidence
         requires of_directory { D.parts ≡ 4294967296 }
         requires of_ledger { T.parts ≡ 4294967296 }
     {
-        let sessions = sessions_of(rt, alloc, clients);
         match self.service.into_inner().finish(sessions) {
             Ok(parts) => Evidence::new(rt, alloc, parts),
             Err(_) => panic!(rt; "memory"),
         }
     }
-}
-
-// The sessions of these clients.
-fn sessions_of<D: Ledger, T: Ledger>(
-    rt: &impl Abort,
-    alloc: Global,
-    clients: Vec<Client<D, T>>,
-) -> Vec<Session<D, T>> {
-    let mut sessions = Vec::new(alloc);
-    for client in clients {
-        assert!(rt;
-            sessions.push(client.session.into_inner()).is_ok(),
-            "memory"
-        );
-    }
-    sessions
 }

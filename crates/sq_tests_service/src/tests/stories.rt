@@ -9,9 +9,9 @@ use super::named::is_done_by_name;
 use super::shared::{Client, Setting, Shared, Signs, is_set};
 use super::threads::random;
 use sq_base::handle::Handle;
-use sq_base::refusal::Refusal;
-use sq_calls::calls::Answer;
+use sq_calls::calls::Call;
 use sq_queue::actors::SEATS;
+use sq_queue::session::Session;
 use sq_store::slots::SlotStore;
 use std::alloc::Global;
 use std::marker::Brand;
@@ -66,45 +66,42 @@ pub struct Scene<'s, 'a, D: Ledger, T: Ledger, R> {
     pub place: usize,
 }
 
-// Whether a call was stopped.
-fn is_stopped(told: Result<Option<Answer>, Refusal>) -> bool {
-    matches!(told, Ok(None))
+// What a deed tells that is done to the clock or to the signs.
+fn show(signs: &Signs, deed: Deed) -> u64 {
+    match deed {
+        Deed::Clock(time) => signs.time.store(time, Ordering::SeqCst),
+        Deed::AwaitHeld => return is_set(&signs.held) as u64,
+        Deed::Hold => signs.held.store(1, Ordering::SeqCst),
+        Deed::Sign => signs.sign.store(1, Ordering::SeqCst),
+        _ => signs.take_back(),
+    }
+    0
 }
 
 impl<'s, 'a, D: Ledger, T: Ledger, R: Wait + Abort> Scene<'s, 'a, D, T, R> {
-    // What a client has of the answer to what it asks.
-    fn heard(&self, client: &mut Client<D, T>, ask: Ask) -> Heard {
-        let call = call_of(self.rt, self.alloc, ask);
-        heard_of(&self.service.call(self.rt, client, &call))
+    // What a client has of the answer to a call.
+    fn answered(&self, client: &mut Client<D, T>, call: &Call) -> Heard {
+        let service = self.service.service();
+        heard_of(&service.call(self.rt, client.session(), call))
     }
 
-    /// Does what a client asks, and tells whether it is not refused.
-    pub fn is_done(&self, client: &mut Client<D, T>, ask: Ask) -> bool {
-        self.heard(client, ask).done
-    }
-
-    /// The message that a queue gives to a client; it is visible again at once.
-    pub fn received(&self, client: &mut Client<D, T>, name: u8) -> Option<Got> {
-        self.heard(client, Ask::Receive(name)).got
-    }
-
-    // Deletes a message by its handle, and tells whether that is not refused.
-    fn is_deleted(&self, client: &mut Client<D, T>, name: u8, handle: Option<Handle>) -> bool {
-        let call = delete(self.rt, name, handle);
-        heard_of(&self.service.call(self.rt, client, &call)).done
+    /// What a client has of the answer to what it asks.
+    pub fn heard(&self, client: &mut Client<D, T>, ask: Ask) -> Heard {
+        self.answered(client, &call_of(self.rt, self.alloc, ask))
     }
 
     /// A message is received, and deleted by the handle that was given; without a handle where there is none.
     pub fn receive_and_delete(&self, client: &mut Client<D, T>, name: u8) -> bool {
-        let handle = self.received(client, name).map(|got| got.handle);
-        self.is_deleted(client, name, handle)
+        let got = self.heard(client, Ask::Receive(name)).got;
+        let call = delete(self.rt, name, got.map(|got| got.handle));
+        self.answered(client, &call).done
     }
 
     fn sends(&self, client: &mut Client<D, T>, times: u64) -> u64 {
         let mut done = 0u64;
         for _ in 0..times {
-            let sent = self.is_done(client, Ask::Send(b'q'));
-            let told = self.is_done(client, Ask::Url(b'q'));
+            let sent = self.heard(client, Ask::Send(b'q')).done;
+            let told = self.heard(client, Ask::Url(b'q')).done;
             done = done.saturating_add(sent as u64).saturating_add(told as u64);
         }
         done
@@ -113,27 +110,18 @@ impl<'s, 'a, D: Ledger, T: Ledger, R: Wait + Abort> Scene<'s, 'a, D, T, R> {
     fn send_is_stopped(&self, client: &mut Client<D, T>, steps: u64) -> bool {
         let call = call_of(self.rt, self.alloc, Ask::Send(b'q'));
         let service = self.service.service();
-        is_stopped(service.call_until(self.rt, client.session(), &call, steps))
-    }
-
-    // Signs and the clock.
-    fn show(&self, deed: Deed) -> u64 {
-        match deed {
-            Deed::Clock(time) => self.signs.time.store(time, Ordering::SeqCst),
-            Deed::AwaitHeld => return is_set(&self.signs.held) as u64,
-            Deed::Hold => self.signs.held.store(1, Ordering::SeqCst),
-            Deed::Sign => self.signs.sign.store(1, Ordering::SeqCst),
-            _ => self.signs.take_back(),
-        }
-        0
+        matches!(
+            service.call_until(self.rt, client.session(), &call, steps),
+            Ok(None)
+        )
     }
 
     // What a deed tells.
     fn do_deed(&self, client: &mut Client<D, T>, deed: Deed) -> u64 {
         match deed {
-            Deed::Ask(ask) => self.is_done(client, ask) as u64,
+            Deed::Ask(ask) => self.heard(client, ask).done as u64,
             Deed::Named(ask) => is_done_by_name(self, client, ask) as u64,
-            Deed::Receive(name) => match self.received(client, name) {
+            Deed::Receive(name) => match self.heard(client, Ask::Receive(name)).got {
                 Some(got) => got.serial.saturating_add(1),
                 None => 0,
             },
@@ -143,7 +131,7 @@ impl<'s, 'a, D: Ledger, T: Ledger, R: Wait + Abort> Scene<'s, 'a, D, T, R> {
             Deed::Turns(number) => turns(self, client, number) as u64,
             Deed::Words => words(self, client),
             Deed::Random(calls) => random(self, client, calls),
-            _ => self.show(deed),
+            _ => show(self.signs, deed),
         }
     }
 
@@ -177,6 +165,11 @@ struct Worker<D: Ledger, T: Ledger> {
     told: u64,
 }
 
+// The first client must be told this before all act.
+fn must_begin(rt: &impl Abort, told: u64, want: u64) {
+    assert!(rt; told == want, "begun: {told}");
+}
+
 // So many clients; the first has begun.
 fn begun<D: Ledger, T: Ledger, R: Wait + Abort>(
     at: &Scene<'_, '_, D, T, R>,
@@ -188,9 +181,11 @@ fn begun<D: Ledger, T: Ledger, R: Wait + Abort>(
         let mut client = at.service.client(at.rt, at.alloc);
         if place == 0 {
             let told = at.act(&mut client, setting.begin.deeds);
-            assert!(at.rt; told == setting.begin.tells, "begun: {told}");
+            must_begin(at.rt, told, setting.begin.tells);
         }
-        assert!(at.rt; workers.push(Worker { client, told: 0 }).is_ok(), "memory");
+        workers
+            .push(Worker { client, told: 0 })
+            .expect(at.rt, "memory");
     }
     workers
 }
@@ -224,26 +219,29 @@ fn act_all<D: Ledger + Send + Sync, T: Ledger + Send + Sync, R: Threads + Wait +
     );
 }
 
-// The clients' numbers. Each second client is given back, the others are left.
+// The clients' numbers. Each second client is given back; the sessions of the others are left.
 fn apart<D: Ledger, T: Ledger, R: Wait + Abort>(
     rt: &R,
     alloc: Global,
     service: &Shared<'_, D, T, SlotStore>,
-    workers: Vec<Worker<D, T>>,
-) -> ([u64; 8], Vec<Client<D, T>>) {
+    workers: &mut Vec<Worker<D, T>>,
+) -> ([u64; 8], Vec<Session<D, T>>) {
     let mut by = [0u64; 8];
     let mut left = Vec::new(alloc);
-    let mut place = 0usize;
-    for worker in workers {
+    for _ in 0..workers.len() {
+        let Some(worker) = workers.pop() else {
+            break;
+        };
+        let place = workers.len();
         if let Some(number) = by.get_mut(place) {
             *number = worker.told;
         }
+        let session = worker.client.into_session();
         if place % 2 == 1 {
-            service.retire(rt, worker.client);
+            service.retire(rt, session);
         } else {
-            assert!(rt; left.push(worker.client).is_ok(), "memory");
+            left.push(session).expect(rt, "memory");
         }
-        place = place.saturating_add(1);
     }
     (by, left)
 }
@@ -278,7 +276,7 @@ fn told_by<D: Ledger + Send + Sync, T: Ledger + Send + Sync, R: Threads + Wait +
     };
     let mut workers = begun(&at, setting, deeds.len());
     act_all(rt, alloc, &service, &signs, deeds, &mut workers);
-    let (by, left) = apart(rt, alloc, &service, workers);
+    let (by, left) = apart(rt, alloc, &service, &mut workers);
     let seen = service.finish(rt, alloc, left).seen();
     let met = signs.met.load(Ordering::SeqCst) == 1;
     Told { by, met, seen }

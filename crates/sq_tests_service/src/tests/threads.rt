@@ -77,16 +77,17 @@ fn act_once<D: Ledger, T: Ledger, R: Wait + Abort>(
 ) -> u64 {
     let name = one_of(choices);
     match choices.below(12) {
-        0..=3 => return at.is_done(client, Ask::Send(name)) as u64,
+        0..=3 => return at.heard(client, Ask::Send(name)).done as u64,
         4..=6 => {
             at.receive_and_delete(client, name);
         }
         7 => {
-            at.is_done(client, rare_ask(choices));
+            at.heard(client, rare_ask(choices));
         }
         _ => {
             let turn = some_turn(at.rt, choices);
-            let _ = at.service.turn(at.rt, client, progress, &turn);
+            let service = at.service.service();
+            let _ = service.turn(at.rt, client.session(), progress, &turn);
         }
     }
     0

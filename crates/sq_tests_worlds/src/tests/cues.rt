@@ -136,23 +136,11 @@ fn told(alloc: Global, stage: &mut Stage, actor: u32, clock: u64, asked: Asked) 
     }
 }
 
-/// Whether a line is answered with this one.
-pub fn is_answered(rt: &impl Abort, stage: &mut Stage, line: &str, want: &str) -> bool {
-    let writer = stage.answered(rt, line);
-    match writer.inner().written.as_slice() {
-        [text @ .., b'\n'] => text == want.as_bytes(),
-        _ => false,
-    }
-}
-
 // Whether it is told what it must be.
-fn is_right(rt: &impl Abort, alloc: Global, stage: &mut Stage, cue: &Cue) -> bool {
+fn is_right(alloc: Global, stage: &mut Stage, cue: &Cue) -> bool {
     match cue {
-        Cue::Line(line, want) => is_answered(rt, stage, line, want),
-        Cue::Any(line) => {
-            let _ = stage.answered(rt, line);
-            true
-        }
+        Cue::Line(line, want) => stage.is_answered(line, Some(*want)),
+        Cue::Any(line) => stage.is_answered(line, None),
         Cue::Step(actor, clock, asked, want) => told(alloc, stage, *actor, *clock, *asked) == *want,
     }
 }
@@ -160,7 +148,7 @@ fn is_right(rt: &impl Abort, alloc: Global, stage: &mut Stage, cue: &Cue) -> boo
 /// Does what the cues say, one after another.
 pub fn play(rt: &impl Abort, alloc: Global, stage: &mut Stage, cues: &[Cue]) {
     for (place, cue) in cues.iter().enumerate() {
-        assert!(rt; is_right(rt, alloc, stage, cue), "cue {place}");
+        assert!(rt; is_right(alloc, stage, cue), "cue {place}");
     }
 }
 

@@ -97,8 +97,14 @@ fn acted<S: Store>(
     told_by(&home.step(alloc, by, now, None, act), home, by)
 }
 
-// What a home answers an actor that did each event so far and has seen so much.
-fn asked<S: Store>(alloc: Global, home: &mut Recorded<S>, seen: u64, now: u64, ask: Ask) -> Answers
+/// What a home answers an actor that did each event so far and has seen so much.
+pub fn asked_of<S: Store>(
+    alloc: Global,
+    home: &mut Recorded<S>,
+    seen: u64,
+    now: u64,
+    ask: Ask,
+) -> Answers
     requires { seen < stamp_end }
 {
     let by = Actor {
@@ -121,7 +127,7 @@ fn is_right<S: Store>(alloc: Global, home: &mut Recorded<S>, seen: u64, line: &L
 {
     let (now, ask, want) = line;
     for _ in 0..2 {
-        let told = asked(alloc, home, seen, *now, *ask);
+        let told = asked_of(alloc, home, seen, *now, *ask);
         if told == *want {
             return true;
         }
@@ -239,11 +245,16 @@ fn a_home_that_does_not_serve_refuses(rt: HostRuntime) {
     assert_eq!(rt; wrong, [14, 14]);
 }
 
+// Whether a home is closed, by a step of this stamp.
+fn is_closed_at<S: Store>(home: &Recorded<S>, last: Stamp) -> bool {
+    home.last() == last && home.is_closed()
+}
+
 // The same to an actor that has seen 5000 ms, of a home with room for one message; and whether it is closed then, at this stamp.
 fn ended(rt: &impl Abort, alloc: Global, lines: &[Line], last: Stamp) -> (usize, bool) {
     let mut home = unopened(rt, alloc, SlotStore::new(alloc), 1);
     let wrong = first_wrong(alloc, &mut home, 5000, lines);
-    (wrong, home.last() == last && home.is_closed())
+    (wrong, is_closed_at(&home, last))
 }
 
 // Each call once, in an order in which each is done, by an actor that has seen more than its clock says.

@@ -1,11 +1,10 @@
 //! A message that leaves a home for a move task.
 ghost use Rattle.sq_base.specs.Stamps.{Below};
 
-use super::home_steps::unopened;
+use super::home_steps::{asked_of, unopened};
 use sq_base::ids::QueueNo;
 use sq_base::refusal::Refusal;
 use sq_base::stamp::Stamp;
-use sq_history::act::HomeAct;
 use sq_history::recorded::Home;
 use sq_history::shared::HomeHalf;
 use sq_model::event::Actor;
@@ -15,7 +14,7 @@ use sq_model::task::NamedQueue;
 use sq_store::slots::SlotStore;
 use sq_task::leave::TaskLeave;
 use sq_task::task::MoveTask;
-use sq_tests_kit::asks::{Ask, home_act};
+use sq_tests_kit::asks::{Answers, Ask};
 use sq_tests_kit::setup::{named, stamp};
 use std::alloc::Global;
 use std::process::Abort;
@@ -106,17 +105,10 @@ fn leave(alloc: Global, home: &mut Home, moment: u32, asked: &Result<TaskLeave, 
     }
 }
 
-// Whether an act is done.
-fn acted(alloc: Global, home: &mut Home, moment: u32, act: HomeAct) -> bool {
-    home.step(alloc, &actor(), moment as u64, None, act).is_ok()
-}
-
 // Whether it is done.
 fn done(alloc: Global, home: &mut Home, moment: u32, ask: Ask) -> bool {
-    match home_act(alloc, ask) {
-        Ok(act) => acted(alloc, home, moment, act),
-        Err(_) => false,
-    }
+    let told = asked_of(alloc, home, 0, moment as u64, ask);
+    !matches!(told, Answers::Refused(_) | Answers::Other)
 }
 
 // The moment of a leave, what is asked of the home 1 ms before it, whether the task has a destination and its rate allows it, and what

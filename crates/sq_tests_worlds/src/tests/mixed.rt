@@ -28,15 +28,10 @@ fn with_none(rt: &impl Abort, alloc: Global, mix: Mix) -> Fault {
     evidence.fault()
 }
 
-// Whether an actor does this to the list of queues.
-fn is_done(alloc: Global, parts: &mut Parts, journal: &mut Journal, call: &DirectoryCall) -> bool {
-    directory_step(alloc, &mut parts.directory, journal, 1000, call).is_ok()
-}
-
 // Whether an actor makes a queue.
 fn is_made(alloc: Global, parts: &mut Parts, journal: &mut Journal, name: QueueName) -> bool {
     let call = DirectoryCall::Create(name, Attributes::none());
-    is_done(alloc, parts, journal, &call)
+    directory_step(alloc, &mut parts.directory, journal, 1000, &call).is_ok()
 }
 
 // Whether another actor of the same number, who has seen nothing, makes a queue.

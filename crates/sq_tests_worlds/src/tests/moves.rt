@@ -108,19 +108,6 @@ const REMOVE_Q: Cue = Cue::Line(
     r#"{}"#,
 );
 
-// A message of this body is dead at 1000 ms, and found by nobody at 31,000.
-const DEAD: [Cue; 5] = [MAKE_D, MAKE_Q_FOR_D, SEND, RECEIVE, RECEIVE_LATER];
-
-const OTHER_DEAD: [Cue; 5] = [MAKE_D, MAKE_Q_FOR_D, SEND_OTHER, RECEIVE, RECEIVE_LATER];
-
-// A message that no queue gave to the queue for dead letters.
-const SENT_THERE: [Cue; 3] = [MAKE_D, MAKE_Q_FOR_D, SEND_D];
-
-// As the first, with three queues, of which this one is for dead letters.
-const DEAD_FOR_D: [Cue; 5] = [MAKE_D, MAKE_E, MAKE_Q_FOR_D, SEND, RECEIVE];
-
-const DEAD_FOR_E: [Cue; 5] = [MAKE_D, MAKE_E, MAKE_Q_FOR_E, SEND, RECEIVE];
-
 // Four queues of one home.
 fn few(rows: u32, transit: u32) -> Options {
     let mut options = options(1, rows, 10);
@@ -128,29 +115,18 @@ fn few(rows: u32, transit: u32) -> Options {
     options
 }
 
-// What a story begins with.
+// A line of a story.
 #[derive(Clone, Copy)]
-enum First {
-    Dead,
-    OtherDead,
-    SentThere,
-    DeadForD,
-    DeadForE,
-}
-
-fn begin(rt: &impl Abort, alloc: Global, stage: &mut Stage, first: First) {
-    match first {
-        First::Dead => play(rt, alloc, stage, &DEAD),
-        First::OtherDead => play(rt, alloc, stage, &OTHER_DEAD),
-        First::SentThere => play(rt, alloc, stage, &SENT_THERE),
-        First::DeadForD => play(rt, alloc, stage, &DEAD_FOR_D),
-        First::DeadForE => play(rt, alloc, stage, &DEAD_FOR_E),
-    }
-}
-
-// A line that follows.
-#[derive(Clone, Copy)]
-enum Then {
+enum Line {
+    MakeD,
+    MakeE,
+    MakeQForD,
+    MakeQForE,
+    Send,
+    SendOther,
+    SendD,
+    Receive,
+    ReceiveLater,
     Leave,
     LeaveLater,
     LeaveByAnother,
@@ -166,35 +142,86 @@ enum Then {
     RemoveQ,
 }
 
-fn cue_of(then: Then) -> Cue {
-    match then {
-        Then::Leave => LEAVE,
-        Then::LeaveLater => LEAVE_LATER,
-        Then::LeaveByAnother => LEAVE_BY_ANOTHER,
-        Then::Enter => ENTER,
-        Then::EnterByAnother => ENTER_BY_ANOTHER,
-        Then::TurnBack => TURN_BACK,
-        Then::ComeBack => COME_BACK,
-        Then::Drop => DROP,
-        Then::Start => START,
-        Then::LeaveForTask => LEAVE_FOR_TASK,
-        Then::Fail => FAIL,
-        Then::RemoveD => REMOVE_D,
-        Then::RemoveQ => REMOVE_Q,
+fn cue_of(line: Line) -> Cue {
+    match line {
+        Line::MakeD => MAKE_D,
+        Line::MakeE => MAKE_E,
+        Line::MakeQForD => MAKE_Q_FOR_D,
+        Line::MakeQForE => MAKE_Q_FOR_E,
+        Line::Send => SEND,
+        Line::SendOther => SEND_OTHER,
+        Line::SendD => SEND_D,
+        Line::Receive => RECEIVE,
+        Line::ReceiveLater => RECEIVE_LATER,
+        Line::Leave => LEAVE,
+        Line::LeaveLater => LEAVE_LATER,
+        Line::LeaveByAnother => LEAVE_BY_ANOTHER,
+        Line::Enter => ENTER,
+        Line::EnterByAnother => ENTER_BY_ANOTHER,
+        Line::TurnBack => TURN_BACK,
+        Line::ComeBack => COME_BACK,
+        Line::Drop => DROP,
+        Line::Start => START,
+        Line::LeaveForTask => LEAVE_FOR_TASK,
+        Line::Fail => FAIL,
+        Line::RemoveD => REMOVE_D,
+        Line::RemoveQ => REMOVE_Q,
     }
 }
 
-// Small values: a table of cues themselves takes ten seconds to prove wherever it is used.
-type Story = (First, &'static [Then]);
+// How a story begins, and how it goes on. Small values: a table of cues themselves takes ten seconds to prove wherever it is used.
+type Story = (&'static [Line], &'static [Line]);
+
+// A message of this body is dead at 1000 ms, and found by nobody at 31,000.
+const DEAD: &[Line] = &[
+    Line::MakeD,
+    Line::MakeQForD,
+    Line::Send,
+    Line::Receive,
+    Line::ReceiveLater,
+];
+
+const OTHER_DEAD: &[Line] = &[
+    Line::MakeD,
+    Line::MakeQForD,
+    Line::SendOther,
+    Line::Receive,
+    Line::ReceiveLater,
+];
+
+// A message that no queue gave to the queue for dead letters.
+const SENT_THERE: &[Line] = &[Line::MakeD, Line::MakeQForD, Line::SendD];
+
+// As the first, with three queues, of which this one is for dead letters.
+const DEAD_FOR_D: &[Line] = &[
+    Line::MakeD,
+    Line::MakeE,
+    Line::MakeQForD,
+    Line::Send,
+    Line::Receive,
+];
+
+const DEAD_FOR_E: &[Line] = &[
+    Line::MakeD,
+    Line::MakeE,
+    Line::MakeQForE,
+    Line::Send,
+    Line::Receive,
+];
+
+// Does these lines.
+fn go_on(rt: &impl Abort, alloc: Global, stage: &mut Stage, lines: &[Line]) {
+    for line in lines {
+        play(rt, alloc, stage, &[cue_of(*line)]);
+    }
+}
 
 // What a story leaves.
 fn lived(rt: &impl Abort, alloc: Global, story: Story) -> Evidence {
     let (first, then) = story;
     let mut stage = Stage::new(rt, alloc, few(10, 10));
-    begin(rt, alloc, &mut stage, first);
-    for line in then {
-        play(rt, alloc, &mut stage, &[cue_of(*line)]);
-    }
+    go_on(rt, alloc, &mut stage, first);
+    go_on(rt, alloc, &mut stage, then);
     stage.evidence(rt)
 }
 
@@ -224,30 +251,30 @@ type Moved = (Story, Fault, [u64; 2]);
 
 // Each of the seven moves.
 const MOVES: &[Moved] = &[
-    ((First::Dead, &[Then::Leave]), LEFT, [7, 1]),
-    ((First::Dead, &[Then::Leave, Then::Enter]), CAME_IN, [7, 2]),
+    ((DEAD, &[Line::Leave]), LEFT, [7, 1]),
+    ((DEAD, &[Line::Leave, Line::Enter]), CAME_IN, [7, 2]),
     (
-        (First::Dead, &[Then::Leave, Then::RemoveD, Then::TurnBack]),
+        (DEAD, &[Line::Leave, Line::RemoveD, Line::TurnBack]),
         CAME_IN,
         [9, 2],
     ),
     (
         (
-            First::Dead,
-            &[Then::Leave, Then::RemoveD, Then::TurnBack, Then::ComeBack],
+            DEAD,
+            &[Line::Leave, Line::RemoveD, Line::TurnBack, Line::ComeBack],
         ),
         CAME_BACK,
         [9, 3],
     ),
     (
         (
-            First::Dead,
+            DEAD,
             &[
-                Then::Leave,
-                Then::RemoveD,
-                Then::RemoveQ,
-                Then::TurnBack,
-                Then::Drop,
+                Line::Leave,
+                Line::RemoveD,
+                Line::RemoveQ,
+                Line::TurnBack,
+                Line::Drop,
             ],
         ),
         CAME_BACK,
@@ -255,13 +282,13 @@ const MOVES: &[Moved] = &[
     ),
     (
         (
-            First::Dead,
-            &[Then::Leave, Then::Enter, Then::Start, Then::LeaveForTask],
+            DEAD,
+            &[Line::Leave, Line::Enter, Line::Start, Line::LeaveForTask],
         ),
         LEFT_FOR_TASK,
         [8, 3],
     ),
-    ((First::SentThere, &[Then::Start, Then::Fail]), LEFT, [6, 1]),
+    ((SENT_THERE, &[Line::Start, Line::Fail]), LEFT, [6, 1]),
 ];
 
 // Which parts have the last line, and which lack it: one of the eight ways. The list of queues is the same.
@@ -354,38 +381,38 @@ type Differing = (Story, Story, [Fault; 2]);
 // The ledger's step has the same stamp, and is of another message, actor or target; or it has another stamp.
 const DIFFERING: &[Differing] = &[
     (
-        (First::Dead, &[Then::Leave]),
-        (First::OtherDead, &[Then::Leave]),
+        (DEAD, &[Line::Leave]),
+        (OTHER_DEAD, &[Line::Leave]),
         [LEFT, LEFT],
     ),
     (
-        (First::OtherDead, &[Then::Leave]),
-        (First::Dead, &[Then::Leave]),
+        (OTHER_DEAD, &[Line::Leave]),
+        (DEAD, &[Line::Leave]),
         [LEFT, LEFT],
     ),
     (
-        (First::Dead, &[Then::Leave, Then::Enter]),
-        (First::OtherDead, &[Then::Leave, Then::Enter]),
+        (DEAD, &[Line::Leave, Line::Enter]),
+        (OTHER_DEAD, &[Line::Leave, Line::Enter]),
         [LEFT, CAME_IN],
     ),
     (
-        (First::Dead, &[Then::Leave]),
-        (First::Dead, &[Then::LeaveByAnother]),
+        (DEAD, &[Line::Leave]),
+        (DEAD, &[Line::LeaveByAnother]),
         [LEFT, LEFT],
     ),
     (
-        (First::Dead, &[Then::Leave, Then::Enter]),
-        (First::Dead, &[Then::Leave, Then::EnterByAnother]),
+        (DEAD, &[Line::Leave, Line::Enter]),
+        (DEAD, &[Line::Leave, Line::EnterByAnother]),
         [CAME_IN, CAME_IN],
     ),
     (
-        (First::Dead, &[Then::Leave]),
-        (First::Dead, &[Then::LeaveLater]),
+        (DEAD, &[Line::Leave]),
+        (DEAD, &[Line::LeaveLater]),
         [LEFT, LEFT_LATER],
     ),
     (
-        (First::DeadForD, &[Then::Leave]),
-        (First::DeadForE, &[Then::Leave]),
+        (DEAD_FOR_D, &[Line::Leave]),
+        (DEAD_FOR_E, &[Line::Leave]),
         [LEFT_FOR_ANOTHER, LEFT_FOR_ANOTHER],
     ),
 ];

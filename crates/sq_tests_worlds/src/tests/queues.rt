@@ -1,5 +1,6 @@
-//! Steps and reads of queues and of tasks that no client asks by themselves.
-use super::cues::{Asked, Cue, play};
+//! Steps and reads of queues, of tasks and at homes that no client asks by themselves.
+use super::cues::{Asked, AtHome, Cue, play, played};
+use super::evidence::NO_FAULT;
 use super::stage::{Stage, options};
 use sq_base::refusal::Refusal;
 use sq_tests_kit::asks::Answers;
@@ -40,4 +41,38 @@ const TASKS: &[Cue] = &[
 fn the_last_task_of_a_queue_is_found(rt: HostRuntime) {
     let mut stage = Stage::new(&rt, rt.alloc(), options(1, 10, 16));
     play(&rt, rt.alloc(), &mut stage, TASKS);
+}
+
+const MAKE: Cue = Cue::Line(
+    r#"{"Action":"CreateQueue","QueueName":"q"}"#,
+    r#"{"QueueUrl":"http://localhost/000000000000/q"}"#,
+);
+
+const SEND: Cue = Cue::Line(
+    r#"{"Action":"SendMessage","QueueUrl":"http://localhost/000000000000/q","MessageBody":"hello"}"#,
+    NO_QUEUE,
+);
+
+const RECEIVE: Cue = Cue::Line(
+    r#"{"Action":"ReceiveMessage","QueueUrl":"http://localhost/000000000000/q","MaxNumberOfMessages":10}"#,
+    NO_QUEUE,
+);
+
+const NO_QUEUE: &str = r#"{"Error":{"Code":"QueueDoesNotExist","Number":9}}"#;
+
+// Both homes of a queue are closed.
+const CLOSE: &[Cue] = &[
+    MAKE,
+    Cue::Step(0, 0, Asked::Home(0, AtHome::Close), Answers::Done),
+    Cue::Step(0, 0, Asked::Home(1, AtHome::Close), Answers::Done),
+];
+
+// To make the queue again passes over its homes.
+const CALL: &[Cue] = &[MAKE, SEND, RECEIVE];
+
+// It all is one run.
+#[test]
+fn closed_homes_are_passed_over_and_refuse(rt: HostRuntime) {
+    let evidence = played(&rt, rt.alloc(), options(2, 10, 2), CLOSE, CALL);
+    assert!(rt; evidence.fault() == NO_FAULT);
 }

@@ -56,36 +56,35 @@ fn told(ended: [u64; 2], stream: &Bytewise) -> [u64; 4] {
     ]
 }
 
+// What was found must be this; it is shown where it is not.
+fn must_be(rt: &impl Abort, case: usize, found: &[u64], want: &[u64]) {
+    assert!(rt; found == want, "{case}: {found:?}");
+}
+
 // What becomes of two lines that are no requests, where a call of the reader and a call of the writer fail, counted from 1: what is
 // told of it, and failed reads and writes.
-fn run_of(rt: &impl Abort, alloc: Global, reads: u32, writes: u32) -> ([u64; 4], [u64; 2]) {
+fn run_of(rt: &impl Abort, alloc: Global, reads: u32, writes: u32) -> [u64; 6] {
     let mut reader = Counted::new(Piecewise::new(b"one\ntwo\n", reads));
     let mut writer = Counted::new(Bytewise::new(alloc, writes));
     let ended = ended(rt, alloc, &mut reader, &mut writer);
-    (
-        told(ended, writer.inner()),
-        [reader.failed(), writer.failed()],
-    )
+    let [end, lines, bytes, flushes] = told(ended, writer.inner());
+    [end, lines, bytes, flushes, reader.failed(), writer.failed()]
 }
 
 // A reply has 46 bytes and a line feed.
 #[test]
 fn a_run_flushes_each_line_and_stops_where_a_call_fails(rt: HostRuntime) {
     let runs = [
-        (0, 0, [0, 2, 94, 2], [0, 0]),
-        (2, 0, [1, 1, 47, 1], [1, 0]),
-        (0, 1, [2, 0, 0, 0], [0, 1]),
-        (0, 46, [2, 0, 45, 0], [0, 1]),
-        (0, 47, [2, 0, 46, 0], [0, 1]),
-        (0, 48, [2, 1, 47, 1], [0, 1]),
-        (0, 49, [2, 1, 48, 1], [0, 1]),
+        (0, 0, [0, 2, 94, 2, 0, 0]),
+        (2, 0, [1, 1, 47, 1, 1, 0]),
+        (0, 1, [2, 0, 0, 0, 0, 1]),
+        (0, 46, [2, 0, 45, 0, 0, 1]),
+        (0, 47, [2, 0, 46, 0, 0, 1]),
+        (0, 48, [2, 1, 47, 1, 0, 1]),
+        (0, 49, [2, 1, 48, 1, 0, 1]),
     ];
-    for (reads, writes, want, fails) in runs.iter() {
-        let (found, failed) = run_of(&rt, rt.alloc(), *reads, *writes);
-        assert!(rt;
-            found == *want && failed == *fails,
-            "{reads} {writes}: {found:?} {failed:?}"
-        );
+    for (case, (reads, writes, want)) in runs.iter().enumerate() {
+        must_be(&rt, case, &run_of(&rt, rt.alloc(), *reads, *writes), want);
     }
 }
 
@@ -111,10 +110,10 @@ fn lines_that_were_read_together_are_answered_by_one_write(rt: HostRuntime) {
         sixteen.extend_from_slice(b"line\n").expect(&rt, "memory");
     }
     let together = calls_of(&rt, rt.alloc(), &[sixteen.as_slice()]);
-    assert!(rt; together == [0, 16, 2, 1, 1], "{together:?}");
+    must_be(&rt, 0, &together, &[0, 16, 2, 1, 1]);
     // The end is read twice, since a line stands before it that has no line feed.
     let apart = calls_of(&rt, rt.alloc(), &[b"one\ntwo\nthr", b"ee\n", b"four"]);
-    assert!(rt; apart == [0, 4, 5, 3, 3], "{apart:?}");
+    must_be(&rt, 1, &apart, &[0, 4, 5, 3, 3]);
 }
 
 #[test]
@@ -123,9 +122,9 @@ fn no_reply_waits_while_more_is_read(rt: HostRuntime) {
     let batches: [&[u8]; 3] = [b"one\ntwo\nthr", b"ee\n", b"four\nfive\nsix\n"];
     let mut reader = Counted::new(Asking::new(&batches, &out));
     let mut writer = Counted::new(Answered::new(&out));
-    let found = ended(&rt, rt.alloc(), &mut reader, &mut writer);
-    assert!(rt; found == [0, 6], "{found:?}");
-    assert!(rt; !reader.inner().was_kept_waiting);
+    let [end, lines] = ended(&rt, rt.alloc(), &mut reader, &mut writer);
+    let waited = reader.inner().was_kept_waiting as u64;
+    must_be(&rt, 0, &[end, lines, waited], &[0, 6, 0]);
 }
 
 // What is told where a call of the writer fails, counted from 1, and two lines come together.
@@ -144,30 +143,28 @@ fn replies_that_went_out_whole_are_counted(rt: HostRuntime) {
         (48, [2, 1, 47, 0]),
         (94, [2, 1, 93, 0]),
     ];
-    for (writes, want) in runs.iter() {
-        let found = cut_of(&rt, rt.alloc(), *writes);
-        assert!(rt; found == *want, "{writes}: {found:?}");
+    for (case, (writes, want)) in runs.iter().enumerate() {
+        must_be(&rt, case, &cut_of(&rt, rt.alloc(), *writes), want);
     }
 }
 
 // A line that makes a queue.
 const MAKE_A: &[u8] = b"{\"Action\":\"CreateQueue\",\"QueueName\":\"a\"}\n";
 
+// How a world ends a line whose reply finds a writer that fails.
+fn cut(alloc: Global, stage: &mut Stage) -> [u64; 2] {
+    let mut reader = Counted::new(Batches::new(&[MAKE_A]));
+    let mut writer = Counted::new(Bytewise::new(alloc, 1));
+    end_of(stage.answer(&mut reader, &mut writer))
+}
+
 #[test]
 fn what_was_read_is_done_though_no_reply_went_out(rt: HostRuntime) {
     let mut stage = Stage::new(&rt, rt.alloc(), options(1, 10, 10));
-    let made = [MAKE_A];
-    let mut reader = Counted::new(Batches::new(&made));
-    let mut failing = Counted::new(Bytewise::new(rt.alloc(), 1));
-    let cut = end_of(stage.answer(&mut reader, &mut failing));
-    assert!(rt; cut == [2, 0], "{cut:?}");
-    let asked: [&[u8]; 1] = [b"{\"Action\":\"ListQueues\"}\n"];
-    let mut reader = Counted::new(Batches::new(&asked));
-    let mut writer = Counted::new(Whole::new(rt.alloc()));
-    let listed = end_of(stage.answer(&mut reader, &mut writer));
-    assert!(rt; listed == [0, 1], "{listed:?}");
-    let want = b"{\"QueueUrls\":[\"http://localhost/000000000000/a\"]}\n";
-    assert!(rt; writer.inner().written.as_slice() == want.as_slice());
+    must_be(&rt, 0, &cut(rt.alloc(), &mut stage), &[2, 0]);
+    let list = r#"{"Action":"ListQueues"}"#;
+    let listed = r#"{"QueueUrls":["http://localhost/000000000000/a"]}"#;
+    assert!(rt; stage.is_answered(list, Some(listed)));
 }
 
 // A line that sends so many letters to the queue.
@@ -196,7 +193,7 @@ fn a_long_reply_goes_out_after_those_that_wait(rt: HostRuntime) {
         rt.alloc(),
         &[MAKE_A, long.as_slice(), asked.as_slice()],
     );
-    assert!(rt; found == [0, 4, 4, 5, 4], "{found:?}");
+    must_be(&rt, 0, &found, &[0, 4, 4, 5, 4]);
 }
 
 // Whether a refusal is written so.

@@ -126,12 +126,15 @@ impl Stage {
         run_script(self.alloc, reader, writer, self.world.get_mut())
     }
 
-    /// What lines of clients and movers are answered: a writer that took it.
-    pub fn answered(&mut self, rt: &impl Abort, lines: &str) -> Counted<Bytewise> {
-        let mut reader = Counted::new(Piecewise::new(lines.as_bytes(), 0));
+    /// Whether a line of a client or a mover is answered, with this reply where one is named.
+    pub fn is_answered(&mut self, line: &str, want: Option<&str>) -> bool {
+        let mut reader = Counted::new(Piecewise::new(line.as_bytes(), 0));
         let mut writer = Counted::new(Bytewise::new(self.alloc, 0));
-        assert!(rt; self.answer(&mut reader, &mut writer).is_ok());
-        writer
+        let done = self.answer(&mut reader, &mut writer).is_ok();
+        match (writer.inner().written.as_slice(), want) {
+            ([text @ .., b'\n'], Some(want)) => done && text == want.as_bytes(),
+            (_, want) => done && want.is_none(),
+        }
     }
 
     /// What it leaves.

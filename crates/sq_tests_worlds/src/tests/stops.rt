@@ -1,6 +1,5 @@
 //! Calls that are stopped after each of their steps: all that is left is one run, and each message that was sent is in it once.
-use super::cues::is_answered;
-use super::evidence::Evidence;
+use super::evidence::{Evidence, must};
 use super::stage::{Stage, options};
 use sq_audit::merge::merge;
 use sq_base::refusal::Refusal;
@@ -149,11 +148,13 @@ impl Run {
     }
 }
 
-// Where each message of a run is; none where what it left is not of one run.
-fn places(alloc: Global, evidence: &Evidence) -> Option<Vec<Place>> {
+// Where the only message of a run is; none where there are others, or what it left is not of one run.
+fn only_place(alloc: Global, evidence: &Evidence) -> Option<Place> {
     let run = merge(alloc, evidence.parts()).ok()?;
-    let listed = places_of(alloc, &run).ok()?;
-    listed.iter().map(|(_, place)| *place).collect(alloc).ok()
+    match places_of(alloc, &run).ok()?.as_slice() {
+        [(_, place)] => Some(*place),
+        _ => None,
+    }
 }
 
 // Does lines, the one at this place up to so many steps: whether a further step of it was due, how many messages its clients were
@@ -188,10 +189,9 @@ fn stops_of(rt: &impl Abort, alloc: Global, lines: &[&str]) -> u64 {
             } else {
                 0
             };
-            assert!(rt;
-                found == Some(told.saturating_add(untold)),
-                "line {place} after {steps} steps: {told} {found:?}"
-            );
+            let left = [steps, told, found.unwrap_or(u64::MAX)];
+            let right = found == Some(told.saturating_add(untold));
+            must(rt, place as u64, &left, right);
             if !stopped {
                 break;
             }
@@ -273,7 +273,7 @@ fn calls_are_stopped_after_each_step(rt: HostRuntime) {
     ];
     for (place, (lines, stops)) in runs.iter().enumerate() {
         let found = stops_of(&rt, rt.alloc(), lines);
-        assert!(rt; found == *stops, "{place}: {found}");
+        must(&rt, place as u64, &[found, 0, 0], found == *stops);
     }
 }
 
@@ -291,8 +291,8 @@ fn a_deletion_that_is_stopped_leaves_homes_open(rt: HostRuntime) {
     }
     run.line(rt.alloc(), &mut stage, DELETE_D, 1);
     assert!(rt; run.stopped);
-    assert!(rt; is_answered(&rt, &mut stage, RECEIVE_FROM_D, NO_QUEUE));
-    assert!(rt; is_answered(&rt, &mut stage, ENTER_LATER, ENTERED));
-    let found = places(rt.alloc(), &stage.evidence(&rt)).expect(&rt, "one run");
-    assert!(rt; found.len() == 1 && found[0] == Place::InHome);
+    assert!(rt; stage.is_answered(RECEIVE_FROM_D, Some(NO_QUEUE)));
+    assert!(rt; stage.is_answered(ENTER_LATER, Some(ENTERED)));
+    let found = only_place(rt.alloc(), &stage.evidence(&rt));
+    assert!(rt; found == Some(Place::InHome));
 }
