@@ -151,40 +151,47 @@ fn messages(rt: &impl Abort, alloc: Global, parts: &Parts) -> usize {
     run.lineages(alloc).expect(rt, "memory").len()
 }
 
-// Two threads call at one service; how many received a message, and how many messages there were.
+// Two threads call at one service; whether each received a message, as 1 or 0, and how many messages there were.
 fn share<R: Threads + Wait + Abort + Sync, D: Ledger + Send + Sync, T: Ledger + Send + Sync>(
     rt: &R,
     alloc: Global,
     of_directory: Blank,
     of_ledger: Blank,
-) -> (u64, usize)
+) -> ([u64; 2], usize)
     requires of_directory { (of_directory.name ≡ D.name) × (of_directory.parts ≡ D.parts) × (D.parts ≡ 4294967296) }
     requires of_ledger { (of_ledger.name ≡ T.name) × (of_ledger.parts ≡ T.parts) × (T.parts ≡ 4294967296) }
 {
     let orders = QueueName::new(b"orders").expect(rt, "a name");
     let shop: Shop<D, T, SlotStore> = open(rt, alloc, of_directory, of_ledger);
     let mut sessions = begin(rt, alloc, &shop, orders);
-    let received = AtomicU64::new(0);
+    let received = [AtomicU64::new(0), AtomicU64::new(0)];
     thread::for_each_mut(
         rt,
         &mut sessions,
         2,
-        &|_: usize, session: &mut Session<D, T>| {
+        &|place: usize, session: &mut Session<D, T>| {
             let served = is_served(rt, alloc, &shop, session, orders) as u64;
-            received.fetch_add(served, Ordering::SeqCst);
+            if let Some(flag) = received.get(place) {
+                flag.store(served, Ordering::SeqCst);
+            }
         },
     );
     let parts = close(rt, alloc, shop, sessions);
-    (received.load(Ordering::SeqCst), messages(rt, alloc, &parts))
+    let [first, second] = received;
+    let both = [first.load(Ordering::SeqCst), second.load(Ordering::SeqCst)];
+    (both, messages(rt, alloc, &parts))
 }
 
 // At a service of their own.
-fn meet<R: Threads + Wait + Abort + Sync>(rt: &R, alloc: Global) -> (u64, usize) {
+fn meet<R: Threads + Wait + Abort + Sync>(rt: &R, alloc: Global) -> ([u64; 2], usize) {
     share::<R, Brand, Brand>(rt, alloc, Blank::new(SEATS), Blank::new(SEATS))
 }
 
 #[test]
 fn two_threads_send_and_receive(rt: HostRuntime) {
-    let (received, messages) = meet(&rt, rt.alloc());
-    assert!(rt; received == 2 && messages == 2, "{received} {messages}");
+    let ([first, second], messages) = meet(&rt, rt.alloc());
+    assert!(rt;
+        first == 1 && second == 1 && messages == 2,
+        "{first} {second} {messages}"
+    );
 }

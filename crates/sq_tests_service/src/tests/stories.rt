@@ -2,13 +2,12 @@
 //! ended.
 ghost use Rattle.std.specs.Prelude.{◌≡◌};
 
-use super::asks::{Ask, Got, Heard, call_of, delete, heard_of};
+use super::asks::{Ask, Heard, call_of, delete, heard_of};
 use super::evidence::Seen;
 use super::movers::{turns, words};
 use super::named::is_done_by_name;
 use super::shared::{Client, Setting, Shared, Signs, is_set};
 use super::threads::random;
-use sq_base::handle::Handle;
 use sq_calls::calls::Call;
 use sq_queue::actors::SEATS;
 use sq_queue::session::Session;
@@ -228,11 +227,11 @@ fn apart<D: Ledger, T: Ledger, R: Wait + Abort>(
 ) -> ([u64; 8], Vec<Session<D, T>>) {
     let mut by = [0u64; 8];
     let mut left = Vec::new(alloc);
-    for _ in 0..workers.len() {
-        let Some(worker) = workers.pop() else {
+    for place in 0..workers.len() {
+        if workers.is_empty() {
             break;
-        };
-        let place = workers.len();
+        }
+        let worker = workers.remove(0);
         if let Some(number) = by.get_mut(place) {
             *number = worker.told;
         }

@@ -136,8 +136,8 @@ fn told(alloc: Global, stage: &mut Stage, actor: u32, clock: u64, asked: Asked) 
     }
 }
 
-// Whether it is told what it must be.
-fn is_right(alloc: Global, stage: &mut Stage, cue: &Cue) -> bool {
+/// Whether it is told what it must be.
+pub fn is_right(alloc: Global, stage: &mut Stage, cue: &Cue) -> bool {
     match cue {
         Cue::Line(line, want) => stage.is_answered(line, Some(*want)),
         Cue::Any(line) => stage.is_answered(line, None),

@@ -35,8 +35,8 @@ fn numbers_of(fault: AuditFault) -> Fault {
     }
 }
 
-/// Whether in a case of this number was found what must be; what was is shown where it is not right.
-pub fn must(rt: &impl Abort, case: u64, found: &[u64; 3], right: bool) {
+/// What was found in a case of this number must be right; it is shown where it is not.
+pub fn must(rt: &impl Abort, case: u64, found: &Fault, right: bool) {
     let [kind, first, second] = *found;
     assert!(rt; right, "{case}: {kind} {first} {second}");
 }

@@ -97,7 +97,7 @@ fn acted<S: Store>(
     told_by(&home.step(alloc, by, now, None, act), home, by)
 }
 
-/// What a home answers an actor that did each event so far and has seen so much.
+/// What a home answers an actor that has seen so much, whose steps are numbered as the events of the home.
 pub fn asked_of<S: Store>(
     alloc: Global,
     home: &mut Recorded<S>,

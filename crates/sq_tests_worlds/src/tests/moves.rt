@@ -1,5 +1,5 @@
 //! Messages that move: what no row shows of them, and what the audit says where a home, the ledger and the records do not agree.
-use super::cues::{Asked, Cue, Move, play, played};
+use super::cues::{Asked, Cue, Move, is_right, play, played};
 use super::evidence::{Evidence, Fault, Mix, NO_FAULT, missing, must};
 use super::stage::{Stage, options};
 use sq_base::refusal::Refusal;
@@ -209,10 +209,9 @@ const DEAD_FOR_E: &[Line] = &[
     Line::Receive,
 ];
 
-// Does these lines.
-fn go_on(rt: &impl Abort, alloc: Global, stage: &mut Stage, lines: &[Line]) {
-    for line in lines {
-        play(rt, alloc, stage, &[cue_of(*line)]);
+fn play_lines(rt: &impl Abort, alloc: Global, stage: &mut Stage, lines: &[Line]) {
+    for (place, line) in lines.iter().enumerate() {
+        assert!(rt; is_right(alloc, stage, &cue_of(*line)), "line {place}");
     }
 }
 
@@ -220,8 +219,8 @@ fn go_on(rt: &impl Abort, alloc: Global, stage: &mut Stage, lines: &[Line]) {
 fn lived(rt: &impl Abort, alloc: Global, story: Story) -> Evidence {
     let (first, then) = story;
     let mut stage = Stage::new(rt, alloc, few(10, 10));
-    go_on(rt, alloc, &mut stage, first);
-    go_on(rt, alloc, &mut stage, then);
+    play_lines(rt, alloc, &mut stage, first);
+    play_lines(rt, alloc, &mut stage, then);
     stage.evidence(rt)
 }
 

@@ -126,7 +126,7 @@ impl Stage {
         run_script(self.alloc, reader, writer, self.world.get_mut())
     }
 
-    /// Whether a line of a client or a mover is answered, with this reply where one is named.
+    /// Whether a line of a client or a mover is done, and answered with this reply where one is named.
     pub fn is_answered(&mut self, line: &str, want: Option<&str>) -> bool {
         let mut reader = Counted::new(Piecewise::new(line.as_bytes(), 0));
         let mut writer = Counted::new(Bytewise::new(self.alloc, 0));

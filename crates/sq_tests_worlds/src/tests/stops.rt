@@ -1,5 +1,5 @@
 //! Calls that are stopped after each of their steps: all that is left is one run, and each message that was sent is in it once.
-use super::evidence::{Evidence, must};
+use super::evidence::Evidence;
 use super::stage::{Stage, options};
 use sq_audit::merge::merge;
 use sq_base::refusal::Refusal;
@@ -176,6 +176,15 @@ fn stopped_at(
     (run.stopped, run.told, found)
 }
 
+// As many messages must be left as this, where a line was stopped after so many steps.
+fn must_leave(rt: &impl Abort, stop: [u64; 2], want: u64, found: Option<u64>) {
+    let [line, steps] = stop;
+    assert!(rt;
+        found == Some(want),
+        "line {line} after {steps} steps: {found:?} and not {want}"
+    );
+}
+
 // In how many ways lines can be stopped within one of them. A stopped line was told nothing, and has left what its first steps
 // leave: of a batch of sends one message for each after the first, which looks its queue up, and of all others none.
 fn stops_of(rt: &impl Abort, alloc: Global, lines: &[&str]) -> u64 {
@@ -189,9 +198,12 @@ fn stops_of(rt: &impl Abort, alloc: Global, lines: &[&str]) -> u64 {
             } else {
                 0
             };
-            let left = [steps, told, found.unwrap_or(u64::MAX)];
-            let right = found == Some(told.saturating_add(untold));
-            must(rt, place as u64, &left, right);
+            must_leave(
+                rt,
+                [place as u64, steps],
+                told.saturating_add(untold),
+                found,
+            );
             if !stopped {
                 break;
             }
@@ -273,7 +285,7 @@ fn calls_are_stopped_after_each_step(rt: HostRuntime) {
     ];
     for (place, (lines, stops)) in runs.iter().enumerate() {
         let found = stops_of(&rt, rt.alloc(), lines);
-        must(&rt, place as u64, &[found, 0, 0], found == *stops);
+        assert!(rt; found == *stops, "{place}: {found}");
     }
 }
 
