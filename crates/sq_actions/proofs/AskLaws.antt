@@ -21,7 +21,7 @@ use Rattle.sq_model.specs.declared.directory.DirectoryCall.TheVariants as asks
 use Rattle.sq_model.specs.declared.directory.DirectoryReply.{DirectoryReply}
 use Rattle.sq_model.specs.declared.directory.DirectoryReply.TheVariants as answers
 use Rattle.sq_model.specs.declared.directory.Queue.{Queue}
-use Rattle.sq_model.specs.Rows.{ms, trimmed, is_dead, is_held, is_late, is_live}
+use Rattle.sq_model.specs.Rows.{ms, unexpired, is_dead, is_held, is_late, is_live}
 use Rattle.sq_model.specs.declared.task.Task.{Task}
 use Rattle.sq_model.specs.Tasks.{is_running}
 use Rattle.sq_model.specs.Ledgers.{Ledger, LedgerStep, cancel_refusal, finish_refusal, in_transit, is_of_source, item_of, last_number, ledger_refusal, room_refusal, task_of}
@@ -89,7 +89,7 @@ refusal_is site (Serving s v n rows) m act.Close e h = absurd cc
 refusal_is site Unopened m act.Close e h = absurd cc
 refusal_is site Closed m act.Close e h = inr (inl cc)
 refusal_is site (Serving s v n rows) m (act.Send body delay) e h =
-    let kept : List Row = trimmed s m rows in
+    let kept : List Row = unexpired s m rows in
     elim (two_cases (nat_le last_serial n || nat_le slots (length kept)) (nat_le site.limits.rows (length kept)) Worn OverLimit e h) [ inl worn ↦ inl (inr (inr worn)) | inr over ↦ inr (inr over) ]
 refusal_is site Unopened m (act.Send body delay) e h = inr (inl cc)
 refusal_is site Closed m (act.Send body delay) e h = inr (inl cc)
@@ -100,7 +100,7 @@ refusal_is site (Serving s v n rows) m (act.Delete receipt) e h = inr (inr (one_
 refusal_is site Unopened m (act.Delete receipt) e h = inr (inl cc)
 refusal_is site Closed m (act.Delete receipt) e h = inr (inl cc)
 refusal_is site (Serving s v n rows) m (act.Change receipt timeout) e h =
-    let kept : List Row = trimmed s m rows in
+    let kept : List Row = unexpired s m rows in
     inr (inr (three_cases (nat_le n receipt.serial) (not (list_any (is_held m receipt) kept)) (list_any (λ row. is_held m receipt row && is_late (m + ms timeout) row.last_receive) kept) ReceiptHandleIsInvalid MessageNotInflight InvalidParameterValue e h))
 refusal_is site Unopened m (act.Change receipt timeout) e h = inr (inl cc)
 refusal_is site Closed m (act.Change receipt timeout) e h = inr (inl cc)
@@ -163,12 +163,12 @@ arrival_is site n rows other e h =
 shared_is : (site : Site) (home : Home) (l : Ledger) (m : ℕ) (what : SharedAct) (e : Refusal) → shared_refusal site home l m what ≡ Some e → IsOfAnyStep e ⊎ (e ≡ QueueDoesNotExist) ⊎ IsOfMove what e
 unfolding shared_refusal
 shared_is site Unopened l m what e h = inr (inl cc)
-shared_is site (Serving s v n rows) l m move.LeaveDead e h = elim (dead_cases l (list_any (is_dead s m) (trimmed s m rows)) e h) [ inl any ↦ inl any | inr over ↦ inr (inr over) ]
+shared_is site (Serving s v n rows) l m move.LeaveDead e h = elim (dead_cases l (list_any (is_dead s m) (unexpired s m rows)) e h) [ inl any ↦ inl any | inr over ↦ inr (inr over) ]
 shared_is site (Serving s v n rows) l m (move.LeaveTask number) e h =
-    task_cases site.home number (task_of number l) _ e (λ later. dead_cases l (not (is_throttled m (task_of number l)) && list_any (is_live s m) (trimmed s m rows)) e later) h
-shared_is site (Serving s v n rows) l m (move.Enter number) e h = arrival_is site n (trimmed s m rows) (not (is_entering site.home (item_of number l))) e h
+    task_cases site.home number (task_of number l) _ e (λ later. dead_cases l (not (is_throttled m (task_of number l)) && list_any (is_live s m) (unexpired s m rows)) e later) h
+shared_is site (Serving s v n rows) l m (move.Enter number) e h = arrival_is site n (unexpired s m rows) (not (is_entering site.home (item_of number l))) e h
 shared_is site (Serving s v n rows) l m (move.TurnBack number) e h = inr (inr cc)
-shared_is site (Serving s v n rows) l m (move.GiveBack number) e h = arrival_is site n (trimmed s m rows) (not (is_returning site.home (item_of number l))) e h
+shared_is site (Serving s v n rows) l m (move.GiveBack number) e h = arrival_is site n (unexpired s m rows) (not (is_returning site.home (item_of number l))) e h
 shared_is site (Serving s v n rows) l m (move.GiveUp number) e h = inr (inr cc)
 shared_is site Closed l m move.LeaveDead e h = inr (inl cc)
 shared_is site Closed l m (move.LeaveTask number) e h = task_cases site.home number (task_of number l) None e (λ later. absurd (no_refusal e later)) h

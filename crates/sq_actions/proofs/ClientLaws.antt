@@ -1,5 +1,5 @@
 -- What the steps of a client's call come to.
-use Rattle.std.proofs.Common.{◌≡◌, ◌∙◌, ◌⊎◌, ℕ, suc, ◌+◌, ◌<◌, ◌≤◌, Bool, true, List, [], ◌∷◌, ◌++◌, length, refl, ap, subst, inl, inr, arith, Option, Some, Result, Ok, Err, IfOk, slice_get}
+use Rattle.std.proofs.Common.{◌≡◌, ◌∙◌, ◌⊎◌, ℕ, suc, ◌+◌, ◌<◌, ◌≤◌, Bool, true, List, [], ◌∷◌, ◌++◌, length, refl, ap, subst, inl, inr, arith, Some, Result, Ok, Err, IfOk, slice_get}
 use Rattle.rand.specs.Sample.{IsSampleOf}
 use Rattle.sq_base.specs.declared.refusal.Refusal.{Refusal}
 use Rattle.sq_base.specs.declared.refusal.Refusal.TheVariants.{NoMemory, QueueDoesNotExist}
@@ -11,22 +11,17 @@ use Rattle.sq_model.specs.declared.directory.DirectoryCall.{DirectoryCall}
 use Rattle.sq_model.specs.declared.directory.DirectoryCall.TheVariants as asks
 use Rattle.sq_model.specs.declared.directory.DirectoryReply.{DirectoryReply}
 use Rattle.sq_model.specs.declared.directory.DirectoryReply.TheVariants as told
-use Rattle.sq_model.specs.declared.directory.NamePrefix.{NamePrefix}
 use Rattle.sq_model.specs.declared.directory.QueueAttributes.{QueueAttributes}
-use Rattle.sq_model.specs.declared.directory.QueueSettings.{QueueSettings}
 use Rattle.sq_model.specs.declared.replies.HomeReply.{HomeReply}
 use Rattle.sq_model.specs.declared.replies.HomeReply.TheVariants as reply
 use Rattle.sq_model.specs.declared.replies.Counts.{Counts}
-use Rattle.sq_model.specs.declared.replies.SentMessage.{SentMessage}
 use Rattle.sq_history.specs.declared.act.HomeAct.{HomeAct}
 use Rattle.sq_history.specs.declared.act.HomeAct.TheVariants as act
 use Rattle.sq_calls.specs.declared.calls.Answer.{Answer}
 use Rattle.sq_calls.specs.declared.calls.GetQueueAttributes.{GetQueueAttributes}
 use Rattle.sq_calls.specs.declared.calls.QueueCounts.{QueueCounts}
-use Rattle.sq_model.specs.declared.task.Task.{Task}
 use Rattle.sq_model.specs.declared.ledger.LedgerReply.{LedgerReply}
 use Rattle.sq_model.specs.declared.ledger.LedgerReply.TheVariants as ledger
-use Rattle.sq_ledger.specs.declared.task_calls.TaskStart.{TaskStart}
 use Rattle.sq_steps.specs.declared.act.TaskAct.{TaskAct}
 use Rattle.sq_steps.specs.declared.act.TaskAct.TheVariants as task
 use Rattle.sq_calls.specs.declared.calls.ReceiveMessage.{ReceiveMessage}
@@ -34,9 +29,9 @@ use Rattle.sq_actions.specs.declared.client.AtEach.{AtEach}
 use Rattle.sq_actions.specs.declared.client.AtEach.TheVariants as at
 use Rattle.sq_actions.specs.declared.message.OnMessage.{OnMessage}
 use Rattle.sq_actions.specs.declared.message.OnMessage.TheVariants.{Delete, Change}
-use Rattle.sq_actions.specs.Messages.{act_of, act_at_each}
-use Rattle.sq_actions.specs.Asks.{Ask, Resolve, AskDirectory, AskHome, AskLedger, Gave, Found, Answered, Done, replied_of, told_of, HomeCounts, IsAnswerTo, IsReplyTo, IsToldTo, IsOfAnyStep, MayRefuse}
-use Rattle.sq_actions.specs.Calls.{home_numbered, changes_queue, counted_homes, counts_with, received_from}
+use Rattle.sq_actions.specs.inside.Messages.{act_of, act_at_each}
+use Rattle.sq_actions.specs.Asks.{Ask, Resolve, AskDirectory, AskHome, AskLedger, Gave, Found, Answered, Done, HomeCounts, IsAnswerTo, IsReplyTo, IsOfAnyStep, MayRefuse, gave_as, Replied, Told}
+use Rattle.sq_actions.specs.Calls.{home_numbered, counted_homes, counts_with, received_from}
 use Rattle.sq_actions.specs.Steps.{named, directory_step, home_step, ledger_step}
 use Rattle.sq_actions.specs.Fits.{ByLedger, ByDirectory, ByName, Copied, CountedAll, CountsAt, shown_of, IsPassed, AskedAll, AtAll, HasNoMessage, InVain, EndsReceive, none_answered, ReceiveAt}
 use Rattle.sq_actions.specs.Performs.{Path, Performs}
@@ -85,7 +80,7 @@ answered_copied stepped given F old new answered h = record { trace = h.trace; p
 
 -- one home more was asked, or passed over
 pub more_passed : {S : Type 0} (stepped : S → Ask → Result Gave Refusal → S → Type 0) (old mid new : S) (name : List ℕ) (queue : ℕ) (a : HomeAct) (n : ℕ) (answered : Result HomeReply Refusal)
-    → (trace : List Done) × Path stepped old trace mid × AskedAll name queue a n trace → stepped mid (AskHome name (home_numbered queue n) a) (replied_of answered) new → IsPassed answered
+    → (trace : List Done) × Path stepped old trace mid × AskedAll name queue a n trace → stepped mid (AskHome name (home_numbered queue n) a) (gave_as Replied answered) new → IsPassed answered
     → (trace : List Done) × Path stepped old trace new × AskedAll name queue a (n + 1) trace
 more_passed stepped old mid new name queue a n answered asked h passed =
     let next : n + 1 ≡ suc n = omega arith in
@@ -145,21 +140,10 @@ message_done (Change timeout) receipt reply.Done h = refl
 message_done Delete receipt by h = elim h [ ]
 message_done (Change timeout) receipt by h = elim h [ ]
 
--- a send is answered as sent
-pub sent_is : (body : List ℕ) (delay : Option ℕ) (by : HomeReply) → IsReplyTo (act.Send body delay) by → ((sent : SentMessage) → by ≡ reply.Sent sent → ⊥) → ⊥
-sent_is body delay (reply.Sent sent) h other = other sent refl
-sent_is body delay by h other = elim h [ ]
-
--- a look is answered with messages, or that too many are in flight
-pub looked_is : (max : ℕ) (timeout : Option ℕ) (by : HomeReply) → IsReplyTo (act.Look max timeout) by → ((rows : List Row) → by ≡ reply.Looked rows → ⊥) → (by ≡ reply.Over → ⊥) → ⊥
-looked_is max timeout (reply.Looked rows) h other over = other rows refl
-looked_is max timeout reply.Over h other over = over refl
-looked_is max timeout by h other over = elim h [ ]
-
 -- one home more is asked in vain
 pub more_asked : {S : Type 0} (stepped : S → Ask → Result Gave Refusal → S → Type 0) (old mid new : S) (c : ReceiveMessage) (queue : ℕ) (drawn : List ℕ) (n home : ℕ) (by : HomeReply) (was over : Bool)
     → (trace : List Done) × Path stepped old trace mid × InVain c queue drawn n was trace → slice_get drawn n ≡ Some home
-    → stepped mid (AskHome c.queue (home_numbered queue home) (act.Look c.max c.timeout)) (replied_of (Ok by)) new → HasNoMessage by was over
+    → stepped mid (AskHome c.queue (home_numbered queue home) (act.Look c.max c.timeout)) (gave_as Replied (Ok by)) new → HasNoMessage by was over
     → (trace : List Done) × Path stepped old trace new × InVain c queue drawn (n + 1) over trace
 more_asked stepped old mid new c queue drawn n home by was over asked in_list h none =
     let next : n + 1 ≡ suc n = omega arith in
@@ -169,7 +153,7 @@ more_asked stepped old mid new c queue drawn n home by was over asked in_list h 
 -- a home ends a receive
 pub receive_ended : {S : Type 0} (stepped : S → Ask → Result Gave Refusal → S → Type 0) (old mid new : S) (counts : HomeCounts) (c : ReceiveMessage) (queue : ℕ) (drawn : List ℕ) (n home : ℕ) (by : Result HomeReply Refusal) (over : Bool) (answered : Result Answer Refusal)
     → 1 ≤ counts.sample → IsSampleOf counts.homes counts.sample drawn → (trace : List Done) × Path stepped old trace mid × InVain c queue drawn n over trace → slice_get drawn n ≡ Some home
-    → stepped mid (AskHome c.queue (home_numbered queue home) (act.Look c.max c.timeout)) (replied_of by) new → EndsReceive c queue home by answered → Performs stepped (ReceiveAt counts c queue) old answered new
+    → stepped mid (AskHome c.queue (home_numbered queue home) (act.Look c.max c.timeout)) (gave_as Replied by) new → EndsReceive c queue home by answered → Performs stepped (ReceiveAt counts c queue) old answered new
 receive_ended stepped old mid new counts c queue drawn n home by over answered some sample asked in_list h ends =
     let d : Done = home_step c.queue queue home (act.Look c.max c.timeout) by in
     record {
@@ -198,14 +182,9 @@ receive_asked stepped old new counts c queue drawn n over answered some sample a
   fits = inr (drawn, over, some, sample, inr (subst (λ (k : ℕ). InVain c queue drawn k over asked.0) all asked.2, is));
 }
 
--- a count is answered with counts
-pub counted_is : (by : HomeReply) → IsReplyTo act.Count by → ((counts : Counts) → by ≡ reply.Counted counts → ⊥) → ⊥
-counted_is (reply.Counted counts) h other = other counts refl
-counted_is by h other = elim h [ ]
-
 -- one home more has counted
 pub more_counted : {S : Type 0} (stepped : S → Ask → Result Gave Refusal → S → Type 0) (old mid new : S) (name : List ℕ) (queue n : ℕ) (before sum : QueueCounts) (counts : Counts)
-    → (trace : List Done) × Path stepped old trace mid × CountedAll name queue n before trace → stepped mid (AskHome name (home_numbered queue n) act.Count) (replied_of (Ok (reply.Counted counts))) new → sum ≡ counts_with before counts
+    → (trace : List Done) × Path stepped old trace mid × CountedAll name queue n before trace → stepped mid (AskHome name (home_numbered queue n) act.Count) (gave_as Replied (Ok (reply.Counted counts))) new → sum ≡ counts_with before counts
     → (trace : List Done) × Path stepped old trace new × CountedAll name queue (n + 1) sum trace
 more_counted stepped old mid new name queue n before sum counts asked h is =
     let next : n + 1 ≡ suc n = omega arith in
@@ -239,49 +218,17 @@ pub found_is : (name : List ℕ) (by : DirectoryReply) → IsAnswerTo (asks.Url 
 found_is name (told.Found number) h other = other number refl
 found_is name by h other = elim h [ ]
 
-pub listed_is : (prefix : NamePrefix) (by : DirectoryReply) → IsAnswerTo (asks.List prefix) by → ((names : List (List ℕ)) → by ≡ told.Listed names → ⊥) → ⊥
-listed_is prefix (told.Listed names) h other = other names refl
-listed_is prefix by h other = elim h [ ]
-
-pub sources_is : (name : List ℕ) (by : DirectoryReply) → IsAnswerTo (asks.Sources name) by → ((names : List (List ℕ)) → by ≡ told.Sources names → ⊥) → ⊥
-sources_is name (told.Sources names) h other = other names refl
-sources_is name by h other = elim h [ ]
-
 pub read_is : (name : List ℕ) (by : DirectoryReply) → IsAnswerTo (asks.Read name) by → ((attributes : QueueAttributes) → by ≡ told.Read attributes → ⊥) → ⊥
 read_is name (told.Read attributes) h other = other attributes refl
 read_is name by h other = elim h [ ]
-
-pub changed_is : (call : DirectoryCall) (by : DirectoryReply) → changes_queue call ≡ true → IsAnswerTo call by → ((made : QueueSettings) → by ≡ told.Made made → ⊥) → ((changed : QueueSettings) → by ≡ told.Changed changed → ⊥)
-    → ((number : ℕ) → by ≡ told.Removed number → ⊥) → ((number : ℕ) → by ≡ told.Ticket number → ⊥) → ⊥
-changed_is (asks.Create name given) (told.Made made) changes h a b c d = a made refl
-changed_is (asks.Set name given) (told.Changed changed) changes h a b c d = b changed refl
-changed_is (asks.Remove name) (told.Removed number) changes h a b c d = c number refl
-changed_is (asks.PurgeTicket name) (told.Ticket number) changes h a b c d = d number refl
-changed_is (asks.Url name) (told.Found number) changes h a b c d = absurd cc
-changed_is (asks.List prefix) (told.Listed names) changes h a b c d = absurd cc
-changed_is (asks.Sources name) (told.Sources names) changes h a b c d = absurd cc
-changed_is (asks.Read name) (told.Read attributes) changes h a b c d = absurd cc
-changed_is call by changes h a b c d = elim h [ ]
 
 -- ---- move tasks
 
 -- a step of the ledger alone was refused, or its reply makes the answer
 pub ledger_refused : {S : Type 0} (stepped : S → Ask → Result Gave Refusal → S → Type 0) (old new : S) (what : TaskAct) (Makes : LedgerReply → Answer → Type 0) (e : Refusal) (answered : Result Answer Refusal)
-    → stepped old (AskLedger what) (told_of (Err e)) new → MayRefuse (AskLedger what) e → answered ≡ Err e → Performs stepped (ByLedger what Makes) old answered new
+    → stepped old (AskLedger what) (gave_as Told (Err e)) new → MayRefuse (AskLedger what) e → answered ≡ Err e → Performs stepped (ByLedger what Makes) old answered new
 ledger_refused stepped old new what Makes e answered h may is = answered_one stepped (ByLedger what Makes) old old new answered (ledger_step what (Err e)) refl h (inr (e, may, refl, is))
 
 pub ledger_told : {S : Type 0} (stepped : S → Ask → Result Gave Refusal → S → Type 0) (old new : S) (what : TaskAct) (Makes : LedgerReply → Answer → Type 0) (by : LedgerReply) (answer : Answer)
-    → stepped old (AskLedger what) (told_of (Ok by)) new → Makes by answer → Performs stepped (ByLedger what Makes) old (Ok answer) new
+    → stepped old (AskLedger what) (gave_as Told (Ok by)) new → Makes by answer → Performs stepped (ByLedger what Makes) old (Ok answer) new
 ledger_told stepped old new what Makes by answer h makes = answered_one stepped (ByLedger what Makes) old old new (Ok answer) (ledger_step what (Ok by)) refl h (inl (by, answer, refl, makes, refl))
-
-pub started_is : (asked : TaskStart) (by : LedgerReply) → IsToldTo (task.Start asked) by → ((number : ℕ) → by ≡ ledger.Started number → ⊥) → ⊥
-started_is asked (ledger.Started number) h other = other number refl
-started_is asked by h other = elim h [ ]
-
-pub cancelled_is : (number : ℕ) (by : LedgerReply) → IsToldTo (task.Cancel number) by → ((moved : ℕ) → by ≡ ledger.Cancelled moved → ⊥) → ⊥
-cancelled_is number (ledger.Cancelled moved) h other = other moved refl
-cancelled_is number by h other = elim h [ ]
-
-pub tasks_is : (source most : ℕ) (by : LedgerReply) → IsToldTo (task.List source most) by → ((tasks : List Task) → by ≡ ledger.Listed tasks → ⊥) → ⊥
-tasks_is source most (ledger.Listed tasks) h other = other tasks refl
-tasks_is source most by h other = elim h [ ]

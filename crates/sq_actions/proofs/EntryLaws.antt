@@ -14,7 +14,7 @@ use Rattle.sq_calls.specs.declared.batches.EntryResult.{EntryResult}
 use Rattle.sq_calls.specs.declared.calls.Answer.TheVariants as answer
 use Rattle.sq_actions.specs.Asks.{Ask, Gave, Done, HomeCounts}
 use Rattle.sq_actions.specs.Entries.{are_allowed, SendAt, HandleAt, EntryFits, OneFits, EntriesFit, BatchAt, one_answered}
-use Rattle.sq_actions.specs.Messages.{act_of, asked_by}
+use Rattle.sq_actions.specs.inside.Messages.{act_of, asked_by}
 use Rattle.sq_actions.specs.declared.message.OnMessage.{OnMessage}
 use Rattle.sq_actions.specs.declared.message.OnMessage.TheVariants.{Delete, Change}
 use Rattle.sq_actions.specs.Performs.{Path, Performs}

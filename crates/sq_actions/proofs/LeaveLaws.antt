@@ -1,6 +1,7 @@
 -- A step of a part leaves its record with its actor, whatever the part lies in.
 use Rattle.std.proofs.Common.{◌≡◌, ◌∙◌, ℕ, List, refl, ap, Option, Some, Ok}
-use Rattle.sq_base.specs.Stamps.{Below}
+use Rattle.sq_base.specs.StampValue.{StampValue}
+use Rattle.sq_base.specs.Stamps.{Below, after}
 use Rattle.sq_base.proofs.StampLaws.{after_above_second}
 use Rattle.sq_base.specs.declared.ids.HomeId.{HomeId}
 use Rattle.sq_model.specs.RecordValues.{HomeRecordValue, DirectoryRecordValue, LedgerRecordValue, Journal, OfDirectory, OfLedger, OfHome, RecordValue, place_of_record, record_stamp}
@@ -38,6 +39,10 @@ call_is l (move.GiveUp number) call h = (h.0, found_number (λ i. i.number) numb
 next_is : (a b : Journal) (n : RecordValue) → place_of_record n ≡ a.next → Below a.seen (record_stamp n) → b ≡ with_record a n b.room → KeepsRoom a.room b.room → IsNext a n b
 next_is a b n place above more room = (place, above, more, room)
 
+-- the same of a record at a new stamp
+next_at : (a b : Journal) (n : RecordValue) (last : StampValue) (now : ℕ) → place_of_record n ≡ a.next → after last a.seen now ≡ Ok (record_stamp n) → b ≡ with_record a n b.room → KeepsRoom a.room b.room → IsNext a n b
+next_at a b n last now place stamped more room = next_is a b n place (after_above_second last a.seen now (record_stamp n) stamped) more room
+
 pub home_leaves : (old new : HistoryValue) (a b : Journal) (now : ℕ) (name : List ℕ) (id : HomeId) (what : HomeAct) (by : HomeReply)
     → old.site.home ≡ id → HomeMoves old new a b now (Some name) (call_of what) by → LeavesOf (AskHome name id what) (Ok (Replied by)) a b
 home_leaves old new a b now name id what by at moves =
@@ -52,7 +57,7 @@ home_leaves old new a b now name id what by at moves =
         replied = moves.answered;
         by_name = ap (λ (m : HomeRecordValue). m.name) is;
       },
-      next_is a b (OfHome n) (ap (λ (m : HomeRecordValue). m.place) is) (after_above_second old.last a.seen now n.stamp moves.does.stamped) moves.recorded_as moves.room,
+      next_at a b (OfHome n) old.last now (ap (λ (m : HomeRecordValue). m.place) is) moves.does.stamped moves.recorded_as moves.room,
     )
 
 pub shared_leaves : (old new : HistoryValue) (l m : LedgerHistory) (a b : Journal) (now : ℕ) (name : Option (List ℕ)) (id : HomeId) (what : SharedAct) (by : HomeReply)
@@ -74,18 +79,16 @@ shared_leaves old new l m a b now name id what by at moves =
 
 pub directory_leaves : (old new : DirectoryHistory) (a b : Journal) (now : ℕ) (call : DirectoryCall) (by : DirectoryReply) → DirectoryMoves old new a b now call by → LeavesOf (AskDirectory call) (Ok (Answered by)) a b
 directory_leaves old new a b now call by moves =
-    let n = moves.its_record in
-    let is = moves.does.record_is in (
+    let n = moves.its_record in (
       OfDirectory n,
-      record { its_record = n; value = refl; asked = ap (λ (m : DirectoryRecordValue). m.call) is; replied = moves.answered },
-      next_is a b (OfDirectory n) (ap (λ (m : DirectoryRecordValue). m.place) is) (after_above_second old.last a.seen now n.stamp moves.does.stamped) moves.recorded_as moves.room,
+      record { its_record = n; value = refl; asked = ap (λ (m : DirectoryRecordValue). m.call) moves.does.record_is; replied = moves.answered },
+      next_at a b (OfDirectory n) old.last now (ap (λ (m : DirectoryRecordValue). m.place) moves.does.record_is) moves.does.stamped moves.recorded_as moves.room,
     )
 
 pub ledger_leaves : (old new : LedgerHistory) (a b : Journal) (now : ℕ) (what : TaskAct) (by : LedgerReply) → LedgerMoves old new a b now (task_call what) by → LeavesOf (AskLedger what) (Ok (Told by)) a b
 ledger_leaves old new a b now what by moves =
-    let n = moves.its_record in
-    let is = moves.does.record_is in (
+    let n = moves.its_record in (
       OfLedger n,
-      record { its_record = n; value = refl; asked = ap (λ (m : LedgerRecordValue). m.call) is; replied = moves.answered },
-      next_is a b (OfLedger n) (ap (λ (m : LedgerRecordValue). m.place) is) (after_above_second old.last a.seen now n.stamp moves.does.stamped) moves.recorded_as moves.room,
+      record { its_record = n; value = refl; asked = ap (λ (m : LedgerRecordValue). m.call) moves.does.record_is; replied = moves.answered },
+      next_at a b (OfLedger n) old.last now (ap (λ (m : LedgerRecordValue). m.place) moves.does.record_is) moves.does.stamped moves.recorded_as moves.room,
     )

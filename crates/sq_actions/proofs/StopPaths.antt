@@ -6,7 +6,8 @@ use Rattle.sq_base.specs.declared.refusal.Refusal.{Refusal}
 use Rattle.sq_model.specs.RecordValues.{RecordValue}
 use Rattle.sq_actions.specs.Asks.{Ask, Gave, Done, AreOf}
 use Rattle.sq_actions.specs.Performs.{Path, Performs}
-use Rattle.sq_actions.specs.Stops.{Limited, LimitedStep, IsNotDone, UntilFits, told_until}
+use Rattle.sq_actions.specs.Stops.{IsNotDone, UntilFits, told_until}
+use Rattle.sq_actions.specs.inside.Stops.{Limited, LimitedStep}
 
 -- past the limit nothing is done
 past : {S : Type 0} (stepped : S → Ask → Result Gave Refusal → S → Type 0) (s t : Limited S) (ds : List Done) → s.left ≡ 0 → Path (LimitedStep stepped) s ds t → (t.steps ≡ s.steps) × AllByRecursion IsNotDone ds

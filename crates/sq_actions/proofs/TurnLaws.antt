@@ -12,7 +12,7 @@ use Rattle.sq_calls.specs.declared.turns.Turned.{Turned}
 use Rattle.sq_calls.specs.declared.turns.Turned.TheVariants as word
 use Rattle.sq_model.specs.declared.shared.SharedAct.TheVariants.{LeaveDead, LeaveTask}
 use Rattle.sq_steps.specs.declared.act.NextItem.{NextItem}
-use Rattle.sq_actions.specs.Asks.{Ask, Resolve, AskShared, Peek, AskLedger, ReadTask, Gave, Found, Peeked, TaskFound, HomeCounts, told_of}
+use Rattle.sq_actions.specs.Asks.{Ask, Resolve, AskShared, Peek, AskLedger, ReadTask, Gave, Found, Peeked, TaskFound, HomeCounts, gave_as, Told}
 use Rattle.sq_actions.specs.Calls.{home_numbered}
 use Rattle.sq_actions.specs.Steps.{ledger_step, named}
 use Rattle.sq_actions.specs.Performs.{Performs}
@@ -71,6 +71,6 @@ left_for stepped homes number task before after old new by answered h goes words
 
 -- a task was to finish, and the walk waits or stays
 pub finished_by : {S : Type 0} (stepped : S → Ask → Result Gave Refusal → S → Type 0) (number : ℕ) (before after : Walk) (old new : S) (by : Result LedgerReply Refusal) (answered : Result Turned Refusal)
-    → stepped old (AskLedger (Finish number)) (told_of by) new → after ≡ walk_waiting before by → answered ≡ finish_word by → Performs stepped (Finishes number before after) old answered new
+    → stepped old (AskLedger (Finish number)) (gave_as Told by) new → after ≡ walk_waiting before by → answered ≡ finish_word by → Performs stepped (Finishes number before after) old answered new
 finished_by stepped number before after old new by answered h waits said =
     answered_one stepped (Finishes number before after) old old new answered (ledger_step (Finish number) by) refl h (by, refl, waits, said)

@@ -17,7 +17,7 @@ use Rattle.sq_steps.specs.declared.act.TaskAct.{TaskAct}
 use Rattle.sq_steps.specs.declared.act.TaskAct.TheVariants.{Finish}
 use Rattle.sq_actions.specs.declared.progress.Progress.{Progress}
 use Rattle.sq_actions.specs.declared.walk.Walk.{Walk}
-use Rattle.sq_actions.specs.Asks.{AskShared, AskLedger, Gave, Found, Replied, Nothing, Peeked, TaskFound, Done, AreOf, AreOfStep, told_of}
+use Rattle.sq_actions.specs.Asks.{AskShared, AskLedger, Gave, Found, Replied, Nothing, Peeked, TaskFound, Done, AreOf, AreOfStep, gave_as, Told}
 use Rattle.sq_actions.specs.Performs.{LeavesRecords}
 use Rattle.sq_actions.specs.Progresses.{no_progress, walk_for, with_walk}
 use Rattle.sq_actions.specs.Calls.{home_numbered}
@@ -38,7 +38,7 @@ moved_one name home what (Ok Nothing) ns h = none_is_few ns h
 moved_one name home what (Err e) ns h = none_is_few ns h
 moved_one name home what answered ns h = elim h [ ]
 
-told_one : (what : TaskAct) (by : Result LedgerReply Refusal) (ns : List RecordValue) → AreOfStep (AskLedger what) (told_of by) ns → length ns ≤ 1
+told_one : (what : TaskAct) (by : Result LedgerReply Refusal) (ns : List RecordValue) → AreOfStep (AskLedger what) (gave_as Told by) ns → length ns ≤ 1
 told_one what (Ok reply) ns h = one_is_few ns h.0 h.2
 told_one what (Err e) ns h = none_is_few ns h
 

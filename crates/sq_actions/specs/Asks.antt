@@ -19,7 +19,6 @@ use Rattle.sq_model.specs.declared.ledger.LedgerReply.{LedgerReply}
 use Rattle.sq_model.specs.declared.ledger.LedgerReply.TheVariants as ledger
 use Rattle.sq_model.specs.declared.task.Task.{Task}
 use Rattle.sq_model.specs.Directories.{MoveEnds}
-use Rattle.sq_directory.specs.MoveQueues.{as_ends}
 use Rattle.sq_model.specs.RecordValues.{HomeRecordValue, DirectoryRecordValue, LedgerRecordValue, RecordValue, OfDirectory, OfLedger, OfHome, place_of_record, record_stamp, Journal}
 use Rattle.sq_history.specs.declared.act.HomeAct.{HomeAct}
 use Rattle.sq_history.specs.declared.act.HomeAct.TheVariants as act
@@ -33,7 +32,6 @@ use Rattle.sq_steps.specs.declared.act.NextItem.{NextItem}
 use Rattle.sq_steps.specs.declared.act.TaskAct.{TaskAct}
 use Rattle.sq_steps.specs.declared.act.TaskAct.TheVariants as task
 use Rattle.sq_steps.specs.TaskActs.{task_call}
-use Rattle.sq_model.specs.declared.task.NamedQueue.{NamedQueue}
 use Rattle.sq_calls.specs.ReceivedValue.{AreReceived}
 
 -- What a step asks: the number of the queue of a name, which is a read; a step of the directory; a step of a home, by the queue's name that was used; a step that a home shares
@@ -60,39 +58,16 @@ pub data Gave : Type 0 where
   Told : (reply : LedgerReply) → Gave
   TaskFound : (found : Task) → Gave
 
-abbrev pub found_of : Result NamedQueue Refusal → Result Gave Refusal
-found_of (Ok of) = Ok (Found of.number)
-found_of (Err e) = Err e
-
-abbrev pub answered_of : Result DirectoryReply Refusal → Result Gave Refusal
-answered_of (Ok reply) = Ok (Answered reply)
-answered_of (Err e) = Err e
-
-abbrev pub replied_of : Result HomeReply Refusal → Result Gave Refusal
-replied_of (Ok reply) = Ok (Replied reply)
-replied_of (Err e) = Err e
+-- what a step gives, where it is not refused
+abbrev pub gave_as : {A : Type 0} → (A → Gave) → Result A Refusal → Result Gave Refusal
+gave_as kind (Ok reply) = Ok (kind reply)
+gave_as kind (Err e) = Err e
 
 -- nothing was there to leave, or the reply of both
 abbrev pub moved_of : Result (Option HomeReply) Refusal → Result Gave Refusal
 moved_of (Ok (Some reply)) = Ok (Replied reply)
 moved_of (Ok None) = Ok Nothing
 moved_of (Err e) = Err e
-
-abbrev pub peeked_of : Result (Option NextItem) Refusal → Result Gave Refusal
-peeked_of (Ok next) = Ok (Peeked next)
-peeked_of (Err e) = Err e
-
-abbrev pub ends_of : Result (NamedQueue × Option NamedQueue) Refusal → Result Gave Refusal
-ends_of (Ok queues) = Ok (Ends (as_ends queues))
-ends_of (Err e) = Err e
-
-abbrev pub told_of : Result LedgerReply Refusal → Result Gave Refusal
-told_of (Ok reply) = Ok (Told reply)
-told_of (Err e) = Err e
-
-abbrev pub task_found_of : Result Task Refusal → Result Gave Refusal
-task_found_of (Ok found) = Ok (TaskFound found)
-task_found_of (Err e) = Err e
 
 -- a step that was asked, and what was answered; what is refused is no step of the system, and is asked all the same
 pub record Done : Type 0 where

@@ -1,7 +1,6 @@
 pub mod Walks
 pub mod Progresses
 pub mod Asks
-pub mod Messages
 pub mod Performs
 pub mod Calls
 pub mod Steps
@@ -10,3 +9,4 @@ pub mod Fits
 pub mod Turns
 pub mod Stops
 pub mod StopLaws
+pub mod inside

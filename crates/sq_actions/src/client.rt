@@ -4,8 +4,9 @@ ghost use Rattle.sq_model.specs.declared.replies.HomeReply.{HomeReply};
 ghost use Rattle.sq_model.specs.declared.directory.DirectoryCall.TheVariants.{List as ListNames, Read, Sources, Url};
 ghost use Rattle.sq_directory.specs.Makers.{name_asked};
 ghost use Rattle.sq_calls.specs.declared.batches.EntryAsk.TheVariants.{Send};
-ghost use Rattle.sq_actions.specs.Messages.{act_at_each, asked_by};
-ghost use Rattle.sq_actions.specs.Calls.{home_numbered, counted_homes, counts_with, changes_queue, received_from, AreFew};
+ghost use Rattle.sq_actions.specs.inside.Messages.{act_at_each, asked_by};
+ghost use Rattle.sq_actions.specs.Calls.{home_numbered, counted_homes, counts_with, received_from};
+ghost use Rattle.sq_actions.specs.inside.Calls.{changes_queue, AreFew};
 ghost use Rattle.sq_actions.specs.Entries.{OneFits};
 ghost use Rattle.sq_actions.specs.Fits.{ByName, AtAll, ByDirectory, ThenAll, CreateFits, SetFits, TellsUrl, TellsQueues, TellsSources, StartFits, StartsBetween, is_destination, CancelFits, ListTasksFits, source_refusal, CountsAt, Shows, ReceiveAt, CallFits};
 ghost use Rattle.sq_calls.specs.ReceivedValue.{AreReceived};
@@ -223,7 +224,7 @@ fn show<S: LockSteps>(
     };
     let mut sum = QueueCounts {
         visible: 0,
-        flying: 0,
+        in_flight: 0,
         delayed: 0,
     };
     for home in 0..counted_homes(steps.homes(), &call.asked) {
@@ -245,7 +246,7 @@ fn counted_homes(homes: HomeCount, asked: &AskedOfQueue) -> u8
     ensures homes { result ≡ counted_homes homes asked.now }
     ensures few { result ≤ 16 }
 {
-    if asked.visible || asked.delayed || asked.flying {
+    if asked.visible || asked.delayed || asked.in_flight {
         homes.get() as u8
     } else {
         0
@@ -260,7 +261,7 @@ fn counts_with(sum: &QueueCounts, counts: &Counts) -> QueueCounts
 {
     QueueCounts {
         visible: sum.visible + counts.visible as u64,
-        flying: sum.flying + counts.flying as u64,
+        in_flight: sum.in_flight + counts.in_flight as u64,
         delayed: sum.delayed + counts.delayed as u64,
     }
 }

@@ -3,8 +3,9 @@ ghost use Rattle.std.specs.Prelude.{◌≡◌, ◌<◌, ◌≤◌, ℕ, List, So
 ghost use Rattle.rand.specs.Sample.{IsSampleOf};
 ghost use Rattle.sq_base.specs.declared.refusal.Refusal.{Refusal};
 ghost use Rattle.sq_directory.specs.Makers.{name_asked, queue_answered};
+ghost use Rattle.sq_directory.specs.MoveQueues.{as_ends};
 ghost use Rattle.sq_model.specs.RecordValues.{Journal};
-ghost use Rattle.sq_actions.specs.Asks.{Ask, Resolve, AskDirectory, AskHome, AskShared, Peek, Redriven, AskLedger, ReadTask, Gave, found_of, answered_of, replied_of, moved_of, peeked_of, ends_of, told_of, task_found_of, HomeCounts, IsAnswerTo, IsReplyTo, IsToldTo, MayRefuse, LeavesOf};
+ghost use Rattle.sq_actions.specs.Asks.{Ask, Resolve, AskDirectory, AskHome, AskShared, Peek, Redriven, AskLedger, ReadTask, Gave, moved_of, HomeCounts, IsAnswerTo, IsReplyTo, IsToldTo, MayRefuse, LeavesOf, gave_as, Answered, Replied, Peeked, Told, TaskFound, Found, Ends};
 ghost use Rattle.sq_actions.specs.Calls.{home_numbered};
 
 use sq_base::ids::{HomeId, HomeNo};
@@ -43,7 +44,7 @@ pub trait LockSteps {
 
     /// Looks the queue of this name up. Refused as QueueDoesNotExist, NoMemory.
     fn resolve(&mut self, name: &QueueName) -> Result<NamedQueue, Refusal>
-        ensures did { stepped self.old (Resolve name.now) (found_of result) self.new }
+        ensures did { stepped self.old (Resolve name.now) (gave_as (λ of. Found of.number) result) self.new }
         ensures named { IfOk result (λ of. of.name ≡ name.now) }
         ensures refusal { IfErr result (MayRefuse (Resolve name.now)) }
         ensures known { IfOk result (λ of. knows self.new of.name of.number) }
@@ -51,7 +52,7 @@ pub trait LockSteps {
 
     /// A step of the directory. Refused as NoMemory, ClockRange, Worn, and then as the directory's call.
     fn directory_step(&mut self, call: &DirectoryCall) -> Result<DirectoryReply, Refusal>
-        ensures did { stepped self.old (AskDirectory call.now) (answered_of result) self.new }
+        ensures did { stepped self.old (AskDirectory call.now) (gave_as Answered result) self.new }
         ensures reply { IfOk result (IsAnswerTo call.now) }
         ensures refusal { IfErr result (MayRefuse (AskDirectory call.now)) }
         ensures known { IfOk result (λ by. (name : List ℕ) (queue : ℕ) → name_asked call.now ≡ Some name → queue_answered by ≡ Some queue → knows self.new name queue) }
@@ -66,7 +67,7 @@ pub trait LockSteps {
         act: HomeAct,
     ) -> Result<HomeReply, Refusal>
         requires known { knows self.old of.now.name of.now.number }
-        ensures did { stepped self.old (AskHome of.now.name (home_numbered of.now.number home) act) (replied_of result) self.new }
+        ensures did { stepped self.old (AskHome of.now.name (home_numbered of.now.number home) act) (gave_as Replied result) self.new }
         ensures reply { IfOk result (IsReplyTo act) }
         ensures refusal { IfErr result (MayRefuse (AskHome of.now.name (home_numbered of.now.number home) act)) }
         ensures known { knows self.new of.now.name of.now.number }
@@ -88,7 +89,7 @@ pub trait LockSteps {
 
     /// Where the item in transit goes that comes after the one of this number. Refused only where memory is out.
     fn peek(&mut self, after: u64) -> Result<Option<NextItem>, Refusal>
-        ensures did { stepped self.old (Peek after) (peeked_of result) self.new }
+        ensures did { stepped self.old (Peek after) (gave_as Peeked result) self.new }
         ensures refusal { IfErr result (MayRefuse (Peek after)) }
         ensures same_counts { counts self.new ≡ counts self.old };
 
@@ -99,21 +100,21 @@ pub trait LockSteps {
         source: &QueueName,
         destination: &Option<QueueName>,
     ) -> Result<(NamedQueue, Option<NamedQueue>), Refusal>
-        ensures did { stepped self.old (Redriven source.now destination.now) (ends_of result) self.new }
+        ensures did { stepped self.old (Redriven source.now destination.now) (gave_as (λ queues. Ends (as_ends queues)) result) self.new }
         ensures refusal { IfErr result (MayRefuse (Redriven source.now destination.now)) }
         ensures same_counts { counts self.new ≡ counts self.old };
 
     /// A step of the ledger alone. Refused as NoMemory, ClockRange, Worn, and then as the ledger's step: UnsupportedOperation,
     /// OverLimit, ResourceNotFoundException.
     fn ledger_step(&mut self, act: &TaskAct) -> Result<LedgerReply, Refusal>
-        ensures did { stepped self.old (AskLedger act.now) (told_of result) self.new }
+        ensures did { stepped self.old (AskLedger act.now) (gave_as Told result) self.new }
         ensures reply { IfOk result (IsToldTo act.now) }
         ensures refusal { IfErr result (MayRefuse (AskLedger act.now)) }
         ensures same_counts { counts self.new ≡ counts self.old };
 
     /// The task of a number. Refused as ResourceNotFoundException, NoMemory.
     fn read_task(&mut self, number: TaskNo) -> Result<Task, Refusal>
-        ensures did { stepped self.old (ReadTask number) (task_found_of result) self.new }
+        ensures did { stepped self.old (ReadTask number) (gave_as TaskFound result) self.new }
         ensures refusal { IfErr result (MayRefuse (ReadTask number)) }
         ensures same_counts { counts self.new ≡ counts self.old };
 

@@ -1,6 +1,6 @@
 //! What is done for one message of a queue that was found: by a call on it alone, or for an entry of a batch.
 ghost use Rattle.std.specs.Prelude.{◌≡◌, None, Some, IfOk, IfErr};
-ghost use Rattle.sq_actions.specs.Messages.{act_of};
+ghost use Rattle.sq_actions.specs.inside.Messages.{act_of};
 ghost use Rattle.sq_actions.specs.Calls.{receipt_of, handle_at};
 ghost use Rattle.sq_actions.specs.Entries.{PutAt, SendAt, HandleAt, EntryFits, one_answered};
 ghost use Rattle.sq_actions.specs.Performs.{Performs};

@@ -7,7 +7,8 @@ ghost use Rattle.sq_calls.specs.declared.calls.Call.{Call};
 ghost use Rattle.sq_actions.specs.Asks.{AreOf, Done, HomeCounts};
 ghost use Rattle.sq_actions.specs.Performs.{LeavesRecords, Performs};
 ghost use Rattle.sq_actions.specs.Fits.{CallFits};
-ghost use Rattle.sq_actions.specs.Stops.{IsStopped, LimitedStep, UntilFits, told_until};
+ghost use Rattle.sq_actions.specs.Stops.{IsStopped, UntilFits, told_until};
+ghost use Rattle.sq_actions.specs.inside.Stops.{LimitedStep};
 
 use crate::client;
 use crate::lock_steps::LockSteps;
@@ -51,7 +52,7 @@ impl<'a, S: LockSteps> Until<'a, S> {
 }
 
 impl<'a, S: LockSteps> LockSteps for Until<'a, S> {
-    ghost use Rattle.sq_actions.specs.StopLaws.{limited_leaves};
+    ghost use Rattle.sq_actions.specs.inside.StopLaws.{limited_leaves};
 
     ghost stepped = { λ s ask answered t.
         LimitedStep S.stepped (record { steps = s.steps.now; left = s.left; stopped = s.stopped }) ask answered (record { steps = t.steps.now; left = t.left; stopped = t.stopped })

@@ -13,7 +13,8 @@ use Rattle.sq_base.proofs.StampLaws.{below_less, below_not_itself}
 use Rattle.sq_model.specs.Replays.{HomeEvent}
 use Rattle.sq_model.specs.Systems.{DirectoryEvent, Tag, OfDirectory, OfLedger, OfHome, stamp_of}
 use Rattle.sq_model.specs.Merges.{of_directory, of_home, rank_of, is_before, InOrder}
-use Rattle.sq_audit.specs.Actors.{event_actor, event_place, ActorsRise, PartsRise, PlacesAgree, PlacesApart}
+use Rattle.sq_audit.specs.Actors.{event_actor, event_place, ActorsRise, PartsRise}
+use Rattle.sq_audit.specs.inside.Actors.{PlacesAgree, PlacesApart}
 
 pub same_number : (n : ℕ) → nat_eq n n ≡ true
 same_number n = grind (arith, common_steps)

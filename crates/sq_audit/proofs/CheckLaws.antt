@@ -27,7 +27,8 @@ use Rattle.sq_steps.specs.Journals.{AreDistinct, RecordsRiseAt, is_of_actor}
 use Rattle.sq_audit.specs.declared.check.AuditFault.{AuditFault}
 use Rattle.sq_audit.specs.declared.check.AuditFault.TheVariants.{NoMemory, RecordMissing, RecordTwice, LeaveUnmatched, EnterUnmatched}
 use Rattle.sq_audit.specs.declared.check.Part.TheVariants as part
-use Rattle.sq_audit.specs.Faults.{EventIndex, InDirectory, InLedger, InHome, IsBy, HasNoRecord, Gap, TwoEvents, IsWrong, RecordFits, DirectoryFits, LedgerFits, HomeFits, LedgerHas, unmatched, IsRecordFault, IsAt, IsRecordedAt, IsEventFault, EventFits, HasEventFault, IsWithoutPartner}
+use Rattle.sq_audit.specs.Faults.{EventIndex, InDirectory, InLedger, InHome, IsBy, HasNoRecord, Gap, TwoEvents, IsWrong, HasPartner}
+use Rattle.sq_audit.specs.inside.Faults.{RecordFits, DirectoryFits, LedgerFits, HomeFits, LedgerHas, unmatched, IsRecordFault, IsAt, IsRecordedAt, IsEventFault, EventFits, HasEventFault, IsWithoutPartner}
 use Rattle.sq_history.specs.Histories.{IsKept}
 use Rattle.sq_log.specs.Events.{IsEventAt}
 use Rattle.sq_history.specs.Events.{HasHomeEvent}
@@ -477,15 +478,15 @@ module _ (d : List DirectoryEvent) (l : List LedgerEvent) (hs : List HomeHistory
 names_home : (home : HistoryValue) → IsKept home → (k : ℕ) (e : HomeEvent) → slice_get home.events k ≡ Some e → e.component ≡ component.Home home.site.home
 names_home home kept k e in_events = all_at (λ (x : HomeEvent). x.component ≡ component.Home home.site.home) home.events k e kept.own in_events
 
-module _ (l : List LedgerEvent) (homes : List HistoryValue) (j : ℕ) (home : HistoryValue) (in_homes : slice_get (histories_of homes) j ≡ Some (home_history home)) (kept : IsKept home) (k : ℕ) (e : HomeEvent) (in_events : slice_get home.events k ≡ Some e) where
-  pub ledger_has : (is_alone e.call ≡ false → (id : HomeId) → e.component ≡ component.Home id → IsInLedger l id e) → LedgerHas l (histories_of homes) j k
-  ledger_has has h f there shared =
+module _ (l : List LedgerEvent) (homes : List HistoryValue) (j : ℕ) (home : HistoryValue) (in_homes : slice_get (histories_of homes) j ≡ Some (home_history home)) (kept : IsKept home) where
+  pub ledger_has : ((k : ℕ) (e : HomeEvent) → slice_get home.events k ≡ Some e → HasPartner l e) → (k : ℕ) → LedgerHas l (histories_of homes) j k
+  ledger_has has k h e there shared =
       let same : h ≡ home_history home = some_same (sym there.in_homes ∙ in_homes) in
-      let event : f ≡ e = some_same (sym there.in_events ∙ ap (λ (y : HomeHistory). slice_get y.events k) same ∙ in_events) in
-      subst (λ (y : HomeHistory). IsInLedger l y.home f) (sym same) (subst (IsInLedger l home.site.home) (sym event) (has (subst (λ (y : HomeEvent). is_alone y.call ≡ false) event shared) home.site.home (names_home home kept k e in_events)))
+      let in_events : slice_get home.events k ≡ Some e = subst (λ (y : HomeHistory). slice_get y.events k ≡ Some e) same there.in_events in
+      subst (λ (y : HomeHistory). IsInLedger l y.home e) (sym same) (has k e in_events shared home.site.home (names_home home kept k e in_events))
 
-  pub ledger_lacks : (d : List DirectoryEvent) (journals : List Journal) (f : AuditFault) → IsWithoutPartner l e f → IsWrong d l (histories_of homes) journals f
-  ledger_lacks d journals f wrong =
+  pub ledger_lacks : (k : ℕ) (e : HomeEvent) → slice_get home.events k ≡ Some e → (d : List DirectoryEvent) (journals : List Journal) (f : AuditFault) → IsWithoutPartner l e f → IsWrong d l (histories_of homes) journals f
+  ledger_lacks k e in_events d journals f wrong =
       subst (IsWrong d l (histories_of homes) journals) (sym wrong.told)
       (wrong_at_home d l (histories_of homes) journals j k (home_history home) e (record { in_homes = in_homes; in_events = in_events }) wrong.shared (wrong.lost home.site.home (names_home home kept k e in_events)))
 

@@ -29,7 +29,8 @@ use Rattle.sq_ledger.specs.LedgerHistory.{LedgerHistory}
 use Rattle.sq_ledger.specs.LedgerHistories.{IsLedgerKept}
 use Rattle.sq_directory.specs.DirectoryHistory.{DirectoryHistory}
 use Rattle.sq_directory.specs.DirectoryHistories.{IsDirectoryKept}
-use Rattle.sq_audit.specs.SystemNow.{system_now, events_of, by_part, own_events}
+use Rattle.sq_audit.specs.SystemNow.{system_now, events_of, opening_now}
+use Rattle.sq_audit.specs.inside.SystemNow.{by_part, own_events}
 use Rattle.sq_audit.specs.Actors.{PartsRise}
 use Rattle.sq_audit.specs.HomeIds.{histories_of, IsNumbered}
 use Rattle.sq_audit.proofs.OrderLaws.{order_under, order_over, sorted_from, order_from, part_stays}
@@ -156,6 +157,6 @@ home_goes (h ∷ hs) (suc i) kept = home_goes hs i (All-tail IsKept h hs kept)
 
 -- what is merged is a run to what the parts are now
 pub merged_is_run : (directory : DirectoryHistory) (ledger : LedgerHistory) (homes : List HistoryValue) (run : List Tag) → IsDirectoryKept directory → IsLedgerKept ledger → All IsKept homes → IsMerged directory.events ledger.events (events_of homes) run
-    → IsRun directory.directory.places ledger.ledger.limit (map (λ h. h.site) homes) run (system_now directory ledger homes)
+    → IsRun (opening_now directory ledger homes) run (system_now directory ledger homes)
 merged_is_run directory ledger homes run own moved kept merged =
-    merged_run directory.directory.places ledger.ledger.limit (map (λ h. h.site) homes) directory.events ledger.events (events_of homes) run (system_now directory ledger homes) merged (λ i. home_goes homes i kept) own.own own.replays moved.own moved.replays
+    merged_run (opening_now directory ledger homes) directory.events ledger.events (events_of homes) run (system_now directory ledger homes) merged (λ i. home_goes homes i kept) own.own own.replays moved.own moved.replays

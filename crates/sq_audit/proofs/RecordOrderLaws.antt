@@ -8,7 +8,8 @@ use Rattle.sq_model.specs.RecordValues.{RecordValue, Journal, RecordsRise}
 use Rattle.sq_model.specs.Matches.{HomeHistory, IsRecorded, IsOfDirectory, IsOfLedger, IsOfHome, IsMatched}
 use Rattle.sq_history.specs.HistoryValue.{HistoryValue}
 use Rattle.sq_model.specs.Ledgers.{LedgerEvent, is_own}
-use Rattle.sq_audit.specs.Actors.{event_actor, event_place, ActorsRise, PartsRise, PlacesAgree, PlacesApart}
+use Rattle.sq_audit.specs.Actors.{event_actor, event_place, ActorsRise, PartsRise}
+use Rattle.sq_audit.specs.inside.Actors.{PlacesAgree, PlacesApart}
 use Rattle.sq_steps.specs.Journals.{RecordsRiseAt, AreDistinct}
 use Rattle.sq_audit.specs.SystemNow.{events_of}
 use Rattle.sq_audit.specs.HomeIds.{home_history, histories_of, IsNumbered}

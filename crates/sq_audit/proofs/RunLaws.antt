@@ -1,5 +1,5 @@
 -- Who is sent in a run, event by event, and each of them once.
-use Rattle.std.proofs.Common.{◌≡◌, ℕ, ◌+◌, ◌<◌, List, [], ◌∷◌, ◌++◌, length, take, get_or, refl, ap, sym, ◌∙◌, append_assoc, arith, true, false}
+use Rattle.std.proofs.Common.{◌≡◌, ℕ, ◌+◌, ◌<◌, List, [], ◌∷◌, ◌++◌, length, take, get_or, refl, ap, sym, ◌∙◌, append_assoc, false}
 use Rattle.std.specs.Prelude.{◌||◌}
 use Rattle.std.specs.List.{list_any}
 use Rattle.std.specs.Cmp.{IsTotalOrder}
@@ -41,10 +41,6 @@ any_sent (t ∷ ts) = elim (tag_sends (tag_of t)) as (λ xs. (has_some xs || lis
 pub none_is : {A : Type 0} (xs : List A) → has_some xs ≡ false → xs ≡ []
 none_is [] h = refl
 none_is (x ∷ xs) h = absurd cc
-
-pub some_are : {A : Type 0} (xs : List A) → has_some xs ≡ true → 0 < length xs
-some_are [] h = absurd cc
-some_are (x ∷ xs) h = omega arith
 
 -- nothing is listed where none was sent
 pub no_lineages : (run : List Tag) → run_sends run ≡ [] → AreLineages run []

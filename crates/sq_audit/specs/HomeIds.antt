@@ -2,14 +2,14 @@
 use Rattle.std.specs.Prelude.{◌≡◌, ◌+◌, ◌/◌, ◌%◌, ℕ, List, map, slice_get, Some, ◌-◌, ◌*◌, ◌&&◌, nat_lt, if◌then◌else◌, Option, None}
 use Rattle.sq_base.specs.declared.ids.HomeId.{HomeId}
 use Rattle.sq_model.specs.Matches.{HomeHistory}
-use Rattle.sq_history.specs.HistoryValue.{HistoryValue}
+use Rattle.sq_history.specs.HistoryValue.{HistoryValue, all_events}
 
 -- the home at an index in the list of all homes
 abbrev pub home_id : ℕ → ℕ → HomeId
 home_id per_queue at = record { queue = at / per_queue + 1; home = at % per_queue }
 
 abbrev pub home_history : HistoryValue → HomeHistory
-home_history h = record { home = h.site.home; events = h.events }
+home_history h = record { home = h.site.home; events = all_events h }
 
 abbrev pub histories_of : List HistoryValue → List HomeHistory
 histories_of homes = map home_history homes

@@ -5,4 +5,4 @@ pub mod RunLineages
 pub mod HomesValue
 pub mod Faults
 pub mod HomeIds
-pub mod EvidenceValue
+pub mod inside

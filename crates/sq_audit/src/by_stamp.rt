@@ -1,15 +1,17 @@
 //! All events of the system in one order.
-ghost use Rattle.std.specs.Prelude.{◌≡◌, ◌≤◌, ◌-◌, ◌^◌, ◌++◌, min, map, filter, length, ℕ, true, All, OnOk, IfOk};
+ghost use Rattle.std.specs.Prelude.{◌≡◌, ◌≤◌, ◌-◌, ◌^◌, ◌++◌, min, map, length, ℕ, All, OnOk, IfOk};
 ghost use Rattle.sq_model.specs.Matches.{IsPaired};
 ghost use Rattle.sq_model.specs.Systems.{OfDirectory, OfLedger, OfHome, IsRun};
 ghost use Rattle.sq_model.specs.Merges.{IsMerged};
 ghost use Rattle.sq_history.specs.Histories.{IsKept};
+ghost use Rattle.sq_history.specs.HistoryValue.{all_events};
 ghost use Rattle.sq_ledger.specs.LedgerHistories.{IsLedgerKept};
 ghost use Rattle.sq_directory.specs.DirectoryHistories.{IsDirectoryKept};
 ghost use Rattle.sq_audit.specs.Actors.{PartsRise};
 ghost use Rattle.sq_audit.specs.HomeIds.{histories_of, IsNumbered};
 ghost use Rattle.sq_audit.specs.Tags.{tags_of};
-ghost use Rattle.sq_audit.specs.SystemNow.{by_part, events_of, own_events, system_now};
+ghost use Rattle.sq_audit.specs.SystemNow.{events_of, system_now, opening_now};
+ghost use Rattle.sq_audit.specs.inside.SystemNow.{by_part, own_events};
 
 use crate::tagged::Tagged;
 use sq_directory::directory::Directory;
@@ -33,7 +35,7 @@ pub fn by_stamp<'a>(
     requires paired { IsPaired ledger.now.history.events (histories_of homes.now) }
     ensures merged { IfOk result (λ run. IsMerged directory.now.events ledger.now.history.events (events_of homes.now) (tags_of run.items)) }
     ensures parts { IfOk result (λ run. PartsRise (tags_of run.items)) }
-    ensures run { IfOk result (λ run. IsRun directory.now.directory.places ledger.now.history.ledger.limit (map (λ h. h.site) homes.now) (tags_of run.items) (system_now directory.now ledger.now.history homes.now)) }
+    ensures run { IfOk result (λ run. IsRun (opening_now directory.now ledger.now.history homes.now) (tags_of run.items) (system_now directory.now ledger.now.history homes.now)) }
 {
     let mut all = collect(alloc, directory, ledger, homes)?;
     // The sort is stable, so what has one stamp stays in the order of its parts.
@@ -81,8 +83,8 @@ fn count_own(ledger: &TransitLedger) -> usize
 {
     let events = ledger.events();
     let mut count = 0;
-    for place in 0..events.len() {
-        if is_own(&events[place].call) {
+    for at in 0..events.len() {
+        if is_own(&events[at].call) {
             count += 1;
         }
     }
@@ -94,8 +96,8 @@ fn add_directory<'a>(all: &mut Vec<Tagged<'a>>, directory: &'a Directory) -> Res
     ensures kept { OnOk result (IsDirectoryKept directory.now) }
 {
     let events = directory.events();
-    for place in 0..events.len() {
-        all.push(Tagged::Directory(&events[place]))?;
+    for at in 0..events.len() {
+        all.push(Tagged::Directory(&events[at]))?;
     }
     Ok(())
 }
@@ -106,8 +108,8 @@ fn add_ledger<'a>(all: &mut Vec<Tagged<'a>>, ledger: &'a TransitLedger) -> Resul
     ensures kept { OnOk result (IsLedgerKept ledger.now.history) }
 {
     let events = ledger.events();
-    for place in 0..events.len() {
-        let event = &events[place];
+    for at in 0..events.len() {
+        let event = &events[at];
         if is_own(&event.call) {
             all.push(Tagged::Ledger(event))?;
         }
@@ -116,12 +118,12 @@ fn add_ledger<'a>(all: &mut Vec<Tagged<'a>>, ledger: &'a TransitLedger) -> Resul
 }
 
 fn add_home<'a>(all: &mut Vec<Tagged<'a>>, index: u32, home: &'a Home) -> Result<(), AllocError>
-    ensures tags { OnOk result (tags_of all.new.items ≡ tags_of all.old.items ++ map (λ e. OfHome index e) home.now.events) }
+    ensures tags { OnOk result (tags_of all.new.items ≡ tags_of all.old.items ++ map (λ e. OfHome index e) (all_events home.now)) }
     ensures kept { OnOk result (IsKept home.now) }
 {
     let events = home.events();
-    for place in 0..events.len() {
-        all.push(Tagged::Home(index, &events[place]))?;
+    for at in 0..events.len() {
+        all.push(Tagged::Home(index, &events[at]))?;
     }
     Ok(())
 }

@@ -1,16 +1,17 @@
 //! Whether the records of all actors and the histories of all parts are of each other, and what is in two histories is the
 //! same in both.
 ghost use Rattle.std.specs.Prelude.{◌≡◌, ◌≢◌, ◌↔◌, ◌<◌, ℕ, true, false, length, slice_get, Some, OnOk, IfErr, IsOk};
-ghost use Rattle.sq_base.specs.declared.ids.HomeId.{HomeId as Id};
 ghost use Rattle.sq_model.specs.declared.calls.HomeCall.{HomeCall as Call};
 ghost use Rattle.sq_model.specs.Ledgers.{is_own};
 ghost use Rattle.sq_model.specs.Passages.{is_alone};
 ghost use Rattle.sq_model.specs.RecordValues.{OfHome, place_of_record};
-ghost use Rattle.sq_model.specs.Matches.{HasItsEvent, InHome, InLedger, IsMatched, IsOfLedger, IsPaired, IsRecorded, is_shared_as};
+ghost use Rattle.sq_model.specs.Replays.{HomeEvent};
+ghost use Rattle.sq_model.specs.Matches.{HasItsEvent, InHome, IsMatched, IsOfLedger, IsPaired, IsRecorded, is_shared_as};
 ghost use Rattle.sq_steps.specs.Records.{value_of_record};
 ghost use Rattle.sq_steps.specs.Journals.{RecordsRiseAt, AreDistinct};
 ghost use Rattle.sq_audit.specs.HomeIds.{histories_of, home_id};
-ghost use Rattle.sq_audit.specs.Faults.{FaultHolds, IsWrong, RecordFits, DirectoryFits, LedgerFits, HomeFits, LedgerHas, HomeHas, IsWithoutPartner, unmatched, IsRecordFault, IsAt, IsPartThere, IsRecordedAt, IsEventFault, EventFits, HasEventFault};
+ghost use Rattle.sq_audit.specs.Faults.{FaultHolds, IsWrong, HasPartner};
+ghost use Rattle.sq_audit.specs.inside.Faults.{RecordFits, DirectoryFits, LedgerFits, HomeFits, LedgerHas, HomeHas, IsWithoutPartner, unmatched, IsRecordFault, IsAt, IsPartThere, IsRecordedAt, IsEventFault, EventFits, HasEventFault};
 
 use crate::homes::{Homes, home_index};
 use crate::names::has_name;
@@ -75,7 +76,7 @@ pub(crate) struct Evidence<'a> {
 impl<'a> Model for Evidence<'a> {
     ghost use Rattle.sq_steps.specs.Journals.{AreDistinct};
     ghost use Rattle.sq_audit.specs.HomeIds.{histories_of, IsNumbered};
-    ghost use Rattle.sq_audit.specs.EvidenceValue.{EvidenceValue};
+    ghost use Rattle.sq_audit.specs.inside.EvidenceValue.{EvidenceValue};
 
     ghost Value = { EvidenceValue };
 
@@ -382,22 +383,22 @@ fn check_shared(evidence: &Evidence<'_>) -> Result<(), AuditFault>
 {
     let homes = evidence.homes;
     for index in 0..homes.len() {
-        check_shared_of(evidence, index)?;
+        let home = &homes[index];
+        check_partners(evidence.ledger, home.events())?;
     }
     Ok(())
 }
 
-// And so with what the home at an index shares with it.
-fn check_shared_of(evidence: &Evidence<'_>, at: usize) -> Result<(), AuditFault>
-    requires within { at < length evidence.now.homes }
-    ensures ok { OnOk result ((k : ℕ) → LedgerHas evidence.now.ledger evidence.now.homes at k) }
-    ensures fault { IfErr result (λ f. IsWrong evidence.now.directory evidence.now.ledger evidence.now.homes evidence.now.journals f) }
+// And so with what is shared of the events of one home.
+fn check_partners(
+    ledger: &TransitLedger,
+    events: &Blocks<Event<HomeCall, HomeReply>>,
+) -> Result<(), AuditFault>
+    ensures ok { OnOk result ((k : ℕ) (e : HomeEvent) → slice_get events.now.items k ≡ Some e → HasPartner ledger.now.history.events e) }
+    ensures fault { IfErr result (λ f. (k : ℕ) × (e : HomeEvent) × (slice_get events.now.items k ≡ Some e) × IsWithoutPartner ledger.now.history.events e f) }
 {
-    let homes = evidence.homes;
-    let home = &homes[at];
-    let events = home.events();
     for place in 0..events.len() {
-        check_partner(evidence.ledger, &events[place])?;
+        check_partner(ledger, &events[place])?;
     }
     Ok(())
 }
@@ -407,7 +408,7 @@ fn check_partner(
     ledger: &TransitLedger,
     event: &Event<HomeCall, HomeReply>,
 ) -> Result<(), AuditFault>
-    ensures ok { OnOk result (is_alone event.now.call ≡ false → (home : Id) → event.now.component ≡ Component.Home home → InLedger ledger.now.history.events home event.now) }
+    ensures ok { OnOk result (HasPartner ledger.now.history.events event.now) }
     ensures fault { IfErr result (IsWithoutPartner ledger.now.history.events event.now) }
 {
     if is_alone(&event.call) {

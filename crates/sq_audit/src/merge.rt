@@ -1,11 +1,11 @@
 //! The one run of all that was done.
-ghost use Rattle.std.specs.Prelude.{◌≡◌, length, map, ℕ, IfOk, IfErr, OnOk};
+ghost use Rattle.std.specs.Prelude.{◌≡◌, map, IfOk, IfErr, OnOk};
 ghost use Rattle.sq_model.specs.Systems.{IsRun, IsOnePlace};
 ghost use Rattle.sq_model.specs.Merges.{IsMerged};
 ghost use Rattle.sq_model.specs.Matches.{IsMatched, IsPaired};
 ghost use Rattle.sq_audit.specs.Actors.{ActorsRise, PartsRise};
 ghost use Rattle.sq_audit.specs.Faults.{FaultHolds};
-ghost use Rattle.sq_audit.specs.SystemNow.{events_of, system_now};
+ghost use Rattle.sq_audit.specs.SystemNow.{events_of, system_now, opening_now};
 ghost use Rattle.sq_audit.specs.HomeIds.{histories_of, IsNumbered};
 
 use crate::by_stamp::by_stamp;
@@ -27,7 +27,7 @@ pub fn merge<'a>(alloc: Global, parts: &'a Parts) -> Result<Run<'a>, AuditFault>
     ensures matched { OnOk result (IsMatched parts.now.directory.events parts.now.ledger.history.events (histories_of parts.now.homes.homes) parts.now.records) }
     ensures merged { IfOk result (λ run. IsMerged parts.now.directory.events parts.now.ledger.history.events (events_of parts.now.homes.homes) run) }
     ensures paired { OnOk result (IsPaired parts.now.ledger.history.events (histories_of parts.now.homes.homes)) }
-    ensures run { IfOk result (λ run. IsRun parts.now.directory.directory.places parts.now.ledger.history.ledger.limit (map (λ h. h.site) parts.now.homes.homes) run (system_now parts.now.directory parts.now.ledger.history parts.now.homes.homes)) }
+    ensures run { IfOk result (λ run. IsRun (opening_now parts.now.directory parts.now.ledger.history parts.now.homes.homes) run (system_now parts.now.directory parts.now.ledger.history parts.now.homes.homes)) }
     ensures actors { IfOk result (λ run. ActorsRise run) }
     ensures parts { IfOk result (λ run. PartsRise run) }
     ensures numbered { OnOk result (IsNumbered parts.now.homes.per_queue parts.now.homes.homes) }

@@ -7,7 +7,8 @@ use Rattle.std.specs.Str.{IsAscii}
 use Rattle.std.proofs.lemmas.Bool.{and_parts}
 use Rattle.std.proofs.lemmas.Grind.{common_steps}
 use Rattle.std.proofs.lemmas.Str.{chars-IsAscii}
-use Rattle.sq_base.specs.Bodies.{allowed, is_short}
+use Rattle.sq_base.specs.Bodies.{allowed}
+use Rattle.sq_base.specs.inside.Bodies.{is_short}
 
 short_parts : (b : ℕ) → is_short b ≡ true → (allowed b ≡ true) × (nat_lt b 128 ≡ true)
 unfolding is_short

@@ -4,7 +4,7 @@ use Rattle.std.specs.Prelude.{◌≢◌, nat_le, nat_lt, nat_eq, if◌then◌els
 use Rattle.std.specs.Ordering.{is_lt}
 use Rattle.std.specs.Cmp.{IsTotalOrder}
 use Rattle.std.proofs.lemmas.Cmp.{then_total, on_total, nat_cmp_total}
-use Rattle.std.proofs.lemmas.Bool.{eqb-true, leb-false, cases_lt}
+use Rattle.std.proofs.lemmas.Bool.{eqb-true, cases_lt}
 use Rattle.std.proofs.lemmas.Grind.{common_steps}
 use Rattle.sq_base.specs.StampValue.{StampValue}
 use Rattle.sq_base.specs.Stamps.{stamp_end, next_at, stamped, after, Below, stamp_cmp}
@@ -48,52 +48,6 @@ after_moment a b now t h =
     let m = max (max a.moment b.moment) now in
     elim (nat_le stamp_end now) as (λ (v : Bool). (if v then Err ClockRange else stamped m (max (next_at a m) (next_at b m))) ≡ Ok t → t.moment ≡ m)
     [ true ↦ (λ k. cc) | false ↦ (λ k. stamped_at m (max (next_at a m) (next_at b m)) t k) ] h
-
-stamped_fits : (m c : ℕ) (t : StampValue) → m < stamp_end → stamped m c ≡ Ok t → (t.moment < stamp_end) × (t.count < stamp_end)
-stamped_fits m c t lt h =
-    elim (nat_le stamp_end c) as (λ (v : Bool). nat_le stamp_end c ≡ v → (if v then Err Worn else Ok (record { moment = m; count = c })) ≡ Ok t → (t.moment < stamp_end) × (t.count < stamp_end))
-    [ true ↦ (λ e k. cc) | false ↦ (λ e k. let same : record { moment = m; count = c } ≡ t = cc in subst (λ (u : StampValue). (u.moment < stamp_end) × (u.count < stamp_end)) same (lt, leb-false _ _ e)) ] refl h
-
--- it is a stamp where the two are
-pub after_fits : (a b : StampValue) (now : ℕ) (t : StampValue) → after a b now ≡ Ok t → a.moment < stamp_end → b.moment < stamp_end → (t.moment < stamp_end) × (t.count < stamp_end)
-after_fits a b now t h p q =
-    let m = max (max a.moment b.moment) now in
-    elim (nat_le stamp_end now) as (λ (v : Bool). nat_le stamp_end now ≡ v → (if v then Err ClockRange else stamped m (max (next_at a m) (next_at b m))) ≡ Ok t → (t.moment < stamp_end) × (t.count < stamp_end))
-    [ true ↦ (λ e k. cc) | false ↦ (λ e k. stamped_fits m (max (next_at a m) (next_at b m)) t (let lt : now < stamp_end = leb-false _ _ e in omega arith) k) ] refl h
-
-least_at : (a s : StampValue) (b : Bool) → nat_eq a.moment s.moment ≡ b → Below a s → (if b then a.count + 1 else 0) ≤ s.count
-least_at a s true e (inl h) = let same : a.moment ≡ s.moment = eqb-true _ _ e in absurd (omega (arith, h, same))
-least_at a s true e (inr h) = omega (arith, h.1)
-least_at a s false e h = omega arith
-
-below_moment : (a s : StampValue) → Below a s → a.moment ≤ s.moment
-below_moment a s (inl h) = omega (arith, h)
-below_moment a s (inr h) = omega (arith, h.0)
-
-stamped_least : (m c : ℕ) (t s : StampValue) → stamped m c ≡ Ok t → m ≤ s.moment → (m ≡ s.moment → c ≤ s.count) → Below t s ⊎ (t ≡ s)
-stamped_least m c t s h le at =
-    elim (nat_le stamp_end c) as (λ (v : Bool). (if v then Err Worn else Ok (record { moment = m; count = c })) ≡ Ok t → Below t s ⊎ (t ≡ s)) [
-      | true ↦ (λ k. cc)
-      | false ↦ (λ k. let same : record { moment = m; count = c } ≡ t = cc in subst (λ (u : StampValue). Below u s ⊎ (u ≡ s)) same
-          (elim (cases_lt m s.moment) [
-            | inl p ↦ inl (inl p)
-            | inr p ↦ let moment : m ≡ s.moment = omega (arith, le, p) in elim (cases_lt c s.count) [
-              | inl q ↦ inl (inr (moment, q))
-              | inr q ↦ let count : c ≡ s.count = (let few = at moment in omega (arith, few, q)) in inr (λ i. record { moment = moment i; count = count i })
-            ]
-          ]))
-    ] h
-
--- no stamp above both at this moment or later is below it
-pub after_least : (a b : StampValue) (now : ℕ) (t s : StampValue) → after a b now ≡ Ok t → Below a s → Below b s → now ≤ s.moment → Below t s ⊎ (t ≡ s)
-after_least a b now t s h p q le =
-    let m = max (max a.moment b.moment) now in
-    let first = below_moment a s p in let second = below_moment b s q in
-    elim (nat_le stamp_end now) as (λ (v : Bool). (if v then Err ClockRange else stamped m (max (next_at a m) (next_at b m))) ≡ Ok t → Below t s ⊎ (t ≡ s)) [
-      | true ↦ (λ k. cc)
-      | false ↦ (λ k. stamped_least m (max (next_at a m) (next_at b m)) t s k (omega arith)
-          (λ e. subst (λ (x : ℕ). max (next_at a x) (next_at b x) ≤ s.count) (sym e) (let one = least_at a s (nat_eq a.moment s.moment) refl p in let two = least_at b s (nat_eq b.moment s.moment) refl q in omega (arith, one, two))))
-    ] h
 
 -- the order is total
 pub stamps_total : IsTotalOrder stamp_cmp

@@ -9,10 +9,6 @@ use Rattle.sq_base.specs.declared.refusal.Refusal.TheVariants.{InvalidParameterV
 unfoldable pub allowed : ℕ → Bool
 allowed c = c == 9 || c == 10 || c == 13 || (nat_le 32 c && nat_le c 55295) || (nat_le 57344 c && nat_le c 65533) || (nat_le 65536 c && nat_le c 1114111)
 
--- a byte that is one of them, as a character of its own
-unfoldable pub is_short : ℕ → Bool
-is_short b = allowed b && nat_lt b 128
-
 -- at least one byte and at most the limit, and each character allowed
 abbrev pub body_check : List ℕ → ℕ → Result (Unit {0}) Refusal
 body_check text limit =

@@ -6,3 +6,4 @@ pub mod Names
 pub mod Refusals
 pub mod StampValue
 pub mod Stamps
+pub mod inside

@@ -1,5 +1,5 @@
 -- The id of a message as a number of 128 bits: a UUID of version 8 (RFC 9562, section 5.8).
-use Rattle.std.specs.Prelude.{ℕ, ◌+◌, ◌*◌, ◌/◌, ◌%◌, ◌<◌, ◌≤◌, ◌&&◌, ◌||◌, ◌==◌, not, nat_le, nat_lt, if◌then◌else◌, Option, Some, None}
+use Rattle.std.specs.Prelude.{ℕ, ◌+◌, ◌*◌, ◌<◌, ◌≤◌}
 use Rattle.sq_base.specs.declared.message_id.MessageId.{MessageId}
 
 -- from the first bit: queue in 48 bits, version 8 in 4, home in 12, variant 2 in 2, serial in 62
@@ -11,14 +11,3 @@ pub record IsMessageId (m : MessageId) : Type 0 where
   pub queue : (1 ≤ m.queue) × (m.queue < 281474976710656)
   pub home : m.home < 16
   pub serial : m.serial < 4611686018427387904
-
--- the id of a number, by its first and its last 64 bits
-abbrev pub id_of : ℕ → ℕ → Option MessageId
-id_of high low =
-    if not (high / 4096 % 16 == 8) || not (low / 4611686018427387904 == 2) then None
-    else if nat_le 1 (high / 65536) && nat_lt (high / 65536) 281474976710656 then
-    if nat_lt (high % 4096) 16 then
-    if nat_lt (low % 4611686018427387904) 4611686018427387904 then Some (record { queue = high / 65536; home = high % 4096; serial = low % 4611686018427387904 })
-    else None
-    else None
-    else None

@@ -6,7 +6,8 @@ ghost use Rattle.std.specs.List.{list_all};
 ghost use Rattle.std.specs.Str.{bytes_eq, chars};
 ghost use Rattle.md5.specs.Md5.{md5};
 ghost use Rattle.hex.specs.Hex.{encode_lower};
-ghost use Rattle.sq_base.specs.Bodies.{allowed, is_short, body_check};
+ghost use Rattle.sq_base.specs.Bodies.{allowed, body_check};
+ghost use Rattle.sq_base.specs.inside.Bodies.{is_short};
 ghost use Rattle.sq_base.specs.declared.refusal.Refusal.TheVariants.{NoMemory};
 
 use crate::refusal::Refusal;
@@ -146,7 +147,7 @@ fn are_allowed(text: &str) -> bool
     text.chars().all(|c| is_allowed(c))
 }
 
-#[tactic(auto, unfolding(crate::specs::Bodies::allowed, crate::specs::Bodies::is_short))]
+#[tactic(auto, unfolding(crate::specs::Bodies::allowed, crate::specs::inside::Bodies::is_short))]
 fn is_short(b: u8) -> bool
     ensures { result ≡ is_short b }
 {

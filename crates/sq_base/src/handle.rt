@@ -35,10 +35,13 @@ impl Handle {
     }
 }
 
+/// How many bytes the text of a handle has.
+pub const HANDLE_LENGTH: usize = 51;
+
 /// Writes the text of a handle: queue, home, slot, serial and receive number in 12, 3, 8, 16 and 8
 /// digits of `0-9a-f`, with a `-` between.
 #[tactic(auto, unfolding(crate::specs::Handles::handle_text))]
-pub fn write_handle(h: &Handle, out: &mut [u8; 51])
+pub fn write_handle(h: &Handle, out: &mut [u8; HANDLE_LENGTH])
     ensures { out.new ≡ handle_text h.now }
 {
     put_at(out, 0, 12, h.queue.get());
@@ -73,7 +76,7 @@ fn handle_of(b: &[u8]) -> Option<Handle>
     })
 }
 
-/// The handle whose text this is, none where it is the text of none: where its length is not 51, a
+/// The handle whose text this is, none where it is the text of none: where its length is not `HANDLE_LENGTH`, a
 /// digit is not of `0-9a-f`, or a number is out of its range.
 pub fn read_handle(b: &[u8]) -> Option<Handle>
     ensures value { result ≡ handle_at b.now }

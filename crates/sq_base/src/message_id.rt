@@ -1,7 +1,8 @@
 //! The id of a message, and its UUID.
 ghost use Rattle.std.specs.Prelude.{◌≡◌, IfSome, Some};
 ghost use Rattle.std.specs.Int.{w128, to_be_bytes, from_be_bytes};
-ghost use Rattle.sq_base.specs.MessageIds.{id_number, id_of, IsMessageId};
+ghost use Rattle.sq_base.specs.MessageIds.{id_number, IsMessageId};
+ghost use Rattle.sq_base.specs.inside.MessageIds.{id_of};
 
 use crate::ids::{HomeNo, QueueNo, Serial};
 use uuid::Uuid;

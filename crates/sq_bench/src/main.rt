@@ -7,6 +7,7 @@ mod threads;
 mod world;
 
 use crate::spent::Spent;
+use crate::threads::Load;
 use std::alloc::Global;
 use std::io::Write;
 use std::process::ExitCode;
@@ -41,10 +42,12 @@ fn measure<R: Threads + Wait + Clock + CpuClock + Sync>(
         "service" if words.len() == 6 => threads::measure(
             rt,
             alloc,
-            number(words, 2),
-            number(words, 3),
-            number(words, 4),
-            number(words, 5),
+            Load {
+                threads: number(words, 2),
+                queues: number(words, 3),
+                homes: number(words, 4),
+                calls: number(words, 5),
+            },
         ),
         "world" if words.len() == 4 => {
             world::measure(rt, alloc, number(words, 2), number(words, 3))

@@ -4,14 +4,13 @@ ghost use Rattle.std.specs.Prelude.{◌≡◌};
 use crate::options::{options, queue_name};
 use crate::spent::{Spent, begin};
 use sq_base::name::QueueName;
-use sq_queue::actors::SEATS;
 use sq_server::clients::{create, delete, first_handle, receive, send};
-use sq_server::served::{Client, Served};
+use sq_server::served::{Blanks, Client, Served};
 use sq_store::slots::SlotStore;
 use std::alloc::Global;
 use std::marker::Brand;
 use std::sync::Wait;
-use std::sync::ledger::{Blank, Ledger};
+use std::sync::ledger::Ledger;
 use std::thread;
 use std::thread::Threads;
 use std::time::{Clock, CpuClock};
@@ -26,20 +25,18 @@ struct Caller<D: Ledger, T: Ledger> {
 
 // A message is sent, received and deleted; how many of the three calls were answered.
 fn cycle<R: Clock + Wait, D: Ledger, T: Ledger>(
-    rt: &R,
-    alloc: Global,
     service: &Served<'_, R, D, T, SlotStore>,
     client: &mut Client<D, T>,
     queue: QueueName,
 ) -> u64 {
-    let Ok(call) = send(alloc, queue) else {
+    let Ok(call) = send(service.alloc, queue) else {
         return 0;
     };
-    let mut answered = service.call(rt, client, &call).is_ok() as u64;
-    if let Ok(answer) = service.call(rt, client, &receive(queue, None)) {
+    let mut answered = service.call(client, &call).is_ok() as u64;
+    if let Ok(answer) = service.call(client, &receive(queue, None)) {
         answered = answered.saturating_add(1);
         if let Some(handle) = first_handle(&answer) {
-            let deleted = service.call(rt, client, &delete(queue, handle)).is_ok();
+            let deleted = service.call(client, &delete(queue, handle)).is_ok();
             answered = answered.saturating_add(deleted as u64);
         }
     }
@@ -48,8 +45,6 @@ fn cycle<R: Clock + Wait, D: Ledger, T: Ledger>(
 
 // A caller makes so many calls.
 fn make_calls<R: Clock + Wait, D: Ledger, T: Ledger>(
-    rt: &R,
-    alloc: Global,
     service: &Served<'_, R, D, T, SlotStore>,
     caller: &mut Caller<D, T>,
     calls: u64,
@@ -58,7 +53,7 @@ fn make_calls<R: Clock + Wait, D: Ledger, T: Ledger>(
     let queue = caller.queue;
     let mut all = 0u64;
     for _ in 0..calls / 3 {
-        let answered = cycle(rt, alloc, service, &mut caller.client, queue);
+        let answered = cycle(service, &mut caller.client, queue);
         all = all.saturating_add(answered);
     }
     caller.answered = all;
@@ -66,17 +61,15 @@ fn make_calls<R: Clock + Wait, D: Ledger, T: Ledger>(
 
 // A caller for each thread, at the queues by turns, which are made.
 fn callers<R: Clock + Wait, D: Ledger, T: Ledger>(
-    rt: &R,
-    alloc: Global,
     service: &Served<'_, R, D, T, SlotStore>,
     threads: u64,
     queues: u64,
 ) -> Option<Vec<Caller<D, T>>> {
-    let mut callers = Vec::new(alloc);
+    let mut callers = Vec::new(service.alloc);
     for number in 0..threads {
         let queue = queue_name(number % queues.max(1))?;
-        let mut client = service.client(rt, alloc).ok()?;
-        service.call(rt, &mut client, &create(queue, None)).ok()?;
+        let mut client = service.client().ok()?;
+        service.call(&mut client, &create(queue, None)).ok()?;
         callers
             .push(Caller {
                 client,
@@ -90,18 +83,16 @@ fn callers<R: Clock + Wait, D: Ledger, T: Ledger>(
 
 // All callers at once; how many calls were answered.
 fn call_all<R: Threads + Wait + Clock + Sync, D: Ledger + Send + Sync, T: Ledger + Send + Sync>(
-    rt: &R,
-    alloc: Global,
     service: &Served<'_, R, D, T, SlotStore>,
     callers: &mut Vec<Caller<D, T>>,
     calls: u64,
 ) -> u64 {
     let threads = callers.len().max(1);
     thread::for_each_mut(
-        rt,
+        service.rt,
         callers,
         threads,
-        &|_: usize, caller: &mut Caller<D, T>| make_calls(rt, alloc, service, caller, calls),
+        &|_: usize, caller: &mut Caller<D, T>| make_calls(service, caller, calls),
     );
     let mut answered = 0u64;
     for caller in callers.iter() {
@@ -110,54 +101,41 @@ fn call_all<R: Threads + Wait + Clock + Sync, D: Ledger + Send + Sync, T: Ledger
     answered
 }
 
-// What the calls of so many threads at a service of its own take.
+/// So many threads that call at so many queues of so many homes each, and how many calls each thread makes.
+#[derive(Clone, Copy)]
+pub struct Load {
+    pub threads: u64,
+    pub queues: u64,
+    pub homes: u64,
+    pub calls: u64,
+}
+
+// What a load takes at a service of its own.
 fn measure_at<
     R: Threads + Wait + Clock + CpuClock + Sync,
     D: Ledger + Send + Sync,
     T: Ledger + Send + Sync,
->(
-    rt: &R,
-    alloc: Global,
-    threads: u64,
-    queues: u64,
-    homes: u64,
-    calls: u64,
-    of_directory: Blank,
-    of_ledger: Blank,
-) -> Option<Spent>
-    requires of_directory { (of_directory.name ≡ D.name) × (of_directory.parts ≡ D.parts) × (D.parts ≡ 4294967296) }
-    requires of_ledger { (of_ledger.name ≡ T.name) × (of_ledger.parts ≡ T.parts) × (T.parts ≡ 4294967296) }
+>(rt: &R, alloc: Global, load: Load, blanks: Blanks) -> Option<Spent>
+    requires of_directory { (blanks.directory.name ≡ D.name) × (blanks.directory.parts ≡ D.parts) × (D.parts ≡ 4294967296) }
+    requires of_ledger { (blanks.ledger.name ≡ T.name) × (blanks.ledger.parts ≡ T.parts) × (T.parts ≡ 4294967296) }
 {
     let service: Served<'_, R, D, T, SlotStore> = Served::new(
         rt,
         alloc,
-        options(homes),
-        of_directory,
-        of_ledger,
+        options(load.homes),
+        blanks,
     ).ok()?;
-    let mut callers = callers(rt, alloc, &service, threads, queues)?;
+    let mut callers = callers(&service, load.threads, load.queues)?;
     let begun = begin(rt);
-    let answered = call_all(rt, alloc, &service, &mut callers, calls);
+    let answered = call_all(&service, &mut callers, load.calls);
     Some(begun.spent(rt, answered))
 }
 
-/// What so many calls of each of so many threads take, at so many queues; none where there is no memory for it.
+/// What a load takes; none where there is no memory for it.
 pub fn measure<R: Threads + Wait + Clock + CpuClock + Sync>(
     rt: &R,
     alloc: Global,
-    threads: u64,
-    queues: u64,
-    homes: u64,
-    calls: u64,
+    load: Load,
 ) -> Option<Spent> {
-    measure_at::<R, Brand, Brand>(
-        rt,
-        alloc,
-        threads,
-        queues,
-        homes,
-        calls,
-        Blank::new(SEATS),
-        Blank::new(SEATS),
-    )
+    measure_at::<R, Brand, Brand>(rt, alloc, load, Blanks::new())
 }

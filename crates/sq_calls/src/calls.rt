@@ -76,7 +76,7 @@ pub struct AskedOfQueue {
     /// ApproximateNumberOfMessagesDelayed.
     pub delayed: bool,
     /// ApproximateNumberOfMessagesNotVisible.
-    pub flying: bool,
+    pub in_flight: bool,
     /// DelaySeconds.
     pub delay: bool,
     /// MessageRetentionPeriod.
@@ -154,7 +154,7 @@ pub enum Asked {
 #[derive(Clone, Copy, PartialEq, Eq, Debug)]
 pub struct QueueCounts {
     pub visible: u64,
-    pub flying: u64,
+    pub in_flight: u64,
     pub delayed: u64,
 }
 

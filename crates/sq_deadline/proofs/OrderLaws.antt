@@ -5,7 +5,8 @@ use Rattle.std.specs.List.{insert, position_or_len, remove}
 use Rattle.std.proofs.lemmas.Grind.{common_steps}
 use Rattle.std.proofs.lemmas.List.Sums.{sum_by-cons}
 use Rattle.sq_deadline.specs.declared.deadline.Deadline.{Deadline}
-use Rattle.sq_deadline.specs.Deadlines.{DeadlinesRise, if_due, is_above, is_due, is_not_below, is_other, is_same, is_this, key_of, with_deadline}
+use Rattle.sq_deadline.specs.Deadlines.{DeadlinesRise, if_due, is_above, is_due, is_other, is_same, key_of, with_deadline}
+use Rattle.sq_deadline.specs.inside.Deadlines.{is_not_below, is_this}
 
 -- where the first one stands that is not below this one
 abbrev pub place_of : Deadline → List Deadline → ℕ
@@ -112,10 +113,10 @@ rise_without low d (x ∷ ds) h =
       | false ↦ rise_later low (key_of x + 1) (filter (is_other d) ds) (omega (arith, h.0)) (rise_without (key_of x + 1) d ds h.2)
     ]
 
-pub there_within : (d : Deadline) (ds : List Deadline) (place : ℕ) → is_this d (slice_get ds place) ≡ true → place < length ds
-there_within d [] place h = absurd cc
+pub there_within : (d : Deadline) (ds : List Deadline) (index : ℕ) → is_this d (slice_get ds index) ≡ true → index < length ds
+there_within d [] index h = absurd cc
 there_within d (x ∷ ds) zero h = omega arith
-there_within d (x ∷ ds) (suc place) h = let rest = there_within d ds place h in omega (arith, rest)
+there_within d (x ∷ ds) (suc index) h = let rest = there_within d ds index h in omega (arith, rest)
 
 -- ---- what is due
 

@@ -1,16 +1,17 @@
 -- Deadlines as a set beside a list of rows: what comes in and goes out of a permutation, and what is due of it.
-use Rattle.std.proofs.Common.{◌≡◌, ◌≢◌, ℕ, zero, suc, ◌+◌, ◌*◌, ◌<◌, ◌≤◌, Bool, true, false, cond, List, [], ◌∷◌, length, map, filter, take, drop, set, get_or, swap, Some, None, refl, sym, ap, ◌∙◌, subst, arith}
+use Rattle.std.proofs.Common.{◌≡◌, ◌≢◌, ℕ, zero, suc, ◌+◌, ◌*◌, ◌<◌, ◌≤◌, Bool, true, false, cond, List, [], ◌∷◌, length, map, filter, take, set, get_or, swap, Some, None, refl, sym, ap, ◌∙◌, subst, arith}
 use Rattle.std.specs.Prelude.{◌==◌, ◌||◌, count_by, find, if◌then◌else◌, slice_get, All, Contains, IsPermutation}
 use Rattle.std.specs.List.{AllByRecursion, IsDistinct, list_any}
 use Rattle.std.proofs.lemmas.Bool.{eq-eqb, eqb-true, or_from, or_left, or_parts}
 use Rattle.std.proofs.lemmas.Grind.{common_steps}
 use Rattle.std.proofs.lemmas.List.Elements.{All-cons, All-head, All-map, All-nil, All-tail}
 use Rattle.std.proofs.lemmas.List.Sorted.{All-permutation, Contains-permutation, IsPermutation-cons, IsPermutation-insert, IsPermutation-keeps, IsPermutation-middle, IsPermutation-refl, IsPermutation-sym, IsPermutation-trans, list_any-IsPermutation}
-use Rattle.std.proofs.lemmas.List.Sums.{length-filter, sum_by-cons}
+use Rattle.std.proofs.lemmas.List.Sums.{length-filter}
 use Rattle.std.proofs.lemmas.Map.Keys.{IsDistinct-IsPermutation, IsDistinct-cons, IsDistinct-head}
 use Rattle.sq_deadline.specs.declared.deadline.Deadline.{Deadline}
-use Rattle.sq_deadline.specs.Deadlines.{DeadlinesRise, if_due, is_due, is_other, is_same, is_this, key_of, with_deadline}
-use Rattle.sq_deadline.proofs.OrderLaws.{comes_in, counts_more, later, one_if, place_of, rise_without}
+use Rattle.sq_deadline.specs.Deadlines.{DeadlinesRise, if_due, is_due, is_other, is_same, key_of, with_deadline}
+use Rattle.sq_deadline.specs.inside.Deadlines.{is_this}
+use Rattle.sq_deadline.proofs.OrderLaws.{comes_in, counts_more, later, one_if, place_of}
 
 -- ---- lists
 
@@ -21,10 +22,6 @@ none_passes p (x ∷ xs) h = let parts = or_parts (p x) (list_any p xs) h in All
 pub list_any_map : {X Y : Type 0} (p : Y → Bool) (f : X → Y) (xs : List X) → list_any p (map f xs) ≡ list_any (λ x. p (f x)) xs
 list_any_map p f [] = refl
 list_any_map p f (x ∷ xs) = ap (λ (b : Bool). p (f x) || b) (list_any_map p f xs)
-
-pub count_map : {X Y : Type 0} (p : Y → Bool) (f : X → Y) (xs : List X) → count_by p (map f xs) ≡ count_by (λ x. p (f x)) xs
-count_map p f [] = refl
-count_map p f (x ∷ xs) = sum_by-cons (λ y. cond (p y) 1 0) (f x) (map f xs) ∙ ap (λ (n : ℕ). cond (p (f x)) 1 0 + n) (count_map p f xs) ∙ sym (sum_by-cons (λ y. cond (p (f y)) 1 0) x xs)
 
 -- what a list of images has is the image of one that the list has
 pub contains_image : {X Y : Type 0} (f : X → Y) (xs : List X) (y : Y) → Contains (map f xs) y → (x : X) × Contains xs x × (f x ≡ y)
@@ -106,10 +103,10 @@ permutation_filter {X} p = along_permutation (λ (xs ys : List X). IsPermutation
 -- ---- one comes in
 
 -- where it is in no place, it is not in this one
-in_no_place : (d : Deadline) (ds : List Deadline) (place : ℕ) → list_any (is_same d) ds ≡ false → is_this d (slice_get ds place) ≡ false
-in_no_place d [] place h = refl
+in_no_place : (d : Deadline) (ds : List Deadline) (index : ℕ) → list_any (is_same d) ds ≡ false → is_this d (slice_get ds index) ≡ false
+in_no_place d [] index h = refl
 in_no_place d (x ∷ ds) zero h = (or_parts (is_same d x) (list_any (is_same d) ds) h).0
-in_no_place d (x ∷ ds) (suc place) h = in_no_place d ds place (or_parts (is_same d x) (list_any (is_same d) ds) h).1
+in_no_place d (x ∷ ds) (suc index) h = in_no_place d ds index (or_parts (is_same d x) (list_any (is_same d) ds) h).1
 
 -- one that is not there comes in once
 pub comes_in_once : (d : Deadline) (ds : List Deadline) → list_any (is_same d) ds ≡ false → IsPermutation (d ∷ ds) (with_deadline d ds)
@@ -182,15 +179,6 @@ pub is_absent : {X : Type 0} (low : ℕ) (d : Deadline) (ds : List Deadline) (ke
 is_absent low d ds key rows h fits others same =
     is_of_no_slot low d ds h fits (All-permutation (λ e. e.slot ≢ d.slot) (map key rows) ds same (All-map (λ e. e.slot ≢ d.slot) key rows others))
 
--- one that is there goes out, and one of a slot that no other has comes in
-pub goes_out_for : (low : ℕ) (d e : Deadline) (rest ds : List Deadline) → DeadlinesRise low ds → e.slot < 4294967296 → All (λ x. x.slot ≢ e.slot) rest → IsPermutation (d ∷ rest) ds
-    → IsPermutation (e ∷ rest) (with_deadline e (filter (is_other d) ds))
-goes_out_for low d e rest ds h fits others same =
-    let left = filter (is_other d) ds in
-    let out = goes_out low d rest ds h same in
-    let absent = is_of_no_slot low e left (rise_without low d ds h) fits (All-permutation (λ x. x.slot ≢ e.slot) rest left out others) in
-    IsPermutation-trans _ _ _ (IsPermutation-cons e rest left out) (comes_in_once e left absent)
-
 -- what is found is the deadline of a row
 pub found : {X : Type 0} (p : Deadline → Bool) (d : Deadline) (ds : List Deadline) (key : X → Deadline) (rows : List X) → find p ds ≡ Some d → IsPermutation (map key rows) ds → (x : X) × Contains rows x × (key x ≡ d) × (p d ≡ true)
 found p d ds key rows h same =
@@ -201,9 +189,6 @@ found p d ds key rows h same =
 -- where none is found, no row's deadline passes
 pub none_found : {X : Type 0} (p : Deadline → Bool) (ds : List Deadline) (key : X → Deadline) (rows : List X) → find p ds ≡ None → IsPermutation (map key rows) ds → list_any (λ x. p (key x)) rows ≡ false
 none_found p ds key rows h same = sym (list_any_map p key rows) ∙ list_any-IsPermutation p (map key rows) ds same ∙ find_none p ds h
-
-pub no_row_passes : {X : Type 0} (p : Deadline → Bool) (ds : List Deadline) (key : X → Deadline) (rows : List X) → find p ds ≡ None → IsPermutation (map key rows) ds → All (λ x. p (key x) ≡ false) rows
-no_row_passes p ds key rows h same = none_passes (λ x. p (key x)) rows (none_found p ds key rows h same)
 
 -- ---- what is due
 
@@ -218,30 +203,23 @@ is_late m x none = elim (is_due m x) as (λ b. (if b then Some x else None) ≡ 
 is_early : (m : ℕ) (d x : Deadline) → if_due m (Some x) ≡ Some d → is_due m x ≡ true
 is_early m d x some = elim (is_due m x) as (λ b. (if b then Some x else None) ≡ Some d → b ≡ true) [ true ↦ (λ is. refl) | false ↦ (λ is. absurd cc) ] some
 
--- where the one at a place is not due, none from there on is
-pub none_due_from : (m low : ℕ) (ds : List Deadline) (place : ℕ) → DeadlinesRise low ds → if_due m (slice_get ds place) ≡ None → All (λ e. is_due m e ≡ false) (drop place ds)
-none_due_from m low [] zero h none = All-nil (λ e. is_due m e ≡ false)
-none_due_from m low [] (suc place) h none = All-nil (λ e. is_due m e ≡ false)
-none_due_from m low (x ∷ ds) zero h none = let late = is_late m x none in All-cons (λ e. is_due m e ≡ false) x ds late (none_passes (is_due m) ds (none_due_after m x ds late h.2))
-none_due_from m low (x ∷ ds) (suc place) h none = none_due_from m (key_of x + 1) ds place h.2 none
-
 -- where one is due at a place, it is the one that stands there
-pub due_at : (m : ℕ) (d : Deadline) (ds : List Deadline) (place : ℕ) → if_due m (slice_get ds place) ≡ Some d → (slice_get ds place ≡ Some d) × (is_due m d ≡ true)
-due_at m d [] place h = absurd cc
+pub due_at : (m : ℕ) (d : Deadline) (ds : List Deadline) (index : ℕ) → if_due m (slice_get ds index) ≡ Some d → (slice_get ds index ≡ Some d) × (is_due m d ≡ true)
+due_at m d [] index h = absurd cc
 due_at m d (x ∷ ds) zero h =
     elim (is_due m x) as (λ b. is_due m x ≡ b → (if b then Some x else None) ≡ Some d → (Some x ≡ Some d) × (is_due m d ≡ true)) [
       | true ↦ (λ e is. let same : x ≡ d = cc in (is, subst (λ (y : Deadline). is_due m y ≡ true) same e))
       | false ↦ (λ e is. absurd cc)
     ] refl h
-due_at m d (x ∷ ds) (suc place) h = due_at m d ds place h
+due_at m d (x ∷ ds) (suc index) h = due_at m d ds index h
 
 -- a place of one that is due is among the first so many as are due
-pub due_is_counted : (m low : ℕ) (d : Deadline) (ds : List Deadline) (place : ℕ) → DeadlinesRise low ds → if_due m (slice_get ds place) ≡ Some d → place < count_by (is_due m) ds
-due_is_counted m low d [] place h is = absurd cc
+pub due_is_counted : (m low : ℕ) (d : Deadline) (ds : List Deadline) (index : ℕ) → DeadlinesRise low ds → if_due m (slice_get ds index) ≡ Some d → index < count_by (is_due m) ds
+due_is_counted m low d [] index h is = absurd cc
 due_is_counted m low d (x ∷ ds) zero h is = let one : one_if (is_due m x) ≡ 1 = ap one_if (is_early m d x is) in omega (arith, one, counts_more (is_due m) x ds)
-due_is_counted m low d (x ∷ ds) (suc place) h is =
-    let rest = due_is_counted m (key_of x + 1) d ds place h.2 is in
-    elim (is_due m x) as (λ b. is_due m x ≡ b → suc place < count_by (is_due m) (x ∷ ds)) [
+due_is_counted m low d (x ∷ ds) (suc index) h is =
+    let rest = due_is_counted m (key_of x + 1) d ds index h.2 is in
+    elim (is_due m x) as (λ b. is_due m x ≡ b → suc index < count_by (is_due m) (x ∷ ds)) [
       | true ↦ (λ e. let one : one_if (is_due m x) ≡ 1 = ap one_if e in omega (arith, rest, one, counts_more (is_due m) x ds))
       | false ↦ (λ e. absurd (omega (arith, rest, count_none (is_due m) ds (none_due_after m x ds e h.2))))
     ] refl
@@ -251,14 +229,14 @@ at_most_one true = omega arith
 at_most_one false = omega arith
 
 -- a place of none that is due is past them
-pub none_due_is_past : (m low : ℕ) (ds : List Deadline) (place : ℕ) → DeadlinesRise low ds → if_due m (slice_get ds place) ≡ None → count_by (is_due m) ds ≤ place
-none_due_is_past m low [] place h none = omega arith
+pub none_due_is_past : (m low : ℕ) (ds : List Deadline) (index : ℕ) → DeadlinesRise low ds → if_due m (slice_get ds index) ≡ None → count_by (is_due m) ds ≤ index
+none_due_is_past m low [] index h none = omega arith
 none_due_is_past m low (x ∷ ds) zero h none =
     let late = is_late m x none in
     let no : one_if (is_due m x) ≡ 0 = ap one_if late in
     omega (arith, no, counts_more (is_due m) x ds, count_none (is_due m) ds (none_due_after m x ds late h.2))
-none_due_is_past m low (x ∷ ds) (suc place) h none =
-    omega (arith, none_due_is_past m (key_of x + 1) ds place h.2 none, counts_more (is_due m) x ds, at_most_one (is_due m x))
+none_due_is_past m low (x ∷ ds) (suc index) h none =
+    omega (arith, none_due_is_past m (key_of x + 1) ds index h.2 none, counts_more (is_due m) x ds, at_most_one (is_due m x))
 
 -- what is due stands first
 pub due_first : (m low : ℕ) (ds : List Deadline) → DeadlinesRise low ds → filter (is_due m) ds ≡ take (count_by (is_due m) ds) ds

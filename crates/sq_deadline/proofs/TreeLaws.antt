@@ -1,16 +1,18 @@
 -- Deadlines left and right of a node.
-use Rattle.std.proofs.Common.{◌≡◌, ℕ, suc, ◌+◌, ◌-◌, ◌*◌, ◌<◌, ◌≤◌, Bool, true, false, not, List, [], ◌∷◌, ◌++◌, length, None, refl, sym, ap, ◌∙◌, arith}
-use Rattle.std.specs.Prelude.{◌^◌, ◌==◌, ◌&&◌, if◌then◌else◌, count_by, nat_le, nat_lt, slice_get}
+use Rattle.std.proofs.Common.{◌≡◌, ℕ, suc, ◌+◌, ◌-◌, ◌*◌, ◌<◌, ◌≤◌, Bool, true, false, not, List, [], ◌∷◌, ◌++◌, length, refl, sym, ap, ◌∙◌, arith}
+use Rattle.std.specs.Prelude.{◌^◌, ◌==◌, ◌&&◌, if◌then◌else◌, count_by, nat_le, nat_lt}
 use Rattle.std.specs.List.{insert, position_or_len, remove}
 use Rattle.std.proofs.Math.Nat.{mul_assoc, mul-le-mul_left, mul_left_comm, pow-succ'}
 use Rattle.std.proofs.lemmas.Grind.{common_steps}
 use Rattle.std.proofs.lemmas.List.{length-append}
 use Rattle.std.proofs.lemmas.List.Edits.{insert-append_right, remove-append_left, remove-append_right}
 use Rattle.sq_deadline.specs.declared.deadline.Deadline.{Deadline}
-use Rattle.sq_deadline.specs.Deadlines.{DeadlinesRise, is_above, is_due, is_not_below, key_of}
+use Rattle.sq_deadline.specs.Deadlines.{DeadlinesRise, is_above, is_due, key_of}
+use Rattle.sq_deadline.specs.inside.Deadlines.{is_not_below}
 use Rattle.sq_deadline.specs.declared.tree.Tree.{Tree}
 use Rattle.sq_deadline.specs.declared.tree.Tree.TheVariants.{Empty, Full'}
-use Rattle.sq_deadline.specs.Trees.{depth, is_below, is_kept, is_level, listed, weight}
+use Rattle.sq_deadline.specs.Trees.{is_kept, is_level, listed, weight}
+use Rattle.sq_deadline.specs.inside.Trees.{depth, is_below}
 use Rattle.sq_deadline.proofs.OrderLaws.{counts_more, one_if, place_of, rise_later}
 
 -- ---- in order on either side
@@ -70,19 +72,19 @@ counts_before key low (x ∷ left) d right h rises =
 next_right : (a b : ℕ) → a < b → b - a ≡ suc (b - a - 1)
 next_right a b lt = omega (arith, lt)
 
-pub comes_in_right : (left : List Deadline) (d : Deadline) (right : List Deadline) (place : ℕ) (e : Deadline) → length left < place
-    → insert (left ++ d ∷ right) place e ≡ left ++ d ∷ insert right (place - length left - 1) e
-comes_in_right left d right place e lt = insert-append_right left (d ∷ right) (length left) place e refl (omega (arith, lt)) ∙ ap (λ (n : ℕ). left ++ insert (d ∷ right) n e) (next_right (length left) place lt)
+pub comes_in_right : (left : List Deadline) (d : Deadline) (right : List Deadline) (index : ℕ) (e : Deadline) → length left < index
+    → insert (left ++ d ∷ right) index e ≡ left ++ d ∷ insert right (index - length left - 1) e
+comes_in_right left d right index e lt = insert-append_right left (d ∷ right) (length left) index e refl (omega (arith, lt)) ∙ ap (λ (n : ℕ). left ++ insert (d ∷ right) n e) (next_right (length left) index lt)
 
-pub goes_out_right : (left : List Deadline) (d : Deadline) (right : List Deadline) (place : ℕ) → length left < place
-    → remove (left ++ d ∷ right) place ≡ left ++ d ∷ remove right (place - length left - 1)
-goes_out_right left d right place lt = remove-append_right left (d ∷ right) (length left) place refl (omega (arith, lt)) ∙ ap (λ (n : ℕ). left ++ remove (d ∷ right) n) (next_right (length left) place lt)
+pub goes_out_right : (left : List Deadline) (d : Deadline) (right : List Deadline) (index : ℕ) → length left < index
+    → remove (left ++ d ∷ right) index ≡ left ++ d ∷ remove right (index - length left - 1)
+goes_out_right left d right index lt = remove-append_right left (d ∷ right) (length left) index refl (omega (arith, lt)) ∙ ap (λ (n : ℕ). left ++ remove (d ∷ right) n) (next_right (length left) index lt)
 
 no_further : (a b : ℕ) → a ≡ b → b - a ≡ 0
 no_further a b is = omega (arith, is)
 
-pub goes_out_between : (left : List Deadline) (d : Deadline) (right : List Deadline) (place : ℕ) → length left ≡ place → remove (left ++ d ∷ right) place ≡ left ++ right
-goes_out_between left d right place is = remove-append_right left (d ∷ right) (length left) place refl (omega (arith, is)) ∙ ap (λ (n : ℕ). left ++ remove (d ∷ right) n) (no_further (length left) place is)
+pub goes_out_between : (left : List Deadline) (d : Deadline) (right : List Deadline) (index : ℕ) → length left ≡ index → remove (left ++ d ∷ right) index ≡ left ++ right
+goes_out_between left d right index is = remove-append_right left (d ∷ right) (length left) index refl (omega (arith, is)) ∙ ap (λ (n : ℕ). left ++ remove (d ∷ right) n) (no_further (length left) index is)
 
 -- what is left where one goes out of a node's left side, of the node, or of its right side
 pub ruleset goes_out = (remove-append_left, goes_out_between, goes_out_right)

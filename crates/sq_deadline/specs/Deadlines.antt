@@ -1,5 +1,5 @@
 -- Deadlines in order. Own.
-use Rattle.std.specs.Prelude.{ℕ, ◌+◌, ◌*◌, ◌<◌, ◌≤◌, Bool, false, not, ◌==◌, nat_le, nat_lt, List, [], ◌∷◌, if◌then◌else◌, Option, Some, None}
+use Rattle.std.specs.Prelude.{ℕ, ◌+◌, ◌*◌, ◌<◌, ◌≤◌, Bool, not, ◌==◌, nat_le, nat_lt, List, [], ◌∷◌, if◌then◌else◌, Option, Some, None}
 use Rattle.sq_deadline.specs.declared.deadline.Deadline.{Deadline}
 
 -- what a deadline is ordered by: its moment, and at one moment its slot, which is below 2^32
@@ -19,18 +19,11 @@ pub record IndexValue : Type 0 where
 abbrev pub is_above : Deadline → Deadline → Bool
 is_above d e = nat_lt (key_of d) (key_of e)
 
-abbrev pub is_not_below : Deadline → Deadline → Bool
-is_not_below d e = nat_le (key_of d) (key_of e)
-
 abbrev pub is_same : Deadline → Deadline → Bool
 is_same d e = key_of e == key_of d
 
 abbrev pub is_other : Deadline → Deadline → Bool
 is_other d e = not (is_same d e)
-
-abbrev pub is_this : Deadline → Option Deadline → Bool
-is_this d None = false
-is_this d (Some e) = is_same d e
 
 -- after those below it and before those above it, once
 abbrev pub with_deadline : Deadline → List Deadline → List Deadline

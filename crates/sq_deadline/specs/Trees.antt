@@ -1,9 +1,8 @@
 -- Deadlines in a tree, from left to right. Own.
-use Rattle.std.specs.Prelude.{ℕ, ◌+◌, ◌*◌, ◌≤◌, Bool, true, ◌&&◌, ◌==◌, nat_le, nat_lt, if◌then◌else◌, List, [], ◌∷◌, ◌++◌, length}
+use Rattle.std.specs.Prelude.{◌≡◌, ℕ, ◌+◌, ◌*◌, ◌<◌, Bool, true, ◌&&◌, ◌==◌, nat_le, List, [], ◌∷◌, ◌++◌, length}
 use Rattle.sq_deadline.specs.declared.deadline.Deadline.{Deadline}
 use Rattle.sq_deadline.specs.declared.tree.Tree.{Tree}
 use Rattle.sq_deadline.specs.declared.tree.Tree.TheVariants.{Empty, Full'}
-use Rattle.sq_deadline.specs.Deadlines.{key_of}
 
 abbrev pub listed : Tree → List Deadline
 listed Empty = []
@@ -17,31 +16,13 @@ weight t = length (listed t) + 1
 abbrev pub is_level : Tree → Tree → Bool
 is_level left right = nat_le (weight left) (3 * weight right) && nat_le (weight right) (3 * weight left)
 
--- the same, as bounds
-pub record IsLevel (left right : Tree) : Type 0 where
-  pub left_fits : weight left ≤ 3 * weight right
-  pub right_fits : weight right ≤ 3 * weight left
-
--- nor would be, if one deadline came to the lighter side
-pub record IsNearlyLevel (left right : Tree) : Type 0 where
-  pub left_fits : weight left ≤ 3 * (weight right + 1)
-  pub right_fits : weight right ≤ 3 * (weight left + 1)
-
--- a tree is twice to four times as heavy as one beside it
-pub record IsTwiceOrMore (side middle : Tree) : Type 0 where
-  pub least : 2 * weight side ≤ weight middle
-  pub most : weight middle ≤ 4 * weight side
-
 -- each node has level sides, and knows how many there are at it and below it
 abbrev pub is_kept : Tree → Bool
 is_kept Empty = true
 is_kept (Full' p left deadline count right) = count == length (listed left) + 1 + length (listed right) && is_level left right && is_kept left && is_kept right
 
--- how many nodes the longest way down passes
-abbrev pub depth : Tree → ℕ
-depth Empty = 0
-depth (Full' p left deadline count right) = (if nat_le (depth left) (depth right) then depth right else depth left) + 1
-
--- below a key
-abbrev pub is_below : ℕ → Deadline → Bool
-is_below key d = nat_lt (key_of d) key
+-- two trees may stand to either side of one node: each is kept, and they can be counted with it
+pub record AreSides (left right : Tree) : Type 0 where
+  pub left_kept : is_kept left ≡ true
+  pub right_kept : is_kept right ≡ true
+  pub fits : length (listed left) + length (listed right) < 18446744073709551615

@@ -1,7 +1,8 @@
 //! An ordered set of moments with slots.
 ghost use Rattle.std.specs.Prelude.{◌≡◌, ◌&&◌, ◌+◌, ◌<◌, ◌≤◌, [], true, OnOk, IfErr, count_by, filter, find, length, option_map, slice_get};
 ghost use Rattle.std.specs.List.{position_or_len};
-ghost use Rattle.sq_deadline.specs.Deadlines.{DeadlinesRise, if_due, is_above, is_due, is_not_below, is_other, is_this, key_of, with_deadline};
+ghost use Rattle.sq_deadline.specs.Deadlines.{DeadlinesRise, if_due, is_above, is_due, is_other, with_deadline};
+ghost use Rattle.sq_deadline.specs.inside.Deadlines.{is_not_below, is_this};
 
 use crate::deadline::Deadline;
 use crate::tree::{Node, Tree};
@@ -88,12 +89,12 @@ impl DeadlineIndex {
         ensures memory { length self.old.deadlines + self.old.reserved ≤ length self.new.deadlines + self.new.reserved }
         ensures order { DeadlinesRise 0 self.old.deadlines }
     {
-        let place = self.place(&deadline);
-        if self.is_there(place, &deadline) {
+        let index = self.index(&deadline);
+        if self.is_there(index, &deadline) {
             return;
         }
         if let Some(node) = self.spare.pop() {
-            self.tree.insert(place, deadline, node);
+            self.tree.insert(index, deadline, node);
         }
     }
 
@@ -104,9 +105,9 @@ impl DeadlineIndex {
         ensures memory { length self.old.deadlines + self.old.reserved ≤ length self.new.deadlines + self.new.reserved }
         ensures order { DeadlinesRise 0 self.old.deadlines }
     {
-        let place = self.place(deadline);
-        if self.is_there(place, deadline) {
-            self.tree.remove(place, &mut self.spare);
+        let index = self.index(deadline);
+        if self.is_there(index, deadline) {
+            self.tree.remove(index, &mut self.spare);
         }
     }
 
@@ -136,20 +137,20 @@ impl DeadlineIndex {
     }
 
     /// The one at a place, the least first.
-    pub fn nth(&self, place: usize) -> Option<&Deadline>
-        ensures nth { option_map (λ deadline. deadline.now) result ≡ slice_get self.now.deadlines place }
+    pub fn nth(&self, index: usize) -> Option<&Deadline>
+        ensures nth { option_map (λ deadline. deadline.now) result ≡ slice_get self.now.deadlines index }
         ensures order { DeadlinesRise 0 self.now.deadlines }
     {
-        self.tree.get(place)
+        self.tree.get(index)
     }
 
     /// The one at a place, the least first, where it is due at a moment or before it. What is due stands first, so the places
     /// from 0 on give all of it, up to the first that gives none.
-    pub fn nth_due(&self, place: usize, moment: u64) -> Option<&Deadline>
-        ensures due { option_map (λ deadline. deadline.now) result ≡ if_due moment (slice_get self.now.deadlines place) }
+    pub fn nth_due(&self, index: usize, moment: u64) -> Option<&Deadline>
+        ensures due { option_map (λ deadline. deadline.now) result ≡ if_due moment (slice_get self.now.deadlines index) }
         ensures order { DeadlinesRise 0 self.now.deadlines }
     {
-        let nth = self.nth(place)?;
+        let nth = self.nth(index)?;
         if nth.moment <= moment {
             Some(nth)
         } else {
@@ -166,18 +167,18 @@ impl DeadlineIndex {
     }
 
     // Whether this deadline stands at a place.
-    fn is_there(&self, place: usize, deadline: &Deadline) -> bool
-        ensures { result ≡ is_this deadline.now (slice_get self.now.deadlines place) }
+    fn is_there(&self, index: usize, deadline: &Deadline) -> bool
+        ensures { result ≡ is_this deadline.now (slice_get self.now.deadlines index) }
     {
-        match self.tree.get(place) {
+        match self.tree.get(index) {
             Some(there) => there.key() == deadline.key(),
             None => false,
         }
     }
 
     // Where the first deadline stands that is not below this one.
-    fn place(&self, deadline: &Deadline) -> usize
-        ensures place { result ≡ position_or_len (is_not_below deadline.now) self.now.deadlines }
+    fn index(&self, deadline: &Deadline) -> usize
+        ensures index { result ≡ position_or_len (is_not_below deadline.now) self.now.deadlines }
         ensures within { result ≤ length self.now.deadlines }
         ensures order { DeadlinesRise 0 self.now.deadlines }
     {

@@ -3,7 +3,8 @@ ghost use Rattle.std.specs.Prelude.{◌≡◌, ◌+◌, ◌*◌, ◌^◌, ◌++�
 ghost use Rattle.std.specs.List.{insert, remove};
 ghost use Rattle.std.specs.Vec.{vec_capacity, vec_len};
 ghost use Rattle.sq_deadline.specs.Deadlines.{DeadlinesRise};
-ghost use Rattle.sq_deadline.specs.Trees.{IsLevel, IsNearlyLevel, IsTwiceOrMore, depth, is_below, is_kept, listed, weight};
+ghost use Rattle.sq_deadline.specs.Trees.{AreSides, is_kept, listed, weight};
+ghost use Rattle.sq_deadline.specs.inside.Trees.{IsLevel, IsNearlyLevel, IsTwiceOrMore, depth, is_below};
 
 use crate::deadline::Deadline;
 use std::mem;
@@ -56,10 +57,8 @@ struct Parts {
 
 // These as one tree, in the memory of a node.
 fn made(mut node: Box<Node>, left: Tree, deadline: Deadline, right: Tree) -> Tree
-    requires left { is_kept left ≡ true }
-    requires right { is_kept right ≡ true }
+    requires sides { AreSides left right }
     requires level { IsLevel left right }
-    requires fits { length (listed left) + length (listed right) < 18446744073709551615 }
     ensures listed { listed result ≡ listed left ++ deadline ∷ listed right }
     ensures kept { is_kept result ≡ true }
 {
@@ -98,64 +97,29 @@ fn shared_out(
     made(top.node, left, top.deadline, right)
 }
 
-// A node with a side on either hand as one tree, where the right one is too heavy: its inner part goes to the left, whole or in two.
-fn turned_left(node: Box<Node>, left: Tree, deadline: Deadline, right: Tree) -> Tree
-    requires left { is_kept left ≡ true }
-    requires right { is_kept right ≡ true }
-    requires heavy { 3 * weight left < weight right }
-    requires nearly { IsNearlyLevel left right }
-    requires fits { length (listed left) + length (listed right) < 18446744073709551615 }
-    ensures listed { listed result ≡ listed left ++ deadline ∷ listed right }
-    ensures kept { is_kept result ≡ true }
-{
-    let Parts {
-        node: side,
-        left: inner,
-        deadline: next,
-        right: outer,
-    } = right.parts();
-    if (inner.len() + 1) / 2 <= outer.len() {
-        return made(side, made(node, left, deadline, inner), next, outer);
-    }
-    shared_out(node, left, deadline, inner, next, outer, side)
-}
-
-// The same, where the left side is too heavy.
-fn turned_right(node: Box<Node>, left: Tree, deadline: Deadline, right: Tree) -> Tree
-    requires left { is_kept left ≡ true }
-    requires right { is_kept right ≡ true }
-    requires heavy { 3 * weight right < weight left }
-    requires nearly { IsNearlyLevel left right }
-    requires fits { length (listed left) + length (listed right) < 18446744073709551615 }
-    ensures listed { listed result ≡ listed left ++ deadline ∷ listed right }
-    ensures kept { is_kept result ≡ true }
-{
-    let Parts {
-        node: side,
-        left: outer,
-        deadline: last,
-        right: inner,
-    } = left.parts();
-    if (inner.len() + 1) / 2 <= outer.len() {
-        return made(side, outer, last, made(node, inner, deadline, right));
-    }
-    shared_out(side, outer, last, inner, deadline, right, node)
-}
-
-// The same, turned where one side has become too heavy by one.
+// A node with a side on either hand as one tree. Where one side has become too heavy by one, its inner part goes to the other
+// hand, whole or in two.
 fn levelled(node: Box<Node>, left: Tree, deadline: Deadline, right: Tree) -> Tree
-    requires left { is_kept left ≡ true }
-    requires right { is_kept right ≡ true }
+    requires sides { AreSides left right }
     requires nearly { IsNearlyLevel left right }
-    requires fits { length (listed left) + length (listed right) < 18446744073709551615 }
     ensures listed { listed result ≡ listed left ++ deadline ∷ listed right }
     ensures kept { is_kept result ≡ true }
 {
     let (before, after) = (left.len(), right.len());
     if before < after / 3 {
-        turned_left(node, left, deadline, right)
+        let side = right.parts();
+        let (inner, next, outer) = (side.left, side.deadline, side.right);
+        if (inner.len() + 1) / 2 <= outer.len() {
+            return made(side.node, made(node, left, deadline, inner), next, outer);
+        }
+        shared_out(node, left, deadline, inner, next, outer, side.node)
     } else if after < before / 3 {
-        turned_right(node, left, deadline, right)
+        let side = left.parts();
+        let (outer, last, inner) = (side.left, side.deadline, side.right);
+        if (inner.len() + 1) / 2 <= outer.len() {
+            return made(side.node, outer, last, made(node, inner, deadline, right));
+        }
+        shared_out(side.node, outer, last, inner, deadline, right, node)
     } else {
         made(node, left, deadline, right)
     }
@@ -163,10 +127,8 @@ fn levelled(node: Box<Node>, left: Tree, deadline: Deadline, right: Tree) -> Tre
 
 // Two sides as one tree. The memory of the node between them, or that of the first to its right, is kept.
 fn joined(node: Box<Node>, left: Tree, right: Tree, spare: &mut Vec<Box<Node>>) -> Tree
-    requires left { is_kept left ≡ true }
-    requires right { is_kept right ≡ true }
+    requires sides { AreSides left right }
     requires level { IsLevel left right }
-    requires fits { length (listed left) + length (listed right) < 18446744073709551615 }
     requires room { vec_len spare.old < vec_capacity spare.old }
     ensures listed { listed result ≡ listed left ++ listed right }
     ensures kept { is_kept result ≡ true }
@@ -194,20 +156,20 @@ impl Tree {
     }
 
     /// The one at a place, the leftmost first.
-    pub(crate) fn get(&self, place: usize) -> Option<&Deadline>
+    pub(crate) fn get(&self, index: usize) -> Option<&Deadline>
         requires { is_kept self.now ≡ true }
-        ensures { option_map (λ deadline. deadline.now) result ≡ slice_get (listed self.now) place }
+        ensures { option_map (λ deadline. deadline.now) result ≡ slice_get (listed self.now) index }
     {
         match self {
             Tree::Empty => None,
             Tree::Full(node) => {
                 let before = node.left.len();
-                if place < before {
-                    node.left.get(place)
-                } else if place == before {
+                if index < before {
+                    node.left.get(index)
+                } else if index == before {
                     Some(&node.deadline)
                 } else {
-                    node.right.get(place - before - 1)
+                    node.right.get(index - before - 1)
                 }
             }
         }
@@ -233,27 +195,27 @@ impl Tree {
     }
 
     /// Puts one in at a place, in the memory of a node.
-    pub(crate) fn insert(&mut self, place: usize, deadline: Deadline, node: Box<Node>)
+    pub(crate) fn insert(&mut self, index: usize, deadline: Deadline, node: Box<Node>)
         requires kept { is_kept self.old ≡ true }
-        requires within { place ≤ length (listed self.old) }
+        requires within { index ≤ length (listed self.old) }
         requires fits { length (listed self.old) < 18446744073709551615 }
-        ensures listed { listed self.new ≡ insert (listed self.old) place deadline }
+        ensures listed { listed self.new ≡ insert (listed self.old) index deadline }
         ensures kept { is_kept self.new ≡ true }
     {
-        *self = mem::replace(self, Tree::Empty).with(place, deadline, node);
+        *self = mem::replace(self, Tree::Empty).with(index, deadline, node);
     }
 
     /// Takes out the one at a place, and keeps the memory of a node.
-    pub(crate) fn remove(&mut self, place: usize, spare: &mut Vec<Box<Node>>)
+    pub(crate) fn remove(&mut self, index: usize, spare: &mut Vec<Box<Node>>)
         requires kept { is_kept self.old ≡ true }
-        requires within { place < length (listed self.old) }
+        requires within { index < length (listed self.old) }
         requires room { vec_len spare.old < vec_capacity spare.old }
-        ensures listed { listed self.new ≡ remove (listed self.old) place }
+        ensures listed { listed self.new ≡ remove (listed self.old) index }
         ensures kept { is_kept self.new ≡ true }
         ensures spare { vec_len spare.new ≡ vec_len spare.old + 1 }
         ensures capacity { vec_capacity spare.old ≤ vec_capacity spare.new }
     {
-        *self = mem::replace(self, Tree::Empty).without(place, spare);
+        *self = mem::replace(self, Tree::Empty).without(index, spare);
     }
 
     /// Takes all out, and keeps the memory of their nodes.
@@ -273,10 +235,8 @@ impl Tree {
         requires some { 0 < length (listed self) }
         ensures listed { listed self ≡ listed result.left ++ result.deadline ∷ listed result.right }
         ensures count { length (listed self) ≡ length (listed result.left) + 1 + length (listed result.right) }
-        ensures left { is_kept result.left ≡ true }
-        ensures right { is_kept result.right ≡ true }
+        ensures sides { AreSides result.left result.right }
         ensures level { IsLevel result.left result.right }
-        ensures fits { length (listed result.left) + length (listed result.right) < 18446744073709551615 }
     {
         match self {
             Tree::Empty => unreachable!(),
@@ -299,57 +259,49 @@ impl Tree {
 
     // These and one more at a place, in the memory of a node.
     #[tactic(auto, using(crate::proofs::TreeLaws::comes_in_right))]
-    fn with(self, place: usize, deadline: Deadline, node: Box<Node>) -> Tree
+    fn with(self, index: usize, deadline: Deadline, node: Box<Node>) -> Tree
         requires kept { is_kept self ≡ true }
-        requires within { place ≤ length (listed self) }
+        requires within { index ≤ length (listed self) }
         requires fits { length (listed self) < 18446744073709551615 }
-        ensures listed { listed result ≡ insert (listed self) place deadline }
+        ensures listed { listed result ≡ insert (listed self) index deadline }
         ensures kept { is_kept result ≡ true }
     {
         if self.len() == 0 {
             return made(node, Tree::Empty, deadline, Tree::Empty);
         }
-        let Parts {
-            node: here,
-            left,
-            deadline: middle,
-            right,
-        } = self.parts();
-        let before = left.len();
-        if place <= before {
-            levelled(here, left.with(place, deadline, node), middle, right)
+        let here = self.parts();
+        let before = here.left.len();
+        if index <= before {
+            let side = here.left.with(index, deadline, node);
+            levelled(here.node, side, here.deadline, here.right)
         } else {
-            let side = right.with(place - before - 1, deadline, node);
-            levelled(here, left, middle, side)
+            let side = here.right.with(index - before - 1, deadline, node);
+            levelled(here.node, here.left, here.deadline, side)
         }
     }
 
     // These without the one at a place. The memory of a node is kept.
     #[tactic(auto, using(crate::proofs::TreeLaws::goes_out))]
-    fn without(self, place: usize, spare: &mut Vec<Box<Node>>) -> Tree
+    fn without(self, index: usize, spare: &mut Vec<Box<Node>>) -> Tree
         requires kept { is_kept self ≡ true }
-        requires within { place < length (listed self) }
+        requires within { index < length (listed self) }
         requires room { vec_len spare.old < vec_capacity spare.old }
-        ensures listed { listed result ≡ remove (listed self) place }
+        ensures listed { listed result ≡ remove (listed self) index }
         ensures kept { is_kept result ≡ true }
         ensures spare { vec_len spare.new ≡ vec_len spare.old + 1 }
         ensures capacity { vec_capacity spare.old ≤ vec_capacity spare.new }
     {
-        let Parts {
-            node: here,
-            left,
-            deadline: middle,
-            right,
-        } = self.parts();
-        let before = left.len();
-        if place < before {
-            return levelled(here, left.without(place, spare), middle, right);
+        let here = self.parts();
+        let before = here.left.len();
+        if index < before {
+            let side = here.left.without(index, spare);
+            return levelled(here.node, side, here.deadline, here.right);
         }
-        if before < place {
-            let side = right.without(place - before - 1, spare);
-            return levelled(here, left, middle, side);
+        if before < index {
+            let side = here.right.without(index - before - 1, spare);
+            return levelled(here.node, here.left, here.deadline, side);
         }
-        joined(here, left, right, spare)
+        joined(here.node, here.left, here.right, spare)
     }
 
     // The first, and these without it. The memory of a node is kept.

@@ -114,10 +114,6 @@ pub values_put : (es : List (List ℕ × Queue)) (e : List ℕ × Queue) → val
 values_put [] e = refl
 values_put (x ∷ es) e = rw (values_put es e) refl
 
-pub length_values : (es : List (List ℕ × Queue)) → length (values_of es) ≡ length es
-length_values [] = refl
-length_values (e ∷ es) = ap suc (length_values es)
-
 pub of_ok : {A E : Type 0} (r : Result A E) (P : Type 0) → IsOk r → OnOk r P → P
 of_ok (Ok x) P is h = h
 of_ok (Err e) P is h = absurd cc

@@ -159,9 +159,6 @@ no_text : (kind : ErrorKind) → (kind ≡ DisplayHelp) ⊎ (kind ≡ DisplayVer
 no_text kind (inl help) memory = absurd (cc)
 no_text kind (inr version) memory = absurd (cc)
 
-refuses_for_memory : (words : List Text) (e : Refused) → e ≡ refused.NoMemory → ParsesTo words (Err e)
-refuses_for_memory words e is = subst (λ (r : Refused). ParsesTo words (Err r)) (sym is) tt
-
 refuses_for_clap : (words : List Text) (error : Error) (e : Refused) → HasKind (fault_of program_app words) error → IsRefusalOf error e → ParsesTo words (Err e)
 refuses_for_clap words error refused.NoMemory h is = tt
 refuses_for_clap words error (refused.Text e) h is = rw is.0 (elim h [
@@ -186,9 +183,6 @@ refuses_for_own words error (refused.Mistake e) taken mistake none is = rw is.0 
 passed_up : (words : List Text) (P : Refused → Type 0) → ((e : Refused) → P e → ParsesTo words (Err e)) → (r : Result Mode Refused) → IsErrAnd r P → ParsesTo words r
 passed_up words P f (Ok mode) h = absurd h
 passed_up words P f (Err e) h = f e h
-
-pub passed_up_for_memory : (words : List Text) (r : Result Mode Refused) → IsErrAnd r (λ e. e ≡ refused.NoMemory) → ParsesTo words r
-passed_up_for_memory words r h = passed_up words (λ e. e ≡ refused.NoMemory) (refuses_for_memory words) r h
 
 pub passed_up_for_clap : (words : List Text) (error : Error) (r : Result Mode Refused) → HasKind (fault_of program_app words) error → IsErrAnd r (IsRefusalOf error) → ParsesTo words r
 passed_up_for_clap words error r fails h = passed_up words (IsRefusalOf error) (λ e. refuses_for_clap words error e fails) r h

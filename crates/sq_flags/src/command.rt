@@ -2,7 +2,7 @@
 ghost use Rattle.std.specs.Prelude.{◌≡◌, IfOk, codes, false};
 ghost use Rattle.clap.specs.Words.{app_of, new_app, rule_of, with_rule, with_subcommand};
 ghost use Rattle.clap.specs.declared.Command.TheViews.{out-Command as fields_of};
-ghost use Rattle.sq_flags.specs.CommandLine.{address_rule, audit_rule, number_rule, needed, with_number, with_needed, with_movers, with_options, script_app, serve_app, race_app, with_required, program_app};
+ghost use Rattle.sq_flags.specs.CommandLine.{number_rule, needed, with_number, with_needed, with_movers, with_options, script_app, serve_app, race_app, with_required, program_app};
 
 use crate::texts::{AUDIT, FLAGS, LISTEN, OptionTexts, RACE, SCRIPT, SEED, SERVE, Texts};
 use crate::values::{MOST_CALLS, MOST_CLIENTS, MOST_CONNECTIONS, MOST_MOVERS};
@@ -27,29 +27,6 @@ fn number_flag<'a>(
         .value_name("N")
         .value_parser(ValueParser::Unsigned(least, greatest))
         .help(help)
-}
-
-// The flag that asks for an audit.
-fn audit_flag<'a>(alloc: Global) -> Arg<'a>
-    ensures rule { rule_of result ≡ audit_rule }
-    ensures local { result.global ≡ false }
-{
-    Arg::new(alloc, "audit")
-        .long("audit")
-        .action(ArgAction::SetTrue)
-        .help(AUDIT)
-}
-
-// The flag that says where connections are taken.
-fn address_flag<'a>(alloc: Global) -> Arg<'a>
-    ensures rule { rule_of result ≡ address_rule }
-    ensures local { result.global ≡ false }
-{
-    Arg::new(alloc, "listen")
-        .long("listen")
-        .value_name("ADDR")
-        .required(true)
-        .help(LISTEN)
 }
 
 // A subcommand without flags, and what help says of it.
@@ -173,14 +150,23 @@ fn script_command<'a>(alloc: Global, texts: &'a Texts) -> Result<Command<'a>, Al
     ensures local { IfOk result (λ c. (fields_of c).has_globals ≡ false) }
 {
     let command = with_options(alloc, named(alloc, "script", SCRIPT), &texts.options)?;
-    with_flag(command, audit_flag(alloc))
+    let audit = Arg::new(alloc, "audit")
+        .long("audit")
+        .action(ArgAction::SetTrue)
+        .help(AUDIT);
+    with_flag(command, audit)
 }
 
 fn serve_command<'a>(alloc: Global, texts: &'a Texts) -> Result<Command<'a>, AllocError>
     ensures app { IfOk result (λ c. app_of c ≡ serve_app) }
     ensures local { IfOk result (λ c. (fields_of c).has_globals ≡ false) }
 {
-    let command = with_flag(named(alloc, "serve", SERVE), address_flag(alloc))?;
+    let address = Arg::new(alloc, "listen")
+        .long("listen")
+        .value_name("ADDR")
+        .required(true)
+        .help(LISTEN);
+    let command = with_flag(named(alloc, "serve", SERVE), address)?;
     let help = &texts.connections;
     let command = with_needed(alloc, command, "connections", 1, MOST_CONNECTIONS, help)?;
     let command = with_movers(alloc, command, &texts.movers)?;

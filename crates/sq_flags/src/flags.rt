@@ -112,15 +112,11 @@ fn serve_of(found: &ArgMatches<'_>) -> Result<ServeMode, &'static str>
     ensures ok { IfOk result (λ mode. IsServeOf (first_value (found_of found.now)) mode) }
     ensures err { IfErr result (λ _. (mode : ServeValue) → ¬ IsServeOf (first_value (found_of found.now)) mode) }
 {
-    let address = address_of(found)?;
-    let connections = given_number(found, "connections", 1, MOST_CONNECTIONS as u64)? as u32;
-    let movers = movers_of(found)?;
-    let options = options_of(found)?;
     Ok(ServeMode {
-        options,
-        address,
-        connections,
-        movers,
+        address: address_of(found)?,
+        connections: given_number(found, "connections", 1, MOST_CONNECTIONS as u64)? as u32,
+        movers: movers_of(found)?,
+        options: options_of(found)?,
     })
 }
 
@@ -129,15 +125,11 @@ fn race_of(found: &ArgMatches<'_>) -> Result<RaceMode, &'static str>
     ensures ok { IfOk result (λ mode. IsRaceOf (first_value (found_of found.now)) mode) }
     ensures err { IfErr result (λ _. (mode : RaceValue) → ¬ IsRaceOf (first_value (found_of found.now)) mode) }
 {
-    let clients = given_number(found, "clients", 1, MOST_CLIENTS as u64)? as u32;
-    let calls = given_number(found, "calls", 0, MOST_CALLS as u64)?;
-    let movers = movers_of(found)?;
-    let options = options_of(found)?;
     Ok(RaceMode {
-        options,
-        clients,
-        calls,
-        movers,
+        clients: given_number(found, "clients", 1, MOST_CLIENTS as u64)? as u32,
+        calls: given_number(found, "calls", 0, MOST_CALLS as u64)?,
+        movers: movers_of(found)?,
+        options: options_of(found)?,
     })
 }
 

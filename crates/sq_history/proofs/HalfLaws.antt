@@ -9,16 +9,17 @@ use Rattle.sq_model.specs.declared.item.Reason.TheVariants.{DeadLetter}
 use Rattle.sq_model.specs.declared.place.Site.{Site}
 use Rattle.sq_model.specs.declared.replies.HomeReply.TheVariants.{Left}
 use Rattle.sq_model.specs.Homes.{Home, Unopened, Serving, Closed, HomeStep, IsFrom}
-use Rattle.sq_model.specs.Rows.{trimmed, is_dead}
+use Rattle.sq_model.specs.Rows.{unexpired, is_dead}
 use Rattle.sq_shard.specs.Moves.{IsDeadAt, GoesWithout, HasRow, target_at}
-use Rattle.sq_history.specs.Halves.{HasDead, IsDeadRefused, IsLeaveRefused}
+use Rattle.sq_history.specs.Halves.{HasDead, IsLeaveRefused}
+use Rattle.sq_history.specs.inside.Halves.{IsDeadRefused}
 use Rattle.sq_history.specs.HistoryValue.{HistoryValue}
 
 -- where one is found, one is there
 pub has_dead : (home : Home) (m : ℕ) (row : Row) → IsDeadAt home m row → HasDead home m
 has_dead Unopened m row dead = absurd dead
 has_dead Closed m row dead = absurd dead
-has_dead (Serving s v n rows) m row dead = list_any_at (is_dead s m) (trimmed s m rows) dead.there.0 row dead.there.1 (rw dead.there.2 dead.passes)
+has_dead (Serving s v n rows) m row dead = list_any_at (is_dead s m) (unexpired s m rows) dead.there.0 row dead.there.1 (rw dead.there.2 dead.passes)
 
 -- it is a row of the home
 pub has_row : (home : Home) (m : ℕ) (row : Row) → IsDeadAt home m row → HasRow home m row

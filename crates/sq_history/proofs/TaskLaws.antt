@@ -12,9 +12,9 @@ use Rattle.sq_model.specs.declared.replies.HomeReply.TheVariants.{Left, NoLiveRo
 use Rattle.sq_model.specs.declared.task.NamedQueue.{NamedQueue}
 use Rattle.sq_model.specs.declared.task.Task.{Task}
 use Rattle.sq_model.specs.Homes.{Home, Unopened, Serving, Closed, HomeStep, IsFrom, home_refusal}
-use Rattle.sq_model.specs.Rows.{Takes, trimmed, is_live}
+use Rattle.sq_model.specs.Rows.{Takes, unexpired, is_live}
 use Rattle.sq_model.specs.Tasks.{destination_or, target_of}
-use Rattle.sq_shard.specs.Moves.{GoesWithout, HasRow, IsLiveAt, has_live_row, is_opened, trimmed_home}
+use Rattle.sq_shard.specs.Moves.{GoesWithout, HasRow, IsLiveAt, has_live_row, is_opened, unexpired_home}
 use Rattle.sq_history.specs.Halves.{IsServing}
 
 pub never_opened : (site : Site) (home : Home) (m number : ℕ) → is_opened home ≡ false → home_refusal site home m (LeaveTask number) ≡ Some QueueDoesNotExist
@@ -51,7 +51,7 @@ is_there (Serving s v n rows) m row live = live.there
 pub one_live : (home : Home) (m : ℕ) (row : Row) → IsLiveAt home m row → has_live_row home m ≡ true
 one_live Unopened m row live = absurd live
 one_live Closed m row live = absurd live
-one_live (Serving s v n rows) m row live = list_any_at (is_live s m) (trimmed s m rows) live.there.0 row live.there.1 (rw live.there.2 live.passes)
+one_live (Serving s v n rows) m row live = list_any_at (is_live s m) (unexpired s m rows) live.there.0 row live.there.1 (rw live.there.2 live.passes)
 
 -- a row that is there could be taken out
 record Taken (row : Row) (rows : List Row) : Type 0 where
@@ -66,11 +66,6 @@ taken_at (x ∷ rows) row (suc k) lt is =
     let takes = later.takes in
     record { rest = x ∷ later.rest; takes = record { before = x ∷ takes.before; after = takes.after; at = ap (λ rs. x ∷ rs) takes.at; left = ap (λ rs. x ∷ rs) takes.left } }
 
--- without a destination, and without a queue that the message came from
-pub no_destination : (destination : Option NamedQueue) (origin : Option ℕ) → destination_or destination origin ≡ None → destination ≡ None
-no_destination (Some queue) origin h = absurd cc
-no_destination None origin h = refl
-
 no_queue : (destination : Option NamedQueue) (origin : Option ℕ) → destination_or destination origin ≡ None → origin ≡ None
 no_queue (Some queue) origin h = absurd cc
 no_queue None origin h = h
@@ -81,23 +76,23 @@ pub closed_at : (site : Site) (home : Home) (m number : ℕ) → home ≡ Closed
 unfolding HomeStep
 closed_at site home m number closed = rw closed refl
 
-pub none_at : (site : Site) (home : Home) (m number : ℕ) (after : Home) → IsServing home → has_live_row home m ≡ false → after ≡ trimmed_home home m → HomeStep site home m (LeaveTask number) NoLiveRow after
+pub none_at : (site : Site) (home : Home) (m number : ℕ) (after : Home) → IsServing home → has_live_row home m ≡ false → after ≡ unexpired_home home m → HomeStep site home m (LeaveTask number) NoLiveRow after
 unfolding HomeStep
 none_at site Unopened m number after h none left = absurd h
 none_at site Closed m number after h none left = absurd h
 none_at site (Serving s v n rows) m number after h none left = (none, left)
 
-pub no_origin_at : (site : Site) (home : Home) (m number : ℕ) (task : Task) (row : Row) (after : Home) → IsLiveAt home m row → target_of task row ≡ None → after ≡ trimmed_home home m
+pub no_origin_at : (site : Site) (home : Home) (m number : ℕ) (task : Task) (row : Row) (after : Home) → IsLiveAt home m row → target_of task row ≡ None → after ≡ unexpired_home home m
     → HomeStep site home m (LeaveTask number) (NoOrigin row.serial) after
 unfolding HomeStep
 no_origin_at site Unopened m number task row after live none left = absurd live
 no_origin_at site Closed m number task row after live none left = absurd live
 no_origin_at site (Serving s v n rows) m number task row after live none left =
-    let taken = taken_at (trimmed s m rows) row live.there.0 live.there.1 live.there.2 in
+    let taken = taken_at (unexpired s m rows) row live.there.0 live.there.1 live.there.2 in
     ((row, taken.rest, taken.takes, live.passes, refl, no_queue task.destination row.origin none), left)
 
 -- the same of a serial that is its
-pub no_origin_of : (site : Site) (home : Home) (m number : ℕ) (task : Task) (row : Row) (serial : ℕ) (after : Home) → IsLiveAt home m row → target_of task row ≡ None → row.serial ≡ serial → after ≡ trimmed_home home m
+pub no_origin_of : (site : Site) (home : Home) (m number : ℕ) (task : Task) (row : Row) (serial : ℕ) (after : Home) → IsLiveAt home m row → target_of task row ≡ None → row.serial ≡ serial → after ≡ unexpired_home home m
     → HomeStep site home m (LeaveTask number) (NoOrigin serial) after
 no_origin_of site home m number task row serial after live none is left = rw (← is) (no_origin_at site home m number task row after live none left)
 

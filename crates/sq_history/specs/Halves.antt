@@ -10,18 +10,16 @@ use Rattle.sq_model.specs.declared.calls.HomeCall.TheVariants.{LeaveDead, LeaveT
 use Rattle.sq_model.specs.declared.event.Actor.{Actor}
 use Rattle.sq_model.specs.declared.item.Item.{Item}
 use Rattle.sq_model.specs.declared.place.Site.{Site}
-use Rattle.sq_model.specs.declared.item.Reason.TheVariants.{Task as ForTask}
 use Rattle.sq_model.specs.declared.replies.HomeReply.{HomeReply}
 use Rattle.sq_model.specs.declared.replies.HomeReply.TheVariants.{Left, NoLiveRow, NoOrigin, SourceClosed}
 use Rattle.sq_model.specs.declared.task.Task.{Task}
-use Rattle.sq_model.specs.Homes.{Home, Unopened, Serving, Closed, IsFrom, home_refusal}
-use Rattle.sq_model.specs.Rows.{trimmed, is_dead}
+use Rattle.sq_model.specs.Homes.{Home, Unopened, Serving, Closed, home_refusal}
+use Rattle.sq_model.specs.Rows.{unexpired, is_dead}
 use Rattle.sq_model.specs.Tasks.{target_of}
 pub use Rattle.sq_shard.specs.Moves.{IsLiveAt, has_live_row, item_refusal}
 use Rattle.sq_history.specs.HistoryValue.{HistoryValue}
 use Rattle.sq_history.specs.Histories.{RecordsShared}
 use Rattle.sq_history.specs.declared.shared.HomeHalf.{HomeHalf}
-use Rattle.sq_history.specs.declared.task_leave.Found.{Found}
 use Rattle.sq_history.specs.declared.task_leave.Found.TheVariants as found
 use Rattle.sq_task.specs.declared.leave.TaskLeave.{TaskLeave}
 
@@ -34,7 +32,7 @@ pub record DoesHalf (old new : HistoryValue) (by : Actor) (stamp : StampValue) (
 
 -- a dead message is there
 abbrev pub HasDead : Home → ℕ → Type 0
-HasDead (Serving s v n rows) m = list_any (is_dead s m) (trimmed s m rows) ≡ true
+HasDead (Serving s v n rows) m = list_any (is_dead s m) (unexpired s m rows) ≡ true
 HasDead Unopened m = ⊥
 HasDead Closed m = ⊥
 
@@ -45,20 +43,9 @@ IsLeaveRefused old m number e =
     ⊎ (home_refusal old.site old.home m LeaveDead ≡ Some e)
     ⊎ (HasDead old.home m × (number ≡ Err e))
 
--- Why no dead message leaves a home's rows: no memory was found for copies of one that may leave; the home's first check that fails; or the ledger takes none in.
-abbrev pub IsDeadRefused : Site → Home → ℕ → Result ℕ Refusal → Refusal → Type 0
-IsDeadRefused site home m number e =
-    ((e ≡ NoMemory) × HasDead home m × ((n : ℕ) × (number ≡ Ok n)))
-    ⊎ (home_refusal site home m LeaveDead ≡ Some e)
-    ⊎ (HasDead home m × (number ≡ Err e))
-
 -- Why an item is not done with: no memory was found, for an event, or for copies where nothing else is wrong; or the first check that fails.
 abbrev pub IsItemRefused : HistoryValue → Option Refusal → Refusal → Type 0
 IsItemRefused old first e = ((e ≡ NoMemory) × ((old.room ≡ 0) ⊎ (first ≡ None))) ⊎ (first ≡ Some e)
-
--- Why an item is not done with by a home's rows: the first check that fails; or, where none does, no memory was found for copies.
-abbrev pub IsActRefused : Option Refusal → Refusal → Type 0
-IsActRefused first e = ((e ≡ NoMemory) × (first ≡ None)) ⊎ (first ≡ Some e)
 
 -- the task takes messages of this home, as the ledger says
 abbrev pub IsTaker : TaskLeave → Task → Type 0
@@ -90,14 +77,6 @@ IsThrottled home asked = IsServing home × ((task : Task) × IsTaker asked task)
 abbrev pub HasLeaving : Home → ℕ → TaskLeave → Type 0
 HasLeaving home m asked =
     (task : Task) × (row : Row) × (number : ℕ) × (target : ℕ) × IsTaker asked task × IsLiveAt home m row × TakesItem asked number × (target_of task row ≡ Some target)
-
--- What a leave for a task finds at a home.
-abbrev pub IsFound : Site → Home → ℕ → TaskLeave → Task → Found → Type 0
-IsFound site home m asked task found.NoLiveRow = has_live_row home m ≡ false
-IsFound site home m asked task (found.NoOrigin serial) =
-    ((number : ℕ) × (asked.item ≡ Ok number)) × ((row : Row) × IsLiveAt home m row × (target_of task row ≡ None) × (row.serial ≡ serial))
-IsFound site home m asked task (found.Leaving item) =
-    IsFrom site.home (ForTask asked.number) item × IsLiveAt home m item.row × (asked.item ≡ Ok item.number) × (Some item.target ≡ target_of task item.row)
 
 -- Why nothing is done for a task at a home: no memory was found for copies of a message that leaves; the home's first check that fails; the task takes no message of it; or the ledger takes none in where a live one may leave.
 abbrev pub IsTaskRefused : Site → Home → ℕ → TaskLeave → Refusal → Type 0

@@ -16,10 +16,9 @@ use Rattle.sq_model.specs.Systems.{is_alone}
 use Rattle.sq_model.specs.RecordValues.{HomeRecordValue}
 use Rattle.sq_shard.specs.Moves.{KeepsRowRoom}
 use Rattle.sq_history.specs.Acts.{CopiesBytes, HoldsAny}
-use Rattle.sq_log.specs.Logs.{event_by, IsUnready}
+use Rattle.sq_log.specs.Logs.{event_by}
 use Rattle.sq_log.specs.Rooms.{KeepsRoom}
 use Rattle.sq_history.specs.HistoryValue.{HistoryValue}
-use Rattle.sq_log.specs.LogValue.{LogValue}
 
 abbrev pub new_event : StampValue → Actor → HomeId → HomeCall → HomeReply → HomeEvent
 new_event stamp by home call reply = event_by stamp by (part.Home home) call reply
@@ -59,10 +58,6 @@ IsRefused old by now call e =
     ⊎ (after old.last by.seen now ≡ Err e)
     ⊎ ((stamp : StampValue) × (after old.last by.seen now ≡ Ok stamp)
     × (((e ≡ NoMemory) × CopiesBytes old.site old.home old.row_room stamp.moment call) ⊎ (home_refusal old.site old.home stamp.moment call ≡ Some e)))
-
--- No step of this call is begun: its event cannot be, or no memory was found for what it holds.
-abbrev pub IsUnbegun : LogValue HomeCall HomeReply → Actor → ℕ → HomeCall → Refusal → Type 0
-IsUnbegun old by now call e = IsUnready old by now e ⊎ ((e ≡ NoMemory) × HoldsAny call)
 
 -- True of every recorded home: it is the replay of its events, whose stamps rise, and each event is one of it.
 pub record IsKept (h : HistoryValue) : Type 0 where

@@ -14,3 +14,7 @@ pub record HistoryValue : Type 0 where
   pub room : ℕ
   -- for how many rows more there was memory when the last one came in
   pub row_room : ℕ
+
+-- all that was done at a home, the first first
+abbrev pub all_events : HistoryValue → List HomeEvent
+all_events h = h.events

@@ -4,3 +4,4 @@ pub mod Histories
 pub mod Records
 pub mod Halves
 pub mod Events
+pub mod inside

@@ -3,11 +3,13 @@ ghost use Rattle.std.specs.Prelude.{◌≡◌, ◌↔◌, ◌++◌, ◌∷◌, t
 ghost use Rattle.sq_base.specs.Stamps.{Below, after, start};
 ghost use Rattle.sq_model.specs.Homes.{Unopened as Never, Closed as Gone};
 ghost use Rattle.sq_model.specs.Replays.{StampsRise};
-ghost use Rattle.sq_history.specs.Acts.{call_of, rows_call};
-ghost use Rattle.sq_history.specs.Histories.{IsUnbegun, new_event, new_record};
+ghost use Rattle.sq_history.specs.Acts.{call_of};
+ghost use Rattle.sq_history.specs.HistoryValue.{all_events};
+ghost use Rattle.sq_history.specs.Histories.{new_event, new_record};
+ghost use Rattle.sq_history.specs.inside.Histories.{IsUnbegun};
 ghost use Rattle.sq_log.specs.Rooms.{IsReady, KeepsRoom};
 
-use crate::act::{Answer, HomeAct, RowAct};
+use crate::act::{Answer, HomeAct, ask};
 use crate::record::HomeRecord;
 use sq_base::ids::HomeId;
 use sq_base::name::QueueName;
@@ -65,7 +67,7 @@ impl<S: Store> Recorded<S> {
 
     /// All events, the first first. The home is always the replay of them.
     pub fn events(&self) -> &Blocks<Event<HomeCall, HomeReply>>
-        ensures items { result.now.items ≡ self.now.events }
+        ensures items { result.now.items ≡ all_events self.now }
         ensures kept { IsKept self.now }
     {
         self.log.events()
@@ -98,7 +100,7 @@ impl<S: Store> Recorded<S> {
         ensures err { OnErr result (self.new ≡ self.old) }
     {
         let (stamp, asked, calls) = begin(alloc, &mut self.log, by, now, act)?;
-        let answer = asked.ask(alloc, &mut self.shard, stamp.moment)?;
+        let answer = ask(alloc, &mut self.shard, stamp.moment, asked)?;
         let home = self.shard.site().home;
         Ok(add_step(&mut self.log, by, stamp, &home, name, calls, answer))
     }
@@ -119,22 +121,22 @@ fn begin(
     by: &Actor,
     now: u64,
     act: HomeAct,
-) -> Result<(Stamp, RowAct, (HomeCall, HomeCall)), Refusal>
+) -> Result<(Stamp, HomeCall, (HomeCall, HomeCall)), Refusal>
     ensures last { log.new.last ≡ log.old.last }
     ensures events { log.new.events ≡ log.old.events }
     ensures room { log.new.room ≡ log.old.room }
     ensures ready { OnOk result (IsReady log.new.room log.new.reserved) }
     ensures stamped { IfOk result (λ begun. after log.old.last by.now.seen now ≡ Ok begun.0) }
     ensures above { IfOk result (λ begun. Below log.old.last begun.0) }
-    ensures asked { IfOk result (λ begun. rows_call begun.1 ≡ call_of act) }
+    ensures asked { IfOk result (λ begun. begun.1 ≡ call_of act) }
     ensures kept_call { IfOk result (λ begun. begun.2.0 ≡ call_of act) }
     ensures recorded_call { IfOk result (λ begun. begun.2.1 ≡ call_of act) }
     ensures refused { IfErr result (IsUnbegun log.old by.now now (call_of act)) }
 {
     log.reserve()?;
-    let (asked, calls) = act.split(alloc)?;
+    let (asked, kept, recorded) = act.calls(alloc)?;
     let stamp = log.next_stamp(by, now)?;
-    Ok((stamp, asked, calls))
+    Ok((stamp, asked, (kept, recorded)))
 }
 
 // Adds the event of a step that was done. Gives what is answered, and the actor's record.

@@ -10,11 +10,12 @@ ghost use Rattle.sq_model.specs.declared.replies.HomeReply.TheVariants.{Left};
 ghost use Rattle.sq_model.specs.Homes.{HomeStep, IsFrom, IsIdle};
 ghost use Rattle.sq_model.specs.ItemActs.{call_with, replied_by};
 ghost use Rattle.sq_shard.specs.Moves.{KeepsRowRoom, item_refusal};
-ghost use Rattle.sq_history.specs.Halves.{DoesHalf, IsActRefused, IsLeaveRefused, IsItemRefused, IsTaker, IsTaskAnswer, IsTaskRefused, IsThrottled};
+ghost use Rattle.sq_history.specs.Halves.{DoesHalf, IsLeaveRefused, IsItemRefused, IsTaker, IsTaskAnswer, IsTaskRefused, IsThrottled};
+ghost use Rattle.sq_history.specs.inside.Halves.{IsActRefused};
 ghost use Rattle.sq_history.specs.Histories.{new_event, new_record};
 ghost use Rattle.sq_log.specs.Rooms.{IsReady, KeepsRoom};
 
-use crate::act::Answer;
+use crate::act::{Answer, SmallReply};
 use crate::dead_leave::leave_dead;
 use crate::record::HomeRecord;
 use crate::recorded::{Recorded, add_step};
@@ -278,11 +279,9 @@ fn replied_by(entered: Option<EnteredRow>) -> (Answer, HomeReply)
     ensures answer { result.0 ≡ replied_by entered }
     ensures for_ledger { result.1 ≡ replied_by entered }
 {
-    match entered {
-        Some(entered) => {
-            let told = entered;
-            (Answer::entered(entered), HomeReply::Entered(told))
-        }
-        None => (Answer::done(), HomeReply::Done),
-    }
+    let told = match entered {
+        Some(entered) => SmallReply::Entered(entered),
+        None => SmallReply::Done,
+    };
+    (Answer::of(told), told.reply())
 }

@@ -7,9 +7,11 @@ ghost use Rattle.sq_model.specs.declared.task.Task.{Task as Taking};
 ghost use Rattle.sq_model.specs.Homes.{HomeStep, IsFrom};
 ghost use Rattle.sq_model.specs.Tasks.{target_of};
 ghost use Rattle.sq_shard.specs.Moves.{IsLiveAt, is_opened};
-ghost use Rattle.sq_history.specs.Halves.{IsFound, IsServing, IsTaker, IsTaskAnswer, IsTaskRefused, IsThrottled};
+ghost use Rattle.sq_history.specs.Acts.{small_reply};
+ghost use Rattle.sq_history.specs.Halves.{IsServing, IsTaker, IsTaskAnswer, IsTaskRefused, IsThrottled};
+ghost use Rattle.sq_history.specs.inside.Halves.{IsFound};
 
-use crate::act::Answer;
+use crate::act::{Answer, SmallReply};
 use crate::shared::answer_left;
 use sq_base::ids::{QueueNo, Serial};
 use sq_base::refusal::Refusal;
@@ -33,12 +35,12 @@ pub(crate) struct TaskAnswer {
 
 impl TaskAnswer {
     // No message leaves.
-    fn none(answer: Answer, for_ledger: HomeReply) -> TaskAnswer
-        ensures { result ≡ record { answer = answer; for_ledger = for_ledger; left = None } }
+    fn none(told: SmallReply) -> TaskAnswer
+        ensures { result ≡ record { answer = small_reply told; for_ledger = small_reply told; left = None } }
     {
         TaskAnswer {
-            answer,
-            for_ledger,
+            answer: Answer::of(told),
+            for_ledger: told.reply(),
             left: None,
         }
     }
@@ -119,7 +121,7 @@ pub(crate) fn leave_for_task<S: Store>(
 {
     let task = taker(shard, moment, asked)?;
     if shard.is_closed() {
-        return Ok(Some(TaskAnswer::none(Answer::source_closed(), HomeReply::SourceClosed)));
+        return Ok(Some(TaskAnswer::none(SmallReply::SourceClosed)));
     }
     if !asked.allowed {
         return Ok(None);
@@ -149,12 +151,12 @@ fn take_for_task<S: Store>(
 {
     match find_for_task(shard, moment, asked, task)? {
         Found::NoLiveRow => {
-            shard.trim(moment);
-            Ok(TaskAnswer::none(Answer::no_live_row(), HomeReply::NoLiveRow))
+            shard.expire(moment);
+            Ok(TaskAnswer::none(SmallReply::NoLiveRow))
         }
         Found::NoOrigin(serial) => {
-            shard.trim(moment);
-            Ok(TaskAnswer::none(Answer::no_origin(serial), HomeReply::NoOrigin(serial)))
+            shard.expire(moment);
+            Ok(TaskAnswer::none(SmallReply::NoOrigin(serial)))
         }
         Found::Leaving(item) => Ok(leave_as(alloc, shard, moment, item, asked.number)?),
     }

@@ -1,5 +1,5 @@
 -- A look-up in a value of the grammar finds what one in its data finds.
-use Rattle.std.proofs.Common.{◌≡◌, ℕ, zero, suc, List, Bool, true, false, cond, Option, Some, None, option_map, option_and_then, Ordering, Less, Equal, Greater, nat_cmp, is_eq, ◌||◌, refl, sym, ap, ◌∙◌}
+use Rattle.std.proofs.Common.{◌≡◌, ℕ, zero, suc, List, Bool, true, false, cond, Option, Some, None, option_map, option_and_then, Ordering, Less, Equal, Greater, nat_cmp, is_eq, ◌||◌, refl, sym, ap, subst, ◌∙◌}
 use Rattle.std.specs.Ordering.{match_ordering}
 use Rattle.std.specs.Cmp.Lexicographic.{slice_cmp}
 use Rattle.std.specs.List.{list_any}
@@ -10,7 +10,7 @@ use Rattle.json.specs.Json as json
 use Rattle.json.specs.Find as at_json
 use Rattle.json.specs.Find.{later_or}
 use Rattle.json.specs.Strict.{keys}
-use Rattle.serde_json.specs.Data.{Data, null, boolean, number, string, array, object, Items, no_items, item, Members, no_members, member, put}
+use Rattle.serde_json.specs.Data.{Num, Data, null, boolean, number, string, array, object, Items, no_items, item, Members, no_members, member, put}
 use Rattle.serde_json.specs.Read.{number_of, of_json, of_items, of_members}
 use Rattle.serde_json.specs.Find.{get_member, get_item, get, at, as_str, as_number, as_array, as_object}
 use Rattle.sq_json.specs.View.{has_any, names_of}
@@ -79,47 +79,36 @@ in_object : (name : List ℕ) (all : Members) (o : Option json.Json) → Found n
 in_object name all None h = h
 in_object name all (Some j) h = h
 
+-- A relation that holds at each kind of value holds of a value and its data.
+module _ (Related : json.Json → Data → Type 0) (at_null : Related json.null null) (at_boolean : (b : Bool) → Related (json.boolean b) (boolean b))
+    (at_number : (s : List ℕ) (n : Num) → number_of s ≡ Some n → Related (json.number s) (number n)) (at_string : (s : List ℕ) → Related (json.string s) (string s))
+    (at_array : (js : json.Items) (ds : Items) → of_items js ≡ Some ds → Related (json.array js) (array ds))
+    (at_object : (ms : json.Members) (all : Members) → of_members ms no_members ≡ Some all → Related (json.object ms) (object all)) where
+  each_kind : (j : json.Json) (d : Data) → of_json j ≡ Some d → Related j d
+  each_kind json.null d e = let is : null ≡ d = cc in subst (Related json.null) is at_null
+  each_kind (json.boolean b) d e = let is : boolean b ≡ d = cc in subst (Related (json.boolean b)) is (at_boolean b)
+  each_kind (json.number s) d e = let is = made number (number_of s) d e in subst (Related (json.number s)) (sym is.2) (at_number s is.0 is.1)
+  each_kind (json.string s) d e = let is : string s ≡ d = cc in subst (Related (json.string s)) is (at_string s)
+  each_kind (json.array js) d e = let is = made array (of_items js) d e in subst (Related (json.array js)) (sym is.2) (at_array js is.0 is.1)
+  each_kind (json.object ms) d e = let is = made object (of_members ms no_members) d e in subst (Related (json.object ms)) (sym is.2) (at_object ms is.0 is.1)
+
 pub get_agrees : (name : List ℕ) (j : json.Json) (d : Data) → of_json j ≡ Some d → Agrees (at_json.get name j) (get name d)
-get_agrees name json.null d e = let is : d ≡ null = cc in ap (get name) is
-get_agrees name (json.boolean b) d e = let is : d ≡ boolean b = cc in ap (get name) is
-get_agrees name (json.number s) d e = let is = made number (number_of s) d e in ap (get name) is.2
-get_agrees name (json.string s) d e = let is : d ≡ string s = cc in ap (get name) is
-get_agrees name (json.array js) d e = let is = made array (of_items js) d e in ap (get name) is.2
-get_agrees name (json.object ms) d e =
-    let is = made object (of_members ms no_members) d e in
-    rw is.2 (in_object name is.0 (at_json.get_member name ms) (found_in name ms no_members is.0 is.1))
+get_agrees name =
+    each_kind (λ j d. Agrees (at_json.get name j) (get name d)) refl (λ b. refl) (λ s n e. refl) (λ s. refl) (λ js ds e. refl)
+    (λ ms all e. in_object name all (at_json.get_member name ms) (found_in name ms no_members all e))
 
 pub as_str_agrees : (j : json.Json) (d : Data) → of_json j ≡ Some d → at_json.as_str j ≡ as_str d
-as_str_agrees json.null d e = let is : d ≡ null = cc in ap as_str (sym is)
-as_str_agrees (json.boolean b) d e = let is : d ≡ boolean b = cc in ap as_str (sym is)
-as_str_agrees (json.number s) d e = let is = made number (number_of s) d e in ap as_str (sym is.2)
-as_str_agrees (json.string s) d e = let is : d ≡ string s = cc in ap as_str (sym is)
-as_str_agrees (json.array js) d e = let is = made array (of_items js) d e in ap as_str (sym is.2)
-as_str_agrees (json.object ms) d e = let is = made object (of_members ms no_members) d e in ap as_str (sym is.2)
+as_str_agrees = each_kind (λ j d. at_json.as_str j ≡ as_str d) refl (λ b. refl) (λ s n e. refl) (λ s. refl) (λ js ds e. refl) (λ ms all e. refl)
 
 pub as_number_agrees : (j : json.Json) (d : Data) → of_json j ≡ Some d → option_and_then number_of (at_json.as_number j) ≡ as_number d
-as_number_agrees json.null d e = let is : d ≡ null = cc in ap as_number (sym is)
-as_number_agrees (json.boolean b) d e = let is : d ≡ boolean b = cc in ap as_number (sym is)
-as_number_agrees (json.number s) d e = let is = made number (number_of s) d e in is.1 ∙ ap as_number (sym is.2)
-as_number_agrees (json.string s) d e = let is : d ≡ string s = cc in ap as_number (sym is)
-as_number_agrees (json.array js) d e = let is = made array (of_items js) d e in ap as_number (sym is.2)
-as_number_agrees (json.object ms) d e = let is = made object (of_members ms no_members) d e in ap as_number (sym is.2)
+as_number_agrees = each_kind (λ j d. option_and_then number_of (at_json.as_number j) ≡ as_number d) refl (λ b. refl) (λ s n e. e) (λ s. refl) (λ js ds e. refl) (λ ms all e. refl)
 
 pub as_array_agrees : (j : json.Json) (d : Data) → of_json j ≡ Some d → option_and_then of_items (at_json.as_array j) ≡ as_array d
-as_array_agrees json.null d e = let is : d ≡ null = cc in ap as_array (sym is)
-as_array_agrees (json.boolean b) d e = let is : d ≡ boolean b = cc in ap as_array (sym is)
-as_array_agrees (json.number s) d e = let is = made number (number_of s) d e in ap as_array (sym is.2)
-as_array_agrees (json.string s) d e = let is : d ≡ string s = cc in ap as_array (sym is)
-as_array_agrees (json.array js) d e = let is = made array (of_items js) d e in is.1 ∙ ap as_array (sym is.2)
-as_array_agrees (json.object ms) d e = let is = made object (of_members ms no_members) d e in ap as_array (sym is.2)
+as_array_agrees = each_kind (λ j d. option_and_then of_items (at_json.as_array j) ≡ as_array d) refl (λ b. refl) (λ s n e. refl) (λ s. refl) (λ js ds e. e) (λ ms all e. refl)
 
 pub as_object_agrees : (j : json.Json) (d : Data) → of_json j ≡ Some d → option_and_then (λ ms. of_members ms no_members) (at_json.as_object j) ≡ as_object d
-as_object_agrees json.null d e = let is : d ≡ null = cc in ap as_object (sym is)
-as_object_agrees (json.boolean b) d e = let is : d ≡ boolean b = cc in ap as_object (sym is)
-as_object_agrees (json.number s) d e = let is = made number (number_of s) d e in ap as_object (sym is.2)
-as_object_agrees (json.string s) d e = let is : d ≡ string s = cc in ap as_object (sym is)
-as_object_agrees (json.array js) d e = let is = made array (of_items js) d e in ap as_object (sym is.2)
-as_object_agrees (json.object ms) d e = let is = made object (of_members ms no_members) d e in is.1 ∙ ap as_object (sym is.2)
+as_object_agrees =
+    each_kind (λ j d. option_and_then (λ ms. of_members ms no_members) (at_json.as_object j) ≡ as_object d) refl (λ b. refl) (λ s n e. refl) (λ s. refl) (λ js ds e. refl) (λ ms all e. e)
 
 item_agrees : (n : ℕ) (js : json.Items) (ds : Items) → of_items js ≡ Some ds → Agrees (at_json.get_item n js) (get_item n ds)
 item_agrees n json.no_items ds e = let is : ds ≡ no_items = cc in ap (get_item n) is
@@ -133,12 +122,7 @@ item_agrees (suc n) (json.item j js) ds e =
     rw others.2 (item_agrees n js others.0 others.1)
 
 pub at_agrees : (n : ℕ) (j : json.Json) (d : Data) → of_json j ≡ Some d → Agrees (at_json.at n j) (at n d)
-at_agrees n json.null d e = let is : d ≡ null = cc in ap (at n) is
-at_agrees n (json.boolean b) d e = let is : d ≡ boolean b = cc in ap (at n) is
-at_agrees n (json.number s) d e = let is = made number (number_of s) d e in ap (at n) is.2
-at_agrees n (json.string s) d e = let is : d ≡ string s = cc in ap (at n) is
-at_agrees n (json.array js) d e = let is = made array (of_items js) d e in rw is.2 (item_agrees n js is.0 is.1)
-at_agrees n (json.object ms) d e = let is = made object (of_members ms no_members) d e in ap (at n) is.2
+at_agrees n = each_kind (λ j d. Agrees (at_json.at n j) (at n d)) refl (λ b. refl) (λ s k e. refl) (λ s. refl) (λ js ds e. item_agrees n js ds e) (λ ms all e. refl)
 
 -- ---- names
 

@@ -10,7 +10,7 @@ use Rattle.json.proofs.Nesting.{value-depth}
 use Rattle.json.proofs.Unique.Spelling.{value-json_tokens_back, tokens-document}
 use Rattle.serde_json.specs.Data.{Data, number, array, object, item, Members, no_members, put}
 use Rattle.serde_json.specs.Read.{number_of, of_json, of_items, of_members, read}
-use Rattle.sq_json.specs.Fits.{fits}
+use Rattle.sq_json.specs.inside.Fits.{fits}
 use Rattle.sq_json.proofs.LookUps.{then_some}
 use Rattle.sq_json.proofs.Views.{some_data}
 

@@ -1,9 +1,10 @@
 //! A line, read as one value.
-ghost use Rattle.std.specs.Prelude.{◌≡◌, ◌<◌, map, length, Some, None, Err, IfOk, IfErr, IsUtf8};
+ghost use Rattle.std.specs.Prelude.{◌≡◌, ◌<◌, map, length, Some, None, Err, IfOk, IsUtf8, List};
 ghost use Rattle.json.specs.Tape.{node_token};
+ghost use Rattle.json.specs.Token.{Token};
 ghost use Rattle.serde_json.specs.Read.{read};
-ghost use Rattle.sq_json.specs.View.{view};
-ghost use Rattle.sq_json.specs.Fits.{fits};
+ghost use Rattle.sq_json.specs.View.{view, HasData};
+ghost use Rattle.sq_json.specs.inside.Fits.{fits};
 
 use crate::number::number_of;
 use crate::value::Value;
@@ -30,14 +31,7 @@ pub struct Line<'a> {
 }
 
 impl<'a> Model for Line<'a> {
-    ghost use Rattle.std.specs.Prelude.{List};
-    ghost use Rattle.json.specs.Token.{Token, tokens_code};
-
     ghost Value = { List Token };
-
-    ghost coded = { tokens_code };
-
-    ghost use Rattle.sq_json.specs.View.{HasData};
 
     ghost view = { λ a. a.tape };
 

@@ -1,10 +1,11 @@
 //! A value of a line, and the items of an array.
 ghost use Rattle.std.specs.Prelude.{◌≡◌, ◌<◌, ℕ, List, [], ◌∷◌, Bool, length, is_some, option_map, option_and_then, MatchOption, OnSome, IfNone};
 ghost use Rattle.std.specs.List.{list_any};
+ghost use Rattle.json.specs.Token.{Token};
 ghost use Rattle.serde_json.specs.Data.{no_items, item};
 ghost use Rattle.serde_json.specs.Find.{get, at, as_str, as_number, as_array, as_object, as_u64, as_i64};
 ghost use Rattle.serde_json.specs.View.{number_view};
-ghost use Rattle.sq_json.specs.View.{view, items_view, names_of, names_view, has_any, HasData};
+ghost use Rattle.sq_json.specs.View.{view, items_view, names_of, names_view, has_any, HasData, HasItems, HasNames};
 
 use crate::number::number_of;
 use json::Element;
@@ -18,14 +19,7 @@ pub struct Value<'t, 'a> {
 }
 
 impl<'t, 'a> Model for Value<'t, 'a> {
-    ghost use Rattle.std.specs.Prelude.{List};
-    ghost use Rattle.json.specs.Token.{Token, tokens_code};
-
     ghost Value = { List Token };
-
-    ghost coded = { tokens_code };
-
-    ghost use Rattle.sq_json.specs.View.{HasData};
 
     ghost view = { λ a. a.element };
 
@@ -161,14 +155,7 @@ pub struct Items<'t, 'a> {
 }
 
 impl<'t, 'a> Model for Items<'t, 'a> {
-    ghost use Rattle.std.specs.Prelude.{List};
-    ghost use Rattle.json.specs.Token.{Token, tokens_code};
-
     ghost Value = { List Token };
-
-    ghost coded = { tokens_code };
-
-    ghost use Rattle.sq_json.specs.View.{HasItems};
 
     ghost view = { λ a. a.next };
 
@@ -197,14 +184,7 @@ pub struct Names<'t, 'a> {
 }
 
 impl<'t, 'a> Model for Names<'t, 'a> {
-    ghost use Rattle.std.specs.Prelude.{List};
-    ghost use Rattle.json.specs.Token.{Token, tokens_code};
-
     ghost Value = { List Token };
-
-    ghost coded = { tokens_code };
-
-    ghost use Rattle.sq_json.specs.View.{HasNames};
 
     ghost view = { λ a. a.next };
 

@@ -32,10 +32,10 @@ use Rattle.sq_model.specs.Directories.{Directory, DirectoryStep, agrees, attribu
 use Rattle.sq_model.specs.Homes.{Closed, HasPlace, Home, HomeStep, IsFrom, Serving, Unopened, counts_of, dead_target, entered_row, fresh_id, last_serial, may_enter, may_return, returned_row, sent_row, slots}
 use Rattle.sq_model.specs.Ledgers.{HasRoom, Ledger, LedgerStep, MayTake, changed_for, changed_task, in_transit, is_active_at, is_of_source, is_own, item_of, items_without, last_number, most_active, task_of, tasks_of, turned_if}
 use Rattle.sq_model.specs.Replays.{HomeEvent}
-use Rattle.sq_model.specs.Rows.{RisesFrom, Takes, is_dead, is_free, is_live, ms, received, received_if, room, serials_of, trimmed, without}
-use Rattle.sq_model.specs.Systems.{HomeAt, IsRun, IsStep, LedgerGoes, MomentsRise, OfDirectory, OfHome, OfLedger, RunFrom, System, Tag, is_alone, opening, stamp_of}
+use Rattle.sq_model.specs.Rows.{RisesFrom, Takes, is_dead, is_free, is_live, ms, received, received_if, room, serials_of, unexpired, without}
+use Rattle.sq_model.specs.Systems.{HomeAt, IsRun, IsStep, LedgerGoes, MomentsRise, OfDirectory, OfHome, OfLedger, RunFrom, System, Tag, is_alone, opening, stamp_of, Opening}
 use Rattle.sq_model.specs.Tasks.{cancelled_as, destination_or, failed_as, finished_as, is_active, is_running, may_leave, new_task, target_of, with_back, with_given_up, with_left, with_moved, with_status}
-use Rattle.sq_model.proofs.RowLaws.{first_is_look, rises_trimmed}
+use Rattle.sq_model.proofs.RowLaws.{first_is_look, rises_unexpired}
 use Rattle.sq_laws.proofs.LedgerLists.{some_same}
 use Rattle.sq_laws.proofs.SharedLaws.{and_both, by_its_number, is_false}
 
@@ -117,7 +117,7 @@ without_item l item change = record l { items = items_without item.number l.item
 -- at a home that serves
 module _ (site : Site) (s : Settings) (v n : ℕ) (rows : List Row) (l : Ledger) (e : HomeEvent) where
   abbrev pub kept : List Row
-  kept = trimmed s e.stamp.moment rows
+  kept = unexpired s e.stamp.moment rows
 
   abbrev pub slot : ℕ
   slot = slot_in e.reply
@@ -147,7 +147,7 @@ module _ (site : Site) (s : Settings) (v n : ℕ) (rows : List Row) (l : Ledger)
       let both = and_both _ _ h in
       let until = e.stamp.moment + ms (unwrap_or timeout s.timeout) in
       let most = min max (room site.limits.flights e.stamp.moment kept) in
-      record { step = (λ live. under _ _ both.1, first_is_look s e.stamp.moment until most kept n (rises_trimmed s e.stamp.moment 0 rows n (risen 0 rows n both.0)), refl); in_ledger = refl }
+      record { step = (λ live. under _ _ both.1, first_is_look s e.stamp.moment until most kept n (rises_unexpired s e.stamp.moment 0 rows n (risen 0 rows n both.0)), refl); in_ledger = refl }
 
   abbrev pub leaving : Row → ℕ → Reason → Item
   leaving row target reason = record { number = l.next_item; row = row; source = site.home.queue; target = target; reason = reason; homeward = false }
@@ -483,8 +483,8 @@ moments_rise low [] h = tt
 moments_rise low (t ∷ ts) h = let both = and_both _ _ h in (least _ _ both.0, moments_rise (stamp_of t).moment ts both.1)
 
 -- what is computed from these events is the run
-abbrev pub computed : (places limit : ℕ) (sites : List Site) (run : List Tag) (after : System) → run_of (opening places limit sites) run ≡ record { done = true; run = run; after = after } → in_time 0 run ≡ true → IsRun places limit sites run after
-computed places limit sites run after e h = record {
-  steps = subst (λ (o : RunOutcome). RunFrom (opening places limit sites) o.run o.after) e (run_done (opening places limit sites) run (ap (λ (o : RunOutcome). o.done) e));
+abbrev pub computed : (o : Opening) (run : List Tag) (after : System) → run_of (opening o) run ≡ record { done = true; run = run; after = after } → in_time 0 run ≡ true → IsRun o run after
+computed o run after e h = record {
+  steps = subst (λ (made : RunOutcome). RunFrom (opening o) made.run made.after) e (run_done (opening o) run (ap (λ (made : RunOutcome). made.done) e));
   moments = moments_rise 0 run h;
 }

@@ -8,7 +8,7 @@ use Rattle.std.proofs.lemmas.Slice.Eq.{bytes_eq-Decides}
 use Rattle.sq_model.specs.declared.directory.Queue.{Queue}
 use Rattle.sq_model.specs.Directories.{changed_queue, has_name, queue_of, queues_without}
 use Rattle.sq_model.specs.Rises.{Rise}
-use Rattle.sq_laws.proofs.LedgerLists.{all_filtered, all_with, count_append, some_same}
+use Rattle.sq_laws.proofs.LedgerLists.{all_filtered, all_with, count_append, found_of_all, some_same}
 
 -- ---- a change of the queue of a name, and what holds of it
 
@@ -125,9 +125,7 @@ found_below name low (x ∷ xs) next queue h e =
 
 -- the queue that is found is as all are
 pub found_all : (P : Queue → Type 0) (name : List ℕ) (queues : List Queue) (queue : Queue) → AllByRecursion P queues → queue_of name queues ≡ Some queue → P queue
-found_all P name [] queue h e = absurd cc
-found_all P name (x ∷ xs) queue h e =
-    elim (has_name name x) as (λ b. cond b (Some x) (queue_of name xs) ≡ Some queue → P queue) [ true ↦ (λ f. subst P (some_same x queue f) h.0) | false ↦ (λ f. found_all P name xs queue h.1 f) ] e
+found_all P name queues queue h e = found_of_all P (has_name name) queues queue h e
 
 -- the queue that is found has the number of none of another name
 pub found_other : (name : List ℕ) (low : ℕ) (queues : List Queue) (next : ℕ) (queue : Queue) → Rise (λ q. q.number) low queues next → queue_of name queues ≡ Some queue

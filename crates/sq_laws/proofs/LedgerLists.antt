@@ -20,6 +20,9 @@ not_it a b h = grind (arith, common_steps)
 not_low : (a b : ℕ) → (a == b) ≡ false → a ≤ b → a < b
 not_low a b e h = grind (arith, common_steps)
 
+pub some_same : {X : Type 0} (a b : X) → Some a ≡ Some b → a ≡ b
+some_same {X} a b e = cc
+
 -- ---- lists of any kind
 
 module _ {X : Type 0} where
@@ -38,6 +41,15 @@ module _ {X : Type 0} where
   pub all_mapped : (P Q : X → Type 0) (f : X → X) (xs : List X) → ((x : X) → P x → Q (f x)) → AllByRecursion P xs → AllByRecursion Q (map f xs)
   all_mapped P Q f [] g h = tt
   all_mapped P Q f (x ∷ xs) g h = (g x h.0, all_mapped P Q f xs g h.1)
+
+  -- one that is found holds what all do
+  pub found_of_all : (P : X → Type 0) (test : X → Bool) (xs : List X) (x : X) → AllByRecursion P xs → find test xs ≡ Some x → P x
+  found_of_all P test [] x h e = absurd cc
+  found_of_all P test (y ∷ xs) x h e =
+      elim (test y) as (λ b. cond b (Some y) (find test xs) ≡ Some x → P x) [
+        | true ↦ (λ f. subst P (some_same y x f) h.0)
+        | false ↦ (λ f. found_of_all P test xs x h.1 f)
+      ] e
 
   pub filtered_length : (keep : X → Bool) (xs : List X) → length (filter keep xs) ≤ length xs
   filtered_length keep [] = omega arith
@@ -94,9 +106,6 @@ rise_above : (number low : ℕ) (items : List Item) (next : ℕ) → number < lo
 rise_above number low [] next lt h = refl
 rise_above number low (x ∷ items) next lt h =
     rw (not_same number x.number (omega (arith, lt, h.0))) (ap (λ (r : List Item). x ∷ r) (rise_above number (x.number + 1) items next (omega (arith, lt, h.0)) h.1))
-
-pub some_same : {X : Type 0} (a b : X) → Some a ≡ Some b → a ≡ b
-some_same {X} a b e = cc
 
 -- of a kind there is one less, where the item that goes is of it
 pub count_without : (p : Item → Bool) (low : ℕ) (items : List Item) (next : ℕ) (item : Item) → ItemsRise low items next → find (has_number item.number) items ≡ Some item
@@ -184,15 +193,6 @@ all_changed P Q number f (x ∷ tasks) here other h = (
   elim (is_task number x) as (λ b. is_task number x ≡ b → Q (if b then f x else x)) [ true ↦ (λ e. here x e h.0) | false ↦ (λ e. other x e h.0) ] refl,
   all_changed P Q number f tasks here other h.1,
 )
-
--- a task that is found holds what all do
-pub found_of_all : (P : Task → Type 0) (number : ℕ) (tasks : List Task) (task : Task) → AllByRecursion P tasks → find (is_task number) tasks ≡ Some task → P task
-found_of_all P number [] task h e = absurd cc
-found_of_all P number (x ∷ tasks) task h e =
-    elim (is_task number x) as (λ b. cond b (Some x) (find (is_task number) tasks) ≡ Some task → P task) [
-      | true ↦ (λ f. subst P (some_same x task f) h.0)
-      | false ↦ (λ f. found_of_all P number tasks task h.1 f)
-    ] e
 
 none_of : (number low : ℕ) (tasks : List Task) → number < low → TasksCount low tasks → AllByRecursion (λ t. is_task number t ≡ false) tasks
 none_of number low [] lt h = tt

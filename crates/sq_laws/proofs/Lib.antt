@@ -1,7 +1,6 @@
 pub mod Refusals
 pub mod LineageLaws
 pub mod Progress
-pub mod LookLaws
 pub mod RiseLaws
 pub mod LedgerLists
 pub mod LedgerSteps

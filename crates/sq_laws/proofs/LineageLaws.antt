@@ -16,7 +16,7 @@ use Rattle.sq_model.specs.declared.calls.HomeCall.{HomeCall}
 use Rattle.sq_model.specs.declared.calls.HomeCall.TheVariants.{Configure, Close, Send, Look, Delete, Change, Purge, Count, LeaveDead, LeaveTask, Enter, TurnBack, GiveBack, GiveUp}
 use Rattle.sq_model.specs.declared.replies.HomeReply.{HomeReply}
 use Rattle.sq_model.specs.declared.replies.HomeReply.TheVariants.{Done, Sent, Looked, Over, Counted, Left, NoLiveRow, NoOrigin, SourceClosed, Entered}
-use Rattle.sq_model.specs.Rows.{ms, is_expired, trimmed, is_live, is_named, is_held, serials_of, received, received_if, changed_if, Takes}
+use Rattle.sq_model.specs.Rows.{ms, is_expired, unexpired, is_live, is_named, is_held, serials_of, received, received_if, changed_if, Takes}
 use Rattle.sq_model.specs.Homes.{Home, Unopened, Serving, Closed, HomeStep, sent_row, returned_as, entered_as}
 use Rattle.sq_model.specs.Lineages.{Cause, Expired, Deleted, Purged, ClosedAway, Ending, ended, expired, home_ends, home_sends, home_outs, home_ins, rows_of, same_id, rows_with, ends_with, sends_with}
 
@@ -68,21 +68,21 @@ entered_push : (x : MessageId) (rows : List Row) (reason : Reason) (home : HomeI
 entered_push x rows reason home source serial slot m row =
     rows_push x rows (entered_as reason home source serial slot m row) ∙ ap (λ y. rows_with x rows + cond (same_id x y) 1 0) (entered_line reason home source serial slot m row)
 
--- the trim alone
-pub trim_law : (x : MessageId) (s : Settings) (m : ℕ) (rows : List Row) → rows_with x (trimmed s m rows) + ends_with x (ended Expired (expired s m rows)) ≡ rows_with x rows
-trim_law x s m rows = omega (arith, rows_part x (is_expired s m) rows, ends_ended x Expired (expired s m rows))
+-- what has expired goes, and nothing else
+pub expire_law : (x : MessageId) (s : Settings) (m : ℕ) (rows : List Row) → rows_with x (unexpired s m rows) + ends_with x (ended Expired (expired s m rows)) ≡ rows_with x rows
+expire_law x s m rows = omega (arith, rows_part x (is_expired s m) rows, ends_ended x Expired (expired s m rows))
 
--- a trim, and then those that pass go
+-- what has expired goes, and then those that pass
 take_law : (x : MessageId) (s : Settings) (m : ℕ) (rows : List Row) (p : Row → Bool) (cause : Cause)
-    → rows_with x (filter (λ row. not (p row)) (trimmed s m rows)) + ends_with x (ended Expired (expired s m rows) ++ ended cause (filter p (trimmed s m rows))) ≡ rows_with x rows
+    → rows_with x (filter (λ row. not (p row)) (unexpired s m rows)) + ends_with x (ended Expired (expired s m rows) ++ ended cause (filter p (unexpired s m rows))) ≡ rows_with x rows
 take_law x s m rows p cause =
-    omega (arith, trim_law x s m rows, rows_part x p (trimmed s m rows), ends_ended x cause (filter p (trimmed s m rows)), ends_append x (ended Expired (expired s m rows)) (ended cause (filter p (trimmed s m rows))))
+    omega (arith, expire_law x s m rows, rows_part x p (unexpired s m rows), ends_ended x cause (filter p (unexpired s m rows)), ends_append x (ended Expired (expired s m rows)) (ended cause (filter p (unexpired s m rows))))
 
--- a trim, and then all go
+-- what has expired goes, and then all
 all_law : (x : MessageId) (s : Settings) (m : ℕ) (rows : List Row) (cause : Cause)
-    → ends_with x (ended Expired (expired s m rows) ++ ended cause (trimmed s m rows)) ≡ rows_with x rows
+    → ends_with x (ended Expired (expired s m rows) ++ ended cause (unexpired s m rows)) ≡ rows_with x rows
 all_law x s m rows cause =
-    omega (arith, trim_law x s m rows, ends_ended x cause (trimmed s m rows), ends_append x (ended Expired (expired s m rows)) (ended cause (trimmed s m rows)))
+    omega (arith, expire_law x s m rows, ends_ended x cause (unexpired s m rows), ends_append x (ended Expired (expired s m rows)) (ended cause (unexpired s m rows)))
 
 -- what is taken out is one less
 pub takes_law : (x : MessageId) (row : Row) (rows rest : List Row) → Takes row rows rest → rows_with x rows ≡ rows_with x rest + one x row
@@ -100,31 +100,31 @@ pub home_law : (x : MessageId) (site : Site) (home : Home) (m : ℕ) (call : Hom
 unfolding HomeStep
 home_law x site Unopened m (Configure t w) Done after h = rw h refl
 home_law x site (Serving s v n rows) m (Configure t w) Done after h =
-    rw h (omega (arith, trim_law x s m rows, configure_law x (nat_lt v w) s t v w n (trimmed s m rows)))
+    rw h (omega (arith, expire_law x s m rows, configure_law x (nat_lt v w) s t v w n (unexpired s m rows)))
 home_law x site Unopened m Close Done after h = rw h refl
 home_law x site (Serving s v n rows) m Close Done after h = rw h (omega (arith, all_law x s m rows ClosedAway))
 home_law x site (Serving s v n rows) m (Send body delay) (Sent sent) after h =
-    rw (h.2, h.1) (omega (arith, trim_law x s m rows, rows_push x (trimmed s m rows) (sent_row site.home n sent.slot m (m + ms (unwrap_or delay s.delay)) body)))
+    rw (h.2, h.1) (omega (arith, expire_law x s m rows, rows_push x (unexpired s m rows) (sent_row site.home n sent.slot m (m + ms (unwrap_or delay s.delay)) body)))
 home_law x site (Serving s v n rows) m (Look max timeout) (Looked picked) after h =
     let until = m + ms (unwrap_or timeout s.timeout) in
-    rw h.2 (omega (arith, trim_law x s m rows, rows_map x (received_if s (serials_of picked) m until) (trimmed s m rows) (received_line s (serials_of picked) m until)))
-home_law x site (Serving s v n rows) m (Look max timeout) Over after h = rw h.2 (omega (arith, trim_law x s m rows))
+    rw h.2 (omega (arith, expire_law x s m rows, rows_map x (received_if s (serials_of picked) m until) (unexpired s m rows) (received_line s (serials_of picked) m until)))
+home_law x site (Serving s v n rows) m (Look max timeout) Over after h = rw h.2 (omega (arith, expire_law x s m rows))
 home_law x site (Serving s v n rows) m (Delete receipt) Done after h = rw h.1 (omega (arith, take_law x s m rows (is_named receipt) Deleted))
 home_law x site (Serving s v n rows) m (Change receipt timeout) Done after h =
-    rw h.3 (omega (arith, trim_law x s m rows, rows_map x (changed_if m receipt (m + ms timeout)) (trimmed s m rows) (changed_line m receipt (m + ms timeout))))
+    rw h.3 (omega (arith, expire_law x s m rows, rows_map x (changed_if m receipt (m + ms timeout)) (unexpired s m rows) (changed_line m receipt (m + ms timeout))))
 home_law x site (Serving s v n rows) m Purge Done after h = rw h (omega (arith, all_law x s m rows Purged))
-home_law x site (Serving s v n rows) m Count (Counted counts) after h = rw h.1 (omega (arith, trim_law x s m rows))
+home_law x site (Serving s v n rows) m Count (Counted counts) after h = rw h.1 (omega (arith, expire_law x s m rows))
 home_law x site (Serving s v n rows) m LeaveDead (Left item) after h =
-    rw h.3.2 (omega (arith, trim_law x s m rows, takes_law x item.row (trimmed s m rows) h.3.0 h.3.1))
+    rw h.3.2 (omega (arith, expire_law x s m rows, takes_law x item.row (unexpired s m rows) h.3.0 h.3.1))
 home_law x site (Serving s v n rows) m (LeaveTask task) (Left item) after h =
-    rw h.2.2 (omega (arith, trim_law x s m rows, takes_law x item.row (trimmed s m rows) h.2.0 h.2.1))
-home_law x site (Serving s v n rows) m (LeaveTask task) NoLiveRow after h = rw h.1 (omega (arith, trim_law x s m rows))
-home_law x site (Serving s v n rows) m (LeaveTask task) (NoOrigin serial) after h = rw h.1 (omega (arith, trim_law x s m rows))
+    rw h.2.2 (omega (arith, expire_law x s m rows, takes_law x item.row (unexpired s m rows) h.2.0 h.2.1))
+home_law x site (Serving s v n rows) m (LeaveTask task) NoLiveRow after h = rw h.1 (omega (arith, expire_law x s m rows))
+home_law x site (Serving s v n rows) m (LeaveTask task) (NoOrigin serial) after h = rw h.1 (omega (arith, expire_law x s m rows))
 home_law x site Closed m (LeaveTask task) SourceClosed after h = rw h refl
 home_law x site (Serving s v n rows) m (Enter item) (Entered entered) after h =
-    rw h.3 (omega (arith, trim_law x s m rows, entered_push x (trimmed s m rows) item.reason site.home item.source n entered.slot m item.row))
+    rw h.3 (omega (arith, expire_law x s m rows, entered_push x (unexpired s m rows) item.reason site.home item.source n entered.slot m item.row))
 home_law x site Closed m (TurnBack item) Done after h = rw h.1 refl
 home_law x site (Serving s v n rows) m (GiveBack item) (Entered entered) after h =
-    rw h.3 (omega (arith, trim_law x s m rows, returned_push x (trimmed s m rows) item.reason n entered.slot m item.row))
+    rw h.3 (omega (arith, expire_law x s m rows, returned_push x (unexpired s m rows) item.reason n entered.slot m item.row))
 home_law x site Closed m (GiveUp item) Done after h = rw h.1 refl
 home_law x site home m call reply after h = elim h [ ]

@@ -14,9 +14,9 @@ use Rattle.sq_model.specs.declared.calls.HomeCall.{HomeCall}
 use Rattle.sq_model.specs.declared.calls.HomeCall.TheVariants.{Configure, Close, Send, Look, Delete, Change, Purge, Count, LeaveDead, LeaveTask, Enter, TurnBack, GiveBack, GiveUp}
 use Rattle.sq_model.specs.declared.replies.HomeReply.{HomeReply}
 use Rattle.sq_model.specs.declared.replies.HomeReply.TheVariants.{Done, Sent, Looked, Over, Counted, Left, NoLiveRow, SourceClosed, Entered}
-use Rattle.sq_model.specs.Rows.{ms, trimmed, RisesFrom, is_dead, is_live, is_spent, room, received, Takes}
+use Rattle.sq_model.specs.Rows.{ms, unexpired, RisesFrom, is_dead, is_live, is_spent, room, received, Takes}
 use Rattle.sq_model.specs.Homes.{Home, Unopened, Serving, Closed, HomeStep, home_refusal, place_refusal, refused_if, HasPlace, HasSlot, IsRising, IsIdle, last_serial, slots, fresh_id, counts_of, dead_target}
-use Rattle.sq_model.proofs.RowLaws.{first_is_look, rises_trimmed}
+use Rattle.sq_model.proofs.RowLaws.{first_is_look, rises_unexpired}
 use Rattle.sq_model.proofs.SlotLaws.{free_slot, not_false}
 
 abbrev Possible : Site → Home → ℕ → HomeCall → Type 0
@@ -60,18 +60,18 @@ has_target None false row h = absurd cc
 has_target (Some redrive) visible row h = (redrive.target, refl)
 
 looked : (site : Site) (s : Settings) (v n : ℕ) (rows : List Row) (m max : ℕ) (timeout : Option ℕ) → RisesFrom 0 rows n
-    → (list_any (is_live s m) (trimmed s m rows) ≡ true → 0 < room site.limits.flights m (trimmed s m rows)) → Possible site (Serving s v n rows) m (Look max timeout)
+    → (list_any (is_live s m) (unexpired s m rows) ≡ true → 0 < room site.limits.flights m (unexpired s m rows)) → Possible site (Serving s v n rows) m (Look max timeout)
 unfolding HomeStep
 looked site s v n rows m max timeout r some =
     let until = m + ms (unwrap_or timeout s.timeout) in
-    let most = min max (room site.limits.flights m (trimmed s m rows)) in
-    (Looked (take most (map (received m until) (filter (is_live s m) (trimmed s m rows)))), _, tt, (some, first_is_look s m until most (trimmed s m rows) n (rises_trimmed s m 0 rows n r), refl))
+    let most = min max (room site.limits.flights m (unexpired s m rows)) in
+    (Looked (take most (map (received m until) (filter (is_live s m) (unexpired s m rows)))), _, tt, (some, first_is_look s m until most (unexpired s m rows) n (rises_unexpired s m 0 rows n r), refl))
 
 look_possible : (site : Site) (s : Settings) (v n : ℕ) (rows : List Row) (m max : ℕ) (timeout : Option ℕ) → RisesFrom 0 rows n → Possible site (Serving s v n rows) m (Look max timeout)
 unfolding HomeStep
 look_possible site s v n rows m max timeout r =
-    let left = room site.limits.flights m (trimmed s m rows) in
-    let live = list_any (is_live s m) (trimmed s m rows) in
+    let left = room site.limits.flights m (unexpired s m rows) in
+    let live = list_any (is_live s m) (unexpired s m rows) in
     elim left as (λ k. left ≡ k → Possible site (Serving s v n rows) m (Look max timeout)) [
       | zero ↦ (λ e. elim live as (λ b. live ≡ b → Possible site (Serving s v n rows) m (Look max timeout))
           [ true ↦ (λ l. (Over, _, tt, (l, e, refl))) | false ↦ (λ l. looked site s v n rows m max timeout r (λ t. absurd cc)) ] refl)
@@ -81,9 +81,9 @@ look_possible site s v n rows m max timeout r =
 leave_dead_possible : (site : Site) (s : Settings) (v n : ℕ) (rows : List Row) (m : ℕ) → IsIdle (Serving s v n rows) m LeaveDead ⊎ Possible site (Serving s v n rows) m LeaveDead
 unfolding HomeStep
 leave_dead_possible site s v n rows m =
-    let dead = list_any (is_dead s m) (trimmed s m rows) in
+    let dead = list_any (is_dead s m) (unexpired s m rows) in
     elim dead as (λ b. dead ≡ b → IsIdle (Serving s v n rows) m LeaveDead ⊎ Possible site (Serving s v n rows) m LeaveDead) [
-      | true ↦ (λ e. let t = takes_one (is_dead s m) (trimmed s m rows) e in
+      | true ↦ (λ e. let t = takes_one (is_dead s m) (unexpired s m rows) e in
           let target = has_target s.redrive _ t.0 t.3 in
           inr (
             Left (record { number = 1; row = t.0; source = site.home.queue; target = target.0; reason = DeadLetter; homeward = false }),
@@ -97,9 +97,9 @@ leave_dead_possible site s v n rows m =
 leave_task_possible : (site : Site) (s : Settings) (v n : ℕ) (rows : List Row) (m task : ℕ) → Possible site (Serving s v n rows) m (LeaveTask task)
 unfolding HomeStep
 leave_task_possible site s v n rows m task =
-    let live = list_any (is_live s m) (trimmed s m rows) in
+    let live = list_any (is_live s m) (unexpired s m rows) in
     elim live as (λ b. live ≡ b → Possible site (Serving s v n rows) m (LeaveTask task)) [
-      | true ↦ (λ e. let t = takes_one (is_live s m) (trimmed s m rows) e in (
+      | true ↦ (λ e. let t = takes_one (is_live s m) (unexpired s m rows) e in (
         Left (record { number = 1; row = t.0; source = site.home.queue; target = 1; reason = Task task; homeward = false }),
         _,
         tt,
@@ -125,7 +125,7 @@ step_possible site (Serving s v n rows) m (Change receipt timeout) r h =
     let late = passed _ _ _ held.1 in
     inr (Done, _, tt, (above _ _ picked.0, not_false _ held.0, late.0, refl))
 step_possible site (Serving s v n rows) m Purge r h = inr (Done, _, tt, refl)
-step_possible site (Serving s v n rows) m Count r h = inr (Counted (counts_of m (trimmed s m rows)), _, tt, (refl, refl))
+step_possible site (Serving s v n rows) m Count r h = inr (Counted (counts_of m (unexpired s m rows)), _, tt, (refl, refl))
 step_possible site (Serving s v n rows) m LeaveDead r h = leave_dead_possible site s v n rows m
 step_possible site (Serving s v n rows) m (LeaveTask task) r h = inr (leave_task_possible site s v n rows m task)
 step_possible site Closed m (LeaveTask task) r h = inr (SourceClosed, _, tt, refl)

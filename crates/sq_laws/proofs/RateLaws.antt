@@ -233,7 +233,7 @@ pub record KeepsRate (number second : ℕ) (events : List LedgerEvent) (task fin
   pub within : leaves_in number second events + left_in second task ≤ rate_of task
 
 task_rate : (number : ℕ) (l : Ledger) (task : Task) → IsLedger l → task_of number l ≡ Some task → task.in_second ≤ rate_of task
-task_rate number l task h e = (found_of_all (IsTask l.items) number l.tasks task h.each e).rate
+task_rate number l task h e = (found_of_all (IsTask l.items) (is_task number) l.tasks task h.each e).rate
 
 pub from_task : (number second : ℕ) (events : List LedgerEvent) (l : Ledger) (low : ℕ) (after : Ledger) (task final : Task) → IsLedger l → task_of number l ≡ Some task → Replays LedgerStep l events after
     → NoMomentFalls low events → task.second ≤ second_of low → task_of number after ≡ Some final → KeepsRate number second events task final

@@ -13,13 +13,13 @@ use Rattle.sq_model.specs.declared.calls.HomeCall.{HomeCall}
 use Rattle.sq_model.specs.declared.calls.HomeCall.TheVariants.{Configure, Close, Send, Look, Delete, Change, Purge, Count, LeaveDead, LeaveTask, Enter, TurnBack, GiveBack, GiveUp}
 use Rattle.sq_model.specs.declared.replies.HomeReply.{HomeReply}
 use Rattle.sq_model.specs.declared.replies.HomeReply.TheVariants.{Done, Sent, Looked, Over, Counted, Left, NoLiveRow, NoOrigin, SourceClosed, Entered}
-use Rattle.sq_model.specs.Rows.{ms, trimmed, is_expired, is_live, serials_of, received, received_if, is_named, is_held, changed_if, Takes, IsCounted}
+use Rattle.sq_model.specs.Rows.{ms, unexpired, is_expired, is_live, serials_of, received, received_if, is_named, is_held, changed_if, Takes, IsCounted}
 use Rattle.sq_model.specs.Homes.{Home, Unopened, Serving, Closed, HomeStep, sent_row, entered_row, entered_as, returned_row, returned_as}
 use Rattle.sq_model.specs.Lineages.{rows_of}
 use Rattle.sq_model.specs.Replays.{HomeEvent, Replays}
 
-counted_trimmed : (s : Settings) (m : ℕ) (rows : List Row) → All IsCounted rows → All IsCounted (trimmed s m rows)
-counted_trimmed s m rows all = All-filter (λ row. not (is_expired s m row)) IsCounted rows all
+counted_unexpired : (s : Settings) (m : ℕ) (rows : List Row) → All IsCounted rows → All IsCounted (unexpired s m rows)
+counted_unexpired s m rows all = All-filter (λ row. not (is_expired s m row)) IsCounted rows all
 
 counted_push : (rows : List Row) (row : Row) → All IsCounted rows → IsCounted row → All IsCounted (rows ++ row ∷ [])
 counted_push rows row all one = All-append IsCounted rows (row ∷ []) all (All-cons IsCounted row [] one (All-nil IsCounted))
@@ -56,31 +56,31 @@ pub counted_step : (site : Site) (home : Home) (m : ℕ) (call : HomeCall) (repl
 unfolding HomeStep
 counted_step site Unopened m (Configure t w) Done after h all = rw h (All-nil IsCounted)
 counted_step site (Serving s v n rows) m (Configure t w) Done after h all =
-    let kept = counted_trimmed s m rows all in
-    rw h (elim (nat_lt v w) as (λ b. All IsCounted (rows_of (if b then Serving t w n (trimmed s m rows) else Serving s v n (trimmed s m rows)))) [ true ↦ kept | false ↦ kept ])
+    let kept = counted_unexpired s m rows all in
+    rw h (elim (nat_lt v w) as (λ b. All IsCounted (rows_of (if b then Serving t w n (unexpired s m rows) else Serving s v n (unexpired s m rows)))) [ true ↦ kept | false ↦ kept ])
 counted_step site Unopened m Close Done after h all = rw h (All-nil IsCounted)
 counted_step site (Serving s v n rows) m Close Done after h all = rw h (All-nil IsCounted)
 counted_step site (Serving s v n rows) m (Send body delay) (Sent sent) after h all =
-    rw h.2 (counted_push (trimmed s m rows) (sent_row site.home n sent.slot m (m + ms (unwrap_or delay s.delay)) body) (counted_trimmed s m rows all) ((λ none. refl), (λ zero. refl)))
+    rw h.2 (counted_push (unexpired s m rows) (sent_row site.home n sent.slot m (m + ms (unwrap_or delay s.delay)) body) (counted_unexpired s m rows all) ((λ none. refl), (λ zero. refl)))
 counted_step site (Serving s v n rows) m (Look max timeout) (Looked picked) after h all =
     let until : ℕ = m + ms (unwrap_or timeout s.timeout) in
-    rw h.2 (counted_mapped (received_if s (serials_of picked) m until) (trimmed s m rows) (counted_received s (serials_of picked) m until) (counted_trimmed s m rows all))
-counted_step site (Serving s v n rows) m (Look max timeout) Over after h all = rw h.2 (counted_trimmed s m rows all)
-counted_step site (Serving s v n rows) m (Delete receipt) Done after h all = rw h.1 (All-filter (λ row. not (is_named receipt row)) IsCounted (trimmed s m rows) (counted_trimmed s m rows all))
+    rw h.2 (counted_mapped (received_if s (serials_of picked) m until) (unexpired s m rows) (counted_received s (serials_of picked) m until) (counted_unexpired s m rows all))
+counted_step site (Serving s v n rows) m (Look max timeout) Over after h all = rw h.2 (counted_unexpired s m rows all)
+counted_step site (Serving s v n rows) m (Delete receipt) Done after h all = rw h.1 (All-filter (λ row. not (is_named receipt row)) IsCounted (unexpired s m rows) (counted_unexpired s m rows all))
 counted_step site (Serving s v n rows) m (Change receipt timeout) Done after h all =
-    rw h.3 (counted_mapped (changed_if m receipt (m + ms timeout)) (trimmed s m rows) (counted_changed m receipt (m + ms timeout)) (counted_trimmed s m rows all))
+    rw h.3 (counted_mapped (changed_if m receipt (m + ms timeout)) (unexpired s m rows) (counted_changed m receipt (m + ms timeout)) (counted_unexpired s m rows all))
 counted_step site (Serving s v n rows) m Purge Done after h all = rw h (All-nil IsCounted)
-counted_step site (Serving s v n rows) m Count (Counted counts) after h all = rw h.1 (counted_trimmed s m rows all)
-counted_step site (Serving s v n rows) m LeaveDead (Left item) after h all = rw h.3.2 (counted_left item.row (trimmed s m rows) h.3.0 h.3.1 (counted_trimmed s m rows all))
-counted_step site (Serving s v n rows) m (LeaveTask task) (Left item) after h all = rw h.2.2 (counted_left item.row (trimmed s m rows) h.2.0 h.2.1 (counted_trimmed s m rows all))
-counted_step site (Serving s v n rows) m (LeaveTask task) NoLiveRow after h all = rw h.1 (counted_trimmed s m rows all)
-counted_step site (Serving s v n rows) m (LeaveTask task) (NoOrigin serial) after h all = rw h.1 (counted_trimmed s m rows all)
+counted_step site (Serving s v n rows) m Count (Counted counts) after h all = rw h.1 (counted_unexpired s m rows all)
+counted_step site (Serving s v n rows) m LeaveDead (Left item) after h all = rw h.3.2 (counted_left item.row (unexpired s m rows) h.3.0 h.3.1 (counted_unexpired s m rows all))
+counted_step site (Serving s v n rows) m (LeaveTask task) (Left item) after h all = rw h.2.2 (counted_left item.row (unexpired s m rows) h.2.0 h.2.1 (counted_unexpired s m rows all))
+counted_step site (Serving s v n rows) m (LeaveTask task) NoLiveRow after h all = rw h.1 (counted_unexpired s m rows all)
+counted_step site (Serving s v n rows) m (LeaveTask task) (NoOrigin serial) after h all = rw h.1 (counted_unexpired s m rows all)
 counted_step site Closed m (LeaveTask task) SourceClosed after h all = rw h (All-nil IsCounted)
 counted_step site (Serving s v n rows) m (Enter item) (Entered entered) after h all =
-    rw h.3 (counted_push (trimmed s m rows) (entered_row site.home n entered.slot m item) (counted_trimmed s m rows all) (counted_entered item.reason site.home item.source n entered.slot m item.row))
+    rw h.3 (counted_push (unexpired s m rows) (entered_row site.home n entered.slot m item) (counted_unexpired s m rows all) (counted_entered item.reason site.home item.source n entered.slot m item.row))
 counted_step site Closed m (TurnBack item) Done after h all = rw h.1 (All-nil IsCounted)
 counted_step site (Serving s v n rows) m (GiveBack item) (Entered entered) after h all =
-    rw h.3 (counted_push (trimmed s m rows) (returned_row n entered.slot m item) (counted_trimmed s m rows all) (counted_returned item.reason n entered.slot m item.row))
+    rw h.3 (counted_push (unexpired s m rows) (returned_row n entered.slot m item) (counted_unexpired s m rows all) (counted_returned item.reason n entered.slot m item.row))
 counted_step site Closed m (GiveUp item) Done after h all = rw h.1 (All-nil IsCounted)
 counted_step site home m call reply after h all = elim h [ ]
 

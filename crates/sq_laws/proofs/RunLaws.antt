@@ -14,7 +14,7 @@ use Rattle.sq_model.specs.Replays.{HomeEvent, Replays}
 use Rattle.sq_model.specs.Homes.{Home, HomeStep}
 use Rattle.sq_model.specs.Directories.{Directory, DirectoryStep}
 use Rattle.sq_model.specs.Ledgers.{Ledger, LedgerEvent, LedgerStep, is_own}
-use Rattle.sq_model.specs.Systems.{HomeAt, System, Tag, DirectoryEvent, OfDirectory, OfLedger, OfHome, stamp_of, RunFrom, MomentsRise, is_alone, AreDirectory, AreLedger, HomeGoes, LedgerGoes, NamesItsPart, as_ledger, ledger_part_of, opening, IsRun}
+use Rattle.sq_model.specs.Systems.{HomeAt, System, Tag, DirectoryEvent, OfDirectory, OfLedger, OfHome, stamp_of, RunFrom, MomentsRise, is_alone, AreDirectory, AreLedger, HomeGoes, LedgerGoes, NamesItsPart, as_ledger, ledger_part_of, opening, IsRun, Opening}
 use Rattle.sq_model.specs.Merges.{LedgerIsAlone, of_directory, of_home, of_ledger, is_before, InOrder, IsMerged, history_at}
 
 one_number : (n : ℕ) → nat_eq n n ≡ true
@@ -145,14 +145,14 @@ none_below_zero [] = tt
 none_below_zero (t ∷ ts) = (omega arith, none_below_zero ts)
 
 -- histories that are merged are one run
-pub merged_run : (places limit : ℕ) (sites : List Site) (directory : List DirectoryEvent) (ledger : List LedgerEvent) (homes : List (List HomeEvent)) (run : List Tag) (after : System)
+pub merged_run : (o : Opening) (directory : List DirectoryEvent) (ledger : List LedgerEvent) (homes : List (List HomeEvent)) (run : List Tag) (after : System)
     → IsMerged directory ledger homes run
-    → ((i : ℕ) → HomeGoes (slice_get (opening places limit sites).homes i) (history_at homes i) (slice_get after.homes i))
-    → AreDirectory directory → Replays DirectoryStep (opening places limit sites).directory directory after.directory
-    → AreLedger ledger → Replays LedgerStep (opening places limit sites).ledger ledger after.ledger
-    → IsRun places limit sites run after
-merged_run places limit sites directory ledger homes run after merged each own goes names moves = record {
-  steps = run_from (opening places limit sites) after run (λ i. rw (merged.of_each_home i) (each i)) (rw merged.of_the_directory own) (rw merged.of_the_directory goes)
+    → ((i : ℕ) → HomeGoes (slice_get (opening o).homes i) (history_at homes i) (slice_get after.homes i))
+    → AreDirectory directory → Replays DirectoryStep (opening o).directory directory after.directory
+    → AreLedger ledger → Replays LedgerStep (opening o).ledger ledger after.ledger
+    → IsRun o run after
+merged_run o directory ledger homes run after merged each own goes names moves = record {
+  steps = run_from (opening o) after run (λ i. rw (merged.of_each_home i) (each i)) (rw merged.of_the_directory own) (rw merged.of_the_directory goes)
       merged.ledger_is_alone (rw merged.of_the_ledger names) (rw merged.of_the_ledger moves);
   moments = rises_all 0 run (none_below_zero run) merged.in_order;
 }

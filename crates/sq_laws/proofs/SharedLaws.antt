@@ -20,7 +20,7 @@ use Rattle.sq_model.specs.declared.shared.SharedAct.{SharedAct}
 use Rattle.sq_model.specs.declared.shared.SharedAct.TheVariants.{LeaveDead, LeaveTask, Enter, TurnBack, GiveBack, GiveUp}
 use Rattle.sq_model.specs.declared.task.NamedQueue.{NamedQueue}
 use Rattle.sq_model.specs.declared.task.Task.{Task}
-use Rattle.sq_model.specs.Rows.{Takes, trimmed, is_dead, is_live}
+use Rattle.sq_model.specs.Rows.{Takes, unexpired, is_dead, is_live}
 use Rattle.sq_model.specs.Homes.{Home, Unopened, Serving, Closed, HasSlot, HomeStep, IsFrom, home_refusal, may_enter, may_return}
 use Rattle.sq_model.specs.Tasks.{destination_or, is_running, may_leave, target_of}
 use Rattle.sq_model.specs.Ledgers.{HasRoom, Ledger, LedgerStep, MayTake, is_of_source, item_of, room_refusal, task_of}
@@ -124,12 +124,12 @@ goes_on : (site : Site) (home : Home) (l : Ledger) (m : ℕ) (act : SharedAct) (
 goes_on site home l m act call reply after l_after is slot at_home in_ledger =
     inr (record { call = call; reply = reply; after = after; l_after = l_after; is_asked = is; slot = slot; step = record { at_home = at_home; in_ledger = in_ledger } })
 
-dead_goes : (site : Site) (s : Settings) (v n : ℕ) (rows : List Row) (l : Ledger) (m : ℕ) (b : Bool) → list_any (is_dead s m) (trimmed s m rows) ≡ b → (if b then room_refusal l else None) ≡ None
+dead_goes : (site : Site) (s : Settings) (v n : ℕ) (rows : List Row) (l : Ledger) (m : ℕ) (b : Bool) → list_any (is_dead s m) (unexpired s m rows) ≡ b → (if b then room_refusal l else None) ≡ None
     → IsUnrecorded site (Serving s v n rows) l m LeaveDead ⊎ HasSharedStep site (Serving s v n rows) l m LeaveDead
 unfolding HomeStep LedgerStep
 dead_goes site s v n rows l m false e h = inl e
 dead_goes site s v n rows l m true e h =
-    let t = takes_one (is_dead s m) (trimmed s m rows) e in
+    let t = takes_one (is_dead s m) (unexpired s m rows) e in
     let target = has_target s.redrive _ t.0 t.3 in
     let item : Item = record { number = l.next_item; row = t.0; source = site.home.queue; target = target.0; reason = DeadLetter; homeward = false } in
     let from : IsFrom site.home DeadLetter item = record { from = refl; because = refl; forward = refl } in
@@ -137,7 +137,7 @@ dead_goes site s v n rows l m true e h =
 
 -- a live row leaves for a task, where it has somewhere to go, and else the task fails
 leaves_to : (site : Site) (s : Settings) (v n : ℕ) (rows : List Row) (l : Ledger) (m number : ℕ) (task : Task) → MayTake l site.home.queue number task → may_leave m task ≡ true → HasRoom l
-    → (row : Row) (rest : List Row) → Takes row (trimmed s m rows) rest → is_live s m row ≡ true → (target : ℕ) → Some target ≡ target_of task row → HasSharedStep site (Serving s v n rows) l m (LeaveTask number)
+    → (row : Row) (rest : List Row) → Takes row (unexpired s m rows) rest → is_live s m row ≡ true → (target : ℕ) → Some target ≡ target_of task row → HasSharedStep site (Serving s v n rows) l m (LeaveTask number)
 unfolding HomeStep LedgerStep
 leaves_to site s v n rows l m number task may pace room row rest t live target e =
     let item : Item = record { number = l.next_item; row = row; source = site.home.queue; target = target; reason = ForTask number; homeward = false } in
@@ -155,7 +155,7 @@ leaves_to site s v n rows l m number task may pace room row rest t live target e
     }
 
 row_goes : (site : Site) (s : Settings) (v n : ℕ) (rows : List Row) (l : Ledger) (m number : ℕ) (task : Task) → MayTake l site.home.queue number task → may_leave m task ≡ true → HasRoom l
-    → (row : Row) (rest : List Row) → Takes row (trimmed s m rows) rest → is_live s m row ≡ true → (destination : Option NamedQueue) (origin : Option ℕ) → task.destination ≡ destination → row.origin ≡ origin
+    → (row : Row) (rest : List Row) → Takes row (unexpired s m rows) rest → is_live s m row ≡ true → (destination : Option NamedQueue) (origin : Option ℕ) → task.destination ≡ destination → row.origin ≡ origin
     → HasSharedStep site (Serving s v n rows) l m (LeaveTask number)
 unfolding HomeStep LedgerStep
 row_goes site s v n rows l m number task may pace room row rest t live None None d o = record {
@@ -188,7 +188,7 @@ is_false true e = absurd cc
 is_false false e = refl
 
 task_goes : (site : Site) (s : Settings) (v n : ℕ) (rows : List Row) (l : Ledger) (m number : ℕ) (task : Task) → MayTake l site.home.queue number task → (throttled live : Bool) → is_throttled m (task_of number l) ≡ throttled
-    → list_any (is_live s m) (trimmed s m rows) ≡ live → (if not throttled && live then room_refusal l else None) ≡ None → IsUnrecorded site (Serving s v n rows) l m (LeaveTask number) ⊎ HasSharedStep site (Serving s v n rows) l m (LeaveTask number)
+    → list_any (is_live s m) (unexpired s m rows) ≡ live → (if not throttled && live then room_refusal l else None) ≡ None → IsUnrecorded site (Serving s v n rows) l m (LeaveTask number) ⊎ HasSharedStep site (Serving s v n rows) l m (LeaveTask number)
 unfolding HomeStep LedgerStep
 task_goes site s v n rows l m number task may true live e f h = inl (task, may, is_false (may_leave m task) (ap (is_throttled m) (sym may.found) ∙ e))
 task_goes site s v n rows l m number task may false false e f h =
@@ -196,7 +196,7 @@ task_goes site s v n rows l m number task may false false e f h =
     goes_on site (Serving s v n rows) l m (LeaveTask number) (asks.LeaveTask number) NoLiveRow _ _ refl tt (f, refl) ((task, may, pace), refl)
 task_goes site s v n rows l m number task may false true e f h =
     let pace : may_leave m task ≡ true = not_false _ (ap (is_throttled m) (sym may.found) ∙ e) in
-    let t = takes_one (is_live s m) (trimmed s m rows) f in
+    let t = takes_one (is_live s m) (unexpired s m rows) f in
     inr (row_goes site s v n rows l m number task may pace (room_for l h) t.0 t.1 t.2 t.3 task.destination t.0.origin refl refl)
 
 -- an item that may enter is there
@@ -211,10 +211,10 @@ returning_item site l number (Some item) e h = (item, e, h)
 pub shared_possible : (site : Site) (home : Home) (l : Ledger) (m : ℕ) (act : SharedAct) → shared_refusal site home l m act ≡ None → IsUnrecorded site home l m act ⊎ HasSharedStep site home l m act
 unfolding HomeStep LedgerStep shared_refusal
 shared_possible site Unopened l m act h = absurd cc
-shared_possible site (Serving s v n rows) l m LeaveDead h = dead_goes site s v n rows l m (list_any (is_dead s m) (trimmed s m rows)) refl h
+shared_possible site (Serving s v n rows) l m LeaveDead h = dead_goes site s v n rows l m (list_any (is_dead s m) (unexpired s m rows)) refl h
 shared_possible site (Serving s v n rows) l m (LeaveTask number) h =
     let f = found_task site l number (task_of number l) _ refl h in
-    task_goes site s v n rows l m number f.0.0 f.0.2 (is_throttled m (task_of number l)) (list_any (is_live s m) (trimmed s m rows)) refl refl f.1
+    task_goes site s v n rows l m number f.0.0 f.0.2 (is_throttled m (task_of number l)) (list_any (is_live s m) (unexpired s m rows)) refl refl f.1
 shared_possible site (Serving s v n rows) l m (Enter number) h =
     let p = place_left _ _ _ _ h in
     let i = entering_item site l number (item_of number l) refl (not_false _ (passed _ _ _ p.1).0) in
@@ -252,11 +252,11 @@ dead_there : (s : Settings) (m : ℕ) (row : Row) (before after : List Row) → 
 dead_there s m row [] after e = rw e refl
 dead_there s m row (x ∷ before) after e = or_right (is_dead s m x) _ (dead_there s m row before after e)
 
-no_dead_leave : (site : Site) (s : Settings) (v n : ℕ) (rows : List Row) (m : ℕ) (reply : HomeReply) (after : Home) → HomeStep site (Serving s v n rows) m asks.LeaveDead reply after → list_any (is_dead s m) (trimmed s m rows) ≡ false → ⊥
+no_dead_leave : (site : Site) (s : Settings) (v n : ℕ) (rows : List Row) (m : ℕ) (reply : HomeReply) (after : Home) → HomeStep site (Serving s v n rows) m asks.LeaveDead reply after → list_any (is_dead s m) (unexpired s m rows) ≡ false → ⊥
 unfolding HomeStep
 no_dead_leave site s v n rows m (Left item) after h none =
     let t = h.3.1 in
-    not_both (list_any (is_dead s m) (trimmed s m rows)) (list_any (is_dead s m) (trimmed s m rows)) refl (ap (list_any (is_dead s m)) t.at ∙ dead_there s m item.row t.before t.after h.2) none
+    not_both (list_any (is_dead s m) (unexpired s m rows)) (list_any (is_dead s m) (unexpired s m rows)) refl (ap (list_any (is_dead s m)) t.at ∙ dead_there s m item.row t.before t.after h.2) none
 no_dead_leave site s v n rows m reply after h none = elim h [ ]
 
 one_pace : (l : Ledger) (number m : ℕ) (task other : Task) → task_of number l ≡ Some task → task_of number l ≡ Some other → may_leave m task ≡ true → may_leave m other ≡ false → ⊥

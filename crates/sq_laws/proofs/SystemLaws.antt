@@ -18,12 +18,12 @@ use Rattle.sq_model.specs.declared.ledger.LedgerReply.{LedgerReply}
 use Rattle.sq_model.specs.declared.ledger.LedgerReply.TheVariants as answers
 use Rattle.sq_model.specs.declared.replies.HomeReply.{HomeReply}
 use Rattle.sq_model.specs.declared.replies.HomeReply.TheVariants.{Done, Sent, Looked, Over, Counted, Left, NoLiveRow, NoOrigin, SourceClosed, Entered}
-use Rattle.sq_model.specs.Rows.{trimmed}
+use Rattle.sq_model.specs.Rows.{unexpired}
 use Rattle.sq_model.specs.Homes.{Home, Unopened, Serving, Closed, HomeStep, fresh_id}
 use Rattle.sq_model.specs.Lineages.{Ending, GivenUp, given_up, home_ends, items_with, home_sends, home_outs, home_ins, rows_of, same_id, rows_with, ends_with, sends_with}
 use Rattle.sq_model.specs.Ledgers.{Ledger, LedgerStep, IsLedger, item_of, items_without, turned_if, is_own}
 use Rattle.sq_model.specs.Replays.{HomeEvent}
-use Rattle.sq_model.specs.Systems.{HomeAt, System, Tag, OfDirectory, OfLedger, OfHome, IsStep, LedgerGoes, RunFrom, opening, is_alone, same_home, IsOnePlace}
+use Rattle.sq_model.specs.Systems.{HomeAt, System, Tag, OfDirectory, OfLedger, OfHome, IsStep, LedgerGoes, RunFrom, opening, is_alone, same_home, IsOnePlace, Opening}
 use Rattle.sq_model.specs.Places.{step_ends, run_ends, tag_sends, run_sends, homes_with}
 use Rattle.sq_laws.proofs.LineageLaws.{home_law, ends_append}
 use Rattle.sq_laws.proofs.LedgerLists.{count_append, count_turned, count_without, turned_row}
@@ -211,7 +211,7 @@ serial_law : (x : MessageId) (site : Site) (home : Home) (m : ℕ) (call : HomeC
 unfolding HomeStep
 serial_law x site Unopened m (Configure t w) Done after h = rw h (omega (arith, opened (same_home (record { queue = x.queue; home = x.home }) site.home) x.serial))
 serial_law x site (Serving s v n rows) m (Configure t w) Done after h =
-    rw h (omega (arith, configured (same_home (record { queue = x.queue; home = x.home }) site.home) (nat_lt v w) x.serial v w n s t (trimmed s m rows)))
+    rw h (omega (arith, configured (same_home (record { queue = x.queue; home = x.home }) site.home) (nat_lt v w) x.serial v w n s t (unexpired s m rows)))
 serial_law x site Unopened m Close Done after h = rw h (omega (arith, closed (same_home (record { queue = x.queue; home = x.home }) site.home) 0))
 serial_law x site (Serving s v n rows) m Close Done after h = rw h (omega (arith, closed (same_home (record { queue = x.queue; home = x.home }) site.home) 0))
 serial_law x site (Serving s v n rows) m (Send body delay) (Sent sent) after h =
@@ -264,9 +264,9 @@ all_unspent x (site ∷ sites) =
     ) refl
 
 -- a message that was sent is in one place, and another in none
-pub one_place : (x : MessageId) (places limit : ℕ) (sites : List Site) (ts : List Tag) (after : System) (r : RunFrom (opening places limit sites) ts after) → IsOnePlace sites
-    → (homes_with x after.homes + items_with x after.ledger.items + ends_with x (run_ends (opening places limit sites) ts after r) ≡ sends_with x (run_sends ts)) × (sends_with x (run_sends ts) ≤ 1)
-one_place x places limit sites ts after r once = (
-  omega (arith, run_law x (opening places limit sites) ts after r (opens limit), none_yet x sites),
-  omega (arith, fresh_law x (opening places limit sites) ts after r, all_unspent x sites, once (record { queue = x.queue; home = x.home })),
+pub one_place : (x : MessageId) (o : Opening) (ts : List Tag) (after : System) (r : RunFrom (opening o) ts after) → IsOnePlace o.sites
+    → (homes_with x after.homes + items_with x after.ledger.items + ends_with x (run_ends (opening o) ts after r) ≡ sends_with x (run_sends ts)) × (sends_with x (run_sends ts) ≤ 1)
+one_place x o ts after r once = (
+  omega (arith, run_law x (opening o) ts after r (opens o.transit), none_yet x o.sites),
+  omega (arith, fresh_law x (opening o) ts after r, all_unspent x o.sites, once (record { queue = x.queue; home = x.home })),
 )

@@ -26,7 +26,7 @@ permits_run =
     ∷ of_queues 0 4 0 3 (Create (codes "q") nothing_given) (Made (settings_at plain_source))
     ∷ of_second 0 5 0 4 (Configure plain 1) Done
     ∷ of_queues 0 6 0 5 (Read (codes "q")) (WasRead (record { queue = 2; settings = plain; redrive = None; allow = None }))
-    ∷ of_second 0 7 0 6 Count (Counted (record { visible = 0; flying = 0; delayed = 0 }))
+    ∷ of_second 0 7 0 6 Count (Counted (record { visible = 0; in_flight = 0; delayed = 0 }))
     ∷ []
 
 abbrev pub after_permits : System

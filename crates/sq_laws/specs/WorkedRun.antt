@@ -20,7 +20,7 @@ use Rattle.sq_model.specs.Directories.{Directory, opening_directory, settings_at
 use Rattle.sq_model.specs.Homes.{Closed, Home, fresh_id}
 use Rattle.sq_model.specs.Ledgers.{Ledger, opening_ledger}
 use Rattle.sq_model.specs.Policies.{nothing_given}
-use Rattle.sq_model.specs.Systems.{IsRun, OfDirectory, OfHome, OfLedger, System, Tag}
+use Rattle.sq_model.specs.Systems.{IsRun, OfDirectory, OfHome, OfLedger, Opening, System, Tag}
 use Rattle.sq_laws.specs.Worked.{hello, hello_once, hello_text, narrow, plain, worked_receipt, site_of, strict, wide, with_rows, worked_home}
 use Rattle.sq_laws.specs.WorkedDirectory.{dead_to, letters_queue, redrive_given, source_queue}
 use Rattle.sq_laws.specs.WorkedMoves.{dead_item, letter, letters_site}
@@ -32,9 +32,13 @@ stamp moment count = record { moment = moment; count = count }
 abbrev pub both_sites : List Site
 both_sites = letters_site ∷ wide ∷ []
 
--- a run from the opening, where 64 queues may be made and 10,000 messages may be in transit
+-- so many queues may be made at these homes, and 10,000 messages may be in transit
+abbrev pub opened_for : ℕ → List Site → Opening
+opened_for queues sites = record { queues = queues; transit = 10000; sites = sites }
+
+-- a run from the opening, where 64 queues may be made
 abbrev pub IsWorked : List Tag → System → Type 0
-IsWorked run after = IsRun 64 10000 both_sites run after
+IsWorked run after = IsRun (opened_for 64 both_sites) run after
 
 -- two homes, the first of queue 1 and the second of queue 2
 abbrev pub system_at : Site → Site → Directory → Ledger → Home → Home → System
@@ -126,9 +130,6 @@ after_receive = system both_made nothing_moves (with_rows plain 0 []) (with_rows
 
 abbrev pub after_leave : System
 after_leave = system both_made one_moves (with_rows plain 0 []) (with_rows strict 1 [])
-
-abbrev pub after_enter : System
-after_enter = system both_made one_moved (with_rows plain 1 (letter ∷ [])) (with_rows strict 1 [])
 
 abbrev pub after_all : System
 after_all = system both_made one_moved (with_rows plain 1 (once_received 31000 letter ∷ [])) (with_rows strict 1 [])

@@ -8,7 +8,7 @@ ghost use Rattle.sq_model.specs.declared.replies.HomeReply.{HomeReply};
 ghost use Rattle.std.specs.List.{All};
 ghost use Rattle.sq_model.specs.Rows.{IsCounted};
 ghost use Rattle.sq_model.specs.Homes.{Home, Unopened, HomeStep, home_refusal, IsRising, IsIdle, HasSlot};
-ghost use Rattle.sq_model.specs.Systems.{System, Tag, DirectoryEvent, RunFrom, IsRun, opening, IsOnePlace, HomeGoes, AreDirectory, AreLedger};
+ghost use Rattle.sq_model.specs.Systems.{System, Tag, DirectoryEvent, RunFrom, IsRun, opening, IsOnePlace, HomeGoes, AreDirectory, AreLedger, Opening};
 ghost use Rattle.sq_model.specs.Directories.{DirectoryStep};
 ghost use Rattle.sq_model.specs.Ledgers.{LedgerEvent, LedgerStep};
 ghost use Rattle.sq_model.specs.Replays.{HomeEvent, Replays};
@@ -42,8 +42,8 @@ pub fn steps_lose_nothing()
 /// In a run of the whole system each message is in one place: a message that was sent is in one home, once, or in transit,
 /// once, or left the system in one way, and no id is sent twice. A message that was not sent is nowhere.
 pub fn each_message_is_in_one_place()
-    ensures { (x : MessageId) (places limit : ℕ) (sites : List Site) (run : List Tag) (after : System) (r : RunFrom (opening places limit sites) run after) → IsOnePlace sites
-        → (homes_with x after.homes + items_with x after.ledger.items + ends_with x (run_ends (opening places limit sites) run after r) ≡ sends_with x (run_sends run)) × (sends_with x (run_sends run) ≤ 1) }
+    ensures { (x : MessageId) (o : Opening) (run : List Tag) (after : System) (r : RunFrom (opening o) run after) → IsOnePlace o.sites
+        → (homes_with x after.homes + items_with x after.ledger.items + ends_with x (run_ends (opening o) run after r) ≡ sends_with x (run_sends run)) × (sends_with x (run_sends run) ≤ 1) }
 {}
 
 /// Histories make a run: a list in which the events of each part stand as in its history, where each history leads from the
@@ -59,12 +59,12 @@ pub fn histories_make_a_run()
 /// Histories that are merged are one run: where the history of each part leads from the opening to that part's value, the list
 /// of all events sorted by stamp is a run of the whole system, and its moments never fall.
 pub fn merged_histories_are_a_run()
-    ensures { (places limit : ℕ) (sites : List Site) (directory : List DirectoryEvent) (ledger : List LedgerEvent) (homes : List (List HomeEvent)) (run : List Tag) (after : System)
+    ensures { (o : Opening) (directory : List DirectoryEvent) (ledger : List LedgerEvent) (homes : List (List HomeEvent)) (run : List Tag) (after : System)
         → IsMerged directory ledger homes run
-        → ((i : ℕ) → HomeGoes (slice_get (opening places limit sites).homes i) (history_at homes i) (slice_get after.homes i))
-        → AreDirectory directory → Replays DirectoryStep (opening places limit sites).directory directory after.directory
-        → AreLedger ledger → Replays LedgerStep (opening places limit sites).ledger ledger after.ledger
-        → IsRun places limit sites run after }
+        → ((i : ℕ) → HomeGoes (slice_get (opening o).homes i) (history_at homes i) (slice_get after.homes i))
+        → AreDirectory directory → Replays DirectoryStep (opening o).directory directory after.directory
+        → AreLedger ledger → Replays LedgerStep (opening o).ledger ledger after.ledger
+        → IsRun o run after }
 {}
 
 /// In a home that is the replay of its history, the last receive of a row is none exactly where its receive number is 0.

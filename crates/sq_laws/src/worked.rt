@@ -1,13 +1,13 @@
 //! Worked cases: what the model says of one message or two at given moments, each the contract of a function without code.
 #![tactic(auto, unfolding(sq_model::specs::Homes::HomeStep, sq_model::specs::Homes::home_refusal))]
 
-ghost use Rattle.std.specs.Prelude.{◌≡◌, ℕ, true, false, List, [], ◌∷◌, Option, Some, None, length};
+ghost use Rattle.std.specs.Prelude.{◌≡◌, ℕ, true, false, List, [], ◌∷◌, Some, None, length};
 ghost use Rattle.sq_base.specs.declared.refusal.Refusal.TheVariants.{InvalidParameterValue, MessageNotInflight, OverLimit, ReceiptHandleIsInvalid};
 ghost use Rattle.sq_base.specs.declared.message_id.MessageId.{MessageId};
 ghost use Rattle.sq_base.specs.declared.row.Row.{Row};
 ghost use Rattle.sq_model.specs.declared.calls.HomeCall.TheVariants.{Configure, Send, Look, Delete, Change, Purge};
 ghost use Rattle.sq_model.specs.declared.replies.HomeReply.TheVariants.{Done, Sent, Looked, Over};
-ghost use Rattle.sq_model.specs.Rows.{is_delayed, is_flying, is_dead, is_live, is_expired};
+ghost use Rattle.sq_model.specs.Rows.{is_delayed, is_in_flight, is_dead, is_live, is_expired};
 ghost use Rattle.sq_model.specs.Homes.{Home, Serving, HomeStep, home_refusal, entered_row, moved};
 ghost use Rattle.sq_laws.specs.Worked.{plain, kept_for, strict, worked_home, wide, narrow, careful, hello_text, worked_id, sent_as, hello, delayed_hello, hello_once, hello_twice, hello_late, worked_receipt, with_rows, dead_hello, moved_hello};
 
@@ -20,9 +20,9 @@ pub fn a_sent_message_is_received_at_once()
 /// A message that was received at 1000 for 30 seconds is in flight at 30,999 and live at 31,000.
 pub fn a_received_message_is_hidden_until_its_timeout()
     ensures hidden { is_live plain 30999 hello_once ≡ false }
-    ensures flying { is_flying 30999 hello_once ≡ true }
+    ensures in_flight { is_in_flight 30999 hello_once ≡ true }
     ensures live { is_live plain 31000 hello_once ≡ true }
-    ensures landed { is_flying 31000 hello_once ≡ false }
+    ensures landed { is_in_flight 31000 hello_once ≡ false }
     ensures none_is_given { (picked : List Row) (after : Home) → HomeStep wide (with_rows plain 1 (hello_once ∷ [])) 30999 (Look 10 None) (Looked picked) after → length picked ≡ 0 }
 {}
 
@@ -51,7 +51,7 @@ pub fn a_delayed_message_is_live_at_the_end_of_its_delay()
 {}
 
 /// A message that is sent at 1000 and kept for 60 seconds is there at 60,999 and expired at 61,000. A longer
-/// retention that is set at 60,999 keeps it; set at 61,000 it comes too late: the trim goes by the settings before.
+/// retention that is set at 60,999 keeps it; set at 61,000 it comes too late: what expires goes by the settings before.
 pub fn a_longer_retention_brings_no_message_back()
     ensures kept { is_expired (kept_for 60) 60999 hello ≡ false }
     ensures expired { is_expired (kept_for 60) 61000 hello ≡ true }
@@ -59,11 +59,11 @@ pub fn a_longer_retention_brings_no_message_back()
     ensures too_late { (after : Home) → HomeStep wide (Serving (kept_for 60) 1 1 (hello ∷ [])) 61000 (Configure (kept_for 120) 2) Done after → after ≡ Serving (kept_for 120) 2 1 [] }
 {}
 
-/// Settings whose version is not above the home's set nothing, and the trim is done.
+/// Settings whose version is not above the home's set nothing, and what has expired goes.
 pub fn an_older_version_sets_nothing()
     ensures older { (after : Home) → HomeStep wide (Serving plain 2 1 (hello ∷ [])) 2000 (Configure strict 1) Done after → after ≡ Serving plain 2 1 (hello ∷ []) }
     ensures unchanged { (after : Home) → HomeStep wide (Serving plain 2 1 (hello ∷ [])) 2000 (Configure strict 2) Done after → after ≡ Serving plain 2 1 (hello ∷ []) }
-    ensures trims { (after : Home) → HomeStep wide (Serving (kept_for 60) 2 1 (hello ∷ [])) 61000 (Configure strict 2) Done after → after ≡ Serving (kept_for 60) 2 1 [] }
+    ensures expires { (after : Home) → HomeStep wide (Serving (kept_for 60) 2 1 (hello ∷ [])) 61000 (Configure strict 2) Done after → after ≡ Serving (kept_for 60) 2 1 [] }
 {}
 
 /// With one message in flight, where no more may be, and another one live, a look answers `Over` and nothing else.
@@ -78,7 +78,7 @@ pub fn too_many_in_flight_are_refused()
 pub fn a_full_home_refuses_a_send()
     ensures full { home_refusal narrow (with_rows plain 1 (hello ∷ [])) 2000 (Send hello_text None) ≡ Some OverLimit }
     ensures no_step { (id : MessageId) (slot : ℕ) (after : Home) → HomeStep narrow (with_rows plain 1 (hello ∷ [])) 2000 (Send hello_text None) (Sent (record { id = id; slot = slot })) after → ⊥ }
-    ensures after_trim { home_refusal narrow (with_rows (kept_for 60) 1 (hello ∷ [])) 61000 (Send hello_text None) ≡ None }
+    ensures after_expire { home_refusal narrow (with_rows (kept_for 60) 1 (hello ∷ [])) 61000 (Send hello_text None) ≡ None }
 {}
 
 /// A timeout changed to 0 at 2000 makes the message live at 2000; a further change is refused, since it is not in flight.

@@ -10,7 +10,7 @@ ghost use Rattle.sq_model.specs.Ledgers.{ledger_refusal, peek};
 ghost use Rattle.sq_model.specs.Shared.{IsUnrecorded};
 ghost use Rattle.sq_model.specs.Systems.{IsRun};
 ghost use Rattle.sq_laws.specs.WorkedMoves.{letters_site};
-ghost use Rattle.sq_laws.specs.WorkedRun.{IsWorked};
+ghost use Rattle.sq_laws.specs.WorkedRun.{IsWorked, opened_for};
 ghost use Rattle.sq_laws.specs.WorkedTasks.{after_cancel, after_cancelled, after_chain, after_deleted, after_no_origin, after_origin, after_turned, after_two_left, cancelled_run, chain_name, chain_named, chain_run, chain_sites, deleted_run, no_origin_run, origin_run, turned_letter, until_cancelled, until_turned, until_two_left, with_letters};
 
 /// A task of rate 2 takes two of five messages in one second, none more at 1999, and the next at 2000. Two came in when it is cancelled.
@@ -41,7 +41,7 @@ pub fn a_task_without_a_destination_goes_to_origins()
 /// Of 102 queues, each but the first has the one before it for its dead letters. A hundred tasks are started, each of another source.
 /// Another one of the first source is refused as such, and one of the hundred and first source for the number of tasks.
 pub fn a_hundred_tasks_are_active_in_one_run()
-    ensures run { IsRun 102 10000 chain_sites chain_run after_chain }
+    ensures run { IsRun (opened_for 102 chain_sites) chain_run after_chain }
     ensures one_a_source { ledger_refusal after_chain.ledger 0 (StartTask (chain_named 0) None None) ≡ Some UnsupportedOperation }
     ensures is_source { can_redrive (chain_name 100) None after_chain.directory ≡ Ok (record { source = chain_named 100; destination = None }) }
     ensures too_many { ledger_refusal after_chain.ledger 0 (StartTask (chain_named 100) None None) ≡ Some OverLimit }

@@ -1,7 +1,6 @@
 -- Each step of the ledger is one of the model, and leaves it the replay of its events.
 use Rattle.std.proofs.Common.{◌≡◌, ◌⊎◌, ℕ, ◌+◌, ◌<◌, ◌≤◌, Bool, true, false, cond, List, [], ◌∷◌, ◌++◌, length, map, Some, refl, sym, ap, ◌∙◌, subst, arith}
 use Rattle.std.specs.Prelude.{count_by, find, nat_le}
-use Rattle.std.specs.List.{AllByRecursion}
 use Rattle.std.proofs.lemmas.Grind.{common_steps}
 use Rattle.std.proofs.lemmas.List.Sums.{sum_by-cons}
 use Rattle.sq_base.specs.StampValue.{StampValue}
@@ -37,7 +36,7 @@ use Rattle.sq_task.specs.Counts.{unsettled}
 use Rattle.sq_log.specs.LogValue.{LogValue}
 use Rattle.sq_log.specs.Rooms.{GrowingValue, KeepsRoom}
 use Rattle.sq_ledger.specs.declared.tasks.TaskChange.TheVariants as to
-use Rattle.sq_ledger.specs.ItemMoves.{change_by, tasks_without}
+use Rattle.sq_ledger.specs.inside.ItemMoves.{change_by, tasks_without}
 use Rattle.sq_ledger.specs.LedgerHistory.{LedgerHistory, history_of, items_after, ledger_with}
 use Rattle.sq_ledger.specs.LedgerHistories.{DoesItem, IsLeaving, IsLedgerKept, IsNoneLeft, LedgerRecords, LedgerShares, own_event, shared_event}
 use Rattle.sq_ledger.specs.TaskIndexes.{MayChange, MayChangeFor, changed_by}
@@ -47,16 +46,7 @@ use Rattle.sq_ledger.specs.TaskIndexes.{MayChange, MayChangeFor, changed_by}
 number_is : (number : ℕ) (items : List Item) (item : Item) → find (has_number number) items ≡ Some item → item.number ≡ number
 number_is number items item found = found_number (λ (x : Item). x.number) number items item found
 
--- an item that is found holds what all do
-found_item : (P : Item → Type 0) (number : ℕ) (items : List Item) (item : Item) → AllByRecursion P items → find (has_number number) items ≡ Some item → P item
-found_item P number [] item h e = absurd cc
-found_item P number (x ∷ items) item h e =
-    elim (has_number number x) as (λ b. cond b (Some x) (find (has_number number) items) ≡ Some item → P item) [
-      | true ↦ (λ f. subst P (some_same x item f) h.0)
-      | false ↦ (λ f. found_item P number items item h.1 f)
-    ] e
-
--- and is one of its kind
+-- an item that is found is one of its kind
 counted_item : (p : Item → Bool) (number : ℕ) (items : List Item) (item : Item) → find (has_number number) items ≡ Some item → p item ≡ true → 1 ≤ count_by p items
 counted_item p number [] item e t = absurd cc
 counted_item p number (x ∷ items) item e t =
@@ -148,10 +138,10 @@ may_be GiveUp task more = more
 
 moves_of : (l : Ledger) → IsLedger l → (number : ℕ) (item : Item) (act : ItemAct) → find (has_number number) l.items ≡ Some item → MayChangeFor (change_by act) item.reason l.tasks
 moves_of l h number item act found task reason =
-    let there = found_item (HasTask l) number l.items item h.each_item found task reason in
+    let there = found_of_all (HasTask l) (has_number number) l.items item h.each_item found task reason in
     let is = found_number (λ (t : Task). t.number) task l.tasks there.0 there.1 in
     let counted = counted_item (λ x. is_for there.0.number x.reason) number l.items item found (same_reason task there.0.number item.reason reason is) in
-    let all = in_transit_of l.items there.0 (found_of_all (IsTask l.items) task l.tasks there.0 h.each there.1) in
+    let all = in_transit_of l.items there.0 (found_of_all (IsTask l.items) (is_task task) l.tasks there.0 h.each there.1) in
     (there.0, there.1, may_be act there.0 (omega (arith, counted, all)))
 
 no_reason : (reason : Reason) (number : ℕ) → reason ≡ DeadLetter → reason ≡ ForTask number → ⊥
@@ -165,7 +155,7 @@ leaves_of l h m home LeaveDead item room leaves number reason = absurd (no_reaso
 leaves_of l h m home (LeaveTask asked) item room leaves number reason =
     let same = same_number asked number item.reason leaves.0.because reason in
     let may = leaves.1.1 in
-    let below = found_of_all (LeftBelow l.next_item) asked l.tasks leaves.1.0 h.left_below may.found in
+    let below = found_of_all (LeftBelow l.next_item) (is_task asked) l.tasks leaves.1.0 h.left_below may.found in
     (leaves.1.0, subst (λ (n : ℕ). find (is_task n) l.tasks ≡ Some leaves.1.0) same may.found, (may.running, leaves.1.2, omega (arith, below, room.not_worn)))
 leaves_of l h m home call item room leaves number reason = elim leaves [ ]
 

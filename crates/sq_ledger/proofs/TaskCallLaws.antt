@@ -1,12 +1,12 @@
 -- What the ledger does with tasks by itself: each call is a step of the model, or is refused as it says.
-use Rattle.std.proofs.Common.{◌≡◌, ◌⊎◌, ℕ, ◌+◌, ◌<◌, ◌≤◌, Bool, true, false, not, List, [], ◌∷◌, ◌++◌, length, Option, Some, None, Ok, refl, sym, ap, inr, ◌∙◌, subst, arith, inl}
+use Rattle.std.proofs.Common.{◌≡◌, ℕ, ◌+◌, ◌<◌, ◌≤◌, Bool, true, false, not, List, [], ◌∷◌, ◌++◌, length, Option, Some, None, Ok, refl, sym, ap, inr, ◌∙◌, subst, arith, inl}
 use Rattle.std.specs.Prelude.{◌≢◌, ◌||◌, count_by, option_map, find, nat_le, nat_lt, take}
 use Rattle.std.specs.List.{list_any}
 use Rattle.std.proofs.lemmas.Grind.{common_steps}
 use Rattle.sq_base.specs.StampValue.{StampValue}
 use Rattle.sq_base.specs.Stamps.{after}
 use Rattle.sq_base.specs.declared.refusal.Refusal.{Refusal}
-use Rattle.sq_base.specs.declared.refusal.Refusal.TheVariants.{NoMemory, Worn, OverLimit, UnsupportedOperation}
+use Rattle.sq_base.specs.declared.refusal.Refusal.TheVariants.{NoMemory, OverLimit, UnsupportedOperation}
 use Rattle.sq_model.specs.declared.item.Item.{Item}
 use Rattle.sq_model.specs.declared.item.Reason.TheVariants.{Task as ForTask}
 use Rattle.sq_model.specs.declared.event.Actor.{Actor}
@@ -27,8 +27,9 @@ use Rattle.sq_task.specs.Counts.{settled, unsettled}
 use Rattle.sq_ledger.specs.declared.tasks.TaskChange.TheVariants as to
 use Rattle.sq_log.specs.LogValue.{LogValue}
 use Rattle.sq_log.specs.Rooms.{GrowingValue, KeepsRoom}
-use Rattle.sq_ledger.specs.LedgerHistory.{LedgerHistory, history_of, ledger_with}
-use Rattle.sq_ledger.specs.LedgerHistories.{IsLedgerKept, IsLedgerRefused, KeepsTaskRoom, LedgerRecords, MayStart, own_event, start_refusal}
+use Rattle.sq_ledger.specs.LedgerHistory.{LedgerHistory, LedgerValue, history_of, ledger_with}
+use Rattle.sq_ledger.specs.LedgerHistories.{IsLedgerKept, IsLedgerRefused, KeepsTaskRoom, LedgerRecords, own_event}
+use Rattle.sq_ledger.specs.inside.LedgerHistories.{MayStart, start_refusal}
 use Rattle.sq_ledger.specs.TaskIndexes.{MayChange, changed_by, newest, task_number}
 use Rattle.sq_ledger.proofs.LedgerLaws.{for_reason, holds, in_transit_of, next_is}
 
@@ -104,8 +105,9 @@ recorded_as items next tasks changed limit log begun new by now stamp call reply
     subst (λ (r : LedgerRecordValue). LedgerRecords (history_of items next tasks limit log) (history_of items next changed limit new) by now call r) (sym (is ∙ ap (λ (n : ℕ). record_of n event) (ap length same_events))) did
 
 -- it is refused where a check of it fails
-pub refused_as : (h : LedgerHistory) (by : Actor) (now : ℕ) (call : LedgerCall) (stamp : StampValue) (e : Refusal) → after h.last by.seen now ≡ Ok stamp → ledger_refusal h.ledger stamp.moment call ≡ Some e → IsLedgerRefused h by now call e
-refused_as h by now call stamp e stamped refused = inr (inr (stamp, stamped, inl refused))
+pub refused_as : (inside : LedgerHistory) (ledger : LedgerValue) (by : Actor) (now : ℕ) (call : LedgerCall) (stamp : StampValue) (e : Refusal) → inside ≡ ledger.history → after inside.last by.seen now ≡ Ok stamp → ledger_refusal inside.ledger stamp.moment call ≡ Some e
+    → IsLedgerRefused ledger.history by now call e
+refused_as inside ledger by now call stamp e same stamped refused = rw (← same) (inr (inr (stamp, stamped, inl refused)))
 
 -- a list is out of memory where there are tasks to copy
 pub list_out : (h : LedgerHistory) (by : Actor) (now source most : ℕ) (stamp : StampValue) (e : Refusal) → after h.last by.seen now ≡ Ok stamp → e ≡ NoMemory → (newest source h.ledger.tasks ≢ None) → IsLedgerRefused h by now (asks.ListTasks source most) e
@@ -117,7 +119,7 @@ list_out h by now source most stamp e stamped out some = inr (inr (stamp, stampe
 transit_is : (h : LedgerHistory) → IsLedgerKept h → (number : ℕ) (task : Task) → find (is_task number) h.ledger.tasks ≡ Some task → unsettled task ≡ in_transit number h.ledger.items
 transit_is h kept number task found =
     let l = holds h kept in
-    in_transit_of h.ledger.items task (found_of_all (IsTask h.ledger.items) number h.ledger.tasks task l.each found)
+    in_transit_of h.ledger.items task (found_of_all (IsTask h.ledger.items) (is_task number) h.ledger.tasks task l.each found)
     ∙ ap (λ (n : ℕ). in_transit n h.ledger.items) (found_number (λ (t : Task). t.number) number h.ledger.tasks task found)
 
 none_waits : (task : Task) → is_active task.status ≡ true → unsettled task ≡ 0 → finish_refusal (unsettled task) (Some task) ≡ None
@@ -128,10 +130,6 @@ pub may_be_finished : (h : LedgerHistory) → IsLedgerKept h → (number : ℕ) 
 may_be_finished h kept number may =
     let f = finishes (in_transit number h.ledger.items) (find (is_task number) h.ledger.tasks) may in
     (f.0, f.1, none_waits f.0 f.2 (transit_is h kept number f.0 f.1 ∙ f.3))
-
-pub may_be_cancelled : (tasks : List Task) (number moved : ℕ) → (task : Task) × (find (is_task number) tasks ≡ Some task) × (is_running task.status ≡ true) × (moved ≡ task.moved)
-    → (task : Task) × (find (is_task number) tasks ≡ Some task) × MayChange to.Cancelled task
-may_be_cancelled tasks number moved may = (may.0, may.1, may.2)
 
 -- how many of a task are in transit is what is left of those that left
 pub waits : (h : LedgerHistory) → IsLedgerKept h → (number waiting : ℕ) (task : Task) → find (is_task number) h.ledger.tasks ≡ Some task → task.left ≡ settled task + waiting → in_transit number h.ledger.items ≡ waiting
@@ -162,16 +160,8 @@ next_in_range h kept = (holds h kept).tasks_end
 pub source_is_active : (h : LedgerHistory) → IsLedgerKept h → (source : ℕ) → list_any (is_active_at source) h.ledger.tasks ≡ is_still_active (last_task source h.ledger)
 source_is_active h kept source = last_is_active source h.ledger (holds h kept)
 
-pub numbers_end : (source : ℕ) (l : Ledger) → (l.next_task ≡ 0) ⊎ (last_number ≤ l.next_task) → 0 < l.next_task → start_refusal source l ≡ Some Worn
-numbers_end source l end from =
-    let test : nat_le last_number l.next_task ≡ true = grind (arith, common_steps, end, from) in
-    rw test refl
-
 below_end : (n : ℕ) → n < last_number → nat_le last_number n ≡ false
 below_end n h = grind (arith, common_steps)
-
-pub source_busy : (source : ℕ) (l : Ledger) → l.next_task < last_number → list_any (is_active_at source) l.tasks ≡ true → start_refusal source l ≡ Some UnsupportedOperation
-source_busy source l below busy = rw (below_end l.next_task below, busy) refl
 
 enough : (n : ℕ) → most_active ≤ n → nat_le most_active n ≡ true
 enough n h = grind (arith, common_steps)

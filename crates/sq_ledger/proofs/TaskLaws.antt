@@ -77,19 +77,12 @@ active_changed number low f (x ∷ tasks) (suc place) task count is there =
     let a : Task → ℕ = λ t. cond (is_active t.status) 1 0 in
     rw (is_less x.number number (omega (arith, count.0, is)), sum_by-cons a x (changed_task number f tasks), sum_by-cons a x tasks) (omega (arith, rest))
 
-over_cancelled : (status : TaskStatus) → is_active status ≡ false → is_active (cancelled_as status) ≡ false
-over_cancelled Running h = h
-over_cancelled Completed h = refl
-over_cancelled Cancelling h = h
-over_cancelled Cancelled h = refl
-over_cancelled (Failed reason) h = refl
-
-over_finished : (status : TaskStatus) → is_active status ≡ false → is_active (finished_as status) ≡ false
-over_finished Running h = refl
-over_finished Completed h = refl
-over_finished Cancelling h = refl
-over_finished Cancelled h = refl
-over_finished (Failed reason) h = refl
+over : (status : TaskStatus) → is_active status ≡ false → (is_active (cancelled_as status) ≡ false) × (is_active (finished_as status) ≡ false)
+over Running h = (h, refl)
+over Completed h = (refl, refl)
+over Cancelling h = (h, refl)
+over Cancelled h = (refl, refl)
+over (Failed reason) h = (refl, refl)
 
 over_failed : (reason : FailureReason) (status : TaskStatus) → is_active status ≡ false → is_active (failed_as reason status) ≡ false
 over_failed reason Running h = refl
@@ -104,27 +97,19 @@ stays_over (to.Left m) task h = h
 stays_over to.Entered task h = h
 stays_over to.Back task h = h
 stays_over to.Dropped task h = h
-stays_over to.Cancelled task h = over_cancelled task.status h
-stays_over to.Finished task h = over_finished task.status h
+stays_over to.Cancelled task h = (over task.status h).0
+stays_over to.Finished task h = (over task.status h).1
 stays_over (to.Failed reason) task h = over_failed reason task.status h
 
-pub keeps_number : (change : TaskChange) (task : Task) → (changed_by change task).number ≡ task.number
-keeps_number (to.Left m) task = refl
-keeps_number to.Entered task = refl
-keeps_number to.Back task = refl
-keeps_number to.Dropped task = refl
-keeps_number to.Cancelled task = refl
-keeps_number to.Finished task = refl
-keeps_number (to.Failed reason) task = refl
-
-pub keeps_source : (change : TaskChange) (task : Task) → (changed_by change task).source ≡ task.source
-keeps_source (to.Left m) task = refl
-keeps_source to.Entered task = refl
-keeps_source to.Back task = refl
-keeps_source to.Dropped task = refl
-keeps_source to.Cancelled task = refl
-keeps_source to.Finished task = refl
-keeps_source (to.Failed reason) task = refl
+-- and its number and its source stay
+number_and_source : (change : TaskChange) (task : Task) → ((changed_by change task).number ≡ task.number) × ((changed_by change task).source ≡ task.source)
+number_and_source (to.Left m) task = (refl, refl)
+number_and_source to.Entered task = (refl, refl)
+number_and_source to.Back task = (refl, refl)
+number_and_source to.Dropped task = (refl, refl)
+number_and_source to.Cancelled task = (refl, refl)
+number_and_source to.Finished task = (refl, refl)
+number_and_source (to.Failed reason) task = (refl, refl)
 
 -- ---- the most recent task of a source
 
@@ -141,9 +126,6 @@ first_reversed t ts = ap (λ (l : List Task). option_map task_number (slice_get 
 or_none : (o : Option ℕ) → option_or o None ≡ o
 or_none None = refl
 or_none (Some n) = refl
-
-number_if : ℕ → Task → Option ℕ
-number_if source t = if is_of_source source t then Some t.number else None
 
 newest_cons : (source : ℕ) (t : Task) (ts : List Task) → newest source (t ∷ ts) ≡ option_or (newest source ts) (if is_of_source source t then Some t.number else None)
 newest_cons source t ts =
@@ -169,7 +151,7 @@ newest_changed source number change (x ∷ ts) =
     let y : Task = if is_task number x then changed_by change x else x in
     let same : (if is_of_source source y then Some y.number else None) ≡ (if is_of_source source x then Some x.number else None) =
     elim (is_task number x) as (λ b. (if is_of_source source (if b then changed_by change x else x) then Some (if b then changed_by change x else x).number else None) ≡ (if is_of_source source x then Some x.number else None)) [
-      | true ↦ rw (keeps_number change x, keeps_source change x) refl
+      | true ↦ rw ((number_and_source change x).0, (number_and_source change x).1) refl
       | false ↦ refl
     ] in
     newest_cons source y (changed_task number (changed_by change) ts) ∙ ap (λ (o : Option ℕ). option_or o (if is_of_source source y then Some y.number else None)) (newest_changed source number change ts)
@@ -249,7 +231,7 @@ before_changed number change rows place row count is there before k z g =
       | inl p ↦ before k z p ∙ sym (same z.task.source.number)
       | inr p ↦
           let old : row.before ≡ newest row.task.source.number (take k (tasks_in rows)) = before k row (subst (λ (n : ℕ). slice_get rows n ≡ Some row) (sym p.0) there) in
-          let source : z.task.source.number ≡ row.task.source.number = ap (λ (r : TaskRow). r.task.source.number) (sym p.1) ∙ ap (λ s. s.number) (keeps_source change row.task) in
+          let source : z.task.source.number ≡ row.task.source.number = ap (λ (r : TaskRow). r.task.source.number) (sym p.1) ∙ ap (λ s. s.number) (number_and_source change row.task).1 in
           ap (λ (r : TaskRow). r.before) (sym p.1) ∙ old ∙ ap (λ (n : ℕ). newest n (take k (tasks_in rows))) (sym source) ∙ sym (same z.task.source.number)
     ]
 
@@ -272,7 +254,7 @@ tasks_kept number change rows place row last old new kept is there how =
     let all : tasks_in (slice_set rows place (with_task row (changed_by change row.task))) ≡ changed_task number (changed_by change) (tasks_in rows) = changed_at number 1 (changed_by change) rows place row kept.count (omega (arith, is)) there in
     let fewer = fell number change rows place row last old kept is there in
     record {
-      count = rw all (tasks_changed number 1 (changed_by change) (tasks_in rows) (keeps_number change) kept.count);
+      count = rw all (tasks_changed number 1 (changed_by change) (tasks_in rows) (λ task. (number_and_source change task).0) kept.count);
       before = before_changed number change rows place row kept.count (omega (arith, is)) there kept.before;
       last = λ source. kept.last source ∙ sym (ap (λ (l : List Task). newest source l) all ∙ newest_changed source number change (tasks_in rows));
       active = rw all (omega (arith, how, fewer));

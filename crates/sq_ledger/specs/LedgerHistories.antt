@@ -1,11 +1,10 @@
 -- What a step of the ledger does to it, its own or one that it shares with a home, and what is true of the ledger at all times.
-use Rattle.std.specs.Prelude.{◌≡◌, ◌≢◌, ◌⊎◌, ℕ, ◌<◌, ◌++◌, true, false, [], ◌∷◌, length, Option, Some, None, Ok, Err, nat_le, count_by}
-use Rattle.std.specs.List.{list_any}
+use Rattle.std.specs.Prelude.{◌≡◌, ◌≢◌, ◌⊎◌, ℕ, ◌++◌, true, [], ◌∷◌, length, Some, None, Ok, Err}
 use Rattle.sq_base.specs.StampValue.{StampValue}
 use Rattle.sq_base.specs.Stamps.{start, after}
 use Rattle.sq_base.specs.declared.ids.HomeId.{HomeId}
 use Rattle.sq_base.specs.declared.refusal.Refusal.{Refusal}
-use Rattle.sq_base.specs.declared.refusal.Refusal.TheVariants.{NoMemory, Worn, OverLimit, UnsupportedOperation}
+use Rattle.sq_base.specs.declared.refusal.Refusal.TheVariants.{NoMemory}
 use Rattle.sq_model.specs.declared.calls.HomeCall.{HomeCall}
 use Rattle.sq_model.specs.declared.calls.HomeCall.TheVariants.{LeaveDead, LeaveTask}
 use Rattle.sq_model.specs.declared.event.Actor.{Actor}
@@ -20,13 +19,13 @@ use Rattle.sq_model.specs.declared.replies.HomeReply.{HomeReply}
 use Rattle.sq_model.specs.declared.replies.HomeReply.TheVariants.{NoLiveRow, NoOrigin, SourceClosed}
 use Rattle.sq_model.specs.declared.shared.ItemAct.{ItemAct}
 use Rattle.sq_model.specs.declared.task.Task.{Task}
-use Rattle.sq_model.specs.Homes.{IsFrom, refused_if}
+use Rattle.sq_model.specs.Homes.{IsFrom}
 use Rattle.sq_model.specs.ItemActs.{IsItemReply, call_with, may_act}
-use Rattle.sq_model.specs.Ledgers.{HasRoom, Ledger, LedgerEvent, LedgerStep, MayTake, is_active_at, last_number, last_task, ledger_refusal, most_active, opening_ledger}
+use Rattle.sq_model.specs.Ledgers.{HasRoom, Ledger, LedgerEvent, LedgerStep, MayTake, last_task, ledger_refusal, opening_ledger}
 use Rattle.sq_model.specs.RecordValues.{LedgerRecordValue, record_of}
 use Rattle.sq_model.specs.Replays.{Replays, StampsRise}
 use Rattle.sq_model.specs.Systems.{AreLedger}
-use Rattle.sq_model.specs.Tasks.{is_active, may_leave, target_of}
+use Rattle.sq_model.specs.Tasks.{may_leave, target_of}
 use Rattle.sq_log.specs.Logs.{event_by}
 use Rattle.sq_log.specs.Rooms.{IsReady, KeepsRoom}
 use Rattle.sq_ledger.specs.LedgerHistory.{LedgerHistory, LedgerValue}
@@ -75,19 +74,6 @@ IsLedgerRefused old by now call e =
     ⊎ (after old.last by.seen now ≡ Err e)
     ⊎ ((stamp : StampValue) × (after old.last by.seen now ≡ Ok stamp)
     × ((ledger_refusal old.ledger stamp.moment call ≡ Some e) ⊎ ((e ≡ NoMemory) × (ledger_refusal old.ledger stamp.moment call ≡ None) × LedgerTakesMemory old call)))
-
--- a number is left for a task, none of its source is active, and not too many are
-pub record MayStart (source : ℕ) (l : Ledger) : Type 0 where
-  pub not_worn : l.next_task < last_number
-  pub none_active : list_any (is_active_at source) l.tasks ≡ false
-  pub few_active : count_by (λ task. is_active task.status) l.tasks < most_active
-
--- why a task of a source does not start
-abbrev pub start_refusal : ℕ → Ledger → Option Refusal
-start_refusal source l =
-    refused_if (nat_le last_number l.next_task) Worn
-    (refused_if (list_any (is_active_at source) l.tasks) UnsupportedOperation
-    (refused_if (nat_le most_active (count_by (λ task. is_active task.status) l.tasks)) OverLimit None))
 
 -- there is memory for one event more
 abbrev pub IsPrepared : LedgerValue → Type 0

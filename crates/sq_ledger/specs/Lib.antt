@@ -1,5 +1,5 @@
 pub mod LedgerHistory
 pub mod LedgerHistories
 pub mod TaskIndexes
-pub mod ItemMoves
 pub mod Events
+pub mod inside

@@ -8,7 +8,7 @@ ghost use Rattle.sq_model.specs.Ledgers.{HasRoom, has_number, is_task, item_of, 
 ghost use Rattle.sq_model.specs.Replays.{StampsRise};
 ghost use Rattle.sq_log.specs.Rooms.{IsReady, KeepsRoom};
 ghost use Rattle.sq_ledger.specs.LedgerHistories.{DoesItem, IsLeaving, IsLedgerKept, IsNoneLeft, IsPrepared, LedgerShares, shared_event};
-ghost use Rattle.sq_ledger.specs.ItemMoves.{change_by, tasks_without};
+ghost use Rattle.sq_ledger.specs.inside.ItemMoves.{change_by, tasks_without};
 
 use crate::items::Items;
 use crate::tasks::{TaskChange, Tasks};
@@ -27,6 +27,16 @@ use sq_model::shared::ItemAct;
 use sq_model::task::FailureReason;
 use std::alloc::Global;
 use std::marker::Model;
+
+/// What the ledger keeps of a step that a home shares with it: whose step it was, its stamp, the home, and the call and the
+/// reply of the home's event.
+#[derive(Drop)]
+pub struct SharedEvent<'a> {
+    pub by: &'a Actor,
+    pub stamp: Stamp,
+    pub home: &'a HomeId,
+    pub kept: (HomeCall, HomeReply),
+}
 
 /// The messages between two queues, as items with numbers, the tasks that move messages, and the history of all steps, those
 /// that the ledger shares with homes and its own: the ledger is always the replay of it. Moments are in ms. Own.
@@ -129,76 +139,51 @@ impl TransitLedger {
         self.log.reserve()
     }
 
-    /// A message comes in from this home, as the item with the next number: a dead one, or one for a task, which counts it.
-    /// The call and the reply are those of the home's event.
-    pub fn take_in(
-        &mut self,
-        by: &Actor,
-        stamp: Stamp,
-        home: &HomeId,
-        kept: (HomeCall, HomeReply),
-        item: Item,
-    )
+    /// A message comes in from a home, as the item with the next number: a dead one, or one for a task, which counts it.
+    pub fn take_in(&mut self, event: SharedEvent<'_>, item: Item)
         requires prepared { IsPrepared self.old }
         requires ready { 0 < self.old.item_reserved }
-        requires above { Below self.old.history.last stamp }
+        requires above { Below self.old.history.last event.stamp }
         requires has_room { HasRoom self.old.history.ledger }
         requires number { item.number ≡ self.old.history.ledger.next_item }
-        requires leaves { IsLeaving self.old.history.ledger stamp.moment home.now kept.0 item }
-        requires reply { kept.1 ≡ Left item }
-        ensures shares { LedgerShares self.old.history self.new.history by.now stamp home.now kept.0 kept.1 }
+        requires leaves { IsLeaving self.old.history.ledger event.stamp.moment event.home.now event.kept.0 item }
+        requires reply { event.kept.1 ≡ Left item }
+        ensures shares { LedgerShares self.old.history self.new.history event.entry.by.now event.entry.stamp event.entry.home.now event.entry.kept.0 event.entry.kept.1 }
         ensures item_reserved { self.old.item_reserved ≤ self.new.item_reserved + 1 }
     {
-        let change = TaskChange::Left(stamp.moment);
+        let change = TaskChange::Left(event.stamp.moment);
         self.tasks.change_for(item.reason, change);
         self.items.push(item);
         self.next += 1;
-        add_event(&mut self.log, by, stamp, home, kept);
+        add_event(&mut self.log, event);
     }
 
-    /// A leave for the task of a number let no message out of this home. Where none was live that changes nothing; where the
-    /// message has no queue to go to, or the home was closed, the task fails. The call and the reply are those of the home's
-    /// event.
-    pub fn take_none(
-        &mut self,
-        by: &Actor,
-        stamp: Stamp,
-        home: &HomeId,
-        kept: (HomeCall, HomeReply),
-        number: TaskNo,
-    )
+    /// A leave for the task of a number let no message out of a home. Where none was live that changes nothing; where the
+    /// message has no queue to go to, or the home was closed, the task fails.
+    pub fn take_none(&mut self, event: SharedEvent<'_>, number: TaskNo)
         requires prepared { IsPrepared self.old }
-        requires above { Below self.old.history.last stamp }
-        requires none { IsNoneLeft self.old.history.ledger stamp.moment home.now number kept.0 kept.1 }
-        ensures shares { LedgerShares self.old.history self.new.history by.now stamp home.now kept.0 kept.1 }
+        requires above { Below self.old.history.last event.stamp }
+        requires none { IsNoneLeft self.old.history.ledger event.stamp.moment event.home.now number event.kept.0 event.kept.1 }
+        ensures shares { LedgerShares self.old.history self.new.history event.entry.by.now event.entry.stamp event.entry.home.now event.entry.kept.0 event.entry.kept.1 }
         ensures item_reserved { self.new.item_reserved ≡ self.old.item_reserved }
     {
-        fail_without(&mut self.tasks, number, &kept.1);
-        add_event(&mut self.log, by, stamp, home, kept);
+        fail_without(&mut self.tasks, number, &event.kept.1);
+        add_event(&mut self.log, event);
     }
 
-    /// This home did this with the item of a number: it goes out, to its target, back to its source or given up there, which
-    /// its task counts; or it goes back to its source from now on, and its task fails. The call and the reply are those of the
-    /// home's event.
-    pub fn item_step(
-        &mut self,
-        by: &Actor,
-        stamp: Stamp,
-        home: &HomeId,
-        kept: (HomeCall, HomeReply),
-        act: ItemAct,
-        number: ItemNo,
-    )
+    /// A home did this with the item of a number: it goes out, to its target, back to its source or given up there, which
+    /// its task counts; or it goes back to its source from now on, and its task fails.
+    pub fn item_step(&mut self, event: SharedEvent<'_>, act: ItemAct, number: ItemNo)
         requires prepared { IsPrepared self.old }
-        requires above { Below self.old.history.last stamp }
-        requires does { (item : Moved) × (item_of number self.old.history.ledger ≡ Some item) × DoesItem act home.now kept.0 kept.1 item }
-        ensures shares { LedgerShares self.old.history self.new.history by.now stamp home.now kept.0 kept.1 }
+        requires above { Below self.old.history.last event.stamp }
+        requires does { (item : Moved) × (item_of number self.old.history.ledger ≡ Some item) × DoesItem act event.home.now event.kept.0 event.kept.1 item }
+        ensures shares { LedgerShares self.old.history self.new.history event.entry.by.now event.entry.stamp event.entry.home.now event.entry.kept.0 event.entry.kept.1 }
         ensures item_reserved { self.old.item_reserved ≤ self.new.item_reserved }
     {
         let reason = reason_of(&self.items, number);
         self.tasks.change_for(reason, change_by(act));
         self.items.apply(act, number.get());
-        add_event(&mut self.log, by, stamp, home, kept);
+        add_event(&mut self.log, event);
     }
 }
 
@@ -242,21 +227,21 @@ fn fail_without(tasks: &mut Tasks, number: TaskNo, reply: &HomeReply)
     }
 }
 
-// Adds the event of a step of this home.
-fn add_event(
-    log: &mut Log<LedgerCall, LedgerReply>,
-    by: &Actor,
-    stamp: Stamp,
-    home: &HomeId,
-    kept: (HomeCall, HomeReply),
-)
+// Adds the event of a step of a home.
+fn add_event(log: &mut Log<LedgerCall, LedgerReply>, event: SharedEvent<'_>)
     requires ready { IsReady log.old.room log.old.reserved }
-    requires above { Below log.old.last stamp }
-    ensures last { log.new.last ≡ stamp }
-    ensures events { log.new.events ≡ log.old.events ++ shared_event stamp by.now home.now kept.0 kept.1 ∷ [] }
+    requires above { Below log.old.last event.stamp }
+    ensures last { log.new.last ≡ event.entry.stamp }
+    ensures events { log.new.events ≡ log.old.events ++ shared_event event.entry.stamp event.entry.by.now event.entry.home.now event.entry.kept.0 event.entry.kept.1 ∷ [] }
     ensures rising { StampsRise start log.new.events log.new.last }
     ensures room { KeepsRoom log.old.room log.new.room }
 {
+    let SharedEvent {
+        by,
+        stamp,
+        home,
+        kept,
+    } = event;
     let (call, reply) = kept;
     let call = LedgerCall::AtHome(*home, call);
     let reply = LedgerReply::AtHome(reply);

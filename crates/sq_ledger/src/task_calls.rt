@@ -10,7 +10,8 @@ ghost use Rattle.sq_model.specs.Replays.{StampsRise};
 ghost use Rattle.sq_model.specs.Shared.{is_throttled, task_refusal};
 ghost use Rattle.sq_model.specs.Tasks.{is_running};
 ghost use Rattle.sq_log.specs.Rooms.{IsReady, KeepsRoom};
-ghost use Rattle.sq_ledger.specs.LedgerHistories.{IsLedgerRefused, LedgerRecords, MayStart, own_event, start_refusal};
+ghost use Rattle.sq_ledger.specs.LedgerHistories.{IsLedgerRefused, LedgerRecords, own_event};
+ghost use Rattle.sq_ledger.specs.inside.LedgerHistories.{MayStart, start_refusal};
 
 use crate::ledger::TransitLedger;
 use crate::record::LedgerRecord;

@@ -1,7 +1,7 @@
 -- The first line of what was read is the first line of all.
 use Rattle.std.proofs.Common.{◌≡◌, ℕ, zero, suc, ◌+◌, ◌<◌, ◌≤◌, Bool, true, false, List, [], ◌∷◌, ◌++◌, length, take, drop, get_or, Option, Some, None, refl, sym, ap, subst, ◌∙◌, append_assoc, arith, add-one}
 use Rattle.std.specs.Prelude.{◌==◌, ◌||◌, if◌then◌else◌, IfSome, MatchOption, option_map, is_some}
-use Rattle.std.specs.Io.KnownBytes.{Consumes, Keeps, IsAtEnd}
+use Rattle.std.specs.Io.KnownBytes.{Consumes, IsAtEnd}
 use Rattle.std.proofs.lemmas.Bool.{eqb-true}
 use Rattle.std.proofs.lemmas.List.{append-nil}
 use Rattle.memchr.specs.Find.{Nowhere, Passes, is_byte, IsFirstByte}
@@ -159,12 +159,6 @@ pub lines_on : (read more : List ℕ) (old new : Option (List ℕ)) → Consumes
 lines_on read more None new h = tt
 lines_on read more (Some xs) None h = absurd h
 lines_on read more (Some xs) (Some ys) h = rw (h, append_assoc read more ys) refl
-
--- after a read that failed
-pub lines_same : (read : List ℕ) (old new : Option (List ℕ)) → Keeps old new → IfSome (lines_left read old) (λ lines. lines_left read new ≡ Some lines)
-lines_same read None new h = tt
-lines_same read (Some xs) None h = absurd h
-lines_same read (Some xs) (Some ys) h = rw h refl
 
 -- a fact of the lines that are left, where a loop has kept them
 pub lines_kept : (P : List (List ℕ) → Type 0) (a b : Option (List (List ℕ))) → IfSome a (λ lines. b ≡ Some lines) → IfSome b P → IfSome a P

@@ -7,8 +7,9 @@ use Rattle.std.proofs.lemmas.List.{append-nil, map-append}
 use Rattle.std.proofs.Math.Nat.{suc-add}
 use Rattle.std.proofs.Math.Seq.{take-length, take-append_seam, take-append-add, drop-append-add}
 use Rattle.sq_lines.specs.Lines.{with_feeds}
-use Rattle.sq_lines.specs.Replies.{texts_of, AreTexts, whole_in, PutsFirst, PutsPart, PutsShort}
-use Rattle.sq_lines.proofs.WriteLaws.{appends_none, appends_more, appends_keeps, feeds_append, feeds_more, front_of}
+use Rattle.sq_lines.specs.Replies.{texts_of, AreTexts, PutsFirst, PutsPart, PutsShort}
+use Rattle.sq_lines.specs.inside.Replies.{whole_in}
+use Rattle.sq_lines.proofs.WriteLaws.{appends_more, appends_keeps, feeds_append, feeds_more, front_of}
 
 -- texts are found by their lengths
 texts_found : (texts : List (List ℕ)) → texts_of (map length texts) (with_feeds texts) ≡ texts
@@ -21,9 +22,6 @@ texts_found (t ∷ ts) =
 pub as_many : (lengths bytes : List ℕ) → length (texts_of lengths bytes) ≡ length lengths
 as_many [] bytes = refl
 as_many (n ∷ lengths) bytes = ap suc (as_many lengths (drop (n + 1) bytes))
-
-pub are_none : AreTexts [] []
-are_none = record { all = refl; each = refl }
 
 -- one text more
 pub record AreMore (lengths bytes : List ℕ) (texts : List (List ℕ)) : Type 0 where
@@ -164,9 +162,6 @@ pub part_alone : (old new : Option (List ℕ)) (text : List ℕ) (part : ℕ) �
 part_alone old new text part a = record { text = text; part = part; next = refl; appends = a }
 
 -- ---- what goes out, and what waits
-
-pub puts_none : (old : Option (List ℕ)) (texts : List (List ℕ)) → PutsFirst old old texts texts
-puts_none old texts = record { gone = []; parts = refl; appends = appends_none old }
 
 pub puts_all : (old new : Option (List ℕ)) (texts : List (List ℕ)) → Appends old new (with_feeds texts) → PutsFirst old new texts []
 puts_all old new texts a = record { gone = texts; parts = sym (append-nil texts); appends = a }

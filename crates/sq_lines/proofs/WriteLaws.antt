@@ -47,10 +47,6 @@ front_past (b ∷ text) end n = rw suc-add (ap (λ (r : List ℕ). b ∷ r) (fro
 abbrev PutsPart : Option (List ℕ) → Option (List ℕ) → List ℕ → Type 0
 PutsPart old new all = (part : ℕ) × Appends old new (take part all)
 
--- the write of the text failed
-pub part_of_text : (old new : Option (List ℕ)) (text end : List ℕ) (n : ℕ) → n ≤ length text → Appends old new (take n text) → PutsPart old new (text ++ end)
-part_of_text old new text end n le p = (n, rw (front_of text end n le) p)
-
 -- or of its end
 pub part_of_end : (old mid new : Option (List ℕ)) (text end : List ℕ) (n : ℕ) → Appends old mid text → Appends mid new (take n end) → PutsPart old new (text ++ end)
 part_of_end old mid new text end n p q = (length text + n, rw front_past (appends_more old mid new text (take n end) p q))

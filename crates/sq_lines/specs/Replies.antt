@@ -1,5 +1,5 @@
 -- Replies that wait, and what goes out of them.
-use Rattle.std.specs.Prelude.{ℕ, suc, ◌+◌, ◌-◌, ◌≡◌, ◌≤◌, ◌⊎◌, nat_le, if◌then◌else◌, List, [], ◌∷◌, ◌++◌, length, map, take, drop, Option, Some, slice_get}
+use Rattle.std.specs.Prelude.{ℕ, suc, ◌+◌, ◌≡◌, ◌≤◌, ◌⊎◌, List, [], ◌∷◌, ◌++◌, length, map, take, drop, Option, Some, slice_get}
 use Rattle.std.specs.Io.KnownBytes.{Appends}
 use Rattle.sq_lines.specs.Lines.{with_feeds}
 
@@ -12,11 +12,6 @@ texts_of (n ∷ lengths) bytes = take n bytes ∷ texts_of lengths (drop (n + 1)
 pub record AreTexts (lengths bytes : List ℕ) : Type 0 where
   pub all : bytes ≡ with_feeds (texts_of lengths bytes)
   pub each : lengths ≡ map length (texts_of lengths bytes)
-
--- how many texts of these lengths, each with a line feed, are whole in so many bytes
-abbrev pub whole_in : List ℕ → ℕ → ℕ
-whole_in [] n = 0
-whole_in (length ∷ lengths) n = if nat_le n length then 0 else suc (whole_in lengths (n - (length + 1)))
 
 -- the first of these texts went out, each with a line feed, and those behind them wait
 pub record PutsFirst (old new : Option (List ℕ)) (texts waiting : List (List ℕ)) : Type 0 where

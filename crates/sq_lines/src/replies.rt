@@ -1,8 +1,9 @@
 //! Replies that wait to go out together.
-ghost use Rattle.std.specs.Prelude.{◌≡◌, ◌++◌, ◌∷◌, [], IsTrue, OnOk, OnErr, IfErr, true, false, length, ◌≤◌};
+ghost use Rattle.std.specs.Prelude.{◌≡◌, ◌++◌, ◌∷◌, [], OnOk, OnErr, IfErr, true, false, length};
 ghost use Rattle.std.specs.Io.KnownBytes.{Appends};
 ghost use Rattle.sq_lines.specs.Lines.{OneMore, with_feeds};
-ghost use Rattle.sq_lines.specs.Replies.{whole_in, PutsFirst, PutsPart, PutsShort};
+ghost use Rattle.sq_lines.specs.Replies.{PutsFirst, PutsPart, PutsShort};
+ghost use Rattle.sq_lines.specs.inside.Replies.{whole_in};
 
 use crate::counted::Counted;
 use crate::put::{Unwritten, put, put_line};

@@ -7,7 +7,7 @@ use Rattle.std.proofs.Math.Seq.{take-append_seam}
 use Rattle.std.proofs.lemmas.List.{length-append}
 use Rattle.std.proofs.lemmas.List.Edits.{remove-append_left, remove-append_right}
 use Rattle.std.proofs.lemmas.Option.{none-some, same_Some}
-use Rattle.sq_log.specs.BlocksValue.{IsWhole, joined}
+use Rattle.sq_log.specs.BlocksValue.{joined}
 
 get_in : {T : Type 0} (xs ys : List T) (k : ℕ) → k < length xs → slice_get (xs ++ ys) k ≡ slice_get xs k
 get_in [] ys k within = absurd (omega arith)
@@ -16,7 +16,7 @@ get_in (x ∷ xs) ys (suc k) within = get_in xs ys k (omega arith)
 
 get_past : {T : Type 0} (xs ys : List T) (k : ℕ) → slice_get (xs ++ ys) (length xs + k) ≡ slice_get ys k
 get_past [] ys k = ap (λ (i : ℕ). slice_get ys i) (omega arith)
-get_past (x ∷ xs) ys k = let place : length (x ∷ xs) + k ≡ suc (length xs + k) = omega arith in rw place (get_past xs ys k)
+get_past (x ∷ xs) ys k = let index : length (x ∷ xs) + k ≡ suc (length xs + k) = omega arith in rw index (get_past xs ys k)
 
 -- the list goes on after its first block
 past_first : {T : Type 0} (block : Vec T) (whole : List (Vec T)) (last : List T) (k : ℕ) → slice_get (joined (block ∷ whole) last) (length block.items + k) ≡ slice_get (joined whole last) k
@@ -40,18 +40,18 @@ pub get_whole : {T : Type 0} (n : ℕ) (whole : List (Vec T)) (last : List T) (q
 get_whole n [] last q r block all within at = absurd (none-some block at)
 get_whole n (first ∷ whole) last zero r block all within at =
     let first_is : first ≡ block = same_Some first block at in
-    let place : 0 * n + r ≡ r = omega arith in
-    rw (place, append_assoc first.items (flat_map (λ b. b.items) whole) last, ← first_is) (get_in first.items (joined whole last) r (rw all.0 within))
+    let index : 0 * n + r ≡ r = omega arith in
+    rw (index, append_assoc first.items (flat_map (λ b. b.items) whole) last, ← first_is) (get_in first.items (joined whole last) r (rw all.0 within))
 get_whole n (first ∷ whole) last (suc q) r block all within at =
-    let place : suc q * n + r ≡ length first.items + (q * n + r) = let first_len = all.0 in omega (arith, first_len) in
-    rw place (past_first first whole last (q * n + r) ∙ get_whole n whole last q r block all.1 within at)
+    let index : suc q * n + r ≡ length first.items + (q * n + r) = let first_len = all.0 in omega (arith, first_len) in
+    rw index (past_first first whole last (q * n + r) ∙ get_whole n whole last q r block all.1 within at)
 
 -- an item of the last block
 pub get_last : {T : Type 0} (n : ℕ) (whole : List (Vec T)) (last : List T) (k : ℕ) → AllByRecursion (λ b. length b.items ≡ n) whole → slice_get (joined whole last) (length whole * n + k) ≡ slice_get last k
 get_last n [] last k all = ap (λ (i : ℕ). slice_get last i) (omega arith)
 get_last n (first ∷ whole) last k all =
-    let place : suc (length whole) * n + k ≡ length first.items + (length whole * n + k) = let first_len = all.0 in omega (arith, first_len) in
-    rw place (past_first first whole last (length whole * n + k) ∙ get_last n whole last k all.1)
+    let index : suc (length whole) * n + k ≡ length first.items + (length whole * n + k) = let first_len = all.0 in omega (arith, first_len) in
+    rw index (past_first first whole last (length whole * n + k) ∙ get_last n whole last k all.1)
 
 -- there is no block at this place
 pub past_whole : {X : Type 0} (xs : List X) (k : ℕ) → slice_get xs k ≡ None → length xs ≤ k
@@ -60,14 +60,6 @@ past_whole (x ∷ xs) zero none = absurd (none-some x (sym none))
 past_whole (x ∷ xs) (suc k) none = let rest = past_whole xs k none in omega (arith, rest)
 
 -- One of the blocks gives an item away, and gets one last.
-
-all_set : {X : Type 0} (P : X → Type 0) (xs : List X) (i : ℕ) (x : X) → AllByRecursion P xs → P x → AllByRecursion P (slice_set xs i x)
-all_set P [] i x all here = tt
-all_set P (y ∷ ys) zero x all here = (here, all.1)
-all_set P (y ∷ ys) (suc i) x all here = (all.0, all_set P ys i x all.1 here)
-
-pub set_whole : {T : Type 0} (blocks : List (Vec T)) (i : ℕ) (block : Vec T) → AllByRecursion IsWhole blocks → IsWhole block → AllByRecursion IsWhole (slice_set blocks i block)
-set_whole blocks i block all here = all_set IsWhole blocks i block all here
 
 -- the first item of a list, and the others
 first_of : {T : Type 0} (xs : List T) (x : T) → slice_get xs 0 ≡ Some x → x ∷ remove xs 0 ≡ xs
@@ -90,34 +82,12 @@ none_left : {T : Type 0} (old : List (Vec T)) (item : T) → item ∷ joined (dr
 none_left [] item = refl
 none_left (block ∷ old) item = none_left old item
 
-pub moves_none : {T : Type 0} (old : List (Vec T)) (item : T) → Moves (length old) old old item item
-moves_none old item = record { ahead = refl; moved = none_left old item }
-
 -- a block before those is there as it was
 pub there_before : {X : Type 0} (xs ys : List X) (i : ℕ) (x : X) → take (suc i) xs ≡ take (suc i) ys → slice_get xs i ≡ Some x → slice_get ys i ≡ Some x
 there_before [] ys i x same at = absurd (none-some x at)
 there_before (x ∷ xs) [] i z same at = absurd cc
 there_before (x ∷ xs) (y ∷ ys) zero z same at = let heads : x ≡ y = cc in cc
 there_before (x ∷ xs) (y ∷ ys) (suc i) z same at = there_before xs ys i z (cc) at
-
--- one block more
-pub moves_one : {T : Type 0} (old blocks : List (Vec T)) (i : ℕ) (b new : Vec T) (item carried first : T) → Moves (suc i) old blocks item carried → slice_get blocks i ≡ Some b
-    → slice_get b.items 0 ≡ Some first → new.items ≡ remove b.items 0 ++ carried ∷ [] → Moves i old (slice_set blocks i new) item first
-moves_one old [] i b new item carried first moves at taken put = absurd (none-some b at)
-moves_one [] (x ∷ xs) i b new item carried first moves at taken put = let ahead = moves.ahead in absurd cc
-moves_one (y ∷ ys) (x ∷ xs) zero b new item carried first moves at taken put =
-    let same : b ≡ y = let ahead = moves.ahead in cc (same_Some x b at) in
-    let rest = joined ys (item ∷ []) in
-    let left : new.items ++ joined xs [] ≡ remove b.items 0 ++ rest = rw put (append_assoc (remove b.items 0) (carried ∷ []) (joined xs []) ∙ ap (λ zs. remove b.items 0 ++ zs) moves.moved) in
-    record {
-      ahead = refl;
-      moved = ap (λ zs. first ∷ zs) (joined_more new xs [] ∙ left) ∙ ap (λ zs. zs ++ rest) (first_of b.items first taken) ∙ ap (λ (v : Vec _). v.items ++ rest) same ∙ sym (joined_more y ys (item ∷ []));
-    }
-moves_one (y ∷ ys) (x ∷ xs) (suc i) b new item carried first moves at taken put =
-    let heads : x ≡ y = let ahead = moves.ahead in cc in
-    let tails : take (suc i) xs ≡ take (suc i) ys = let ahead = moves.ahead in cc in
-    let rest = moves_one ys xs i b new item carried first (record { ahead = tails; moved = moves.moved }) at taken put in
-    record { ahead = let ahead = rest.ahead in cc; moved = rest.moved }
 
 -- and at last the one out of which an item is taken
 pub moved_out : {T : Type 0} (n : ℕ) (old blocks : List (Vec T)) (at r : ℕ) (b new : Vec T) (item carried : T) → AllByRecursion (λ block. length block.items ≡ n) old → r < n → Moves (suc at) old blocks item carried
@@ -126,18 +96,18 @@ moved_out n old [] at r b new item carried all within moves there put = absurd (
 moved_out n [] (x ∷ xs) at r b new item carried all within moves there put = let ahead = moves.ahead in absurd cc
 moved_out n (y ∷ ys) (x ∷ xs) zero r b new item carried all within moves there put =
     let same : b ≡ y = let ahead = moves.ahead in cc (same_Some x b there) in
-    let place : 0 * n + r ≡ r = omega arith in
+    let index : 0 * n + r ≡ r = omega arith in
     let left : new.items ++ joined xs [] ≡ remove y.items r ++ joined ys (item ∷ []) = rw (put, same) (append_assoc (remove y.items r) (carried ∷ []) (joined xs []) ∙ ap (λ zs. remove y.items r ++ zs) moves.moved) in
     let right : remove (joined (y ∷ ys) []) r ++ item ∷ [] ≡ remove y.items r ++ joined ys (item ∷ []) =
     (rw (joined_more y ys [], remove-append_left y.items (joined ys []) r (rw all.0 within)) (append_assoc (remove y.items r) (joined ys []) (item ∷ []) ∙ ap (λ zs. remove y.items r ++ zs) (sym (joined_last ys (item ∷ []))))) in
-    rw place (joined_more new xs [] ∙ left ∙ sym right)
+    rw index (joined_more new xs [] ∙ left ∙ sym right)
 moved_out n (y ∷ ys) (x ∷ xs) (suc at) r b new item carried all within moves there put =
     let heads : x ≡ y = let ahead = moves.ahead in cc in
     let tails : take (suc at) xs ≡ take (suc at) ys = let ahead = moves.ahead in cc in
     let rest = moved_out n ys xs at r b new item carried all.1 within (record { ahead = tails; moved = moves.moved }) there put in
-    let place : suc at * n + r - n ≡ at * n + r = omega arith in
+    let index : suc at * n + r - n ≡ at * n + r = omega arith in
     let right : remove (joined (y ∷ ys) []) (suc at * n + r) ++ item ∷ [] ≡ y.items ++ (remove (joined ys []) (at * n + r) ++ item ∷ []) =
-    (rw (joined_more y ys [], remove-append_right y.items (joined ys []) n (suc at * n + r) all.0 (omega arith), place) (append_assoc y.items (remove (joined ys []) (at * n + r)) (item ∷ []))) in
+    (rw (joined_more y ys [], remove-append_right y.items (joined ys []) n (suc at * n + r) all.0 (omega arith), index) (append_assoc y.items (remove (joined ys []) (at * n + r)) (item ∷ []))) in
     joined_more x (slice_set xs at new) [] ∙ ap (λ (v : Vec _). v.items ++ joined (slice_set xs at new) []) heads ∙ ap (λ zs. y.items ++ zs) rest ∙ sym right
 
 -- a list of which all was written over by another as long
@@ -145,26 +115,26 @@ pub written_whole : {X : Type 0} (xs ys : List X) (n : ℕ) → length xs ≡ n 
 written_whole xs ys n here there = rw (← here) (take-append_seam xs (drop (length xs) ys))
 
 -- what is left where an item of the last block is taken out, and where one of a whole block is
-pub without_last : {T : Type 0} (n : ℕ) (whole : List (Vec T)) (last : List T) (place : ℕ) → AllByRecursion (λ block. length block.items ≡ n) whole → length whole * n ≤ place
-    → joined whole (remove last (place - length whole * n)) ≡ remove (joined whole last) place
-without_last n whole last place all past = sym (remove-append_right (flat_map (λ block. block.items) whole) last (length whole * n) place (length_whole n whole all) past)
+pub without_last : {T : Type 0} (n : ℕ) (whole : List (Vec T)) (last : List T) (index : ℕ) → AllByRecursion (λ block. length block.items ≡ n) whole → length whole * n ≤ index
+    → joined whole (remove last (index - length whole * n)) ≡ remove (joined whole last) index
+without_last n whole last index all past = sym (remove-append_right (flat_map (λ block. block.items) whole) last (length whole * n) index (length_whole n whole all) past)
 
-pub without_whole : {T : Type 0} (n : ℕ) (whole blocks : List (Vec T)) (last rest : List T) (first : T) (place : ℕ) → AllByRecursion (λ block. length block.items ≡ n) whole → place < length whole * n
-    → slice_get last 0 ≡ Some first → rest ≡ remove last 0 → joined blocks [] ≡ remove (joined whole []) place ++ first ∷ [] → joined blocks rest ≡ remove (joined whole last) place
-without_whole n whole blocks last rest first place all within taken left moved =
+pub without_whole : {T : Type 0} (n : ℕ) (whole blocks : List (Vec T)) (last rest : List T) (first : T) (index : ℕ) → AllByRecursion (λ block. length block.items ≡ n) whole → index < length whole * n
+    → slice_get last 0 ≡ Some first → rest ≡ remove last 0 → joined blocks [] ≡ remove (joined whole []) index ++ first ∷ [] → joined blocks rest ≡ remove (joined whole last) index
+without_whole n whole blocks last rest first index all within taken left moved =
     let count = length_joined n whole [] all in
     let both : first ∷ rest ≡ last = ap (λ zs. first ∷ zs) left ∙ first_of last first taken in
-    joined_last blocks rest ∙ ap (λ zs. zs ++ rest) moved ∙ append_assoc (remove (joined whole []) place) (first ∷ []) rest ∙ ap (λ zs. remove (joined whole []) place ++ zs) both
-    ∙ sym (remove-append_left (joined whole []) last place (omega (arith, count, within))) ∙ ap (λ zs. remove zs place) (sym (joined_last whole last))
+    joined_last blocks rest ∙ ap (λ zs. zs ++ rest) moved ∙ append_assoc (remove (joined whole []) index) (first ∷ []) rest ∙ ap (λ zs. remove (joined whole []) index ++ zs) both
+    ∙ sym (remove-append_left (joined whole []) last index (omega (arith, count, within))) ∙ ap (λ zs. remove zs index) (sym (joined_last whole last))
 
 -- which item is taken out
-pub get_before : {T : Type 0} (n : ℕ) (whole : List (Vec T)) (last : List T) (place : ℕ) → AllByRecursion (λ block. length block.items ≡ n) whole → place < length whole * n
-    → slice_get (joined whole last) place ≡ slice_get (joined whole []) place
-get_before n whole last place all within = let count = length_joined n whole [] all in rw (joined_last whole last) (get_in (joined whole []) last place (omega (arith, count, within)))
+pub get_before : {T : Type 0} (n : ℕ) (whole : List (Vec T)) (last : List T) (index : ℕ) → AllByRecursion (λ block. length block.items ≡ n) whole → index < length whole * n
+    → slice_get (joined whole last) index ≡ slice_get (joined whole []) index
+get_before n whole last index all within = let count = length_joined n whole [] all in rw (joined_last whole last) (get_in (joined whole []) last index (omega (arith, count, within)))
 
-pub get_after : {T : Type 0} (n : ℕ) (whole : List (Vec T)) (last : List T) (place : ℕ) → AllByRecursion (λ block. length block.items ≡ n) whole → length whole * n ≤ place
-    → slice_get (joined whole last) place ≡ slice_get last (place - length whole * n)
-get_after n whole last place all past =
-    let k = place - length whole * n in
-    let at : length whole * n + k ≡ place = omega arith in
+pub get_after : {T : Type 0} (n : ℕ) (whole : List (Vec T)) (last : List T) (index : ℕ) → AllByRecursion (λ block. length block.items ≡ n) whole → length whole * n ≤ index
+    → slice_get (joined whole last) index ≡ slice_get last (index - length whole * n)
+get_after n whole last index all past =
+    let k = index - length whole * n in
+    let at : length whole * n + k ≡ index = omega arith in
     subst (λ (i : ℕ). slice_get (joined whole last) i ≡ slice_get last k) at (get_last n whole last k all)

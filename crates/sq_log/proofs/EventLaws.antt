@@ -1,6 +1,6 @@
 -- Where an event of a stamp stands, in a history whose stamps rise.
 use Rattle.std.proofs.Common.{◌≡◌, ℕ, zero, suc, ◌+◌, ◌<◌, ◌≤◌, Bool, true, false, List, [], ◌∷◌, length, Some, refl, sym, ◌∙◌, subst, inl, inr, arith, slice_get}
-use Rattle.std.specs.Prelude.{◌&&◌, nat_eq}
+use Rattle.std.specs.Prelude.{◌&&◌, if◌then◌else◌, nat_eq}
 use Rattle.std.specs.List.{slice_index_or}
 use Rattle.std.specs.Ordering.{is_lt}
 use Rattle.std.specs.Cmp.{IsStrictWeakOrder}
@@ -13,7 +13,8 @@ use Rattle.sq_base.specs.Stamps.{Below, stamp_cmp}
 use Rattle.sq_base.proofs.StampLaws.{below_less, below_not_less, below_or, below_trans, stamps_total}
 use Rattle.sq_model.specs.declared.event.Event.{Event}
 use Rattle.sq_model.specs.Replays.{StampsRise}
-use Rattle.sq_log.specs.Events.{IsEventAt, IsParted, Rises, is_event_before}
+use Rattle.sq_log.specs.Events.{IsEventAt, Rises}
+use Rattle.sq_log.specs.inside.Events.{IsParted, is_event_before}
 
 stamps_weak : IsStrictWeakOrder (λ a b. is_lt (stamp_cmp a b))
 stamps_weak = ranks_by stamps_total (λ s. s)
@@ -57,7 +58,7 @@ unparted es stamp = record {
 }
 
 -- one that is before the stamp is looked at
-pub parted_above : {K R : Type 0} (es : List (Event K R)) (stamp : StampValue) (low high middle : ℕ) (x : Event K R) → Rises es → slice_get es middle ≡ Some x → is_event_before stamp x ≡ true
+parted_above : {K R : Type 0} (es : List (Event K R)) (stamp : StampValue) (low high middle : ℕ) (x : Event K R) → Rises es → slice_get es middle ≡ Some x → is_event_before stamp x ≡ true
     → IsParted stamp es low high → IsParted stamp es (middle + 1) high
 parted_above es stamp low high middle x r at h was = record {
   before = λ k e there lt. before_too es stamp r k middle e x (omega (arith, lt)) there at h;
@@ -65,7 +66,7 @@ parted_above es stamp low high middle x r at h was = record {
 }
 
 -- one that is not before the stamp is looked at
-pub parted_below : {K R : Type 0} (es : List (Event K R)) (stamp : StampValue) (low high middle : ℕ) (x : Event K R) → Rises es → slice_get es middle ≡ Some x → is_event_before stamp x ≡ false
+parted_below : {K R : Type 0} (es : List (Event K R)) (stamp : StampValue) (low high middle : ℕ) (x : Event K R) → Rises es → slice_get es middle ≡ Some x → is_event_before stamp x ≡ false
     → IsParted stamp es low high → IsParted stamp es low middle
 parted_below es stamp low high middle x r at h was = record {
   before = was.before;
@@ -74,6 +75,12 @@ parted_below es stamp low high middle x r at h was = record {
     | false ↦ (λ _. refl)
   ] refl;
 }
+
+-- a look at one that is between leaves those after it, or those before it
+pub parted_at : {K R : Type 0} (es : List (Event K R)) (stamp : StampValue) (low high middle : ℕ) (x : Event K R) → Rises es → IsParted stamp es low high → slice_get es middle ≡ Some x
+    → (b : Bool) → is_event_before stamp x ≡ b → IsParted stamp es (if b then middle + 1 else low) (if b then high else middle)
+parted_at es stamp low high middle x r was at true h = parted_above es stamp low high middle x r at h was
+parted_at es stamp low high middle x r was at false h = parted_below es stamp low high middle x r at h was
 
 -- and the event of the stamp is the first of the others
 pub at_point : {K R : Type 0} (es : List (Event K R)) (stamp : StampValue) (place : ℕ) → Rises es → IsParted stamp es place place → (e : Event K R) → IsEventAt es stamp e → slice_get es place ≡ Some e

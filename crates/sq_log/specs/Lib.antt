@@ -3,3 +3,4 @@ pub mod Rooms
 pub mod LogValue
 pub mod Logs
 pub mod Events
+pub mod inside

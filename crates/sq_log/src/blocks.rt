@@ -66,12 +66,12 @@ impl<T> Blocks<T> {
     }
 
     /// The item at a place, from 0 upwards.
-    pub fn get(&self, place: usize) -> Option<&T>
-        ensures { option_map (λ item. item.now) result ≡ slice_get self.now.items place }
+    pub fn get(&self, index: usize) -> Option<&T>
+        ensures { option_map (λ item. item.now) result ≡ slice_get self.now.items index }
     {
-        match at(self.whole.as_slice(), place / BLOCK) {
-            Some(block) => at(block.as_slice(), place % BLOCK),
-            None => at(self.last.as_slice(), place - self.whole.len() * BLOCK),
+        match at(self.whole.as_slice(), index / BLOCK) {
+            Some(block) => at(block.as_slice(), index % BLOCK),
+            None => at(self.last.as_slice(), index - self.whole.len() * BLOCK),
         }
     }
 }
@@ -125,18 +125,18 @@ impl<T: Drop> Blocks<T> {
 
     /// Takes out the item at a place that there is one at, from 0 upwards, and moves up those after it by one. There may then be
     /// memory for fewer.
-    pub fn remove(&mut self, place: usize) -> T
-        requires { place < length self.old.items }
-        ensures taken { slice_get self.old.items place ≡ Some result }
-        ensures items { self.new.items ≡ without self.old.items place }
+    pub fn remove(&mut self, index: usize) -> T
+        requires { index < length self.old.items }
+        ensures taken { slice_get self.old.items index ≡ Some result }
+        ensures items { self.new.items ≡ without self.old.items index }
     {
         reopen(&mut self.whole, &mut self.last);
         let before = self.whole.len() * BLOCK;
-        if place >= before {
-            return self.last.remove(place - before);
+        if index >= before {
+            return self.last.remove(index - before);
         }
         let first = self.last.remove(0);
-        move_out(self.whole.as_mut_slice(), place, first)
+        move_out(self.whole.as_mut_slice(), index, first)
     }
 }
 
@@ -145,13 +145,13 @@ impl<T> Index<usize> for Blocks<T> {
 
     type Output = T;
 
-    ghost can_index = { λ blocks place. place < length blocks.items };
+    ghost can_index = { λ blocks index. index < length blocks.items };
 
-    ghost index_gives = { λ blocks place item. slice_get blocks.items place ≡ Some item };
+    ghost index_gives = { λ blocks index item. slice_get blocks.items index ≡ Some item };
 
     /// The item at a place that there is one at, from 0 upwards.
-    fn index(&self, place: usize) -> &T {
-        let found = self.get(place);
+    fn index(&self, index: usize) -> &T {
+        let found = self.get(index);
         found.unwrap()
     }
 }
@@ -175,37 +175,37 @@ fn reopen<T: Drop>(whole: &mut Vec<Vec<T>>, last: &mut Vec<T>)
 }
 
 // Takes out the item of whole blocks at a place, moves up those after it by one, and puts another last.
-fn move_out<T>(blocks: &mut [Vec<T>], place: usize, item: T) -> T
+fn move_out<T>(blocks: &mut [Vec<T>], index: usize, item: T) -> T
     requires whole { AllByRecursion IsWhole blocks.old }
-    requires there { place < length blocks.old * 4096 }
+    requires there { index < length blocks.old * 4096 }
     ensures whole { AllByRecursion IsWhole blocks.new }
     ensures len { length blocks.new ≡ length blocks.old }
-    ensures taken { slice_get (joined blocks.old []) place ≡ Some result }
-    ensures items { joined blocks.new [] ≡ without (joined blocks.old []) place ++ item ∷ [] }
+    ensures taken { slice_get (joined blocks.old []) index ≡ Some result }
+    ensures items { joined blocks.new [] ≡ without (joined blocks.old []) index ++ item ∷ [] }
 {
-    let at = place / BLOCK;
+    let at = index / BLOCK;
     let mut carried = item;
     for left in (at + 1..blocks.len()).rev() {
         carried = push_out(&mut blocks[left], 0, carried);
     }
-    push_out(&mut blocks[at], place % BLOCK, carried)
+    push_out(&mut blocks[at], index % BLOCK, carried)
 }
 
 // Takes out the item of a block at a place, and puts another last.
-fn push_out<T>(block: &mut Vec<T>, place: usize, item: T) -> T
-    requires { place < length block.old.items }
-    ensures taken { slice_get block.old.items place ≡ Some result }
-    ensures items { block.new.items ≡ without block.old.items place ++ item ∷ [] }
+fn push_out<T>(block: &mut Vec<T>, index: usize, item: T) -> T
+    requires { index < length block.old.items }
+    ensures taken { slice_get block.old.items index ≡ Some result }
+    ensures items { block.new.items ≡ without block.old.items index ++ item ∷ [] }
     ensures len { length block.new.items ≡ length block.old.items }
 {
-    let taken = block.remove(place);
+    let taken = block.remove(index);
     block.push_reserved(item);
     taken
 }
 
 // The item of a slice at a place.
-fn at<T>(items: &[T], place: usize) -> Option<&T>
-    ensures { option_map (λ item. item.now) result ≡ slice_get items.now place }
+fn at<T>(items: &[T], index: usize) -> Option<&T>
+    ensures { option_map (λ item. item.now) result ≡ slice_get items.now index }
 {
-    items.get(place)
+    items.get(index)
 }

@@ -2,7 +2,8 @@
 ghost use Rattle.std.specs.Bool.{Decides};
 ghost use Rattle.std.specs.Prelude.{◌≡◌, IfSome, IsSome, Some, option_map};
 ghost use Rattle.sq_model.specs.declared.event.Event.{Event as Done};
-ghost use Rattle.sq_log.specs.Events.{IsEventOf, IsEventAt, IsParted, Rises, is_event_before};
+ghost use Rattle.sq_log.specs.Events.{IsEventOf, IsEventAt, Rises};
+ghost use Rattle.sq_log.specs.inside.Events.{IsParted, is_event_before};
 
 use crate::blocks::Blocks;
 use sq_base::stamp::Stamp;

@@ -1,9 +1,9 @@
 -- What the steps of a call get for a reply, why they are refused, and what their actor knows after them.
 use Rattle.std.proofs.Common.{◌≡◌, ◌⊎◌, ℕ, List, Option, Some, Result, Ok, Err, IfOk, IfErr, OnErr, sym, subst, inl, inr}
+use Rattle.std.proofs.lemmas.Result.{IfOk-weaker, IfErr-weaker}
 use Rattle.sq_base.specs.declared.ids.HomeId.{HomeId}
 use Rattle.sq_base.specs.declared.refusal.Refusal.{Refusal}
 use Rattle.sq_base.specs.declared.refusal.Refusal.TheVariants.{QueueDoesNotExist}
-use Rattle.sq_model.specs.declared.task.NamedQueue.{NamedQueue}
 use Rattle.sq_model.specs.declared.ledger.LedgerReply.{LedgerReply}
 use Rattle.sq_steps.specs.declared.act.TaskAct.{TaskAct}
 use Rattle.sq_model.specs.declared.directory.DirectoryCall.{DirectoryCall}
@@ -13,13 +13,14 @@ use Rattle.sq_model.specs.declared.replies.HomeReply.{HomeReply}
 use Rattle.sq_history.specs.declared.act.HomeAct.{HomeAct}
 use Rattle.sq_history.specs.Acts.{call_of}
 use Rattle.sq_history.specs.HistoryValue.{HistoryValue}
-use Rattle.sq_actions.specs.Asks.{Resolve, AskDirectory, AskHome, AskShared, Redriven, AskLedger, IsAnswerTo, IsReplyTo, IsToldTo, IsOfAnyStep, IsOfAct, IsOfMove, MayRefuse}
+use Rattle.sq_actions.specs.Asks.{AskDirectory, AskHome, AskShared, Redriven, AskLedger, IsAnswerTo, IsReplyTo, IsToldTo, IsOfAnyStep, IsOfAct, IsOfMove, MayRefuse}
 use Rattle.sq_steps.specs.Journals.{journal_of}
 use Rattle.sq_model.specs.RecordValues.{Journal}
 use Rattle.sq_steps.specs.Journals.{IsHomeRefused}
 use Rattle.sq_steps.specs.SharedSteps.{IsSharedRefused}
 use Rattle.sq_merge.specs.WorldValue.{WorldValue}
-use Rattle.sq_merge.specs.Worlds.{HomeStepped, HomeRefused, DirectoryStepped, DirectoryRefused, NameRefused, SharedRefused, LedgerStepped, LedgerRefused, EndsUnread, IsKnown}
+use Rattle.sq_merge.specs.Worlds.{HomeStepped, HomeRefused, DirectoryStepped, DirectoryRefused, SharedRefused, LedgerStepped, LedgerRefused, EndsUnread}
+use Rattle.sq_merge.specs.inside.Worlds.{IsKnown}
 use Rattle.sq_directory.specs.Makers.{IsAnsweredByName, name_asked, queue_answered}
 use Rattle.sq_actions.proofs.AskLaws as ask
 use Rattle.sq_merge.proofs.KnownLaws.{known_directed, known_stepped}
@@ -36,17 +37,12 @@ shared_may w actor now name id what e h =
 
 -- the same of an answer
 pub answered_shared : (w : WorldValue) (actor now : ℕ) (name : Option (List ℕ)) (id : HomeId) (what : SharedAct) (answered : Result (Option HomeReply) Refusal) → IfErr answered (SharedRefused w actor now id what) → IfErr answered (MayRefuse (AskShared name id what))
-answered_shared w actor now name id what (Ok told) h = tt
-answered_shared w actor now name id what (Err e) h = shared_may w actor now name id what e h
+answered_shared w actor now name id what answered h = IfErr-weaker answered (SharedRefused w actor now id what) (MayRefuse (AskShared name id what)) (shared_may w actor now name id what) h
 
 -- why a step of a home is refused
 pub home_may : (w : WorldValue) (actor now : ℕ) (name : List ℕ) (id : HomeId) (a : HomeAct) (e : Refusal) → HomeRefused w actor now id (call_of a) e → MayRefuse (AskHome name id a) e
 home_may w actor now name id a e h =
     at_home_may {P = IsOfAct a e} w actor now id e (λ home mine. IsHomeRefused home mine now (call_of a) e) h (λ home refused. ask.home_may home (journal_of actor w.journals) now name id a e refused)
-
--- why a queue is not found
-pub name_may : (w : WorldValue) (actor : ℕ) (name : List ℕ) (e : Refusal) → NameRefused w actor name e → MayRefuse (Resolve name) e
-name_may w actor name e h = elim h [ inl none ↦ inl none.1 | inr unmade ↦ inr unmade.2 ]
 
 -- after a step an actor knows what it knew
 pub still_known : (old new : WorldValue) (actor now : ℕ) (name : List ℕ) (queue : ℕ) (id : HomeId) (a : HomeAct) (answered : Result HomeReply Refusal)
@@ -57,20 +53,18 @@ still_known old new actor now name queue id a (Err e) stepped same known = subst
 
 -- the same of an answer
 pub answered_reply : (old new : WorldValue) (actor now : ℕ) (name : Option (List ℕ)) (id : HomeId) (a : HomeAct) (answered : Result HomeReply Refusal) → IfOk answered (HomeStepped old new actor now name id (call_of a)) → IfOk answered (IsReplyTo a)
-answered_reply old new actor now name id a (Ok by) s = ask.home_reply s.before s.after (journal_of actor old.journals) s.recorded_in now name a by s.moves
-answered_reply old new actor now name id a (Err e) s = tt
+answered_reply old new actor now name id a answered s =
+    IfOk-weaker answered (HomeStepped old new actor now name id (call_of a)) (IsReplyTo a) (λ by s. ask.home_reply s.before s.after (journal_of actor old.journals) s.recorded_in now name a by s.moves) s
 
 pub answered_home : (w : WorldValue) (actor now : ℕ) (name : List ℕ) (id : HomeId) (a : HomeAct) (answered : Result HomeReply Refusal) → IfErr answered (HomeRefused w actor now id (call_of a)) → IfErr answered (MayRefuse (AskHome name id a))
-answered_home w actor now name id a (Ok by) h = tt
-answered_home w actor now name id a (Err e) h = home_may w actor now name id a e h
+answered_home w actor now name id a answered h = IfErr-weaker answered (HomeRefused w actor now id (call_of a)) (MayRefuse (AskHome name id a)) (home_may w actor now name id a) h
 
 pub answered_directory : (w : WorldValue) (actor now : ℕ) (call : DirectoryCall) (answered : Result DirectoryReply Refusal) → IfErr answered (DirectoryRefused w actor now call) → IfErr answered (MayRefuse (AskDirectory call))
-answered_directory w actor now call (Ok by) h = tt
-answered_directory w actor now call (Err e) h = ask.directory_may w.directory (journal_of actor w.journals) now call e h
+answered_directory w actor now call answered h = IfErr-weaker answered (DirectoryRefused w actor now call) (MayRefuse (AskDirectory call)) (ask.directory_may w.directory (journal_of actor w.journals) now call) h
 
 pub answered_call : (old new : WorldValue) (actor now : ℕ) (call : DirectoryCall) (answered : Result DirectoryReply Refusal) → IfOk answered (DirectoryStepped old new actor now call) → IfOk answered (IsAnswerTo call)
-answered_call old new actor now call (Ok by) s = ask.directory_told old.directory s.after (journal_of actor old.journals) s.recorded_in now call by s.moves
-answered_call old new actor now call (Err e) s = tt
+answered_call old new actor now call answered s =
+    IfOk-weaker answered (DirectoryStepped old new actor now call) (IsAnswerTo call) (λ by s. ask.directory_told old.directory s.after (journal_of actor old.journals) s.recorded_in now call by s.moves) s
 
 pub answered_known : (old new : WorldValue) (actor now : ℕ) (call : DirectoryCall) (answered : Result DirectoryReply Refusal) → IfOk answered (DirectoryStepped old new actor now call)
     → IfOk answered (IsAnsweredByName new.directory.events new.directory.last call)
@@ -81,18 +75,12 @@ answered_known old new actor now call (Err e) s made = tt
 -- ---- move tasks
 
 pub answered_ledgered : (w : WorldValue) (actor now : ℕ) (what : TaskAct) (answered : Result LedgerReply Refusal) → IfErr answered (LedgerRefused w actor now what) → IfErr answered (MayRefuse (AskLedger what))
-answered_ledgered w actor now what (Ok by) h = tt
-answered_ledgered w actor now what (Err e) h = ask.ledgered_may w.ledger (journal_of actor w.journals) now what e h
+answered_ledgered w actor now what answered h = IfErr-weaker answered (LedgerRefused w actor now what) (MayRefuse (AskLedger what)) (ask.ledgered_may w.ledger (journal_of actor w.journals) now what) h
 
 pub answered_told : (old new : WorldValue) (actor now : ℕ) (what : TaskAct) (answered : Result LedgerReply Refusal) → IfOk answered (LedgerStepped old new actor now what) → IfOk answered (IsToldTo what)
-answered_told old new actor now what (Ok by) s = ask.ledger_told old.ledger s.after (journal_of actor old.journals) s.recorded_in now what by s.moves
-answered_told old new actor now what (Err e) s = tt
+answered_told old new actor now what answered s =
+    IfOk-weaker answered (LedgerStepped old new actor now what) (IsToldTo what) (λ by s. ask.ledger_told old.ledger s.after (journal_of actor old.journals) s.recorded_in now what by s.moves) s
 
 -- between which queues messages may not be moved
 pub redriven_may : (w : WorldValue) (actor : ℕ) (source : List ℕ) (destination : Option (List ℕ)) (e : Refusal) → EndsUnread w actor source destination e → MayRefuse (Redriven source destination) e
 redriven_may w actor source destination e h = elim h [ inl refused ↦ ask.redriven_may w.directory.directory source destination e refused | inr unread ↦ inr (inr unread.1.0) ]
-
-pub answered_redriven : (w : WorldValue) (actor : ℕ) (source : List ℕ) (destination : Option (List ℕ)) (answered : Result (NamedQueue × Option NamedQueue) Refusal) → IfErr answered (EndsUnread w actor source destination)
-    → IfErr answered (MayRefuse (Redriven source destination))
-answered_redriven w actor source destination (Ok queues) h = tt
-answered_redriven w actor source destination (Err e) h = redriven_may w actor source destination e h

@@ -10,7 +10,8 @@ use Rattle.sq_base.specs.declared.ids.HomeId.{HomeId}
 use Rattle.sq_directory.specs.Makers.{IsSeen, IsMadeBy}
 use Rattle.sq_steps.specs.Journals.{journal_of, having_seen}
 use Rattle.sq_merge.specs.WorldValue.{WorldValue}
-use Rattle.sq_merge.specs.Worlds.{HomeStepped, DirectoryStepped, having_read_directory, IsKnown}
+use Rattle.sq_merge.specs.Worlds.{HomeStepped, DirectoryStepped, having_read_directory}
+use Rattle.sq_merge.specs.inside.Worlds.{IsKnown}
 use Rattle.sq_steps.proofs.JournalListLaws.{journal_own, journal_put}
 use Rattle.sq_steps.proofs.JournalLaws.{later_second}
 use Rattle.sq_directory.proofs.MakerLaws.{made_later}

@@ -1,7 +1,6 @@
 -- A step of a world, from what was done to its parts.
-use Rattle.std.proofs.Common.{◌≡◌, ◌≢◌, ℕ, zero, suc, true, false, ◌*◌, ◌≤◌, List, [], ◌∷◌, length, refl, ap, sym, ◌∙◌, subst, inl, inr, arith, Option, Some, None, slice_get, slice_set, take}
-use Rattle.std.specs.Prelude.{◌⊎◌, position, nat_le, ◌==◌, if◌then◌else◌}
-use Rattle.std.proofs.Math.Seq.{take-length}
+use Rattle.std.proofs.Common.{◌≡◌, ◌≢◌, ℕ, zero, suc, ◌*◌, ◌≤◌, List, [], ◌∷◌, length, refl, ap, sym, ◌∙◌, subst, inl, inr, arith, Option, Some, None, slice_get, slice_set, take}
+use Rattle.std.specs.Prelude.{◌⊎◌, position, nat_le, if◌then◌else◌}
 use Rattle.std.specs.List.{slice_index_or}
 use Rattle.std.proofs.Math.Nat.{mul-le-mul_right}
 use Rattle.std.proofs.lemmas.Option.{slice_get_read}
@@ -188,13 +187,6 @@ pub seen_opened : (old : WorldValue) (actor : ℕ) (last : StampValue) (mine : J
     → record old { journals = slice_set (opened actor old.journals) (index_in actor old.journals) (having_seen mine last) } ≡ having_seen_at old actor last
 seen_opened old actor last mine own =
     rw (opened_is actor old.journals mine own) (ap (λ (bs : List Journal). record old { journals = bs }) (opened_put actor (having_seen (journal_of actor old.journals) last) old.journals (journal_own actor old.journals)))
-
--- an actor whose place was made, and taken back
-pub opened_front : (actor : ℕ) (journals : List Journal) → take (length journals) (opened actor journals) ≡ journals
-opened_front actor [] = refl
-opened_front actor (x ∷ xs) =
-    elim (x.actor == actor) as (λ v. take (length (x ∷ xs)) (if v then x ∷ xs else x ∷ opened actor xs) ≡ x ∷ xs)
-    [ true ↦ take-length (x ∷ xs) | false ↦ ap (λ ys. x ∷ ys) (opened_front actor xs) ]
 
 length_opened : (per_queue : ℕ) (limits : Limits) (n : ℕ) → length (never_opened_homes per_queue limits n) ≡ n
 length_opened per_queue limits zero = refl

@@ -33,7 +33,8 @@ use Rattle.sq_steps.specs.Journals.{new_journal, journal_of, put_journal, with_r
 use Rattle.sq_merge.specs.WorldValue.{WorldValue}
 use Rattle.sq_merge.specs.declared.progress.ActorProgress.{ActorProgress}
 use Rattle.sq_audit.specs.HomeIds.{home_history, histories_of, home_id}
-use Rattle.sq_merge.specs.Worlds.{IsKnown, IsKeptWorld, HomeStepped, SharedStepped, DirectoryStepped, LedgerStepped, having_seen_at}
+use Rattle.sq_merge.specs.Worlds.{IsKeptWorld, HomeStepped, SharedStepped, DirectoryStepped, LedgerStepped, having_seen_at}
+use Rattle.sq_merge.specs.inside.Worlds.{IsKnown}
 use Rattle.sq_directory.proofs.MakerLaws.{seen_below}
 use Rattle.sq_model.proofs.ElementLaws.{get_old, get_new, get_cases, get_map, get_mapped, get_same, set_cases, set_kept}
 use Rattle.sq_steps.proofs.JournalListLaws.{journal_there, journal_own, put_cases, put_there, put_kept, put_distinct}
@@ -132,6 +133,42 @@ counted_more w actor n room kept b x h = elim (put_cases (with_record (journal_o
   | inr same ↦ rw same (omega (arith, length-append (journal_of actor w.journals).records (n ∷ []), journal_counted w.journals actor kept.counted))
 ]
 
+-- An actor has one record more.
+module _ (old : WorldValue) (actor : ℕ) (its_record : RecordValue) (room : ℕ) where
+  abbrev with_one : List Journal
+  with_one = put_journal (with_record (journal_of actor old.journals) its_record room) old.journals
+
+  -- what was recorded is
+  one_stays : (a : ℕ) (P : RecordValue → Type 0) → IsRecorded old.journals a P → IsRecorded with_one a P
+  one_stays a P h = recorded_kept old.journals actor (with_record (journal_of actor old.journals) its_record room) a P (journal_own actor old.journals) (λ i m g. get_old (journal_of actor old.journals).records its_record m i g) h
+
+  -- each record has its event, where the new one has and no event is gone
+  one_has_event : IsKeptWorld old → (ds : List DirectoryEvent) (ls : List LedgerEvent) (hs : List HomeHistory)
+      → ((k : ℕ) (e : DirectoryEvent) → slice_get old.directory.events k ≡ Some e → slice_get ds k ≡ Some e)
+      → ((k : ℕ) (e : LedgerEvent) → slice_get old.ledger.events k ≡ Some e → slice_get ls k ≡ Some e)
+      → ((j : ℕ) (h : HomeHistory) → slice_get (histories_of old.homes) j ≡ Some h → Grown hs j h)
+      → HasItsEvent ds ls hs actor its_record → (b i : ℕ) (journal : Journal) (n : RecordValue) → IsRecordAt with_one b i journal n → HasItsEvent ds ls hs journal.actor n
+  one_has_event kept ds ls hs grow more grown has b i journal n h = elim (old_or_new old.journals actor its_record room b i journal n h) [
+    | inl was ↦ subst (λ (a : ℕ). HasItsEvent ds ls hs a n) was.own
+        (its_event_stays old.directory.events ds old.ledger.events ls (histories_of old.homes) hs was.journal.actor n grow more grown (kept.has_its_event was.at i was.journal n was.in_list))
+    | inr new ↦ subst (λ (a : ℕ). HasItsEvent ds ls hs a n) (sym new.0) (subst (λ (m : RecordValue). HasItsEvent ds ls hs actor m) (sym new.2) has)
+  ]
+
+  -- each event of a part is recorded, where one stands there more and the new record is of it
+  one_recorded : {E : Type 0} (events : List E) (event : E) (actor_in : E → ℕ) (IsOf : ℕ → E → RecordValue → Type 0) → actor_in event ≡ actor → IsOf (length events) event its_record
+      → (k : ℕ) (e : E) → (slice_get events k ≡ Some e → IsRecorded old.journals (actor_in e) (IsOf k e)) → slice_get (events ++ event ∷ []) k ≡ Some e → IsRecorded with_one (actor_in e) (IsOf k e)
+  one_recorded {E} events event actor_in IsOf own is k e was h = elim (get_cases events event e k h) [
+    | inl g ↦ one_stays (actor_in e) (IsOf k e) (was g)
+    | inr g ↦ subst (λ (x : E). IsRecorded with_one (actor_in x) (IsOf k x)) (sym g.1)
+        (subst (λ (i : ℕ). IsRecorded with_one (actor_in event) (IsOf i event)) (sym g.0)
+        (subst (λ (a : ℕ). IsRecorded with_one a (IsOf (length events) event)) (sym own) (new_recorded old.journals actor its_record room (IsOf (length events) event) is)))
+  ]
+
+-- the last event of a part stands where its record says
+last_there : {E N : Type 0} (events after : List E) (event : E) (record_for : ℕ → E → N) (n : N) (at : ℕ) → at ≡ length events → after ≡ events ++ event ∷ [] → n ≡ record_for (length events) event
+    → (slice_get after at ≡ Some event) × (n ≡ record_for at event)
+last_there {E} {N} events after event record_for n at index grown is = rw (index, grown) (get_new events event, is)
+
 -- the name that a record has
 named_by : (ds : List DirectoryEvent) (journal : Journal) (its_record : HomeRecordValue) (name : Option (List ℕ)) → Below journal.seen its_record.stamp → IsKnown ds journal name its_record.home.queue → IsNamed ds its_record name
 named_by ds journal its_record None above h = tt
@@ -200,24 +237,16 @@ module _ (old : WorldValue) (actor here : ℕ) (before after : HistoryValue) (na
     subst (λ (x : Option (List ℕ)). IsNamed old.directory.events its_record x) (sym (ap (λ (n : HomeRecordValue). n.name) s.record_is)) s.named,
   )
 
-  all_have_events : (b i : ℕ) (journal : Journal) (n : RecordValue) → IsRecordAt journals b i journal n → HasItsEvent old.directory.events ledger.events (histories_of homes) journal.actor n
-  all_have_events b i journal n h = elim (old_or_new old.journals actor (OfHome its_record) room b i journal n h) [
-    | inl was ↦ subst (λ (a : ℕ). HasItsEvent old.directory.events ledger.events (histories_of homes) a n) was.own
-        (its_event_stays old.directory.events old.directory.events old.ledger.events ledger.events (histories_of old.homes) (histories_of homes) was.journal.actor n (λ k e g. g) s.grows home_grown (kept.has_its_event was.at i was.journal n was.in_list))
-    | inr new ↦ subst (λ (a : ℕ). HasItsEvent old.directory.events ledger.events (histories_of homes) a n) (sym new.0) (subst (λ (m : RecordValue). HasItsEvent old.directory.events ledger.events (histories_of homes) actor m) (sym new.2) new_has_event)
-  ]
-
   stays : (a : ℕ) (P : RecordValue → Type 0) → IsRecorded old.journals a P → IsRecorded journals a P
-  stays a P h = recorded_kept old.journals actor (with_record (journal_of actor old.journals) (OfHome its_record) room) a P (journal_own actor old.journals) (λ i m g. get_old (journal_of actor old.journals).records (OfHome its_record) m i g) h
+  stays a P h = one_stays old actor (OfHome its_record) room a P h
 
   of_after : (k : ℕ) (e : HomeEvent) → slice_get after.events k ≡ Some e → IsRecorded journals e.actor (IsOfHome after.site.home k e)
-  of_after k e h = elim (get_cases before.events event e k (rw s.events at h)) [
-    | inl g ↦ subst (λ (x : HomeId). IsRecorded journals e.actor (IsOfHome x k e)) (sym same_home) (stays e.actor (IsOfHome before.site.home k e) (kept.homes_recorded here k (home_history before) e (record { in_homes = get_map home_history old.homes here before s.in_list; in_events = g })))
-    | inr g ↦ (
-        let index : its_record.index ≡ k = ap (λ (n : HomeRecordValue). n.index) s.record_is ∙ sym g.0 in
-        let is : IsOfHome after.site.home k event (OfHome its_record) = (its_record.name, ap OfHome (subst (λ (x : ℕ). its_record ≡ home_record_of after.site.home x its_record.name event) index (same_record its_record by before.site.home after.site.home (length before.events) call name s.record_is same_home))) in
-        subst (λ (x : HomeEvent). IsRecorded journals x.actor (IsOfHome after.site.home k x)) (sym g.1) (subst (λ (a : ℕ). IsRecorded journals a (IsOfHome after.site.home k event)) (sym (journal_own actor old.journals)) (new_recorded old.journals actor (OfHome its_record) room (IsOfHome after.site.home k event) is)))
-  ]
+  of_after k e h =
+      let index = ap (λ (n : HomeRecordValue). n.index) s.record_is in
+      let is : IsOfHome after.site.home (length before.events) event (OfHome its_record) = (its_record.name, ap OfHome (subst (λ (x : ℕ). its_record ≡ home_record_of after.site.home x its_record.name event) index (same_record its_record by before.site.home after.site.home (length before.events) call name s.record_is same_home))) in
+      one_recorded old actor (OfHome its_record) room before.events event (λ x. x.actor) (IsOfHome after.site.home) (journal_own actor old.journals) is k e
+      (λ g. subst (λ (x : HomeId). IsRecorded old.journals e.actor (IsOfHome x k e)) (sym same_home) (kept.homes_recorded here k (home_history before) e (record { in_homes = get_map home_history old.homes here before s.in_list; in_events = g })))
+      (rw s.events at h)
 
   all_recorded : (j k : ℕ) (h : HomeHistory) (e : HomeEvent) → IsHomeEvent (histories_of homes) j k h e → IsRecorded journals e.actor (IsOfHome h.home k e)
   all_recorded j k h e at =
@@ -269,7 +298,7 @@ module _ (old : WorldValue) (actor here : ℕ) (before after : HistoryValue) (na
   kept_with : IsPaired ledger.events (histories_of homes) → IsKeptWorld (record old { ledger = ledger; homes = homes; journals = journals })
   kept_with paired = record {
     numbered = numbered;
-    has_its_event = all_have_events;
+    has_its_event = one_has_event old actor (OfHome its_record) room kept old.directory.events ledger.events (histories_of homes) (λ k e g. g) s.grows home_grown new_has_event;
     directory_recorded = λ k e h. stays e.actor (IsOfDirectory k e) (kept.directory_recorded k e h);
     ledger_recorded = λ k e h own. stays e.actor (IsOfLedger k e) (kept.ledger_recorded k e (s.own_as_before k e h own) own);
     homes_recorded = all_recorded;
@@ -336,63 +365,30 @@ kept_shared old actor now name id what reply new kept known s =
     (λ k e h. elim (get_cases old.ledger.events entry e k (rw in_ledger.events at h)) [ inl was ↦ inl was | inr new ↦ inr (λ shared. rw new.1 partner) ]) in
     rw (s.changed, s.moves.recorded_as) (kept_with old actor s.at s.before s.after name its_record.call its_record s.recorded_in.room s.ledger kept more paired)
 
-module _ (old : WorldValue) (actor now : ℕ) (call : DirectoryCall) (reply : DirectoryReply) (new : WorldValue) (kept : IsKeptWorld old) (s : DirectoryStepped old new actor now call reply) where
-  abbrev directed_by : Actor
-  directed_by = actor_of (journal_of actor old.journals)
+as_it_was : (homes : List HomeHistory) (j : ℕ) (h : HomeHistory) → slice_get homes j ≡ Some h → Grown homes j h
+as_it_was homes j h there = record { new = h; in_list = there; same = refl; more = λ k e g. g }
 
-  abbrev directed_event : DirectoryEvent
-  directed_event = directory_event s.moves.its_record.stamp directed_by call s.moves.its_record.reply
-
-  abbrev directed_record : DirectoryRecordValue
-  directed_record = s.moves.its_record
-
-  abbrev directed_journals : List Journal
-  directed_journals = put_journal (with_record (journal_of actor old.journals) (OfDirectory directed_record) s.recorded_in.room) old.journals
-
-  directed_index : directed_record.index ≡ length old.directory.events
-  directed_index = ap (λ (n : DirectoryRecordValue). n.index) s.moves.does.record_is
-
-  directed_grows : (k : ℕ) (e : DirectoryEvent) → slice_get old.directory.events k ≡ Some e → slice_get s.after.events k ≡ Some e
-  directed_grows k e h = rw s.moves.does.events (get_old old.directory.events directed_event e k h)
-
-  directed_stays : (a : ℕ) (P : RecordValue → Type 0) → IsRecorded old.journals a P → IsRecorded directed_journals a P
-  directed_stays a P h = recorded_kept old.journals actor (with_record (journal_of actor old.journals) (OfDirectory directed_record) s.recorded_in.room) a P (journal_own actor old.journals) (λ i m g. get_old (journal_of actor old.journals).records (OfDirectory directed_record) m i g) h
-
-  directed_is : directed_record ≡ directory_record_of directed_record.index directed_event
-  directed_is = subst (λ (i : ℕ). directed_record ≡ directory_record_of i directed_event) (sym directed_index) s.moves.does.record_is
-
-  directed_there : slice_get s.after.events directed_record.index ≡ Some directed_event
-  directed_there = subst (λ (es : List DirectoryEvent). slice_get es directed_record.index ≡ Some directed_event) (sym s.moves.does.events)
-      (subst (λ (k : ℕ). slice_get (old.directory.events ++ directed_event ∷ []) k ≡ Some directed_event) (sym directed_index) (get_new old.directory.events directed_event))
-
-  directed_have_events : (b i : ℕ) (journal : Journal) (n : RecordValue) → IsRecordAt directed_journals b i journal n → HasItsEvent s.after.events old.ledger.events (histories_of old.homes) journal.actor n
-  directed_have_events b i journal n h = elim (old_or_new old.journals actor (OfDirectory directed_record) s.recorded_in.room b i journal n h) [
-    | inl was ↦ subst (λ (a : ℕ). HasItsEvent s.after.events old.ledger.events (histories_of old.homes) a n) was.own
-        (its_event_stays old.directory.events s.after.events old.ledger.events old.ledger.events (histories_of old.homes) (histories_of old.homes) was.journal.actor n directed_grows (λ k e h. h) (λ j h g. record { new = h; in_list = g; same = refl; more = λ k e f. f }) (kept.has_its_event was.at i was.journal n was.in_list))
-    | inr new ↦ subst (λ (a : ℕ). HasItsEvent s.after.events old.ledger.events (histories_of old.homes) a n) (sym new.0) (subst (λ (m : RecordValue). HasItsEvent s.after.events old.ledger.events (histories_of old.homes) actor m) (sym new.2) (directed_event, directed_there, journal_own actor old.journals, directed_is))
-  ]
-
-  directed_recorded : (k : ℕ) (e : DirectoryEvent) → slice_get s.after.events k ≡ Some e → IsRecorded directed_journals e.actor (IsOfDirectory k e)
-  directed_recorded k e h = elim (get_cases old.directory.events directed_event e k (rw s.moves.does.events at h)) [
-    | inl g ↦ directed_stays e.actor (IsOfDirectory k e) (kept.directory_recorded k e g)
-    | inr g ↦ (
-        let index : directed_record.index ≡ k = directed_index ∙ sym g.0 in
-        let is : IsOfDirectory k directed_event (OfDirectory directed_record) = ap OfDirectory (subst (λ (x : ℕ). directed_record ≡ directory_record_of x directed_event) index directed_is) in
-        subst (λ (x : DirectoryEvent). IsRecorded directed_journals x.actor (IsOfDirectory k x)) (sym g.1) (subst (λ (a : ℕ). IsRecorded directed_journals a (IsOfDirectory k directed_event)) (sym (journal_own actor old.journals)) (new_recorded old.journals actor (OfDirectory directed_record) s.recorded_in.room (IsOfDirectory k directed_event) is)))
-  ]
-
-  pub kept_directed : IsKeptWorld new
-  kept_directed = rw (s.changed, s.moves.recorded_as) (record {
-    numbered = kept.numbered;
-    has_its_event = directed_have_events;
-    directory_recorded = directed_recorded;
-    ledger_recorded = λ k e h own. directed_stays e.actor (IsOfLedger k e) (kept.ledger_recorded k e h own);
-    homes_recorded = λ j k h e at. directed_stays e.actor (IsOfHome h.home k e) (kept.homes_recorded j k h e at);
-    exact = exact_more old actor (OfDirectory directed_record) s.recorded_in.room kept (ap (λ (n : DirectoryRecordValue). n.place) s.moves.does.record_is);
-    counted = counted_more old actor (OfDirectory directed_record) s.recorded_in.room kept;
-    distinct = put_distinct (with_record (journal_of actor old.journals) (OfDirectory directed_record) s.recorded_in.room) old.journals kept.distinct;
-    paired = kept.paired;
-  })
+-- a step of the directory
+pub kept_directed : (old : WorldValue) (actor now : ℕ) (call : DirectoryCall) (reply : DirectoryReply) (new : WorldValue) → IsKeptWorld old → DirectoryStepped old new actor now call reply → IsKeptWorld new
+kept_directed old actor now call reply new kept s =
+    let n = s.moves.its_record in
+    let is = s.moves.does.record_is in
+    let grown = s.moves.does.events in
+    let event = directory_event n.stamp (actor_of (journal_of actor old.journals)) call n.reply in
+    let own = journal_own actor old.journals in
+    let last = last_there old.directory.events s.after.events event directory_record_of n n.index (ap (λ (m : DirectoryRecordValue). m.index) is) grown is in
+    let stays = one_stays old actor (OfDirectory n) s.recorded_in.room in
+    rw (s.changed, s.moves.recorded_as) (record {
+      numbered = kept.numbered;
+      has_its_event = one_has_event old actor (OfDirectory n) s.recorded_in.room kept s.after.events old.ledger.events (histories_of old.homes) (λ k e h. rw grown (get_old old.directory.events event e k h)) (λ k e h. h) (as_it_was (histories_of old.homes)) (event, last.0, own, last.1);
+      directory_recorded = λ k e h. one_recorded old actor (OfDirectory n) s.recorded_in.room old.directory.events event (λ x. x.actor) IsOfDirectory own (ap OfDirectory is) k e (kept.directory_recorded k e) (rw grown at h);
+      ledger_recorded = λ k e h own. stays e.actor (IsOfLedger k e) (kept.ledger_recorded k e h own);
+      homes_recorded = λ j k h e at. stays e.actor (IsOfHome h.home k e) (kept.homes_recorded j k h e at);
+      exact = exact_more old actor (OfDirectory n) s.recorded_in.room kept (ap (λ (m : DirectoryRecordValue). m.place) is);
+      counted = counted_more old actor (OfDirectory n) s.recorded_in.room kept;
+      distinct = put_distinct (with_record (journal_of actor old.journals) (OfDirectory n) s.recorded_in.room) old.journals kept.distinct;
+      paired = kept.paired;
+    })
 
 acts_are_own : (what : TaskAct) → is_own (task_call what) ≡ true
 acts_are_own (Start asked) = refl
@@ -400,74 +396,37 @@ acts_are_own (Cancel number) = refl
 acts_are_own (ListOf source most) = refl
 acts_are_own (Finish number) = refl
 
+-- what is shared has its partner as before, where the new event is not shared
+own_paired : (events : List LedgerEvent) (homes : List HomeHistory) (event : LedgerEvent) → is_own event.call ≡ true → IsPaired events homes → IsPaired (events ++ event ∷ []) homes
+own_paired events homes event own paired = record {
+  in_ledger = λ j k h e there shared. (let was = paired.in_ledger j k h e there shared in (was.0, get_old events event (as_ledger h.home e) was.0 was.1));
+  in_home = λ k e there shared. elim (get_cases events event e k there) [
+    | inl was ↦ paired.in_home k e was shared
+    | inr new ↦ (let k : true ≡ false = sym own ∙ subst (λ (x : LedgerEvent). is_own x.call ≡ false) new.1 shared in absurd cc)
+  ];
+}
+
 -- a step of the ledger alone
-module _ (old : WorldValue) (actor now : ℕ) (what : TaskAct) (reply : LedgerReply) (new : WorldValue) (kept : IsKeptWorld old) (s : LedgerStepped old new actor now what reply) where
-  abbrev own_by : Actor
-  own_by = actor_of (journal_of actor old.journals)
-
-  abbrev own_added : LedgerEvent
-  own_added = own_event s.moves.its_record.stamp own_by (task_call what) s.moves.its_record.reply
-
-  abbrev own_record : LedgerRecordValue
-  own_record = s.moves.its_record
-
-  abbrev own_journals : List Journal
-  own_journals = put_journal (with_record (journal_of actor old.journals) (OfLedger own_record) s.recorded_in.room) old.journals
-
-  own_index : own_record.index ≡ length old.ledger.events
-  own_index = ap (λ (n : LedgerRecordValue). n.index) s.moves.does.record_is
-
-  own_grows : (k : ℕ) (e : LedgerEvent) → slice_get old.ledger.events k ≡ Some e → slice_get s.after.events k ≡ Some e
-  own_grows k e h = rw s.moves.does.events (get_old old.ledger.events own_added e k h)
-
-  own_stays : (a : ℕ) (P : RecordValue → Type 0) → IsRecorded old.journals a P → IsRecorded own_journals a P
-  own_stays a P h = recorded_kept old.journals actor (with_record (journal_of actor old.journals) (OfLedger own_record) s.recorded_in.room) a P (journal_own actor old.journals) (λ i m g. get_old (journal_of actor old.journals).records (OfLedger own_record) m i g) h
-
-  own_is : own_record ≡ record_of own_record.index own_added
-  own_is = subst (λ (i : ℕ). own_record ≡ record_of i own_added) (sym own_index) s.moves.does.record_is
-
-  own_there : slice_get s.after.events own_record.index ≡ Some own_added
-  own_there = subst (λ (es : List LedgerEvent). slice_get es own_record.index ≡ Some own_added) (sym s.moves.does.events)
-      (subst (λ (k : ℕ). slice_get (old.ledger.events ++ own_added ∷ []) k ≡ Some own_added) (sym own_index) (get_new old.ledger.events own_added))
-
-  own_have_events : (b i : ℕ) (journal : Journal) (n : RecordValue) → IsRecordAt own_journals b i journal n → HasItsEvent old.directory.events s.after.events (histories_of old.homes) journal.actor n
-  own_have_events b i journal n h = elim (old_or_new old.journals actor (OfLedger own_record) s.recorded_in.room b i journal n h) [
-    | inl was ↦ subst (λ (a : ℕ). HasItsEvent old.directory.events s.after.events (histories_of old.homes) a n) was.own
-        (its_event_stays old.directory.events old.directory.events old.ledger.events s.after.events (histories_of old.homes) (histories_of old.homes) was.journal.actor n (λ k e h. h) own_grows (λ j h g. record { new = h; in_list = g; same = refl; more = λ k e f. f }) (kept.has_its_event was.at i was.journal n was.in_list))
-    | inr new ↦ subst (λ (a : ℕ). HasItsEvent old.directory.events s.after.events (histories_of old.homes) a n) (sym new.0) (subst (λ (m : RecordValue). HasItsEvent old.directory.events s.after.events (histories_of old.homes) actor m) (sym new.2) (own_added, own_there, acts_are_own what, journal_own actor old.journals, own_is))
-  ]
-
-  own_recorded : (k : ℕ) (e : LedgerEvent) → slice_get s.after.events k ≡ Some e → is_own e.call ≡ true → IsRecorded own_journals e.actor (IsOfLedger k e)
-  own_recorded k e h own = elim (get_cases old.ledger.events own_added e k (rw s.moves.does.events at h)) [
-    | inl g ↦ own_stays e.actor (IsOfLedger k e) (kept.ledger_recorded k e g own)
-    | inr g ↦ (
-        let index : own_record.index ≡ k = own_index ∙ sym g.0 in
-        let is : IsOfLedger k own_added (OfLedger own_record) = ap OfLedger (subst (λ (x : ℕ). own_record ≡ record_of x own_added) index own_is) in
-        subst (λ (x : LedgerEvent). IsRecorded own_journals x.actor (IsOfLedger k x)) (sym g.1) (subst (λ (a : ℕ). IsRecorded own_journals a (IsOfLedger k own_added)) (sym (journal_own actor old.journals)) (new_recorded old.journals actor (OfLedger own_record) s.recorded_in.room (IsOfLedger k own_added) is)))
-  ]
-
-  -- what is shared has its partner as before, and the new event is not shared
-  own_paired : IsPaired s.after.events (histories_of old.homes)
-  own_paired = record {
-    in_ledger = λ j k h e there shared. (let was = kept.paired.in_ledger j k h e there shared in (was.0, own_grows was.0 (as_ledger h.home e) was.1));
-    in_home = λ k e there shared. elim (get_cases old.ledger.events own_added e k (rw s.moves.does.events at there)) [
-      | inl was ↦ kept.paired.in_home k e was shared
-      | inr new ↦ (let k : true ≡ false = sym (acts_are_own what) ∙ subst (λ (x : LedgerEvent). is_own x.call ≡ false) new.1 shared in absurd cc)
-    ];
-  }
-
-  pub kept_ledgered : IsKeptWorld new
-  kept_ledgered = rw (s.changed, s.moves.recorded_as) (record {
-    numbered = kept.numbered;
-    has_its_event = own_have_events;
-    directory_recorded = λ k e h. own_stays e.actor (IsOfDirectory k e) (kept.directory_recorded k e h);
-    ledger_recorded = own_recorded;
-    homes_recorded = λ j k h e at. own_stays e.actor (IsOfHome h.home k e) (kept.homes_recorded j k h e at);
-    exact = exact_more old actor (OfLedger own_record) s.recorded_in.room kept (ap (λ (n : LedgerRecordValue). n.place) s.moves.does.record_is);
-    counted = counted_more old actor (OfLedger own_record) s.recorded_in.room kept;
-    distinct = put_distinct (with_record (journal_of actor old.journals) (OfLedger own_record) s.recorded_in.room) old.journals kept.distinct;
-    paired = own_paired;
-  })
+pub kept_ledgered : (old : WorldValue) (actor now : ℕ) (what : TaskAct) (reply : LedgerReply) (new : WorldValue) → IsKeptWorld old → LedgerStepped old new actor now what reply → IsKeptWorld new
+kept_ledgered old actor now what reply new kept s =
+    let n = s.moves.its_record in
+    let is = s.moves.does.record_is in
+    let grown = s.moves.does.events in
+    let event = own_event n.stamp (actor_of (journal_of actor old.journals)) (task_call what) n.reply in
+    let own = journal_own actor old.journals in
+    let last = last_there old.ledger.events s.after.events event record_of n n.index (ap (λ (m : LedgerRecordValue). m.index) is) grown is in
+    let stays = one_stays old actor (OfLedger n) s.recorded_in.room in
+    rw (s.changed, s.moves.recorded_as) (record {
+      numbered = kept.numbered;
+      has_its_event = one_has_event old actor (OfLedger n) s.recorded_in.room kept old.directory.events s.after.events (histories_of old.homes) (λ k e h. h) (λ k e h. rw grown (get_old old.ledger.events event e k h)) (as_it_was (histories_of old.homes)) (event, last.0, acts_are_own what, own, last.1);
+      directory_recorded = λ k e h. stays e.actor (IsOfDirectory k e) (kept.directory_recorded k e h);
+      ledger_recorded = λ k e h alone. one_recorded old actor (OfLedger n) s.recorded_in.room old.ledger.events event (λ x. x.actor) IsOfLedger own (ap OfLedger is) k e (λ was. kept.ledger_recorded k e was alone) (rw grown at h);
+      homes_recorded = λ j k h e at. stays e.actor (IsOfHome h.home k e) (kept.homes_recorded j k h e at);
+      exact = exact_more old actor (OfLedger n) s.recorded_in.room kept (ap (λ (m : LedgerRecordValue). m.place) is);
+      counted = counted_more old actor (OfLedger n) s.recorded_in.room kept;
+      distinct = put_distinct (with_record (journal_of actor old.journals) (OfLedger n) s.recorded_in.room) old.journals kept.distinct;
+      paired = rw grown (own_paired old.ledger.events (histories_of old.homes) event (acts_are_own what) kept.paired);
+    })
 
 -- an actor that has read the directory has the same records
 read_was : (journals : List Journal) (actor : ℕ) (stamp : StampValue) (b i : ℕ) (x : Journal) (m : RecordValue) → IsRecordAt (put_journal (having_seen (journal_of actor journals) stamp) journals) b i x m → WasRecord journals i x.actor m

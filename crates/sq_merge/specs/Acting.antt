@@ -1,26 +1,20 @@
 -- What the steps of a call do to a world, and what a turn does.
-use Rattle.std.specs.Prelude.{◌≡◌, ◌⊎◌, ℕ, List, Option, Some, None, position, Result, Ok, Err}
+use Rattle.std.specs.Prelude.{◌≡◌, ◌⊎◌, ℕ, Some, None, position, Result, Ok, Err}
 use Rattle.sq_base.specs.declared.refusal.Refusal.{Refusal}
 use Rattle.sq_base.specs.declared.refusal.Refusal.TheVariants.{NoMemory}
 use Rattle.sq_calls.specs.declared.turns.Turn.{Turn}
 use Rattle.sq_calls.specs.declared.turns.Turned.{Turned}
 use Rattle.sq_model.specs.Directories.{number_named}
 use Rattle.sq_history.specs.Acts.{call_of}
-use Rattle.sq_steps.specs.Journals.{journal_of}
 use Rattle.sq_actions.specs.Asks.{Ask, Resolve, AskDirectory, AskHome, AskShared, Peek, Redriven, AskLedger, ReadTask, Gave, Found, Answered, Replied, Nothing, Peeked, Ends, Told, TaskFound, HomeCounts}
 use Rattle.sq_actions.specs.declared.progress.Progress.{Progress}
-use Rattle.sq_actions.specs.Performs.{Performs}
-use Rattle.sq_actions.specs.Turns.{TurnFits}
+use Rattle.sq_actions.specs.Performs.{TurnFits, Performs}
 use Rattle.sq_merge.specs.Progresses.{is_progress_of, with_progress, progress_of, put_progress}
 use Rattle.sq_merge.specs.WorldValue.{WorldValue}
-use Rattle.sq_merge.specs.Worlds.{IsKnown, HomeStepped, HomeRefused, DirectoryStepped, DirectoryRefused, NameRefused, having_read_directory, SharedStepped, NothingLeaves, SharedRefused, ItemRead, IsUnread, EndsRead, EndsUnread, LedgerStepped, LedgerRefused, TaskRead, TaskUnread}
+use Rattle.sq_merge.specs.Worlds.{HomeStepped, HomeRefused, DirectoryStepped, DirectoryRefused, NameRefused, having_read_directory, SharedStepped, NothingLeaves, SharedRefused, ItemRead, IsUnread, EndsRead, EndsUnread, LedgerStepped, LedgerRefused, TaskRead, TaskUnread}
 
 abbrev pub world_counts : WorldValue → HomeCounts
 world_counts w = record { homes = w.per_queue; sample = w.sample }
-
--- an actor knows a queue of a world by a name
-abbrev pub IsKnownTo : ℕ → WorldValue → Option (List ℕ) → ℕ → Type 0
-IsKnownTo actor w name queue = IsKnown w.directory.events (journal_of actor w.journals) name queue
 
 -- one step of a call by an actor at a clock reading, with this answer
 abbrev pub ActorDoes : ℕ → ℕ → WorldValue → Ask → Gave → WorldValue → Type 0

@@ -4,4 +4,4 @@ pub mod Worlds
 pub mod Openings
 pub mod PartsValue
 pub mod Acting
-pub mod ActingLaws
+pub mod inside

@@ -1,5 +1,5 @@
 -- How far the turns of each actor are. Own.
-use Rattle.std.specs.Prelude.{ℕ, Bool, ◌==◌, List, [], ◌∷◌, ◌++◌, length, find, Option, Some, None, position, slice_set, unwrap_or}
+use Rattle.std.specs.Prelude.{ℕ, Bool, ◌==◌, List, [], ◌∷◌, ◌++◌, find, Option, Some, None, position, slice_set, unwrap_or}
 use Rattle.sq_actions.specs.declared.progress.Progress.{Progress}
 use Rattle.sq_actions.specs.Progresses.{no_progress}
 use Rattle.sq_merge.specs.declared.progress.ActorProgress.{ActorProgress}
@@ -30,7 +30,3 @@ placed_where (Some at) actor ps = ps
 
 abbrev pub with_progress : ℕ → List ActorProgress → List ActorProgress
 with_progress actor ps = placed_where (position (is_progress_of actor) ps) actor ps
-
--- that place
-abbrev pub progress_place : ℕ → List ActorProgress → ℕ
-progress_place actor ps = unwrap_or (position (is_progress_of actor) ps) (length ps)

@@ -36,7 +36,6 @@ use Rattle.sq_directory.specs.DirectoryHistory.{DirectoryHistory}
 use Rattle.sq_steps.specs.Reads.{next_of}
 use Rattle.sq_merge.specs.WorldValue.{WorldValue}
 use Rattle.sq_audit.specs.HomeIds.{histories_of, IsNumbered}
-use Rattle.sq_directory.specs.Makers.{IsMadeBy}
 
 -- a home of the system
 pub record IsHomeOf (w : WorldValue) (id : HomeId) (at : ℕ) (h : HistoryValue) : Type 0 where
@@ -206,8 +205,3 @@ pub record IsKeptWorld (w : WorldValue) : Type 0 where
   pub counted : (b : ℕ) (journal : Journal) → slice_get w.journals b ≡ Some journal → journal.next ≡ length journal.records
   pub distinct : AreDistinct w.journals
   pub paired : IsPaired w.ledger.events (histories_of w.homes)
-
--- an actor knows a queue by a name: it was made by it before what the actor has seen
-abbrev pub IsKnown : List DirectoryEvent → Journal → Option (List ℕ) → ℕ → Type 0
-IsKnown directory journal None queue = Unit {0}
-IsKnown directory journal (Some name) queue = IsMadeBy directory journal.seen name queue

@@ -1,12 +1,10 @@
 //! An actor at a world that it borrows, with its clock reading.
 ghost use Rattle.std.specs.Prelude.{◌≡◌, Some};
-ghost use Rattle.sq_merge.specs.Acting.{world_counts, IsKnownTo, ActorStepped};
-ghost use Rattle.sq_merge.specs.ActingLaws.{actor_leaves};
+ghost use Rattle.sq_merge.specs.Acting.{world_counts, ActorStepped};
+ghost use Rattle.sq_merge.specs.inside.Acting.{IsKnownTo};
+ghost use Rattle.sq_merge.specs.inside.ActingLaws.{actor_leaves};
 ghost use Rattle.sq_steps.specs.Journals.{journal_of};
-ghost use Rattle.sq_actions.specs.Fits.{CallFits};
-ghost use Rattle.sq_actions.specs.Turns.{TurnFits};
-ghost use Rattle.sq_actions.specs.Stops.{UntilFits};
-ghost use Rattle.sq_actions.specs.Performs.{Performs, LeavesRecords};
+ghost use Rattle.sq_actions.specs.Performs.{CallFits, TurnFits, UntilFits, LeavesRecords, Performs};
 
 use crate::world::World;
 use sq_actions::lock_steps::LockSteps;

@@ -1,6 +1,7 @@
 //! How far the turns of each actor are.
 ghost use Rattle.std.specs.Prelude.{◌≡◌, ◌<◌, None, length, position, IfErr, IfOk, IfSome, OnErr, OnOk};
-ghost use Rattle.sq_merge.specs.Progresses.{is_progress_of, progress_place, with_progress};
+ghost use Rattle.sq_merge.specs.Progresses.{is_progress_of, with_progress};
+ghost use Rattle.sq_merge.specs.inside.Progresses.{progress_place};
 
 use sq_actions::progress::Progress;
 use sq_base::refusal::Refusal;

@@ -1,20 +1,18 @@
 //! All queues of a service with all that was done to them, for one thread.
-ghost use Rattle.std.specs.Prelude.{◌≡◌, ◌⊎◌, ◌↔◌, ◌<◌, ◌≤◌, true, None, Some, length, position, IfOk, IfErr, IfSome, IfNone, OnOk, OnErr, option_map};
+ghost use Rattle.std.specs.Prelude.{◌≡◌, ◌⊎◌, ◌<◌, ◌≤◌, None, Some, length, IfOk, IfErr, IfSome, IfNone, OnOk, OnErr, option_map};
 ghost use Rattle.rand.specs.Sample.{IsSampleOf};
 ghost use Rattle.sq_model.specs.Directories.{all_named, number_named};
 ghost use Rattle.sq_directory.specs.MoveQueues.{as_ends};
 ghost use Rattle.sq_directory.specs.Makers.{IsAnsweredByName};
 ghost use Rattle.sq_history.specs.Acts.{call_of};
-ghost use Rattle.sq_steps.specs.Journals.{is_of_actor, journal_of};
+ghost use Rattle.sq_steps.specs.Journals.{journal_of};
 ghost use Rattle.sq_merge.specs.Worlds.{SharedStepped, NothingLeaves, SharedRefused, having_peeked, ItemRead, LedgerStepped, LedgerRefused, IsUnread, NamesUnread, TaskRead, TaskUnread, EndsRead, EndsUnread, HomeStepped, HomeRefused, DirectoryStepped, DirectoryRefused, NameRefused, having_read_directory, having_seen_at, StepDone, StepRefused, Schedule, IsKeptWorld};
 ghost use Rattle.sq_steps.specs.Reads.{next_of};
 ghost use Rattle.sq_audit.specs.HomeIds.{histories_of};
-ghost use Rattle.sq_merge.specs.Acting.{world_counts, IsKnownTo, ActorStepped, TurnDone, UnlessNoPlace};
+ghost use Rattle.sq_merge.specs.Acting.{world_counts, ActorStepped, TurnDone, UnlessNoPlace};
+ghost use Rattle.sq_merge.specs.inside.Acting.{IsKnownTo};
 ghost use Rattle.sq_merge.specs.Progresses.{progress_of};
-ghost use Rattle.sq_actions.specs.Fits.{CallFits};
-ghost use Rattle.sq_actions.specs.Stops.{UntilFits};
-ghost use Rattle.sq_actions.specs.Turns.{TurnFits};
-ghost use Rattle.sq_actions.specs.Performs.{Performs, LeavesRecords};
+ghost use Rattle.sq_actions.specs.Performs.{CallFits, TurnFits, UntilFits, LeavesRecords, Performs};
 ghost use Rattle.sq_merge.specs.Openings.{new_world};
 ghost use Rattle.sq_opening.specs.Openings.{IsServed};
 ghost use Rattle.sq_merge.specs.PartsValue.{ArePartsOf};

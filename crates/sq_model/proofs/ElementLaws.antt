@@ -1,8 +1,7 @@
 -- What stands where in a list.
 use Rattle.std.proofs.Common.{◌≡◌, ◌≢◌, ◌⊎◌, ℕ, zero, suc, ◌<◌, List, [], ◌∷◌, ◌++◌, length, map, refl, ap, sym, ◌∙◌, inl, inr, arith, Some, slice_get, slice_set, ◌+◌, subst}
 use Rattle.std.proofs.lemmas.Bool.Decides.{eqb_tells}
-use Rattle.std.specs.List.{AllByRecursion, slice_index_or}
-use Rattle.std.proofs.lemmas.Option.{slice_get_read}
+use Rattle.std.specs.List.{AllByRecursion}
 
 pub get_old : {X : Type 0} (xs : List X) (x y : X) (k : ℕ) → slice_get xs k ≡ Some y → slice_get (xs ++ x ∷ []) k ≡ Some y
 get_old [] x y k h = absurd cc
@@ -74,7 +73,3 @@ pub all_get : {X : Type 0} (P : X → Type 0) (xs : List X) → AllByRecursion P
 all_get P [] all k x h = absurd cc
 all_get P (z ∷ zs) all zero x h = subst P (some_same h) all.0
 all_get P (z ∷ zs) all (suc k) x h = all_get P zs all.1 k x h
-
--- what is read from a list that is another's
-pub read_at : {X : Type 0} (es d : List X) (i : ℕ) (x : X) → es ≡ d → i < length es → x ≡ slice_index_or es i x → slice_get d i ≡ Some x
-read_at es d i x same lt is = subst (λ (xs : List _). slice_get xs i ≡ Some x) same (slice_get_read es (length es) i x refl lt is)

@@ -9,7 +9,7 @@ use Rattle.std.proofs.lemmas.List.Elements.{All-take, All-contains_itself}
 use Rattle.sq_base.specs.declared.row.Row.{Row}
 use Rattle.sq_base.specs.declared.settings.Settings.{Settings}
 use Rattle.sq_model.specs.declared.calls.Receipt.{Receipt}
-use Rattle.sq_model.specs.Rows.{is_expired, trimmed, RisesFrom, serials_of, received_if, received, changed_if, is_held, is_distinct, IsLook, is_live, is_named, without}
+use Rattle.sq_model.specs.Rows.{is_expired, unexpired, RisesFrom, serials_of, received_if, received, changed_if, is_held, is_distinct, IsLook, is_live, is_named, without}
 
 pub rises_weaker : (a b : ℕ) (rows : List Row) (next : ℕ) → a ≤ b → RisesFrom b rows next → RisesFrom a rows next
 rises_weaker a b [] next le h = omega arith
@@ -27,8 +27,8 @@ pub rises_map : (f : Row → Row) (low : ℕ) (rows : List Row) (next : ℕ) →
 rises_map f low [] next same h = h
 rises_map f low (row ∷ rows) next same h = rw (same row) (h.0, rises_map f (row.serial + 1) rows next same h.1)
 
-pub rises_trimmed : (s : Settings) (m low : ℕ) (rows : List Row) (next : ℕ) → RisesFrom low rows next → RisesFrom low (trimmed s m rows) next
-rises_trimmed s m low rows next h = rises_filter (λ row. not (is_expired s m row)) low rows next h
+pub rises_unexpired : (s : Settings) (m low : ℕ) (rows : List Row) (next : ℕ) → RisesFrom low rows next → RisesFrom low (unexpired s m rows) next
+rises_unexpired s m low rows next h = rises_filter (λ row. not (is_expired s m row)) low rows next h
 
 pub rises_without : (receipt : Receipt) (low : ℕ) (rows : List Row) (next : ℕ) → RisesFrom low rows next → RisesFrom low (without receipt rows) next
 rises_without receipt low rows next h = rises_filter (λ row. not (is_named receipt row)) low rows next h

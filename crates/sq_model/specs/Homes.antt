@@ -18,7 +18,7 @@ use Rattle.sq_model.specs.declared.calls.HomeCall.TheVariants.{Configure, Close,
 use Rattle.sq_model.specs.declared.replies.Counts.{Counts}
 use Rattle.sq_model.specs.declared.replies.HomeReply.{HomeReply}
 use Rattle.sq_model.specs.declared.replies.HomeReply.TheVariants.{Done, Sent, Looked, Over, Counted, Left, NoLiveRow, NoOrigin, SourceClosed, Entered}
-use Rattle.sq_model.specs.Rows.{ms, trimmed, RisesFrom, is_visible, is_delayed, is_flying, is_dead, is_live, room, serials_of, IsLook, received_if, without, is_held, is_late, changed_if, Takes, is_free}
+use Rattle.sq_model.specs.Rows.{ms, unexpired, RisesFrom, is_visible, is_delayed, is_in_flight, is_dead, is_live, room, serials_of, IsLook, received_if, without, is_held, is_late, changed_if, Takes, is_free}
 
 pub data Home : Type 0 where
   Unopened : Home
@@ -66,7 +66,7 @@ abbrev pub dead_target : Option Redrive → Option ℕ
 dead_target policy = option_map (λ redrive. redrive.target) policy
 
 abbrev pub counts_of : ℕ → List Row → Counts
-counts_of m rows = record { visible = count_by (is_visible m) rows; flying = count_by (is_flying m) rows; delayed = count_by (is_delayed m) rows }
+counts_of m rows = record { visible = count_by (is_visible m) rows; in_flight = count_by (is_in_flight m) rows; delayed = count_by (is_delayed m) rows }
 
 -- a row has room, and a serial and a slot are left for it
 pub record HasPlace (l : Limits) (next slot : ℕ) (rows : List Row) : Type 0 where
@@ -87,62 +87,62 @@ may_enter home item = not item.homeward && (item.target == home.queue)
 abbrev pub may_return : HomeId → Item → Bool
 may_return home item = item.homeward && (item.source == home.queue)
 
--- From home, at m, the home may give this reply to the call and go on to after. A step trims under the settings before it.
--- A Nothing of LeaveDead, a throttled leave and a refusal are no steps: they change nothing, and trim nothing.
+-- From home, at m, the home may give this reply to the call and go on to after. A step first drops what has expired under the settings before it.
+-- A Nothing of LeaveDead, a throttled leave and a refusal are no steps: they change nothing, and drop nothing that has expired.
 unfoldable pub HomeStep : Site → Home → ℕ → HomeCall → HomeReply → Home → Type 0
 HomeStep site Unopened m (Configure t w) Done after = after ≡ Serving t w 0 []
 HomeStep site (Serving s v n rows) m (Configure t w) Done after =
-    after ≡ (if nat_lt v w then Serving t w n (trimmed s m rows) else Serving s v n (trimmed s m rows))
+    after ≡ (if nat_lt v w then Serving t w n (unexpired s m rows) else Serving s v n (unexpired s m rows))
 HomeStep site Unopened m Close Done after = after ≡ Closed
 HomeStep site (Serving s v n rows) m Close Done after = after ≡ Closed
 HomeStep site (Serving s v n rows) m (Send body delay) (Sent sent) after =
-    HasPlace site.limits n sent.slot (trimmed s m rows)
+    HasPlace site.limits n sent.slot (unexpired s m rows)
     × (sent.id ≡ fresh_id site.home n)
-    × (after ≡ Serving s v (n + 1) (trimmed s m rows ++ sent_row site.home n sent.slot m (m + ms (unwrap_or delay s.delay)) body ∷ []))
+    × (after ≡ Serving s v (n + 1) (unexpired s m rows ++ sent_row site.home n sent.slot m (m + ms (unwrap_or delay s.delay)) body ∷ []))
 HomeStep site (Serving s v n rows) m (Look max timeout) (Looked picked) after =
-    (list_any (is_live s m) (trimmed s m rows) ≡ true → 0 < room site.limits.flights m (trimmed s m rows))
-    × IsLook s m (m + ms (unwrap_or timeout s.timeout)) (min max (room site.limits.flights m (trimmed s m rows))) (trimmed s m rows) picked
-    × (after ≡ Serving s v n (map (received_if s (serials_of picked) m (m + ms (unwrap_or timeout s.timeout))) (trimmed s m rows)))
+    (list_any (is_live s m) (unexpired s m rows) ≡ true → 0 < room site.limits.flights m (unexpired s m rows))
+    × IsLook s m (m + ms (unwrap_or timeout s.timeout)) (min max (room site.limits.flights m (unexpired s m rows))) (unexpired s m rows) picked
+    × (after ≡ Serving s v n (map (received_if s (serials_of picked) m (m + ms (unwrap_or timeout s.timeout))) (unexpired s m rows)))
 HomeStep site (Serving s v n rows) m (Look max timeout) Over after =
-    (list_any (is_live s m) (trimmed s m rows) ≡ true)
-    × (room site.limits.flights m (trimmed s m rows) ≡ 0)
-    × (after ≡ Serving s v n (trimmed s m rows))
+    (list_any (is_live s m) (unexpired s m rows) ≡ true)
+    × (room site.limits.flights m (unexpired s m rows) ≡ 0)
+    × (after ≡ Serving s v n (unexpired s m rows))
 HomeStep site (Serving s v n rows) m (Delete receipt) Done after =
-    (receipt.serial < n) × (after ≡ Serving s v n (without receipt (trimmed s m rows)))
+    (receipt.serial < n) × (after ≡ Serving s v n (without receipt (unexpired s m rows)))
 HomeStep site (Serving s v n rows) m (Change receipt timeout) Done after =
     (receipt.serial < n)
-    × (list_any (is_held m receipt) (trimmed s m rows) ≡ true)
-    × (list_any (λ row. is_held m receipt row && is_late (m + ms timeout) row.last_receive) (trimmed s m rows) ≡ false)
-    × (after ≡ Serving s v n (map (changed_if m receipt (m + ms timeout)) (trimmed s m rows)))
+    × (list_any (is_held m receipt) (unexpired s m rows) ≡ true)
+    × (list_any (λ row. is_held m receipt row && is_late (m + ms timeout) row.last_receive) (unexpired s m rows) ≡ false)
+    × (after ≡ Serving s v n (map (changed_if m receipt (m + ms timeout)) (unexpired s m rows)))
 HomeStep site (Serving s v n rows) m Purge Done after = after ≡ Serving s v n []
 HomeStep site (Serving s v n rows) m Count (Counted counts) after =
-    (counts ≡ counts_of m (trimmed s m rows)) × (after ≡ Serving s v n (trimmed s m rows))
+    (counts ≡ counts_of m (unexpired s m rows)) × (after ≡ Serving s v n (unexpired s m rows))
 HomeStep site (Serving s v n rows) m LeaveDead (Left item) after =
     IsFrom site.home DeadLetter item
     × (Some item.target ≡ dead_target s.redrive)
     × (is_dead s m item.row ≡ true)
-    × ((rest : List Row) × Takes item.row (trimmed s m rows) rest × (after ≡ Serving s v n rest))
+    × ((rest : List Row) × Takes item.row (unexpired s m rows) rest × (after ≡ Serving s v n rest))
 HomeStep site (Serving s v n rows) m (LeaveTask task) (Left item) after =
     IsFrom site.home (Task task) item
     × (is_live s m item.row ≡ true)
-    × ((rest : List Row) × Takes item.row (trimmed s m rows) rest × (after ≡ Serving s v n rest))
+    × ((rest : List Row) × Takes item.row (unexpired s m rows) rest × (after ≡ Serving s v n rest))
 HomeStep site (Serving s v n rows) m (LeaveTask task) NoLiveRow after =
-    (list_any (is_live s m) (trimmed s m rows) ≡ false) × (after ≡ Serving s v n (trimmed s m rows))
+    (list_any (is_live s m) (unexpired s m rows) ≡ false) × (after ≡ Serving s v n (unexpired s m rows))
 HomeStep site (Serving s v n rows) m (LeaveTask task) (NoOrigin serial) after =
-    ((row : Row) × (rest : List Row) × Takes row (trimmed s m rows) rest × (is_live s m row ≡ true) × (row.serial ≡ serial) × (row.origin ≡ None))
-    × (after ≡ Serving s v n (trimmed s m rows))
+    ((row : Row) × (rest : List Row) × Takes row (unexpired s m rows) rest × (is_live s m row ≡ true) × (row.serial ≡ serial) × (row.origin ≡ None))
+    × (after ≡ Serving s v n (unexpired s m rows))
 HomeStep site Closed m (LeaveTask task) SourceClosed after = after ≡ Closed
 HomeStep site (Serving s v n rows) m (Enter item) (Entered entered) after =
     (may_enter site.home item ≡ true)
-    × HasPlace site.limits n entered.slot (trimmed s m rows)
+    × HasPlace site.limits n entered.slot (unexpired s m rows)
     × (entered.serial ≡ n)
-    × (after ≡ Serving s v (n + 1) (trimmed s m rows ++ entered_row site.home n entered.slot m item ∷ []))
+    × (after ≡ Serving s v (n + 1) (unexpired s m rows ++ entered_row site.home n entered.slot m item ∷ []))
 HomeStep site Closed m (TurnBack item) Done after = (may_enter site.home item ≡ true) × (after ≡ Closed)
 HomeStep site (Serving s v n rows) m (GiveBack item) (Entered entered) after =
     (may_return site.home item ≡ true)
-    × HasPlace site.limits n entered.slot (trimmed s m rows)
+    × HasPlace site.limits n entered.slot (unexpired s m rows)
     × (entered.serial ≡ n)
-    × (after ≡ Serving s v (n + 1) (trimmed s m rows ++ returned_row n entered.slot m item ∷ []))
+    × (after ≡ Serving s v (n + 1) (unexpired s m rows ++ returned_row n entered.slot m item ∷ []))
 HomeStep site Closed m (GiveUp item) Done after = (may_return site.home item ≡ true) × (after ≡ Closed)
 -- no other reply is given
 HomeStep site home m call reply after = ⊥
@@ -161,24 +161,24 @@ home_refusal site Unopened m (Configure t w) = None
 home_refusal site (Serving s v n rows) m (Configure t w) = None
 home_refusal site Unopened m Close = None
 home_refusal site (Serving s v n rows) m Close = None
-home_refusal site (Serving s v n rows) m (Send body delay) = place_refusal site.limits n (trimmed s m rows) None
+home_refusal site (Serving s v n rows) m (Send body delay) = place_refusal site.limits n (unexpired s m rows) None
 home_refusal site (Serving s v n rows) m (Look max timeout) = None
 home_refusal site (Serving s v n rows) m (Delete receipt) = refused_if (nat_le n receipt.serial) ReceiptHandleIsInvalid None
 home_refusal site (Serving s v n rows) m (Change receipt timeout) =
     refused_if (nat_le n receipt.serial) ReceiptHandleIsInvalid
-    (refused_if (not (list_any (is_held m receipt) (trimmed s m rows))) MessageNotInflight
-    (refused_if (list_any (λ row. is_held m receipt row && is_late (m + ms timeout) row.last_receive) (trimmed s m rows)) InvalidParameterValue None))
+    (refused_if (not (list_any (is_held m receipt) (unexpired s m rows))) MessageNotInflight
+    (refused_if (list_any (λ row. is_held m receipt row && is_late (m + ms timeout) row.last_receive) (unexpired s m rows)) InvalidParameterValue None))
 home_refusal site (Serving s v n rows) m Purge = None
 home_refusal site (Serving s v n rows) m Count = None
 home_refusal site (Serving s v n rows) m LeaveDead = None
 home_refusal site (Serving s v n rows) m (LeaveTask task) = None
 home_refusal site Closed m (LeaveTask task) = None
 home_refusal site (Serving s v n rows) m (Enter item) =
-    place_refusal site.limits n (trimmed s m rows) (refused_if (not (may_enter site.home item)) UnsupportedOperation None)
+    place_refusal site.limits n (unexpired s m rows) (refused_if (not (may_enter site.home item)) UnsupportedOperation None)
 home_refusal site (Serving s v n rows) m (TurnBack item) = Some UnsupportedOperation
 home_refusal site Closed m (TurnBack item) = refused_if (not (may_enter site.home item)) UnsupportedOperation None
 home_refusal site (Serving s v n rows) m (GiveBack item) =
-    place_refusal site.limits n (trimmed s m rows) (refused_if (not (may_return site.home item)) UnsupportedOperation None)
+    place_refusal site.limits n (unexpired s m rows) (refused_if (not (may_return site.home item)) UnsupportedOperation None)
 home_refusal site (Serving s v n rows) m (GiveUp item) = Some UnsupportedOperation
 home_refusal site Closed m (GiveUp item) = refused_if (not (may_return site.home item)) UnsupportedOperation None
 home_refusal site Unopened m call = Some QueueDoesNotExist
@@ -205,5 +205,5 @@ HasSlot SourceClosed = Unit {0}
 
 -- no dead row is there to leave
 abbrev pub IsIdle : Home → ℕ → HomeCall → Type 0
-IsIdle (Serving s v n rows) m LeaveDead = list_any (is_dead s m) (trimmed s m rows) ≡ false
+IsIdle (Serving s v n rows) m LeaveDead = list_any (is_dead s m) (unexpired s m rows) ≡ false
 IsIdle home m call = ⊥

@@ -7,7 +7,7 @@ use Rattle.sq_model.specs.declared.calls.HomeCall.{HomeCall}
 use Rattle.sq_model.specs.declared.calls.HomeCall.TheVariants.{Configure, Close, Send, Look, Delete, Change, Purge, Count, LeaveDead, LeaveTask, Enter, TurnBack, GiveBack, GiveUp}
 use Rattle.sq_model.specs.declared.item.Item.{Item}
 use Rattle.sq_model.specs.declared.replies.HomeReply.{HomeReply}
-use Rattle.sq_model.specs.Rows.{is_expired, trimmed, is_named}
+use Rattle.sq_model.specs.Rows.{is_expired, unexpired, is_named}
 use Rattle.sq_model.specs.Homes.{Home, Unopened, Serving, Closed}
 use Rattle.sq_model.specs.Passages.{Alone, ComesIn, GoesBack, IsGivenUp, Leaves, Passage, passage_of, passed_in}
 
@@ -25,11 +25,11 @@ ended cause rows = map (λ row. record { line = row.lineage; cause = cause }) ro
 abbrev pub expired : Settings → ℕ → List Row → List Row
 expired s m rows = filter (is_expired s m) rows
 
--- Who leaves the system in a step of a home. A trim comes first, so what is expired is not deleted, purged or closed away.
+-- Who leaves the system in a step of a home. What has expired goes first, so it is not deleted, purged or closed away.
 abbrev pub home_ends : Home → ℕ → HomeCall → List Ending
-home_ends (Serving s v n rows) m (Delete receipt) = ended Expired (expired s m rows) ++ ended Deleted (filter (is_named receipt) (trimmed s m rows))
-home_ends (Serving s v n rows) m Purge = ended Expired (expired s m rows) ++ ended Purged (trimmed s m rows)
-home_ends (Serving s v n rows) m Close = ended Expired (expired s m rows) ++ ended ClosedAway (trimmed s m rows)
+home_ends (Serving s v n rows) m (Delete receipt) = ended Expired (expired s m rows) ++ ended Deleted (filter (is_named receipt) (unexpired s m rows))
+home_ends (Serving s v n rows) m Purge = ended Expired (expired s m rows) ++ ended Purged (unexpired s m rows)
+home_ends (Serving s v n rows) m Close = ended Expired (expired s m rows) ++ ended ClosedAway (unexpired s m rows)
 home_ends (Serving s v n rows) m (Configure t w) = ended Expired (expired s m rows)
 home_ends (Serving s v n rows) m (Send body delay) = ended Expired (expired s m rows)
 home_ends (Serving s v n rows) m (Look max timeout) = ended Expired (expired s m rows)

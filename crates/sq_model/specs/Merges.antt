@@ -35,11 +35,6 @@ is_move (OfDirectory e) = false
 is_move (OfLedger e) = true
 is_move (OfHome i e) = not (is_alone e.call)
 
--- the ledger has no part in these events: no message moves between queues
-abbrev pub NothingMoves : List Tag → Type 0
-NothingMoves [] = Unit {0}
-NothingMoves (t ∷ ts) = (is_move t ≡ false) × NothingMoves ts
-
 -- the events of the home at an index
 abbrev pub of_home : ℕ → List Tag → List HomeEvent
 of_home j [] = []

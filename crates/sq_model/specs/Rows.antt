@@ -14,8 +14,8 @@ abbrev pub is_expired : Settings → ℕ → Row → Bool
 is_expired s m row = nat_le (row.enqueued + ms s.retention) m
 
 -- the rows that are not
-abbrev pub trimmed : Settings → ℕ → List Row → List Row
-trimmed s m rows = filter (λ row. not (is_expired s m row)) rows
+abbrev pub unexpired : Settings → ℕ → List Row → List Row
+unexpired s m rows = filter (λ row. not (is_expired s m row)) rows
 
 abbrev pub is_visible : ℕ → Row → Bool
 is_visible m row = nat_le row.visible_from m
@@ -25,8 +25,8 @@ abbrev pub is_delayed : ℕ → Row → Bool
 is_delayed m row = (row.receives == 0) && nat_lt m row.visible_from
 
 -- in flight: received, and not visible again yet (VisibilityTimeout)
-abbrev pub is_flying : ℕ → Row → Bool
-is_flying m row = nat_lt 0 row.receives && nat_lt m row.visible_from
+abbrev pub is_in_flight : ℕ → Row → Bool
+is_in_flight m row = nat_lt 0 row.receives && nat_lt m row.visible_from
 
 -- received as often as the policy allows
 abbrev pub is_spent : Option Redrive → Row → Bool
@@ -43,7 +43,7 @@ is_live s m row = is_visible m row && not (is_dead s m row) && nat_lt row.receiv
 
 -- how many more rows may be in flight
 abbrev pub room : ℕ → ℕ → List Row → ℕ
-room flights m rows = flights - count_by (is_flying m) rows
+room flights m rows = flights - count_by (is_in_flight m) rows
 
 abbrev pub serials_of : List Row → List ℕ
 serials_of rows = map (λ row. row.serial) rows
@@ -84,7 +84,7 @@ without receipt rows = filter (λ row. not (is_named receipt row)) rows
 
 -- the row of a receipt, while it is in flight
 abbrev pub is_held : ℕ → Receipt → Row → Bool
-is_held m receipt row = is_named receipt row && is_flying m row
+is_held m receipt row = is_named receipt row && is_in_flight m row
 
 -- later than 12 hours after the last receive (SQS API Reference, ChangeMessageVisibility)
 abbrev pub is_late : ℕ → Option ℕ → Bool

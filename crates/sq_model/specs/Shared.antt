@@ -16,7 +16,7 @@ use Rattle.sq_model.specs.declared.replies.HomeReply.{HomeReply}
 use Rattle.sq_model.specs.declared.shared.SharedAct.{SharedAct}
 use Rattle.sq_model.specs.declared.shared.SharedAct.TheVariants.{LeaveDead, LeaveTask, Enter, TurnBack, GiveBack, GiveUp}
 use Rattle.sq_model.specs.declared.task.Task.{Task}
-use Rattle.sq_model.specs.Rows.{trimmed, is_dead, is_live}
+use Rattle.sq_model.specs.Rows.{unexpired, is_dead, is_live}
 use Rattle.sq_model.specs.Homes.{Home, Unopened, Serving, Closed, HasSlot, HomeStep, may_enter, may_return, place_refusal, refused_if}
 use Rattle.sq_model.specs.Tasks.{is_running, may_leave}
 use Rattle.sq_model.specs.Ledgers.{Ledger, LedgerStep, MayTake, is_of_source, item_of, room_refusal, task_of}
@@ -57,14 +57,14 @@ is_throttled m (Some task) = not (may_leave m task)
 -- the first check that fails. A dead letter's leave without a dead row, and a task's leave that is throttled or finds no live row, ask for no room.
 unfoldable pub shared_refusal : Site → Home → Ledger → ℕ → SharedAct → Option Refusal
 shared_refusal site Unopened l m act = Some QueueDoesNotExist
-shared_refusal site (Serving s v n rows) l m LeaveDead = if list_any (is_dead s m) (trimmed s m rows) then room_refusal l else None
+shared_refusal site (Serving s v n rows) l m LeaveDead = if list_any (is_dead s m) (unexpired s m rows) then room_refusal l else None
 shared_refusal site (Serving s v n rows) l m (LeaveTask number) =
-    task_refusal site.home (task_of number l) (if not (is_throttled m (task_of number l)) && list_any (is_live s m) (trimmed s m rows) then room_refusal l else None)
+    task_refusal site.home (task_of number l) (if not (is_throttled m (task_of number l)) && list_any (is_live s m) (unexpired s m rows) then room_refusal l else None)
 shared_refusal site (Serving s v n rows) l m (Enter number) =
-    place_refusal site.limits n (trimmed s m rows) (refused_if (not (is_entering site.home (item_of number l))) UnsupportedOperation None)
+    place_refusal site.limits n (unexpired s m rows) (refused_if (not (is_entering site.home (item_of number l))) UnsupportedOperation None)
 shared_refusal site (Serving s v n rows) l m (TurnBack number) = Some UnsupportedOperation
 shared_refusal site (Serving s v n rows) l m (GiveBack number) =
-    place_refusal site.limits n (trimmed s m rows) (refused_if (not (is_returning site.home (item_of number l))) UnsupportedOperation None)
+    place_refusal site.limits n (unexpired s m rows) (refused_if (not (is_returning site.home (item_of number l))) UnsupportedOperation None)
 shared_refusal site (Serving s v n rows) l m (GiveUp number) = Some UnsupportedOperation
 shared_refusal site Closed l m LeaveDead = Some QueueDoesNotExist
 shared_refusal site Closed l m (LeaveTask number) = task_refusal site.home (task_of number l) None
@@ -75,7 +75,7 @@ shared_refusal site Closed l m (GiveUp number) = refused_if (not (is_returning s
 
 -- An answer that is no step and changes nothing: no dead row is there, or a task that may take messages of this home is at its rate.
 abbrev pub IsUnrecorded : Site → Home → Ledger → ℕ → SharedAct → Type 0
-IsUnrecorded site (Serving s v n rows) l m LeaveDead = list_any (is_dead s m) (trimmed s m rows) ≡ false
+IsUnrecorded site (Serving s v n rows) l m LeaveDead = list_any (is_dead s m) (unexpired s m rows) ≡ false
 IsUnrecorded site (Serving s v n rows) l m (LeaveTask number) = (task : Task) × MayTake l site.home.queue number task × (may_leave m task ≡ false)
 IsUnrecorded site (Serving s v n rows) l m act = ⊥
 IsUnrecorded site Unopened l m act = ⊥

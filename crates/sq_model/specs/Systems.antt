@@ -101,9 +101,15 @@ abbrev pub MomentsRise : ℕ → List Tag → Type 0
 MomentsRise low [] = Unit {0}
 MomentsRise low (t ∷ ts) = (low ≤ (stamp_of t).moment) × MomentsRise (stamp_of t).moment ts
 
+-- what a system is opened with: how many queues may ever be made, how many messages may be in transit, and its homes
+pub record Opening : Type 0 where
+  pub queues : ℕ
+  pub transit : ℕ
+  pub sites : List Site
+
 -- no queue, nothing in transit, and homes that were never opened
-abbrev pub opening : ℕ → ℕ → List Site → System
-opening places limit sites = record { directory = opening_directory places; ledger = opening_ledger limit; homes = map (λ site. record { site = site; home = Unopened }) sites }
+abbrev pub opening : Opening → System
+opening o = record { directory = opening_directory o.queues; ledger = opening_ledger o.transit; homes = map (λ site. record { site = site; home = Unopened }) o.sites }
 
 abbrev pub same_home : HomeId → HomeId → Bool
 same_home x y = (y.queue == x.queue) && (y.home == x.home)
@@ -113,19 +119,14 @@ abbrev pub IsOnePlace : List Site → Type 0
 IsOnePlace sites = (x : HomeId) → count_by (λ site. same_home x site.home) sites ≤ 1
 
 -- a run of the whole system from its opening
-pub record IsRun (places limit : ℕ) (sites : List Site) (run : List Tag) (after : System) : Type 0 where
-  pub steps : RunFrom (opening places limit sites) run after
+pub record IsRun (o : Opening) (run : List Tag) (after : System) : Type 0 where
+  pub steps : RunFrom (opening o) run after
   pub moments : MomentsRise 0 run
 
 -- these are events of this home
 abbrev pub AreOfHome : HomeId → List HomeEvent → Type 0
 AreOfHome home [] = Unit {0}
 AreOfHome home (e ∷ es) = (e.component ≡ part.Home home) × AreOfHome home es
-
--- and these of this home alone
-abbrev pub AreOwn : HomeId → List HomeEvent → Type 0
-AreOwn home [] = Unit {0}
-AreOwn home (e ∷ es) = (e.component ≡ part.Home home) × (is_alone e.call ≡ true) × AreOwn home es
 
 -- an event that is the ledger's own names the ledger, and one that it shares with a home the home
 abbrev pub NamesItsPart : LedgerCall → Component → Type 0

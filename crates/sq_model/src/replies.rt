@@ -22,7 +22,7 @@ pub struct EnteredRow {
 #[derive(Clone, Copy, PartialEq, Eq, Debug)]
 pub struct Counts {
     pub visible: u32,
-    pub flying: u32,
+    pub in_flight: u32,
     pub delayed: u32,
 }
 

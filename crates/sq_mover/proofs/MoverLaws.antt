@@ -10,9 +10,8 @@ use Rattle.sq_base.specs.declared.refusal.Refusal.{Refusal}
 use Rattle.std.specs.Prelude.{Result, Ok, Err, OnOk, OnErr, Some}
 use Rattle.sq_actions.specs.declared.progress.Progress.{Progress}
 use Rattle.sq_actions.specs.declared.walk.Walk.{Walk}
-use Rattle.sq_actions.specs.Performs.{LeavesRecords}
+use Rattle.sq_actions.specs.Performs.{TurnFits, LeavesRecords}
 use Rattle.sq_actions.specs.Progresses.{no_progress, with_walk}
-use Rattle.sq_actions.specs.Turns.{TurnFits}
 use Rattle.sq_actions.proofs.PathLaws.{no_gain, read_gain, gains_more}
 use Rattle.sq_actions.proofs.TurnRecordLaws.{one_record}
 use Rattle.sq_queue.specs.Sections.{Surroundings}

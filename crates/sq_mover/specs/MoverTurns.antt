@@ -11,9 +11,8 @@ use Rattle.sq_calls.specs.declared.turns.Turned.TheVariants as word
 use Rattle.sq_actions.specs.declared.progress.Progress.{Progress}
 use Rattle.sq_actions.specs.declared.walk.Walk.{Walk}
 use Rattle.sq_actions.specs.Asks.{IsOfAnyStep}
-use Rattle.sq_actions.specs.Performs.{LeavesRecords}
+use Rattle.sq_actions.specs.Performs.{TurnFits, LeavesRecords}
 use Rattle.sq_actions.specs.Progresses.{no_progress, with_item, with_walk}
-use Rattle.sq_actions.specs.Turns.{TurnFits}
 use Rattle.sq_queue.specs.LockedParts.{LockedPart}
 use Rattle.sq_queue.specs.Sections.{Surroundings}
 use Rattle.sq_queue.specs.SessionValue.{SessionValue}

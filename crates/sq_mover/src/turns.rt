@@ -1,9 +1,8 @@
 //! The turns of a mover: each is one step of moving messages at most, beside reads.
-ghost use Rattle.std.specs.Prelude.{◌≡◌, Some};
+ghost use Rattle.std.specs.Prelude.{Some};
 ghost use Rattle.sq_calls.specs.declared.turns.Turn.TheVariants as turn;
-ghost use Rattle.sq_actions.specs.Performs.{LeavesRecords};
+ghost use Rattle.sq_actions.specs.Performs.{TurnFits, LeavesRecords};
 ghost use Rattle.sq_actions.specs.Progresses.{no_progress, with_item, with_walk};
-ghost use Rattle.sq_actions.specs.Turns.{TurnFits};
 ghost use Rattle.sq_mover.specs.Movers.{GainsAtMost};
 
 use sq_actions::progress::Progress;

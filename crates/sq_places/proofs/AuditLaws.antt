@@ -23,7 +23,7 @@ use Rattle.sq_model.specs.Homes.{Home, Unopened, Serving, Closed, IsRising}
 use Rattle.sq_model.specs.Lineages.{Cause, Expired, Ending, given_up, home_ends, home_ins, home_outs, home_sends, items_with, rows_of, rows_with, same_id, ends_with, sends_with}
 use Rattle.sq_model.specs.Places.{homes_with, place_after, place_within, first_end, place_in, run_ends, run_sends}
 use Rattle.sq_model.specs.Ledgers.{Ledger, IsLedger}
-use Rattle.sq_model.specs.Systems.{HomeAt, HomeSteps, IsStep, System, Tag, OfDirectory, OfLedger, OfHome, RunFrom, opening, IsOnePlace}
+use Rattle.sq_model.specs.Systems.{HomeAt, HomeSteps, IsStep, System, Tag, OfDirectory, OfLedger, OfHome, RunFrom, opening, IsOnePlace, Opening}
 use Rattle.sq_laws.proofs.LedgerLaws.{opens}
 use Rattle.sq_laws.proofs.LineageLaws.{ends_append}
 use Rattle.sq_laws.proofs.SystemLaws.{one_place, sends_append}
@@ -31,10 +31,11 @@ use Rattle.sq_audit.specs.declared.tagged.Tagged.{Tagged}
 use Rattle.sq_audit.specs.Tags.{tag_of, tags_of}
 use Rattle.sq_places.specs.declared.state.RowState.{RowState}
 use Rattle.sq_places.specs.declared.state.Policy.{Policy}
-use Rattle.sq_places.specs.RowStates.{state_of, states_of, sent_state, Effect, Stays, Arrives, Looks, Leaves, Departs, Enters, Drops, effect_of, kept_states, past_states, states_after, ended_states, left_states, state_ends}
-use Rattle.sq_places.specs.HomeValues.{HomeValue, AuditValue}
-use Rattle.sq_places.specs.Audits.{no_states, put, rows_after, IsSameAudit, placed, placed_left, placed_rows, placed_moves, home_after_event, placed_ends, grown, no_audit, audit_step}
-use Rattle.sq_places.specs.AllPlaces.{ArePlaces, after_send, after_move, sent_place, listed_place}
+use Rattle.sq_places.specs.inside.RowStates.{state_of, states_of, sent_state, Effect, Stays, Arrives, Looks, Leaves, Departs, Enters, Drops, effect_of, kept_states, past_states, states_after, ended_states, left_states, state_ends}
+use Rattle.sq_places.specs.inside.HomeValues.{HomeValue, AuditValue}
+use Rattle.sq_places.specs.inside.Audits.{no_states, put, rows_after, IsSameAudit, placed, placed_left, placed_rows, placed_moves, home_after_event, placed_ends, grown, no_audit, audit_step}
+use Rattle.sq_places.specs.AllPlaces.{ArePlaces}
+use Rattle.sq_places.specs.inside.AllPlaces.{after_send, after_move, sent_place, listed_place}
 use Rattle.sq_places.proofs.StateLaws.{GoesBy, mirrors}
 use Rattle.sq_places.proofs.MessageStateLaws.{sends_first}
 use Rattle.sq_places.proofs.FollowLaws.{home_one_way, home_transit, ledger_stays, opened, own_step, step_counts}
@@ -354,19 +355,19 @@ unfolding IsStrictlySortedBy
 no_places sends ends items none = rw none (record { rising = tt; each = λ x. refl })
 
 -- the pass tells where each message is
-pub audit_places : (x : MessageId) (places limit : ℕ) (sites : List Site) (ts : List Tagged) (run : List Tag) → tags_of ts ≡ run → (after : System) (r : RunFrom (opening places limit sites) run after) (a : AuditValue) → IsOnePlace sites
-    → IsSameAudit a (fold (λ (b : AuditValue) (t : Tagged). audit_step b (tag_of t)) no_audit ts) → listed_place x a.sends a.moves a.ends ≡ place_in x (run_sends run) (run_ends (opening places limit sites) run after r) after.ledger.items
-audit_places x places limit sites ts run same after r a one is =
-    let before = opening places limit sites in
-    let once = one_place x places limit sites run after r one in
-    let found = audit_law before run after r no_audit (λ i h e. rw (opened sites i h e) (tt, refl, refl)) in
+pub audit_places : (x : MessageId) (o : Opening) (ts : List Tagged) (run : List Tag) → tags_of ts ≡ run → (after : System) (r : RunFrom (opening o) run after) (a : AuditValue) → IsOnePlace o.sites
+    → IsSameAudit a (fold (λ (b : AuditValue) (t : Tagged). audit_step b (tag_of t)) no_audit ts) → listed_place x a.sends a.moves a.ends ≡ place_in x (run_sends run) (run_ends (opening o) run after r) after.ledger.items
+audit_places x o ts run same after r a one is =
+    let before = opening o in
+    let once = one_place x o run after r one in
+    let found = audit_law before run after r no_audit (λ i h e. rw (opened o.sites i h e) (tt, refl, refl)) in
     let ends = run_ends before run after r in
-    let nobody : homes_with x before.homes ≡ 0 = nobody_yet x sites in
+    let nobody : homes_with x before.homes ≡ 0 = nobody_yet x o.sites in
     let all : AuditValue = fold audit_step no_audit run in
     let pass : IsSameAudit a all = subst (IsSameAudit a) (sym (fold_tags no_audit ts) ∙ ap (fold audit_step no_audit) same) is in
     ap (λ (ids : List MessageId). listed_place x ids a.moves a.ends) pass.sends
     ∙ ap (λ (moves : List (MessageId × Place)). listed_place x all.sends moves a.ends) pass.moves
     ∙ pass.ends x (fold (after_move x) (sent_place x all.sends) all.moves)
     ∙ rw (found.all_sends, found.all_moves, found.all_ends) (listed_law x (run_sends run) (run_moves run) ends after.ledger.items (omega (arith, once.0)) once.1
-    (λ none. nowhere_law x before run after r None (opens limit) (omega (arith, none, nobody)))
-    (λ none. moves_law x before run after r (opens limit) (omega (arith, once.1, nobody)) none))
+    (λ none. nowhere_law x before run after r None (opens o.transit) (omega (arith, none, nobody)))
+    (λ none. moves_law x before run after r (opens o.transit) (omega (arith, once.1, nobody)) none))

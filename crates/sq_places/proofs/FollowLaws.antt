@@ -15,7 +15,7 @@ use Rattle.sq_model.specs.Ledgers.{Ledger, LedgerEvent, IsLedger}
 use Rattle.sq_model.specs.Lineages.{Ending, given_up, home_ends, home_ins, home_outs, home_sends, items_with, rows_of, same_id, rows_with, ends_with, sends_with}
 use Rattle.sq_model.specs.Places.{homes_with, place_in, run_ends, run_sends, step_ends, tag_sends}
 use Rattle.sq_model.specs.Replays.{HomeEvent}
-use Rattle.sq_model.specs.Systems.{HomeAt, HomeSteps, System, Tag, OfDirectory, OfLedger, OfHome, IsStep, LedgerGoes, RunFrom, opening, IsOnePlace, is_alone}
+use Rattle.sq_model.specs.Systems.{HomeAt, HomeSteps, System, Tag, OfDirectory, OfLedger, OfHome, IsStep, LedgerGoes, RunFrom, opening, IsOnePlace, is_alone, Opening}
 use Rattle.sq_model.specs.declared.ledger.LedgerCall.TheVariants as asks
 use Rattle.sq_model.specs.declared.ledger.LedgerReply.TheVariants as answers
 use Rattle.sq_laws.proofs.LedgerLaws.{opens}
@@ -29,8 +29,8 @@ use Rattle.sq_places.specs.declared.state.RowState.{RowState}
 use Rattle.sq_places.specs.declared.message_pass.MessageState.{MessageState}
 use Rattle.sq_places.specs.declared.message_pass.MessageState.TheVariants.{Unsent, Here, InTransit, Gone}
 use Rattle.sq_places.specs.declared.message_pass.MessagePass.{MessagePass}
-use Rattle.sq_places.specs.RowStates.{next_policy, states_of, Effect, Stays, Arrives, Looks, Leaves, Departs, Enters, Drops, effect_of, effect_sends, effect_outs, effect_ins}
-use Rattle.sq_places.specs.MessagePasses.{policy_step, policy_at, trimmed_state, state_after, is_state_in, known_policy, next_state, next_pass, pass_step, pass_from, pass_start, answer}
+use Rattle.sq_places.specs.inside.RowStates.{next_policy, states_of, Effect, Stays, Arrives, Looks, Leaves, Departs, Enters, Drops, effect_of, effect_sends, effect_outs, effect_ins}
+use Rattle.sq_places.specs.inside.MessagePasses.{policy_step, policy_at, unexpired_state, state_after, is_state_in, known_policy, next_state, next_pass, pass_step, pass_from, pass_start, answer}
 use Rattle.sq_model.proofs.ElementLaws.{get_same, get_other}
 use Rattle.sq_places.proofs.StateLaws.{GoesBy, Passes, mirrors, passes}
 use Rattle.sq_places.proofs.MessageStateLaws.{mine, rows_at, sent_at, going_at, place_from, place_now, same_home_row, FollowsEvent, follows_event}
@@ -195,22 +195,22 @@ policy_there i j ts e ne =
     ∙ elim (eqb_tells i j) as (λ _. policy_step j (policy_at j ts) (OfHome i e) ≡ policy_at j ts) [ inl q ↦ absurd (ne q.1) | inr q ↦ ap (λ (v : Bool). if v then next_policy (policy_at j ts) e.call else policy_at j ts) q.0 ]
 
 -- a message that is not in the home stays
-trim_away : (i m : ℕ) (policy : Option Policy) (state : MessageState) → is_state_in i state ≡ false → trimmed_state i policy m state ≡ state
-trim_away i m None state away = refl
-trim_away i m (Some policy) Unsent away = refl
-trim_away i m (Some policy) (Here j row) away = rw away refl
-trim_away i m (Some policy) InTransit away = refl
-trim_away i m (Some policy) (Gone place) away = refl
+expire_away : (i m : ℕ) (policy : Option Policy) (state : MessageState) → is_state_in i state ≡ false → unexpired_state i policy m state ≡ state
+expire_away i m None state away = refl
+expire_away i m (Some policy) Unsent away = refl
+expire_away i m (Some policy) (Here j row) away = rw away refl
+expire_away i m (Some policy) InTransit away = refl
+expire_away i m (Some policy) (Gone place) away = refl
 
--- the trim goes by the policy that is kept, where the message is there
-trims_same : (i m : ℕ) (ts : List Tag) (policy : Option Policy) (state : MessageState) → Knows ts policy state → trimmed_state i policy m state ≡ trimmed_state i (policy_at i ts) m state
-trims_same i m ts policy Unsent h = trim_away i m policy Unsent refl ∙ sym (trim_away i m (policy_at i ts) Unsent refl)
-trims_same i m ts policy InTransit h = trim_away i m policy InTransit refl ∙ sym (trim_away i m (policy_at i ts) InTransit refl)
-trims_same i m ts policy (Gone place) h = trim_away i m policy (Gone place) refl ∙ sym (trim_away i m (policy_at i ts) (Gone place) refl)
-trims_same i m ts policy (Here j row) h =
-    elim (eqb_tells j i) as (λ _. trimmed_state i policy m (Here j row) ≡ trimmed_state i (policy_at i ts) m (Here j row)) [
-      | inl q ↦ ap (λ (p : Option Policy). trimmed_state i p m (Here j row)) (h ∙ ap (λ (n : ℕ). policy_at n ts) q.1)
-      | inr q ↦ trim_away i m policy (Here j row) q.0 ∙ sym (trim_away i m (policy_at i ts) (Here j row) q.0)
+-- what expires goes by the policy that is kept, where the message is there
+expires_same : (i m : ℕ) (ts : List Tag) (policy : Option Policy) (state : MessageState) → Knows ts policy state → unexpired_state i policy m state ≡ unexpired_state i (policy_at i ts) m state
+expires_same i m ts policy Unsent h = expire_away i m policy Unsent refl ∙ sym (expire_away i m (policy_at i ts) Unsent refl)
+expires_same i m ts policy InTransit h = expire_away i m policy InTransit refl ∙ sym (expire_away i m (policy_at i ts) InTransit refl)
+expires_same i m ts policy (Gone place) h = expire_away i m policy (Gone place) refl ∙ sym (expire_away i m (policy_at i ts) (Gone place) refl)
+expires_same i m ts policy (Here j row) h =
+    elim (eqb_tells j i) as (λ _. unexpired_state i policy m (Here j row) ≡ unexpired_state i (policy_at i ts) m (Here j row)) [
+      | inl q ↦ ap (λ (p : Option Policy). unexpired_state i p m (Here j row)) (h ∙ ap (λ (n : ℕ). policy_at n ts) q.1)
+      | inr q ↦ expire_away i m policy (Here j row) q.0 ∙ sym (expire_away i m (policy_at i ts) (Here j row) q.0)
     ]
 
 kept_is : (i : ℕ) (ts : List Tag) (policy : Option Policy) (state : MessageState) → Knows ts policy state → is_state_in i state ≡ true → policy ≡ policy_at i ts
@@ -297,9 +297,9 @@ follow_law x before (OfHome i e ∷ rest) after r ts k fits once =
     let split = sends_append x (home_sends e.reply) sends in
     let moves = home_moves x before i e r.0 s fits.ledger in
     let coming : sends_with x (effect_ins effect) ≤ going_at k.state = omega (arith, came_from x effect (items_with x r.0.ledger.items) (items_with x before.ledger.items) moves, fits.going) in
-    let trims : next_state x i k e ≡ state_after x i m effect (trimmed_state i policy m k.state) = ap (state_after x i m effect) (trims_same i m ts k.policy k.state fits.knows) in
+    let expires : next_state x i k e ≡ state_after x i m effect (unexpired_state i policy m k.state) = ap (state_after x i m effect) (expires_same i m ts k.policy k.state fits.knows) in
     let event : FollowsEvent x i policy m effect (states_of s.old.home) k.state next.state =
-    subst (λ (state : MessageState). FollowsEvent x i policy m effect (states_of s.old.home) k.state state) (sym trims)
+    subst (λ (state : MessageState). FollowsEvent x i policy m effect (states_of s.old.home) k.state state) (sym expires)
     (follows_event x i policy m effect (states_of s.old.home) k.state fit.2 (omega (arith, split, once, known)) coming mirror.split) in
     let here : FitsAt x i s.new (ts ++ OfHome i e ∷ []) next =
     (mirror.rising, subst (λ (p : Option Policy). GoesBy s.new p) (sym (policy_here i ts e)) mirror.goes_by, ap (mine x) mirror.states ∙ event.left) in
@@ -318,18 +318,18 @@ opened [] i h e = absurd cc
 opened (site ∷ sites) zero h e = let same : record { site = site; home = Unopened } ≡ h = cc in ap (λ (a : HomeAt). a.home) (sym same)
 opened (site ∷ sites) (suc i) h e = opened sites i h e
 
-fits_opening : (x : MessageId) (places limit : ℕ) (sites : List Site) → Fits x (opening places limit sites) [] pass_start
-fits_opening x places limit sites = record {
-  homes = λ i h e. subst (λ (home : Home). FitsAt x i home [] pass_start) (sym (opened sites i h e)) (tt, refl, refl);
+fits_opening : (x : MessageId) (o : Opening) → Fits x (opening o) [] pass_start
+fits_opening x o = record {
+  homes = λ i h e. subst (λ (home : Home). FitsAt x i home [] pass_start) (sym (opened o.sites i h e)) (tt, refl, refl);
   knows = tt;
   going = refl;
-  ledger = opens limit;
+  ledger = opens o.transit;
 }
 
 -- the pass gives the place
-pub place_law : (x : MessageId) (places limit : ℕ) (sites : List Site) (ts : List Tagged) (run : List Tag) → tags_of ts ≡ run → (after : System) (r : RunFrom (opening places limit sites) run after) → IsOnePlace sites
-    → place_in x (run_sends run) (run_ends (opening places limit sites) run after r) after.ledger.items ≡ answer (pass_from x [] pass_start (tags_of ts)).state
-place_law x places limit sites ts run is after r one =
-    let once = one_place x places limit sites run after r one in
-    follow_law x (opening places limit sites) run after r [] pass_start (fits_opening x places limit sites) (omega (arith, once.1))
+pub place_law : (x : MessageId) (o : Opening) (ts : List Tagged) (run : List Tag) → tags_of ts ≡ run → (after : System) (r : RunFrom (opening o) run after) → IsOnePlace o.sites
+    → place_in x (run_sends run) (run_ends (opening o) run after r) after.ledger.items ≡ answer (pass_from x [] pass_start (tags_of ts)).state
+place_law x o ts run is after r one =
+    let once = one_place x o run after r one in
+    follow_law x (opening o) run after r [] pass_start (fits_opening x o) (omega (arith, once.1))
     ∙ ap (λ (us : List Tag). answer (pass_from x [] pass_start us).state) (sym is)

@@ -22,10 +22,10 @@ use Rattle.sq_model.specs.declared.place.Place.{Place}
 use Rattle.sq_model.specs.declared.place.Place.TheVariants as at
 use Rattle.sq_model.specs.Lineages.{same_id}
 use Rattle.sq_places.specs.declared.state.RowState.{RowState}
-use Rattle.sq_places.specs.RowStates.{is_past_retention, is_past, is_state_named, is_state_of, state_received, raised, looked, has_serial_of}
-use Rattle.sq_places.specs.RowIndexes.{age_cmp, age_of, HaveAges, AreIndexed}
-use Rattle.sq_places.specs.Audits.{taken, put, placed, AreSameEnds}
-use Rattle.sq_places.specs.AllPlaces.{after_move}
+use Rattle.sq_places.specs.inside.RowStates.{is_past_retention, is_past, is_state_named, is_state_of, state_received, raised, looked, has_serial_of}
+use Rattle.sq_places.specs.inside.RowIndexes.{age_cmp, age_of, HaveAges, AreIndexed}
+use Rattle.sq_places.specs.inside.Audits.{taken, put, placed, AreSameEnds}
+use Rattle.sq_places.specs.inside.AllPlaces.{after_move}
 
 -- ---- keys
 
@@ -274,12 +274,12 @@ pub look_again : (picked : List Row) (i : ℕ) (d : Row) → i < length picked �
 look_again picked i d lt given was [] = refl
 look_again picked i d lt given was (row ∷ rows) = let first = again picked i d lt given was row in let rest = look_again picked i d lt given was rows in cc
 
--- ---- the trim
+-- ---- what expires
 
-trim_kept : (p : RowState → Bool) (k : ℕ) (es : Rows) → filter (λ row. not (p row)) (values_of (left_of p k es)) ≡ filter (λ row. not (p row)) (values_of es)
-trim_kept p k [] = refl
-trim_kept p k (e ∷ es) =
-    let rest = trim_kept p k es in
+expire_kept : (p : RowState → Bool) (k : ℕ) (es : Rows) → filter (λ row. not (p row)) (values_of (left_of p k es)) ≡ filter (λ row. not (p row)) (values_of es)
+expire_kept p k [] = refl
+expire_kept p k (e ∷ es) =
+    let rest = expire_kept p k es in
     let Kept : List RowState = filter (λ row. not (p row)) (values_of es) in
     elim (is_at (nat_cmp k) e.0) as (λ at. filter (λ row. not (p row)) (values_of (if is_some (taken p (cond at (Some e.1) (lookup (is_at (nat_cmp k)) es))) then cond at es (e ∷ remove_entry (is_at (nat_cmp k)) es) else e ∷ es)) ≡ filter (λ row. not (p row)) (e.1 ∷ values_of es)) [
       | true ↦ elim (p e.1) as (λ b. p e.1 ≡ b → filter (λ row. not (p row)) (values_of (if is_some (if b then Some e.1 else None) then es else e ∷ es)) ≡ filter (λ row. not (p row)) (e.1 ∷ values_of es)) [
@@ -302,10 +302,10 @@ swapped x a b to place =
     ]
 
 -- one of those that leave is listed first
-trim_first : (x : MessageId) (to : Place) (p : RowState → Bool) (k : ℕ) (es : Rows) (row : RowState) → taken p (lookup (is_at (nat_cmp k)) es) ≡ Some row → (place : Option Place)
+expire_first : (x : MessageId) (to : Place) (p : RowState → Bool) (k : ℕ) (es : Rows) (row : RowState) → taken p (lookup (is_at (nat_cmp k)) es) ≡ Some row → (place : Option Place)
     → fold (after_move x) place ((row.lineage, to) ∷ placed to (filter p (values_of (remove_entry (is_at (nat_cmp k)) es)))) ≡ fold (after_move x) place (placed to (filter p (values_of es)))
-trim_first x to p k [] row is place = absurd cc
-trim_first x to p k (e ∷ es) row is place =
+expire_first x to p k [] row is place = absurd cc
+expire_first x to p k (e ∷ es) row is place =
     elim (is_at (nat_cmp k) e.0) as (λ at. taken p (cond at (Some e.1) (lookup (is_at (nat_cmp k)) es)) ≡ Some row
     → fold (after_move x) place ((row.lineage, to) ∷ placed to (filter p (values_of (cond at es (e ∷ remove_entry (is_at (nat_cmp k)) es))))) ≡ fold (after_move x) place (placed to (filter p (e.1 ∷ values_of es)))) [
       | true ↦ elim (p e.1) as (λ b. (if b then Some e.1 else None) ≡ Some row
@@ -317,8 +317,8 @@ trim_first x to p k (e ∷ es) row is place =
           fold (after_move x) place ((row.lineage, to) ∷ placed to (cond b (e.1 ∷ filter p (values_of (remove_entry (is_at (nat_cmp k)) es))) (filter p (values_of (remove_entry (is_at (nat_cmp k)) es)))))
           ≡ fold (after_move x) place (placed to (cond b (e.1 ∷ filter p (values_of es)) (filter p (values_of es))))) [
             | true ↦ ap (λ (first : Option Place). fold (after_move x) first (placed to (filter p (values_of (remove_entry (is_at (nat_cmp k)) es))))) (swapped x row.lineage e.1.lineage to place)
-                ∙ trim_first x to p k es row q (after_move x place (e.1.lineage, to))
-            | false ↦ trim_first x to p k es row q place
+                ∙ expire_first x to p k es row q (after_move x place (e.1.lineage, to))
+            | false ↦ expire_first x to p k es row q place
           ])
     ] is
 
@@ -384,7 +384,7 @@ none_due retention m ages (e ∷ es) all h =
     × (cond b (e.1 ∷ filter (is_past retention m) (values_of es)) (filter (is_past retention m) (values_of es)) ≡ [])) (sym stays)
     (ap (λ (rows : List RowState). e.1 ∷ rows) rest.0, rest.1)
 
--- at a turn of the trim, what is past is listed or still there
+-- at a turn of what expires, what is past is listed or still there
 pub record Trims (retention m : ℕ) (old : List RowState) (was ends : List (MessageId × Place)) (ages : List (ℕ × ℕ)) (es : Rows) : Type 0 where
   pub indexed : AreIndexed ages es
   pub kept : filter (λ row. not (is_past retention m row)) (values_of es) ≡ filter (λ row. not (is_past retention m row)) old
@@ -406,19 +406,19 @@ same_first retention m k es ends now =
           ap (λ (es' : List (MessageId × Place)). fold (after_move x) place (es' ++ rest)) t
           ∙ ap (fold (after_move x) place) (append_assoc ends ((row.lineage, at.Expired) ∷ []) rest)
           ∙ fold-append (after_move x) place ends ((row.lineage, at.Expired) ∷ rest)
-          ∙ trim_first x at.Expired (is_past retention m) k es row q (fold (after_move x) place ends)
+          ∙ expire_first x at.Expired (is_past retention m) k es row q (fold (after_move x) place ends)
           ∙ sym (fold-append (after_move x) place ends (placed at.Expired (filter (is_past retention m) (values_of es)))))
     ] refl
 
-pub trim_more : (retention m : ℕ) (old : List RowState) (was ends now : List (MessageId × Place)) (age : ℕ × ℕ) (ages : List (ℕ × ℕ)) (es left : Rows) (out : Option RowState) → is_past_retention retention m age.0 ≡ true
+pub expire_more : (retention m : ℕ) (old : List RowState) (was ends now : List (MessageId × Place)) (age : ℕ × ℕ) (ages : List (ℕ × ℕ)) (es left : Rows) (out : Option RowState) → is_past_retention retention m age.0 ≡ true
     → out ≡ taken (is_past retention m) (lookup (is_at (nat_cmp age.1)) es) → left ≡ (if is_some out then remove_entry (is_at (nat_cmp age.1)) es else es) → IsStrictlySortedBy nat_cmp (keys_of left) → Reports ends now out
     → Trims retention m old was ends (age ∷ ages) es → Trims retention m old was now ages left
-trim_more retention m old was ends now age ages es left out due is left_is sorted reports t =
+expire_more retention m old was ends now age ages es left out due is left_is sorted reports t =
     let same : left ≡ left_of (is_past retention m) age.1 es = left_is ∙ ap (λ (o : Option RowState). if is_some o then remove_entry (is_at (nat_cmp age.1)) es else es) is in
     let reported : Reports ends now (taken (is_past retention m) (lookup (is_at (nat_cmp age.1)) es)) = subst (Reports ends now) is reports in
     record {
       indexed = record { ordered = sorted; each = subst (HaveAges ages) (sym same) (popped retention m age ages es due t.indexed.ordered t.indexed.each) };
-      kept = ap (λ (rows : Rows). filter (λ row. not (is_past retention m row)) (values_of rows)) same ∙ trim_kept (is_past retention m) age.1 es ∙ t.kept;
+      kept = ap (λ (rows : Rows). filter (λ row. not (is_past retention m row)) (values_of rows)) same ∙ expire_kept (is_past retention m) age.1 es ∙ t.kept;
       past = λ x place. ap (λ (rows : Rows). fold (after_move x) place (now ++ placed at.Expired (filter (is_past retention m) (values_of rows)))) same ∙ same_first retention m age.1 es ends now reported x place ∙ t.past x place;
     }
 

@@ -2,8 +2,8 @@
 use Rattle.std.proofs.Common.{◌≡◌, ◌∙◌, sym, ℕ, zero, suc, ◌+◌, ◌-◌, ◌<◌, ◌≤◌, inl, inr, List, [], ◌∷◌, ◌++◌, length, get_or, refl, ap, arith}
 use Rattle.std.proofs.lemmas.Bool.{cases_lt}
 use Rattle.std.proofs.lemmas.List.{get_or_default}
-use Rattle.sq_places.specs.HomeValues.{HomeValue}
-use Rattle.sq_places.specs.Audits.{no_states, grown}
+use Rattle.sq_places.specs.inside.HomeValues.{HomeValue}
+use Rattle.sq_places.specs.inside.Audits.{no_states, grown}
 
 -- a list that is long enough stays
 pub grown_same : (n : ℕ) (homes : List HomeValue) → n ≤ length homes → grown n homes ≡ homes

@@ -19,8 +19,8 @@ use Rattle.sq_places.specs.declared.state.RowState.{RowState}
 use Rattle.sq_places.specs.declared.state.Policy.{Policy}
 use Rattle.sq_places.specs.declared.message_pass.MessageState.{MessageState}
 use Rattle.sq_places.specs.declared.message_pass.MessageState.TheVariants.{Unsent, Here, InTransit, Gone}
-use Rattle.sq_places.specs.RowStates.{is_past, state_of, sent_state, state_received, looked, Effect, Stays, Arrives, Looks, Leaves, Departs, Enters, Drops, effect_sends, effect_outs, effect_ins, kept_states, past_states, states_after, ended_states, left_states, state_ends}
-use Rattle.sq_places.specs.MessagePasses.{leaves, changes, becomes, trimmed_state, state_after, answer}
+use Rattle.sq_places.specs.inside.RowStates.{is_past, state_of, sent_state, state_received, looked, Effect, Stays, Arrives, Looks, Leaves, Departs, Enters, Drops, effect_sends, effect_outs, effect_ins, kept_states, past_states, states_after, ended_states, left_states, state_ends}
+use Rattle.sq_places.specs.inside.MessagePasses.{leaves, changes, becomes, unexpired_state, state_after, answer}
 use Rattle.sq_places.proofs.StateLaws.{Splits}
 
 abbrev pub mine : MessageId → List RowState → List RowState
@@ -152,26 +152,26 @@ going_leaves i InTransit p place = refl
 going_leaves i (Gone other) p place = refl
 going_leaves i (Here j row) p place = elim ((j == i) && p row) as (λ v. going_at (if v then Gone place else Here j row) ≡ 0) [ true ↦ refl | false ↦ refl ]
 
-trim_rows : (x : MessageId) (i : ℕ) (policy : Option Policy) (m : ℕ) (rows : List RowState) (state : MessageState) → mine x rows ≡ rows_at i state → mine x (kept_states policy m rows) ≡ rows_at i (trimmed_state i policy m state)
-trim_rows x i None m rows state same = same
-trim_rows x i (Some policy) m rows state same = leave_rows x i rows state (is_past policy.retention m) (place_after Expired) same
+expire_rows : (x : MessageId) (i : ℕ) (policy : Option Policy) (m : ℕ) (rows : List RowState) (state : MessageState) → mine x rows ≡ rows_at i state → mine x (kept_states policy m rows) ≡ rows_at i (unexpired_state i policy m state)
+expire_rows x i None m rows state same = same
+expire_rows x i (Some policy) m rows state same = leave_rows x i rows state (is_past policy.retention m) (place_after Expired) same
 
-trim_others : (i : ℕ) (policy : Option Policy) (m : ℕ) (state : MessageState) (k : ℕ) → i ≢ k → rows_at k (trimmed_state i policy m state) ≡ rows_at k state
-trim_others i None m state k ne = refl
-trim_others i (Some policy) m state k ne = leaves_others i state (is_past policy.retention m) at.Expired k ne
+expire_others : (i : ℕ) (policy : Option Policy) (m : ℕ) (state : MessageState) (k : ℕ) → i ≢ k → rows_at k (unexpired_state i policy m state) ≡ rows_at k state
+expire_others i None m state k ne = refl
+expire_others i (Some policy) m state k ne = leaves_others i state (is_past policy.retention m) at.Expired k ne
 
-trim_place : (x : MessageId) (i : ℕ) (policy : Option Policy) (m : ℕ) (rows : List RowState) (state : MessageState) (sends : List MessageId) (ends : List Ending) (items : List Item) → mine x rows ≡ rows_at i state
-    → place_from x state sends (ended_states Expired (past_states policy m rows) ++ ends) items ≡ place_from x (trimmed_state i policy m state) sends ends items
-trim_place x i None m rows state sends ends items same = refl
-trim_place x i (Some policy) m rows state sends ends items same = leave_place x i rows state (is_past policy.retention m) Expired sends ends items same
+expire_place : (x : MessageId) (i : ℕ) (policy : Option Policy) (m : ℕ) (rows : List RowState) (state : MessageState) (sends : List MessageId) (ends : List Ending) (items : List Item) → mine x rows ≡ rows_at i state
+    → place_from x state sends (ended_states Expired (past_states policy m rows) ++ ends) items ≡ place_from x (unexpired_state i policy m state) sends ends items
+expire_place x i None m rows state sends ends items same = refl
+expire_place x i (Some policy) m rows state sends ends items same = leave_place x i rows state (is_past policy.retention m) Expired sends ends items same
 
-sent_trimmed : (i : ℕ) (policy : Option Policy) (m : ℕ) (state : MessageState) → sent_at (trimmed_state i policy m state) ≡ sent_at state
-sent_trimmed i None m state = refl
-sent_trimmed i (Some policy) m state = sent_leaves i state (is_past policy.retention m) (place_after Expired)
+sent_unexpired : (i : ℕ) (policy : Option Policy) (m : ℕ) (state : MessageState) → sent_at (unexpired_state i policy m state) ≡ sent_at state
+sent_unexpired i None m state = refl
+sent_unexpired i (Some policy) m state = sent_leaves i state (is_past policy.retention m) (place_after Expired)
 
-going_trimmed : (i : ℕ) (policy : Option Policy) (m : ℕ) (state : MessageState) → going_at (trimmed_state i policy m state) ≡ going_at state
-going_trimmed i None m state = refl
-going_trimmed i (Some policy) m state = going_leaves i state (is_past policy.retention m) (place_after Expired)
+going_unexpired : (i : ℕ) (policy : Option Policy) (m : ℕ) (state : MessageState) → going_at (unexpired_state i policy m state) ≡ going_at state
+going_unexpired i None m state = refl
+going_unexpired i (Some policy) m state = going_leaves i state (is_past policy.retention m) (place_after Expired)
 
 sent_changes : (i : ℕ) (f : RowState → RowState) (state : MessageState) → sent_at (changes i f state) ≡ sent_at state
 sent_changes i f Unsent = refl
@@ -225,7 +225,7 @@ mine_looked x picked (row ∷ rows) =
     rw looked_line (elim (same_id x row.lineage) as (λ v. cond v (looked picked row ∷ mine x (map (looked picked) rows)) (mine x (map (looked picked) rows)) ≡ map (looked picked) (cond v (row ∷ mine x rows) (mine x rows)))
     [ true ↦ ap (λ zs. looked picked row ∷ zs) rest | false ↦ rest ])
 
--- what an event of the home at an index makes of a message, after the trim
+-- what an event of the home at an index makes of a message that has not expired
 pub record Follows (x : MessageId) (i m : ℕ) (effect : Effect) (rows : List RowState) (state next : MessageState) : Type 0 where
   pub left : mine x (states_after m effect rows) ≡ rows_at i next
   pub others : (k : ℕ) → i ≢ k → rows_at k next ≡ rows_at k state
@@ -263,12 +263,6 @@ same_home_row i row = elim (eqb_tells i i) as (λ _. cond (i == i) (row ∷ []) 
 
 other_home_row : (i k : ℕ) (row : RowState) → i ≢ k → rows_at k (Here i row) ≡ []
 other_home_row i k row ne = elim (eqb_tells i k) as (λ _. cond (i == k) (row ∷ []) [] ≡ []) [ inl q ↦ absurd (ne q.1) | inr q ↦ rw q.0 refl ]
-
-becomes_this : (x line : MessageId) (next state : MessageState) → same_id x line ≡ true → becomes x line next state ≡ next
-becomes_this x line next state e = ap (λ (v : Bool). if v then next else state) e
-
-becomes_other : (x line : MessageId) (next state : MessageState) → same_id x line ≡ false → becomes x line next state ≡ state
-becomes_other x line next state e = ap (λ (v : Bool). if v then next else state) e
 
 -- where a message comes that was in no home
 push_this : (x : MessageId) (rows : List RowState) (row : RowState) → mine x rows ≡ [] → same_id x row.lineage ≡ true → mine x (rows ++ row ∷ []) ≡ row ∷ []
@@ -431,15 +425,15 @@ pub record FollowsEvent (x : MessageId) (i : ℕ) (policy : Option Policy) (m : 
   pub going : going_at next + sends_with x (effect_ins effect) ≡ going_at state + sends_with x (effect_outs effect)
 
 pub follows_event : (x : MessageId) (i : ℕ) (policy : Option Policy) (m : ℕ) (effect : Effect) (rows : List RowState) (state : MessageState) → mine x rows ≡ rows_at i state → sends_with x (effect_sends effect) + sent_at state ≤ 1 → sends_with x (effect_ins effect) ≤ going_at state → Splits effect (kept_states policy m rows)
-    → FollowsEvent x i policy m effect rows state (state_after x i m effect (trimmed_state i policy m state))
+    → FollowsEvent x i policy m effect rows state (state_after x i m effect (unexpired_state i policy m state))
 follows_event x i policy m effect rows state same once coming split =
-    let kept = trim_rows x i policy m rows state same in
-    let after = follows_effect x i m effect (kept_states policy m rows) (trimmed_state i policy m state) kept (omega (arith, once, sent_trimmed i policy m state)) (omega (arith, coming, going_trimmed i policy m state)) split in
+    let kept = expire_rows x i policy m rows state same in
+    let after = follows_effect x i m effect (kept_states policy m rows) (unexpired_state i policy m state) kept (omega (arith, once, sent_unexpired i policy m state)) (omega (arith, coming, going_unexpired i policy m state)) split in
     record {
       left = after.left;
-      others = λ k ne. after.others k ne ∙ trim_others i policy m state k ne;
+      others = λ k ne. after.others k ne ∙ expire_others i policy m state k ne;
       place = λ sends ends items. rw (append_assoc (ended_states Expired (past_states policy m rows)) (left_states effect (kept_states policy m rows)) ends)
-          (trim_place x i policy m rows state (effect_sends effect ++ sends) (left_states effect (kept_states policy m rows) ++ ends) items same ∙ after.place sends ends items);
-      sent = omega (arith, after.sent, sent_trimmed i policy m state);
-      going = omega (arith, after.going, going_trimmed i policy m state);
+          (expire_place x i policy m rows state (effect_sends effect ++ sends) (left_states effect (kept_states policy m rows) ++ ends) items same ∙ after.place sends ends items);
+      sent = omega (arith, after.sent, sent_unexpired i policy m state);
+      going = omega (arith, after.going, going_unexpired i policy m state);
     }

@@ -18,13 +18,13 @@ use Rattle.sq_model.specs.declared.replies.EnteredRow.{EnteredRow}
 use Rattle.sq_model.specs.declared.replies.HomeReply.{HomeReply}
 use Rattle.sq_model.specs.declared.replies.HomeReply.TheVariants.{Done, Sent, Looked, Over, Counted, Left, NoLiveRow, NoOrigin, SourceClosed, Entered}
 use Rattle.sq_base.specs.declared.ids.HomeId.{HomeId}
-use Rattle.sq_model.specs.Rows.{ms, trimmed, is_visible, is_dead, is_live, is_held, serials_of, has_serial, received, received_if, changed_if, RisesFrom, IsLook, Takes}
+use Rattle.sq_model.specs.Rows.{ms, unexpired, is_visible, is_dead, is_live, is_held, serials_of, has_serial, received, received_if, changed_if, RisesFrom, IsLook, Takes}
 use Rattle.sq_model.specs.Homes.{Home, Unopened, Serving, Closed, HomeStep, IsRising, sent_row, entered_as, entered_row, returned_as, returned_row}
 use Rattle.sq_model.specs.Lineages.{Cause, Expired, Deleted, Purged, ClosedAway, GivenUp, Ending, ended, expired, given_up, home_ends, home_ins, home_outs, home_sends}
-use Rattle.sq_model.proofs.RowLaws.{rises_filter, rises_trimmed, rises_push, rises_received, rises_changed, rises_without}
+use Rattle.sq_model.proofs.RowLaws.{rises_filter, rises_unexpired, rises_push, rises_received, rises_changed, rises_without}
 use Rattle.sq_places.specs.declared.state.RowState.{RowState}
 use Rattle.sq_places.specs.declared.state.Policy.{Policy}
-use Rattle.sq_places.specs.RowStates.{state_of, states_of, is_past, is_state_named, is_state_of, enqueued_as, entered_state, returned_state, looked, next_policy, Effect, Stays, Arrives, Looks, Leaves, Departs, Enters, Drops, effect_of, effect_sends, effect_outs, effect_ins, kept_states, past_states, states_after, ended_states, state_ends}
+use Rattle.sq_places.specs.inside.RowStates.{state_of, states_of, is_past, is_state_named, is_state_of, enqueued_as, entered_state, returned_state, looked, next_policy, Effect, Stays, Arrives, Looks, Leaves, Departs, Enters, Drops, effect_of, effect_sends, effect_outs, effect_ins, kept_states, past_states, states_after, ended_states, state_ends}
 
 -- membership by cases on the list
 abbrev Has : List Row → Row → Type 0
@@ -179,7 +179,7 @@ pub record Mirrors (home : Home) (policy next : Option Policy) (m : ℕ) (effect
 abbrev policy_of : Settings → ℕ → Option Policy
 policy_of s v = Some (record { retention = s.retention; version = v })
 
-kept_rows : (s : Settings) (v m : ℕ) (rows : List Row) → map state_of (trimmed s m rows) ≡ kept_states (policy_of s v) m (map state_of rows)
+kept_rows : (s : Settings) (v m : ℕ) (rows : List Row) → map state_of (unexpired s m rows) ≡ kept_states (policy_of s v) m (map state_of rows)
 kept_rows s v m rows = map_filter (λ row. not (is_past s.retention m row)) rows
 
 past_rows : (s : Settings) (v m : ℕ) (rows : List Row) → ended Expired (expired s m rows) ≡ ended_states Expired (past_states (policy_of s v) m (map state_of rows))
@@ -190,29 +190,29 @@ only_past : (s : Settings) (v m : ℕ) (rows : List Row) → ended Expired (expi
 only_past s v m rows = ap (λ (es : List Ending). es ++ []) (past_rows s v m rows)
 
 left_rows : (s : Settings) (v m : ℕ) (p : RowState → Bool) (cause : Cause) (rows : List Row)
-    → ended Expired (expired s m rows) ++ ended cause (filter (λ row. p (state_of row)) (trimmed s m rows)) ≡ state_ends (policy_of s v) m (Leaves p cause) (map state_of rows)
+    → ended Expired (expired s m rows) ++ ended cause (filter (λ row. p (state_of row)) (unexpired s m rows)) ≡ state_ends (policy_of s v) m (Leaves p cause) (map state_of rows)
 left_rows s v m p cause rows =
-    let gone : ended cause (filter (λ row. p (state_of row)) (trimmed s m rows)) ≡ ended_states cause (filter p (kept_states (policy_of s v) m (map state_of rows))) =
-    sym (ended_map cause (filter (λ row. p (state_of row)) (trimmed s m rows))) ∙ ap (ended_states cause) (map_filter p (trimmed s m rows) ∙ ap (filter p) (kept_rows s v m rows)) in
-    ap (λ (es : List Ending). es ++ ended cause (filter (λ row. p (state_of row)) (trimmed s m rows))) (past_rows s v m rows) ∙ ap (λ (es : List Ending). ended_states Expired (past_states (policy_of s v) m (map state_of rows)) ++ es) gone
+    let gone : ended cause (filter (λ row. p (state_of row)) (unexpired s m rows)) ≡ ended_states cause (filter p (kept_states (policy_of s v) m (map state_of rows))) =
+    sym (ended_map cause (filter (λ row. p (state_of row)) (unexpired s m rows))) ∙ ap (ended_states cause) (map_filter p (unexpired s m rows) ∙ ap (filter p) (kept_rows s v m rows)) in
+    ap (λ (es : List Ending). es ++ ended cause (filter (λ row. p (state_of row)) (unexpired s m rows))) (past_rows s v m rows) ∙ ap (λ (es : List Ending). ended_states Expired (past_states (policy_of s v) m (map state_of rows)) ++ es) gone
 
 all_left : (s : Settings) (v m : ℕ) (cause : Cause) (rows : List Row)
-    → ended Expired (expired s m rows) ++ ended cause (trimmed s m rows) ≡ state_ends (policy_of s v) m (Leaves (λ row. true) cause) (map state_of rows)
+    → ended Expired (expired s m rows) ++ ended cause (unexpired s m rows) ≡ state_ends (policy_of s v) m (Leaves (λ row. true) cause) (map state_of rows)
 all_left s v m cause rows =
     subst (λ (rs : List Row). ended Expired (expired s m rows) ++ ended cause rs ≡ state_ends (policy_of s v) m (Leaves (λ row. true) cause) (map state_of rows))
-    (filter_all (trimmed s m rows)) (left_rows s v m (λ row. true) cause rows)
+    (filter_all (unexpired s m rows)) (left_rows s v m (λ row. true) cause rows)
 
 -- and those that leave
 past_left : (s : Settings) (v m : ℕ) (p : RowState → Bool) (cause : Cause) (rows : List Row)
-    → (ended Expired (expired s m rows) ++ ended cause (filter (λ row. p (state_of row)) (trimmed s m rows))) ++ [] ≡ state_ends (policy_of s v) m (Leaves p cause) (map state_of rows)
+    → (ended Expired (expired s m rows) ++ ended cause (filter (λ row. p (state_of row)) (unexpired s m rows))) ++ [] ≡ state_ends (policy_of s v) m (Leaves p cause) (map state_of rows)
 past_left s v m p cause rows = append-nil _ ∙ left_rows s v m p cause rows
 
 past_all : (s : Settings) (v m : ℕ) (cause : Cause) (rows : List Row)
-    → (ended Expired (expired s m rows) ++ ended cause (trimmed s m rows)) ++ [] ≡ state_ends (policy_of s v) m (Leaves (λ row. true) cause) (map state_of rows)
+    → (ended Expired (expired s m rows) ++ ended cause (unexpired s m rows)) ++ [] ≡ state_ends (policy_of s v) m (Leaves (λ row. true) cause) (map state_of rows)
 past_all s v m cause rows = append-nil _ ∙ all_left s v m cause rows
 
 -- the rows change, their states do not
-stays : (s : Settings) (v n m : ℕ) (rows kept : List Row) → map state_of kept ≡ map state_of (trimmed s m rows) → RisesFrom 0 kept n
+stays : (s : Settings) (v n m : ℕ) (rows kept : List Row) → map state_of kept ≡ map state_of (unexpired s m rows) → RisesFrom 0 kept n
     → Mirrors (Serving s v n rows) (policy_of s v) (policy_of s v) m Stays (ended Expired (expired s m rows) ++ []) (Serving s v n kept)
 stays s v n m rows kept same rising = record { rising = rising; goes_by = refl; states = same ∙ kept_rows s v m rows; ends = only_past s v m rows; split = tt }
 
@@ -253,11 +253,11 @@ taken_row low (r ∷ before) row after next h =
     subst (λ (v : Bool). cond (not v) (r ∷ filter (λ q. not (is_state_of row (state_of q))) (before ++ row ∷ after)) (filter (λ q. not (is_state_of row (state_of q))) (before ++ row ∷ after)) ≡ r ∷ before ++ after) (sym other) (ap (λ (rs : List Row). r ∷ rs) rest)
 
 -- a row leaves for another queue
-departs : (s : Settings) (v n m : ℕ) (rows rest : List Row) (row : Row) → RisesFrom 0 rows n → Takes row (trimmed s m rows) rest
+departs : (s : Settings) (v n m : ℕ) (rows rest : List Row) (row : Row) → RisesFrom 0 rows n → Takes row (unexpired s m rows) rest
     → Mirrors (Serving s v n rows) (policy_of s v) (policy_of s v) m (Departs row) (ended Expired (expired s m rows) ++ []) (Serving s v n rest)
 departs s v n m rows rest row rising t =
-    let kept = trimmed s m rows in
-    let kept_rising : RisesFrom 0 kept n = rises_trimmed s m 0 rows n rising in
+    let kept = unexpired s m rows in
+    let kept_rising : RisesFrom 0 kept n = rises_unexpired s m 0 rows n rising in
     let left : filter (λ r. not (is_state_of row (state_of r))) kept ≡ rest =
     ap (filter (λ (r : Row). not (is_state_of row (state_of r)))) t.at ∙ taken_row 0 t.before row t.after n (subst (λ (rs : List Row). RisesFrom 0 rs n) t.at kept_rising) ∙ sym t.left in
     let states : map state_of rest ≡ filter (λ state. not (is_state_of row state)) (kept_states (policy_of s v) m (map state_of rows)) =
@@ -277,11 +277,11 @@ departs s v n m rows rest row rising t =
 
 -- a row comes in
 comes_in : (s : Settings) (v n m : ℕ) (rows : List Row) (row : Row) (state : RowState) → RisesFrom 0 rows n → row.serial ≡ n → state_of row ≡ state
-    → Mirrors (Serving s v n rows) (policy_of s v) (policy_of s v) m (Enters state) (ended Expired (expired s m rows) ++ []) (Serving s v (n + 1) (trimmed s m rows ++ row ∷ []))
+    → Mirrors (Serving s v n rows) (policy_of s v) (policy_of s v) m (Enters state) (ended Expired (expired s m rows) ++ []) (Serving s v (n + 1) (unexpired s m rows ++ row ∷ []))
 comes_in s v n m rows row state rising serial is = record {
-  rising = rises_push 0 (trimmed s m rows) n row (rises_trimmed s m 0 rows n rising) serial;
+  rising = rises_push 0 (unexpired s m rows) n row (rises_unexpired s m 0 rows n rising) serial;
   goes_by = refl;
-  states = map_push (trimmed s m rows) row ∙ ap (λ (xs : List RowState). xs ++ state_of row ∷ []) (kept_rows s v m rows) ∙ ap (λ (x : RowState). kept_states (policy_of s v) m (map state_of rows) ++ x ∷ []) is;
+  states = map_push (unexpired s m rows) row ∙ ap (λ (xs : List RowState). xs ++ state_of row ∷ []) (kept_rows s v m rows) ∙ ap (λ (x : RowState). kept_states (policy_of s v) m (map state_of rows) ++ x ∷ []) is;
   ends = only_past s v m rows;
   split = tt;
 }
@@ -318,27 +318,27 @@ serving_mirrors : (site : Site) (s : Settings) (v n : ℕ) (rows : List Row) (m 
     → Mirrors (Serving s v n rows) (policy_of s v) (next_policy (policy_of s v) call) m (effect_of m call reply) (home_ends (Serving s v n rows) m call ++ given_up call) after
 unfolding HomeStep
 serving_mirrors site s v n rows m (Configure t w) Done after h rising =
-    let trimmed_rising = rises_trimmed s m 0 rows n rising in
-    rw h (elim (nat_lt v w) as (λ b. Mirrors (Serving s v n rows) (policy_of s v) (if b then policy_of t w else policy_of s v) m Stays (ended Expired (expired s m rows) ++ []) (if b then Serving t w n (trimmed s m rows) else Serving s v n (trimmed s m rows))) [
-      | true ↦ record { rising = trimmed_rising; goes_by = refl; states = kept_rows s v m rows; ends = only_past s v m rows; split = tt }
-      | false ↦ stays s v n m rows (trimmed s m rows) refl trimmed_rising
+    let unexpired_rising = rises_unexpired s m 0 rows n rising in
+    rw h (elim (nat_lt v w) as (λ b. Mirrors (Serving s v n rows) (policy_of s v) (if b then policy_of t w else policy_of s v) m Stays (ended Expired (expired s m rows) ++ []) (if b then Serving t w n (unexpired s m rows) else Serving s v n (unexpired s m rows))) [
+      | true ↦ record { rising = unexpired_rising; goes_by = refl; states = kept_rows s v m rows; ends = only_past s v m rows; split = tt }
+      | false ↦ stays s v n m rows (unexpired s m rows) refl unexpired_rising
     ])
 serving_mirrors site s v n rows m Close Done after h rising =
     rw h (record { rising = tt; goes_by = tt; states = sym (filter_none (kept_states (policy_of s v) m (map state_of rows))); ends = past_all s v m ClosedAway rows; split = tt })
 serving_mirrors site s v n rows m (Send body delay) (Sent sent) after h rising =
-    let kept = trimmed s m rows in
+    let kept = unexpired s m rows in
     let row = sent_row site.home n sent.slot m (m + ms (unwrap_or delay s.delay)) body in
     rw (h.2, h.1) (record {
-      rising = rises_push 0 kept n row (rises_trimmed s m 0 rows n rising) refl;
+      rising = rises_push 0 kept n row (rises_unexpired s m 0 rows n rising) refl;
       goes_by = refl;
       states = map_push kept row ∙ ap (λ (xs : List RowState). xs ++ state_of row ∷ []) (kept_rows s v m rows);
       ends = only_past s v m rows;
       split = tt;
     })
 serving_mirrors site s v n rows m (Look max timeout) (Looked picked) after h rising =
-    let kept = trimmed s m rows in
+    let kept = unexpired s m rows in
     let until = m + ms (unwrap_or timeout s.timeout) in
-    let kept_rising = rises_trimmed s m 0 rows n rising in
+    let kept_rising = rises_unexpired s m 0 rows n rising in
     rw h.2 (record {
       rising = rises_received s (serials_of picked) m until 0 kept n kept_rising;
       goes_by = refl;
@@ -346,26 +346,26 @@ serving_mirrors site s v n rows m (Look max timeout) (Looked picked) after h ris
       ends = only_past s v m rows;
       split = tt;
     })
-serving_mirrors site s v n rows m (Look max timeout) Over after h rising = rw h.2 (stays s v n m rows (trimmed s m rows) refl (rises_trimmed s m 0 rows n rising))
+serving_mirrors site s v n rows m (Look max timeout) Over after h rising = rw h.2 (stays s v n m rows (unexpired s m rows) refl (rises_unexpired s m 0 rows n rising))
 serving_mirrors site s v n rows m (Delete receipt) Done after h rising =
-    let kept = trimmed s m rows in
+    let kept = unexpired s m rows in
     rw h.1 (record {
-      rising = rises_without receipt 0 kept n (rises_trimmed s m 0 rows n rising);
+      rising = rises_without receipt 0 kept n (rises_unexpired s m 0 rows n rising);
       goes_by = refl;
       states = map_filter (λ row. not (is_state_named receipt row)) kept ∙ ap (filter (λ (row : RowState). not (is_state_named receipt row))) (kept_rows s v m rows);
       ends = past_left s v m (is_state_named receipt) Deleted rows;
       split = tt;
     })
 serving_mirrors site s v n rows m (Change receipt timeout) Done after h rising =
-    let kept = trimmed s m rows in
-    rw h.3 (stays s v n m rows (map (changed_if m receipt (m + ms timeout)) kept) (changed_rows m receipt (m + ms timeout) kept) (rises_changed m receipt (m + ms timeout) 0 kept n (rises_trimmed s m 0 rows n rising)))
+    let kept = unexpired s m rows in
+    rw h.3 (stays s v n m rows (map (changed_if m receipt (m + ms timeout)) kept) (changed_rows m receipt (m + ms timeout) kept) (rises_changed m receipt (m + ms timeout) 0 kept n (rises_unexpired s m 0 rows n rising)))
 serving_mirrors site s v n rows m Purge Done after h rising =
     rw h (record { rising = omega arith; goes_by = refl; states = sym (filter_none (kept_states (policy_of s v) m (map state_of rows))); ends = past_all s v m Purged rows; split = tt })
-serving_mirrors site s v n rows m Count (Counted counts) after h rising = rw h.1 (stays s v n m rows (trimmed s m rows) refl (rises_trimmed s m 0 rows n rising))
+serving_mirrors site s v n rows m Count (Counted counts) after h rising = rw h.1 (stays s v n m rows (unexpired s m rows) refl (rises_unexpired s m 0 rows n rising))
 serving_mirrors site s v n rows m LeaveDead (Left item) after h rising = rw h.3.2 (departs s v n m rows h.3.0 item.row rising h.3.1)
 serving_mirrors site s v n rows m (LeaveTask task) (Left item) after h rising = rw h.2.2 (departs s v n m rows h.2.0 item.row rising h.2.1)
-serving_mirrors site s v n rows m (LeaveTask task) NoLiveRow after h rising = rw h.1 (stays s v n m rows (trimmed s m rows) refl (rises_trimmed s m 0 rows n rising))
-serving_mirrors site s v n rows m (LeaveTask task) (NoOrigin serial) after h rising = rw h.1 (stays s v n m rows (trimmed s m rows) refl (rises_trimmed s m 0 rows n rising))
+serving_mirrors site s v n rows m (LeaveTask task) NoLiveRow after h rising = rw h.1 (stays s v n m rows (unexpired s m rows) refl (rises_unexpired s m 0 rows n rising))
+serving_mirrors site s v n rows m (LeaveTask task) (NoOrigin serial) after h rising = rw h.1 (stays s v n m rows (unexpired s m rows) refl (rises_unexpired s m 0 rows n rising))
 serving_mirrors site s v n rows m (Enter item) (Entered entered) after h rising =
     rw h.3 (comes_in s v n m rows (entered_row site.home n entered.slot m item) (entered_state m item entered) rising (entered_serial item.reason site.home item.source n entered.slot m item.row) (entered_same site.home n m item entered h.2))
 serving_mirrors site s v n rows m (GiveBack item) (Entered entered) after h rising =

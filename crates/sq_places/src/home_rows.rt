@@ -4,9 +4,9 @@ ghost use Rattle.std.specs.List.{All};
 ghost use Rattle.std.specs.Map.{remove_entry};
 ghost use Rattle.std.specs.Ordering.{nat_cmp};
 ghost use Rattle.std.specs.BTreeMap.{get, is_at, IsOrdered};
-ghost use Rattle.sq_places.specs.RowStates.{is_past_retention, is_state_named, is_state_of, is_past, looked, raised};
+ghost use Rattle.sq_places.specs.inside.RowStates.{is_past_retention, is_state_named, is_state_of, is_past, looked, raised};
 ghost use Rattle.sq_model.specs.declared.place.Place.TheVariants as at;
-ghost use Rattle.sq_places.specs.Audits as audits;
+ghost use Rattle.sq_places.specs.inside.Audits as audits;
 
 use crate::state::{RowState, has_serial, is_due, is_named, is_past, received};
 use sq_base::ids::Serial;
@@ -32,7 +32,7 @@ impl Model for HomeRows {
     ghost use Rattle.std.specs.Prelude.{List};
     ghost use Rattle.std.specs.BTreeMap.{values};
     ghost use Rattle.sq_places.specs.declared.state.RowState.{RowState};
-    ghost use Rattle.sq_places.specs.RowIndexes.{AreIndexed};
+    ghost use Rattle.sq_places.specs.inside.RowIndexes.{AreIndexed};
 
     ghost Value = { List RowState };
 
@@ -105,7 +105,7 @@ impl HomeRows {
     }
 
     /// Rows past a retention at a moment leave, and are put last.
-    pub fn trim(
+    pub fn expire(
         &mut self,
         retention: Retention,
         moment: u64,

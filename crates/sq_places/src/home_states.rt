@@ -1,8 +1,8 @@
 //! What decides how the rows of a home leave it, for all rows of the home.
 ghost use Rattle.std.specs.Prelude.{◌≡◌, ◌∷◌, [], ◌++◌, ℕ, not, filter, OnOk, IfErr};
-ghost use Rattle.sq_places.specs.RowStates.{kept_states, past_states, effect_of, reply_effect, entry_effect, entered_state, returned_state, is_state_named};
+ghost use Rattle.sq_places.specs.inside.RowStates.{kept_states, past_states, effect_of, reply_effect, entry_effect, entered_state, returned_state, is_state_named};
 ghost use Rattle.sq_model.specs.declared.place.Place.TheVariants as at;
-ghost use Rattle.sq_places.specs.Audits as audits;
+ghost use Rattle.sq_places.specs.inside.Audits as audits;
 
 use crate::home_rows::HomeRows;
 use crate::state::{Policy, entered, next_policy, returned, sent};
@@ -24,7 +24,7 @@ pub struct HomeStates {
 }
 
 impl Model for HomeStates {
-    ghost use Rattle.sq_places.specs.HomeValues.{HomeValue};
+    ghost use Rattle.sq_places.specs.inside.HomeValues.{HomeValue};
 
     ghost Value = { HomeValue };
 
@@ -52,14 +52,14 @@ impl HomeStates {
         ensures err { IfErr result (λ e. e ≡ Refusal.NoMemory) }
     {
         let moment = event.stamp.moment;
-        trim(&mut self.rows, &self.policy, moment, ends)?;
+        expire(&mut self.rows, &self.policy, moment, ends)?;
         change(&mut self.rows, moment, &event.call, &event.reply, ends)?;
         self.policy = next_policy(&self.policy, &event.call);
         Ok(())
     }
 }
 
-fn trim(
+fn expire(
     rows: &mut HomeRows,
     policy: &Option<Policy>,
     moment: u64,
@@ -70,12 +70,12 @@ fn trim(
     ensures err { IfErr result (λ e. e ≡ Refusal.NoMemory) }
 {
     match policy {
-        Some(policy) => rows.trim(policy.retention, moment, ends),
+        Some(policy) => rows.expire(policy.retention, moment, ends),
         None => Ok(()),
     }
 }
 
-// What a call and its reply make of the rows, after the trim.
+// What a call and its reply make of the rows that have not expired.
 fn change(
     rows: &mut HomeRows,
     moment: u64,

@@ -1,13 +1,12 @@
 //! Where a message of a run is.
-ghost use Rattle.std.specs.Prelude.{◌≡◌, ℕ, true, List};
+ghost use Rattle.std.specs.Prelude.{◌≡◌, ℕ, true};
 ghost use Rattle.sq_base.specs.declared.message_id.MessageId.{MessageId};
-ghost use Rattle.sq_model.specs.declared.place.Site.{Site};
-ghost use Rattle.sq_model.specs.Systems.{System, RunFrom, opening, IsOnePlace};
+ghost use Rattle.sq_model.specs.Systems.{System, RunFrom, opening, IsOnePlace, Opening};
 ghost use Rattle.sq_model.specs.Places.{run_ends, run_sends, place_in};
 ghost use Rattle.sq_model.specs.declared.place.Place.TheVariants as at;
 ghost use Rattle.sq_audit.specs.Tags.{tag_of, tags_of};
-ghost use Rattle.sq_places.specs.RowStates.{effect_of, reply_effect, entry_effect, entered_state, returned_state, is_state_named, is_past};
-ghost use Rattle.sq_places.specs.MessagePasses as tracks;
+ghost use Rattle.sq_places.specs.inside.RowStates.{effect_of, reply_effect, entry_effect, entered_state, returned_state, is_state_named, is_past};
+ghost use Rattle.sq_places.specs.inside.MessagePasses as tracks;
 ghost use Rattle.sq_places.specs.declared.message_pass.MessageState.TheVariants.{Gone};
 
 use crate::state::{
@@ -43,8 +42,8 @@ struct MessagePass {
 
 /// Where a message of a run is: some place exactly for those that were sent in it. It takes no memory.
 pub fn place_of(run: &Run<'_>, x: &MessageId) -> Option<Place>
-    ensures place { (places limit : ℕ) (sites : List Site) (after : System) (r : RunFrom (opening places limit sites) run.now after) → IsOnePlace sites
-        → result ≡ place_in x.now (run_sends run.now) (run_ends (opening places limit sites) run.now after r) after.ledger.items }
+    ensures place { (o : Opening) (after : System) (r : RunFrom (opening o) run.now after) → IsOnePlace o.sites
+        → result ≡ place_in x.now (run_sends run.now) (run_ends (opening o) run.now after r) after.ledger.items }
 {
     let mut message_pass = MessagePass {
         policy: None,
@@ -82,7 +81,7 @@ fn next_at_home(
     ensures { result ≡ tracks.next_pass x.now (tags_of before.now) index message_pass.now event.now }
 {
     let moment = event.stamp.moment;
-    let kept = trimmed(index, message_pass.policy, moment, message_pass.state);
+    let kept = unexpired(index, message_pass.policy, moment, message_pass.state);
     let state = changed(x, index, moment, &event.call, &event.reply, kept);
     let policy = known_policy(before, index, message_pass, &event.call, &state);
     MessagePass { policy, state }
@@ -144,8 +143,8 @@ fn policy_after(index: u32, policy: Option<Policy>, tagged: &Tagged<'_>) -> Opti
 }
 
 // A row of the home at an index that is past the retention leaves.
-fn trimmed(index: u32, policy: Option<Policy>, moment: u64, state: MessageState) -> MessageState
-    ensures { result ≡ tracks.trimmed_state index policy moment state }
+fn unexpired(index: u32, policy: Option<Policy>, moment: u64, state: MessageState) -> MessageState
+    ensures { result ≡ tracks.unexpired_state index policy moment state }
 {
     match policy {
         Some(policy) => expired(index, policy.retention, moment, state),
@@ -164,7 +163,7 @@ fn expired(index: u32, retention: Retention, moment: u64, state: MessageState) -
     }
 }
 
-// What a call of the home at an index and its reply make of it, after the trim.
+// What a call of the home at an index and its reply make of it, if it has not expired.
 fn changed(
     x: &MessageId,
     index: u32,

@@ -1,17 +1,17 @@
 //! Where all messages of a run are.
-ghost use Rattle.std.specs.Prelude.{◌≡◌, ◌<◌, ◌+◌, ◌++◌, ◌≤◌, ℕ, List, length, OnOk, IfOk, IfErr, slice_set, get_or, vec_len};
+ghost use Rattle.std.specs.Prelude.{◌≡◌, ◌<◌, ◌+◌, ◌++◌, ◌≤◌, length, OnOk, IfOk, IfErr, slice_set, get_or, vec_len};
 ghost use Rattle.std.specs.List.{fold};
 ghost use Rattle.std.specs.BTreeMap.{get};
 ghost use Rattle.sq_base.specs.declared.message_id.MessageId.{MessageId};
-ghost use Rattle.sq_model.specs.declared.place.Site.{Site};
 ghost use Rattle.sq_model.specs.Lineages.{home_ins, home_outs, home_sends};
 ghost use Rattle.sq_model.specs.declared.place.Place.TheVariants as at;
 ghost use Rattle.sq_model.specs.Places.{run_ends, run_sends};
-ghost use Rattle.sq_model.specs.Systems.{System, OfHome, RunFrom, opening, IsOnePlace};
+ghost use Rattle.sq_model.specs.Systems.{System, OfHome, RunFrom, opening, IsOnePlace, Opening};
 ghost use Rattle.sq_audit.specs.RunLineages.{id_cmp};
 ghost use Rattle.sq_audit.specs.Tags.{tag_of};
-ghost use Rattle.sq_places.specs.AllPlaces.{ArePlaces, AreListed, after_move, sent_place};
-ghost use Rattle.sq_places.specs.Audits as audits;
+ghost use Rattle.sq_places.specs.AllPlaces.{ArePlaces};
+ghost use Rattle.sq_places.specs.inside.AllPlaces.{AreListed, after_move, sent_place};
+ghost use Rattle.sq_places.specs.inside.Audits as audits;
 
 use crate::home_states::HomeStates;
 use sq_audit::run::Run;
@@ -36,7 +36,7 @@ struct Audit {
 }
 
 impl Model for Audit {
-    ghost use Rattle.sq_places.specs.HomeValues.{AuditValue};
+    ghost use Rattle.sq_places.specs.inside.HomeValues.{AuditValue};
 
     ghost Value = { AuditValue };
 
@@ -46,8 +46,8 @@ impl Model for Audit {
 /// Where the messages of a run are: each that was sent in it, once, in rising order of id. Refused as NoMemory, where there
 /// are any.
 pub fn places_of(alloc: Global, run: &Run<'_>) -> Result<Vec<(MessageId, Place)>, Refusal>
-    ensures places { (places limit : ℕ) (sites : List Site) (after : System) (r : RunFrom (opening places limit sites) run.now after) → IsOnePlace sites
-        → IfOk result (λ listed. ArePlaces (run_sends run.now) (run_ends (opening places limit sites) run.now after r) after.ledger.items listed.items) }
+    ensures places { (o : Opening) (after : System) (r : RunFrom (opening o) run.now after) → IsOnePlace o.sites
+        → IfOk result (λ listed. ArePlaces (run_sends run.now) (run_ends (opening o) run.now after r) after.ledger.items listed.items) }
     ensures err { IfErr result (λ e. (e ≡ Refusal.NoMemory) × (0 < length (run_sends run.now))) }
 {
     if !run.has_sent() {

@@ -1,6 +1,6 @@
 //! What decides how the rows of a home leave it.
 ghost use Rattle.std.specs.Prelude.{◌≡◌};
-ghost use Rattle.sq_places.specs.RowStates as states;
+ghost use Rattle.sq_places.specs.inside.RowStates as states;
 
 use sq_base::ids::Serial;
 use sq_base::message_id::MessageId;

@@ -11,7 +11,7 @@ use Rattle.sq_wire.specs.declared.run.ServeFault.{ServeFault}
 use Rattle.sq_wire.specs.declared.run.ServeFault.TheVariants.{NoMemory}
 use Rattle.sq_wire.specs.Scripts.{ScriptValue, script_at, LineReplies, LineUnanswered}
 use Rattle.sq_program.specs.Streams.{Stream, stream, EndsWritten, HasNoFault, IsUntouched}
-use Rattle.sq_program.specs.Endings.{Ends, EndsBy, EndsRacing, EndsServing, HasReplies, HasStatus, IsAuditLine, IsHelp, lines_in}
+use Rattle.sq_program.specs.Endings.{Ends, EndsBy, HasReplies, HasStatus, IsAuditLine, IsHelp, lines_in}
 use Rattle.sq_program.specs.declared.program.Next.{Next}
 use Rattle.sq_program.specs.declared.program.Next.TheVariants as next
 use Rattle.sq_flags.specs.declared.flags.Mode.{Mode}
@@ -19,8 +19,6 @@ use Rattle.sq_flags.specs.declared.flags.Mode.TheVariants.{Script, Serve, Race}
 use Rattle.sq_flags.specs.declared.flags.Refused.{Refused}
 use Rattle.sq_flags.specs.declared.flags.Refused.TheVariants as refused
 use Rattle.sq_flags.specs.declared.flags.ScriptMode.{ScriptMode}
-use Rattle.sq_flags.specs.declared.flags.ServeMode.{ServeMode}
-use Rattle.sq_flags.specs.declared.flags.RaceMode.{RaceMode}
 
 -- what the words ask for was shown
 pub ends_written : {R W : Type 0} (error : Error) (input : Stream R) (output : Stream W) (status : ℕ) → IsUntouched input → EndsWritten IsHelp output status → EndsBy (Err (refused.Text error)) input output status
@@ -64,23 +62,6 @@ ends_stopped mode input output fault world Other served err count = (
     | inr stops ↦ inr (inl (fault, count, stopped (lines_in input) fault (input.bytes input.after.inner) (output.bytes output.before.inner) (output.bytes output.after.inner) (script_at (new_world mode.options) 0) world stops))
   ],
 )
-
--- serving goes on, or is refused, and nothing was touched
-pub ends_serving : {R W : Type 0} (mode : ServeMode) (input : Stream R) (output : Stream W) (then : Next) → IsUntouched input → IsUntouched output → EndsServing mode then → Ends (Ok (Serve mode)) input output then
-ends_serving mode input output (next.End zero) r w h = absurd h
-ends_serving mode input output (next.End (suc zero)) r w h = (h.0, h.1, r, w)
-ends_serving mode input output (next.End (suc (suc zero))) r w h = (h, r, w)
-ends_serving mode input output (next.End (suc (suc (suc n)))) r w h = absurd h
-ends_serving mode input output (next.Serve address asked) r w h = rw h.2 (refl, h.0, h.1, r, w)
-ends_serving mode input output (next.Race asked) r w h = absurd h
-
-pub ends_racing : {R W : Type 0} (mode : RaceMode) (input : Stream R) (output : Stream W) (then : Next) → IsUntouched input → IsUntouched output → EndsRacing mode then → Ends (Ok (Race mode)) input output then
-ends_racing mode input output (next.End zero) r w h = absurd h
-ends_racing mode input output (next.End (suc zero)) r w h = absurd h
-ends_racing mode input output (next.End (suc (suc zero))) r w h = (h, r, w)
-ends_racing mode input output (next.End (suc (suc (suc n)))) r w h = absurd h
-ends_racing mode input output (next.Serve address asked) r w h = absurd h
-ends_racing mode input output (next.Race asked) r w h = rw h.1 (refl, h.0, r, w)
 
 -- the status is one of three
 pub status_within : {R W : Type 0} (parsed : Result Mode Refused) (input : Stream R) (output : Stream W) (then : Next) → Ends parsed input output then → HasStatus then

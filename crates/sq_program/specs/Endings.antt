@@ -14,7 +14,6 @@ use Rattle.sq_wire.specs.declared.run.ServeFault.{ServeFault}
 use Rattle.sq_flags.specs.Flags.{ParsesTo}
 use Rattle.sq_flags.specs.declared.flags.Mode.{Mode}
 use Rattle.sq_flags.specs.declared.flags.Mode.TheVariants.{Script, Serve, Race}
-use Rattle.sq_flags.specs.declared.flags.ServeMode.{ServeMode}
 use Rattle.sq_flags.specs.declared.flags.RaceMode.{RaceMode}
 use Rattle.sq_flags.specs.declared.flags.Refused.{Refused}
 use Rattle.sq_flags.specs.declared.flags.Refused.TheVariants as refused
@@ -110,23 +109,6 @@ abbrev pub Ends : {R W : Type 0} → Result Mode Refused → Stream R → Stream
 Ends parsed input output (next.End status) = EndsBy parsed input output status
 Ends parsed input output (next.Serve address mode) = (parsed ≡ Ok (Serve mode)) × IsServed mode.options × (mode.address ≡ Some address) × IsUntouched input × IsUntouched output
 Ends parsed input output (next.Race mode) = (parsed ≡ Ok (Race mode)) × MayRace mode × IsUntouched input × IsUntouched output
-
--- the same of what serving asks for alone, and of a race
-abbrev pub EndsServing : ServeMode → Next → Type 0
-EndsServing mode (next.End zero) = ⊥
-EndsServing mode (next.End (suc zero)) = IsServed mode.options × (mode.address ≡ None)
-EndsServing mode (next.End (suc (suc zero))) = ¬ IsServed mode.options
-EndsServing mode (next.End (suc (suc (suc n)))) = ⊥
-EndsServing mode (next.Serve address asked) = IsServed mode.options × (mode.address ≡ Some address) × (asked ≡ mode)
-EndsServing mode (next.Race asked) = ⊥
-
-abbrev pub EndsRacing : RaceMode → Next → Type 0
-EndsRacing mode (next.End zero) = ⊥
-EndsRacing mode (next.End (suc zero)) = ⊥
-EndsRacing mode (next.End (suc (suc zero))) = ¬ MayRace mode
-EndsRacing mode (next.End (suc (suc (suc n)))) = ⊥
-EndsRacing mode (next.Serve address asked) = ⊥
-EndsRacing mode (next.Race asked) = MayRace mode × (asked ≡ mode)
 
 -- where the program ends, it ends with one of three statuses
 abbrev pub HasStatus : Next → Type 0

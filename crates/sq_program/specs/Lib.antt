@@ -2,3 +2,4 @@ pub mod Endings
 pub mod Faults
 pub mod Results
 pub mod Streams
+pub mod inside

@@ -4,7 +4,8 @@ ghost use Rattle.sq_merge.specs.Openings.{new_world};
 ghost use Rattle.sq_opening.specs.Openings.{IsServed};
 ghost use Rattle.sq_wire.specs.Audits.{IsAudit};
 ghost use Rattle.sq_program.specs.Streams.{stream, EndsWritten};
-ghost use Rattle.sq_program.specs.Endings.{EndsBy, EndsFor, Ends, EndsServing, EndsRacing, HasStatus, IsHelp, IsAuditLine};
+ghost use Rattle.sq_program.specs.Endings.{EndsBy, EndsFor, Ends, HasStatus, IsHelp, IsAuditLine};
+ghost use Rattle.sq_program.specs.inside.Endings.{EndsServing, EndsRacing};
 ghost use Rattle.sq_flags.specs.declared.flags.Mode.TheVariants.{Script as ByScript};
 
 use crate::reports::{Failure, explain, fail, no_memory, report, report_audit};

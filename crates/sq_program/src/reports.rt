@@ -1,7 +1,8 @@
 //! What standard error is told, and the status that goes with it.
 ghost use Rattle.std.specs.Prelude.{◌≡◌, ◌≢◌, ◌⊎◌, ℕ, codes};
 ghost use Rattle.sq_base.specs.StampValue.{StampValue};
-ghost use Rattle.sq_program.specs.Faults.{fault_name, fault_count, failure_text, failure_status};
+ghost use Rattle.sq_program.specs.Faults.{failure_status};
+ghost use Rattle.sq_program.specs.inside.Faults.{fault_name, fault_count, failure_text};
 
 use clap::Error;
 use sq_merge::AuditFault;

@@ -18,8 +18,11 @@ use Rattle.sq_steps.specs.Journals.{HomeMoves, DirectoryMoves, LedgerMoves, IsHo
 use Rattle.sq_steps.specs.SharedSteps.{SharedMoves, IsUnmoved, IsSharedRefused}
 use Rattle.sq_steps.specs.declared.act.TaskAct.{TaskAct}
 use Rattle.sq_steps.specs.TaskActs.{task_call}
-use Rattle.sq_actions.specs.Asks.{AskDirectory, AskHome, AskShared, AskLedger, moved_of, replied_of, IsAnswerTo, IsReplyTo, IsToldTo, MayRefuse}
+use Rattle.sq_actions.specs.Asks.{AskDirectory, AskHome, AskShared, AskLedger, moved_of, IsAnswerTo, IsReplyTo, IsToldTo, MayRefuse, gave_as, Replied}
+use Rattle.sq_actions.specs.Asks.{Ask, Done, Gave}
+use Rattle.sq_actions.specs.Performs.{Performs}
 use Rattle.sq_actions.proofs.AskLaws as ask
+use Rattle.sq_actions.proofs.PathLaws.{path_inside}
 use Rattle.sq_audit.specs.HomeIds.{home_index}
 use Rattle.sq_queue.specs.LockedParts.{AHome, TheLedger}
 use Rattle.sq_queue.specs.Sections.{Surroundings, IsSection}
@@ -57,7 +60,7 @@ pub home_section : (at : Surroundings) (now : ℕ) (old new : HistoryValue) (s t
     → at.IsReading now → at.Saw (AHome old) → old.site.home ≡ placed → home_index at.per_queue at.homes id ≡ Some index
     → IfOk answered (λ by. HomeMoves old new s.journal t.journal now (Some name) (call_of what) by) → OnOk answered (placed ≡ id)
     → IfErr answered (λ e. ((placed ≡ id) × IsHomeRefused old s.journal now (call_of what) e) ⊎ ((placed ≢ id) × (e ≡ QueueDoesNotExist)))
-    → OnErr answered (t ≡ s) → IsSection at s (AskHome name id what) (replied_of answered) t
+    → OnErr answered (t ≡ s) → IsSection at s (AskHome name id what) (gave_as Replied answered) t
 home_section at now old new s t name placed id what index (Ok by) told saw own there moves here refused err = (now, old, new, told, saw, own ∙ here, moves)
 home_section at now old new s t name placed id what index (Err e) told saw own there moves here refused err =
     ((now, told, elim refused [ inl cause ↦ inr (inr (old, saw, own ∙ cause.0, cause.1)) | inr other ↦ inr (inl (index, old, saw, there, (λ same. other.0 (sym own ∙ same)), other.1)) ]), err)
@@ -72,3 +75,12 @@ moving_section at now old new l m s t name placed id what index (Ok (Some by)) t
 moving_section at now old new l m s t name placed id what index (Ok None) told saw held own there moves here unmoved none refused err = (now, old, l, told, saw, held, own ∙ here, unmoved, none)
 moving_section at now old new l m s t name placed id what index (Err e) told saw held own there moves here unmoved none refused err =
     ((now, told, elim refused [ inl cause ↦ inr (inr (old, l, saw, held, own ∙ cause.0, cause.1)) | inr other ↦ inr (inl (index, old, saw, there, (λ same. other.0 (sym own ∙ same)), other.1)) ]), err)
+
+-- What was done at what borrows a session was done at the session: each step is a section of the service that stays the same, and the reference does.
+pub at_session : {U V A : Type 0} (section : V → SessionValue → Ask → Result Gave Refusal → SessionValue → Type 0) (service : U → V) (session : U → SessionValue) (name : U → ℕ) (Fits : List Done → Result A Refusal → Type 0) (old new : U) (answered : Result A Refusal)
+    → Performs (λ s ask gave t. section (service s) (session s) ask gave (session t) × (service t ≡ service s) × (name t ≡ name s)) Fits old answered new
+    → Performs (section (service old)) Fits (session old) answered (session new) × (name new ≡ name old)
+at_session section service session name Fits old new answered told =
+    let same = path_inside _ (λ n a ask gave b. Unit {0}) session name (λ s t ask gave h. (tt, h.2)) old new told.trace told.path in
+    let inside = path_inside _ section session service (λ s t ask gave h. (h.0, h.1)) old new told.trace told.path in
+    (record { trace = told.trace; path = inside.0; fits = told.fits }, same.1)

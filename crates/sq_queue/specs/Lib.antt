@@ -3,4 +3,4 @@ pub mod Tallies
 pub mod LockedParts
 pub mod Services
 pub mod Sections
-pub mod SectionLaws
+pub mod inside

@@ -1,9 +1,6 @@
 //! The calls of a session.
-ghost use Rattle.std.specs.Prelude.{◌≡◌, vec_len};
-ghost use Rattle.sq_actions.specs.Fits.{CallFits};
-ghost use Rattle.sq_actions.specs.Stops.{UntilFits};
-ghost use Rattle.sq_actions.specs.Turns.{TurnFits};
-ghost use Rattle.sq_actions.specs.Performs.{LeavesRecords, Performs};
+ghost use Rattle.std.specs.Prelude.{vec_len};
+ghost use Rattle.sq_actions.specs.Performs.{CallFits, TurnFits, UntilFits, LeavesRecords, Performs};
 ghost use Rattle.sq_queue.specs.Sections.{IsSection, around};
 ghost use Rattle.sq_queue.specs.Services.{service_counts};
 

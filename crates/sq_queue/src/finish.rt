@@ -1,5 +1,5 @@
 //! The end of a service: its parts are taken out of their locks, and its sessions apart.
-ghost use Rattle.std.specs.Prelude.{◌≡◌, ◌↔◌, ◌⊎◌, ◌+◌, ◌≤◌, ◌<◌, ◌++◌, [], List, true, IfOk, IfErr, if◌then◌else◌, length, map, sum_by, take, vec_len, vec_capacity};
+ghost use Rattle.std.specs.Prelude.{◌≡◌, ◌⊎◌, ◌+◌, ◌≤◌, ◌<◌, ◌++◌, [], List, IfOk, IfErr, length, map, sum_by, vec_len, vec_capacity};
 ghost use Rattle.sq_model.specs.RecordValues.{Journal as JournalValue};
 ghost use Rattle.sq_steps.specs.Journals.{AreDistinct};
 ghost use Rattle.sq_audit.specs.HomeIds.{home_id, IsNumbered};

@@ -1,9 +1,6 @@
 //! The steps of a session's calls, each under the lock of its part.
 ghost use Rattle.std.specs.Prelude.{◌≡◌, vec_len};
-ghost use Rattle.sq_actions.specs.Fits.{CallFits};
-ghost use Rattle.sq_actions.specs.Stops.{UntilFits};
-ghost use Rattle.sq_actions.specs.Turns.{TurnFits};
-ghost use Rattle.sq_actions.specs.Performs.{LeavesRecords, Performs};
+ghost use Rattle.sq_actions.specs.Performs.{CallFits, TurnFits, UntilFits, LeavesRecords, Performs};
 ghost use Rattle.sq_queue.specs.Sections.{IsSection, around};
 ghost use Rattle.sq_queue.specs.Services.{service_counts};
 
@@ -46,7 +43,7 @@ pub(crate) struct Locked<'a, C, G, D: Ledger, T: Ledger, R> {
 // gate sees what lies under the lock before anything is done there.
 impl<'a, C: Clock + Drop, G: Gate + Drop, D: Ledger, T: Ledger, R: Wait> LockSteps
     for Locked<'a, C, G, D, T, R> {
-    ghost use Rattle.sq_queue.specs.SectionLaws.{section_leaves};
+    ghost use Rattle.sq_queue.specs.inside.SectionLaws.{section_leaves};
 
     ghost stepped = { λ s ask answered t.
         IsSection (around (C.tells s.service.now.clock) (G.saw s.service.now.gate) s.service.now.per_queue (vec_len s.service.now.homes)) s.session.now ask answered t.session.now

@@ -1,7 +1,6 @@
 //! Each call of a session by its name, as `call` does it.
 ghost use Rattle.sq_calls.specs.declared.calls.Call.TheVariants as asks;
-ghost use Rattle.sq_actions.specs.Fits.{CallFits};
-ghost use Rattle.sq_actions.specs.Performs.{LeavesRecords};
+ghost use Rattle.sq_actions.specs.Performs.{CallFits, LeavesRecords};
 ghost use Rattle.sq_queue.specs.Services.{service_counts};
 
 use crate::service::{Clock, Gate, Serving};

@@ -1,5 +1,5 @@
 -- What failed in a batch, and what did not, up to one more entry.
-use Rattle.std.proofs.Common.{◌≡◌, ◌∙◌, ℕ, ◌+◌, ◌<◌, ◌≤◌, List, [], ◌∷◌, ◌++◌, length, take, get_or, refl, ap, sym, append_assoc}
+use Rattle.std.proofs.Common.{◌≡◌, ◌∙◌, ℕ, ◌+◌, ◌<◌, List, [], ◌∷◌, ◌++◌, length, take, get_or, refl, ap, sym, append_assoc}
 use Rattle.std.specs.Prelude.{Result, Ok, Err}
 use Rattle.std.proofs.lemmas.List.{append-nil, take_all, take_more}
 use Rattle.json.specs.Token.{Token}
@@ -8,7 +8,7 @@ use Rattle.sq_base.specs.declared.refusal.Refusal.{Refusal}
 use Rattle.sq_calls.specs.declared.batches.EntryAnswer.{EntryAnswer}
 use Rattle.sq_calls.specs.declared.batches.EntryResult.{EntryResult}
 use Rattle.sq_replies.specs.Replies.{with_failure, failures, with_success, successes}
-use Rattle.sq_replies.specs.Told.{tokens_of, all_tokens}
+use Rattle.sq_replies.specs.inside.Told.{tokens_of, all_tokens}
 
 failure_first : (id : List ℕ) (answer : Result EntryAnswer Refusal) (xs ys : List Data) → with_failure id answer (xs ++ ys) ≡ with_failure id answer xs ++ ys
 failure_first id (Ok answer) xs ys = refl

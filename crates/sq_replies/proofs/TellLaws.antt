@@ -1,5 +1,5 @@
 -- What is told in several steps.
-use Rattle.std.proofs.Common.{◌≡◌, ◌∙◌, ℕ, ◌+◌, ◌<◌, ◌≤◌, List, [], ◌∷◌, ◌++◌, length, take, get_or, map, Bool, true, false, Option, Some, None, Result, Ok, Err, refl, sym, ap, append_assoc}
+use Rattle.std.proofs.Common.{◌≡◌, ◌∙◌, ℕ, ◌+◌, ◌<◌, List, [], ◌∷◌, ◌++◌, length, take, get_or, map, Bool, true, false, Option, Some, None, Result, Ok, Err, refl, sym, ap, append_assoc}
 use Rattle.std.specs.Prelude.{OnOk, codes, decimal, ◌||◌}
 use Rattle.std.proofs.lemmas.List.{append-nil, map-append, take_all, take_more}
 use Rattle.json.specs.Token.{Token, begin_object, end_object, begin_array, end_array, key}
@@ -13,7 +13,7 @@ use Rattle.sq_base.specs.declared.row.Row.{Row}
 use Rattle.sq_calls.specs.declared.calls.AskedAttributes.{AskedAttributes}
 use Rattle.sq_model.specs.declared.task.Task.{Task}
 use Rattle.sq_replies.specs.Replies.{queue_url, if_asked, attributes_data, message_data, text_member, text_members, task_data}
-use Rattle.sq_replies.specs.Told.{tokens_of, all_tokens, text_tokens, texts_tokens, value_tokens}
+use Rattle.sq_replies.specs.inside.Told.{tokens_of, all_tokens, text_tokens, texts_tokens, value_tokens}
 
 pub added : {A : Type 0} (a b c ts us : List A) → b ≡ a ++ ts → c ≡ b ++ us → c ≡ a ++ (ts ++ us)
 added {A} a b c ts us one more = more ∙ ap (λ (front : List A). front ++ us) one ∙ append_assoc a ts us

@@ -1,4 +1,4 @@
 pub mod Replies
-pub mod Told
 pub mod Texts
 pub mod Worked
+pub mod inside

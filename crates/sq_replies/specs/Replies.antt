@@ -59,13 +59,9 @@ queue_data name = object (member (codes "QueueUrl") (string (queue_url name)) no
 abbrev pub urls_data : List (List ℕ) → Data
 urls_data names = array (items_of (map (λ name. string (queue_url name)) names))
 
--- (SQS API Reference, ListQueues, QueueUrls)
-abbrev pub queues_data : List (List ℕ) → Data
-queues_data names = object (member (codes "QueueUrls") (urls_data names) no_members)
-
--- (SQS API Reference, ListDeadLetterSourceQueues, queueUrls)
-abbrev pub source_queues_data : List (List ℕ) → Data
-source_queues_data names = object (member (codes "queueUrls") (urls_data names) no_members)
+-- queues under a name (SQS API Reference, ListQueues: QueueUrls; ListDeadLetterSourceQueues: queueUrls)
+abbrev pub queues_data : List ℕ → List (List ℕ) → Data
+queues_data name queues = object (member name (urls_data queues) no_members)
 
 -- a text that is there where it is asked for
 abbrev pub if_asked : Bool → List ℕ → Option (List ℕ)
@@ -76,7 +72,7 @@ abbrev pub shown_texts : ShownAttributes → List (List ℕ × Option (List ℕ)
 shown_texts s =
     (codes "ApproximateNumberOfMessages", if_asked s.asked.visible (decimal s.counts.visible))
     ∷ (codes "ApproximateNumberOfMessagesDelayed", if_asked s.asked.delayed (decimal s.counts.delayed))
-    ∷ (codes "ApproximateNumberOfMessagesNotVisible", if_asked s.asked.flying (decimal s.counts.flying))
+    ∷ (codes "ApproximateNumberOfMessagesNotVisible", if_asked s.asked.in_flight (decimal s.counts.in_flight))
     ∷ (codes "DelaySeconds", if_asked s.asked.delay (decimal s.attributes.settings.delay))
     ∷ (codes "MessageRetentionPeriod", if_asked s.asked.retention (decimal s.attributes.settings.retention))
     ∷ (codes "QueueArn", if_asked s.asked.arn (arn_text s.queue))
@@ -240,8 +236,8 @@ tasks_data tasks = object (member (codes "Results") (array (items_of (map task_d
 
 abbrev pub answer_data : Answer → Data
 answer_data (Queue name) = queue_data name
-answer_data (Queues names) = queues_data names
-answer_data (Sources names) = source_queues_data names
+answer_data (Queues names) = queues_data (codes "QueueUrls") names
+answer_data (Sources names) = queues_data (codes "queueUrls") names
 answer_data (Attributes shown) = shown_data shown
 answer_data (Sent id digest) = sent_data digest (id_text id)
 answer_data (Received received) = received_data received.attributes received.home received.rows

@@ -1,5 +1,5 @@
 -- The answers of the worked cases.
-use Rattle.std.specs.Prelude.{ℕ, List, codes, true, false, Option, Some, None, Ok, Err}
+use Rattle.std.specs.Prelude.{ℕ, List, [], ◌∷◌, codes, true, false, Option, Some, None, Ok, Err}
 use Rattle.serde_json.specs.Written.{compact_text}
 use Rattle.sq_base.specs.declared.refusal.Refusal.{Refusal}
 use Rattle.sq_calls.specs.declared.batches.EntryAnswer.TheVariants as entry
@@ -7,6 +7,8 @@ use Rattle.sq_calls.specs.declared.batches.EntryResult.{EntryResult}
 use Rattle.sq_calls.specs.declared.calls.Answer.{Answer}
 use Rattle.sq_calls.specs.declared.calls.Answer.TheVariants.{Attributes}
 use Rattle.sq_calls.specs.declared.calls.AskedOfQueue.{AskedOfQueue}
+use Rattle.sq_calls.specs.declared.turns.Turned.{Turned}
+use Rattle.sq_calls.specs.declared.turns.Turned.TheVariants as came
 use Rattle.sq_model.specs.declared.directory.QueueAttributes.{QueueAttributes}
 use Rattle.sq_model.specs.declared.policy.RedrivePolicy.{RedrivePolicy}
 use Rattle.sq_model.specs.declared.task.Task.{Task}
@@ -16,11 +18,15 @@ use Rattle.sq_replies.specs.Replies.{answer_data}
 abbrev pub text_of : Answer → List ℕ
 text_of answer = compact_text (answer_data answer)
 
+-- whatever may come of a turn
+abbrev pub every_turned : List Turned
+every_turned = came.Left ∷ came.Nothing ∷ came.Entered ∷ came.Turned ∷ came.Back ∷ came.Dropped ∷ came.Full ∷ came.Throttled ∷ came.Failed ∷ came.Finished ∷ came.Waiting ∷ came.Ended ∷ []
+
 abbrev pub none_asked : AskedOfQueue
-none_asked = record { visible = false; delayed = false; flying = false; delay = false; retention = false; arn = false; wait_time = false; allow = false; redrive = false; timeout = false }
+none_asked = record { visible = false; delayed = false; in_flight = false; delay = false; retention = false; arn = false; wait_time = false; allow = false; redrive = false; timeout = false }
 
 abbrev pub all_asked : AskedOfQueue
-all_asked = record { visible = true; delayed = true; flying = true; delay = true; retention = true; arn = true; wait_time = true; allow = true; redrive = true; timeout = true }
+all_asked = record { visible = true; delayed = true; in_flight = true; delay = true; retention = true; arn = true; wait_time = true; allow = true; redrive = true; timeout = true }
 
 abbrev pub redrive_asked : AskedOfQueue
 redrive_asked = record none_asked { redrive = true }
@@ -31,7 +37,7 @@ plain_with redrive = record { queue = 1; settings = record { delay = 0; retentio
 
 -- queue q with no messages
 abbrev pub q_shown : AskedOfQueue → Option RedrivePolicy → Answer
-q_shown asked redrive = Attributes (record { queue = codes "q"; asked = asked; attributes = plain_with redrive; counts = record { visible = 0; flying = 0; delayed = 0 } })
+q_shown asked redrive = Attributes (record { queue = codes "q"; asked = asked; attributes = plain_with redrive; counts = record { visible = 0; in_flight = 0; delayed = 0 } })
 
 -- a task that moves what queue d has back to where it came from, at no rate of its own
 abbrev pub back_from_d : ℕ → TaskStatus → Task

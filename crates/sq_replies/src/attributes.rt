@@ -4,7 +4,7 @@ ghost use Rattle.serde_json.specs.Data.{Data};
 ghost use Rattle.serde_json.specs.Written.{compact_text};
 ghost use Rattle.sq_policy.specs.PolicyTexts.{arn_text, redrive_data, allow_data};
 ghost use Rattle.sq_replies.specs.Replies.{if_asked, shown_data, shown_texts};
-ghost use Rattle.sq_replies.specs.Told.{Adds, tokens_of, text_tokens, texts_tokens};
+ghost use Rattle.sq_replies.specs.inside.Told.{Adds, tokens_of, text_tokens, texts_tokens};
 
 use crate::writing::{Writer, begin_member, write_count_if, write_text};
 use sq_base::name::QueueName;
@@ -15,22 +15,18 @@ use sq_policy::policy::{allow_text, redrive_text};
 use std::alloc::{AllocError, Global};
 
 /// The attributes that are asked for (SQS API Reference, GetQueueAttributes).
-pub(crate) fn write_shown(
-    alloc: Global,
-    out: &mut Writer,
-    shown: &ShownAttributes,
-) -> Result<(), AllocError>
+pub(crate) fn write_shown(out: &mut Writer, shown: &ShownAttributes) -> Result<(), AllocError>
     ensures { Adds result out.old out.new (tokens_of (shown_data shown.now)) }
 {
     out.begin_object()?;
     begin_member(out, "Attributes")?;
-    write_members(alloc, out, shown)?;
+    write_members(out, shown)?;
     out.end_object()?;
     out.end_object()
 }
 
 // Those that are asked for, in the order of their names.
-fn write_members(alloc: Global, out: &mut Writer, shown: &ShownAttributes) -> Result<(), AllocError>
+fn write_members(out: &mut Writer, shown: &ShownAttributes) -> Result<(), AllocError>
     ensures { Adds result out.old out.new (texts_tokens (shown_texts shown.now)) }
 {
     let asked = &shown.asked;
@@ -56,33 +52,28 @@ fn write_members(alloc: Global, out: &mut Writer, shown: &ShownAttributes) -> Re
     write_count_if(
         out,
         "ApproximateNumberOfMessagesNotVisible",
-        asked.flying,
-        counts.flying,
+        asked.in_flight,
+        counts.in_flight,
     )?;
     write_count_if(out, "DelaySeconds", asked.delay, delay)?;
     write_count_if(out, "MessageRetentionPeriod", asked.retention, retention)?;
-    write_arn_if(alloc, out, asked.arn, &shown.queue)?;
+    write_arn_if(out, asked.arn, &shown.queue)?;
     write_count_if(
         out,
         "ReceiveMessageWaitTimeSeconds",
         asked.wait_time,
         wait_time,
     )?;
-    write_policy_if(alloc, out, "RedriveAllowPolicy", asked.allow, allow)?;
-    write_policy_if(alloc, out, "RedrivePolicy", asked.redrive, redrive)?;
+    write_policy_if(out, "RedriveAllowPolicy", asked.allow, allow)?;
+    write_policy_if(out, "RedrivePolicy", asked.redrive, redrive)?;
     write_count_if(out, "VisibilityTimeout", asked.timeout, timeout)
 }
 
-fn write_arn_if(
-    alloc: Global,
-    out: &mut Writer,
-    asked: bool,
-    queue: &QueueName,
-) -> Result<(), AllocError>
+fn write_arn_if(out: &mut Writer, asked: bool, queue: &QueueName) -> Result<(), AllocError>
     ensures { Adds result out.old out.new (text_tokens (codes "QueueArn") (if_asked asked (arn_text queue.now))) }
 {
     if asked {
-        let arn = arn_of(alloc, queue)?;
+        let arn = arn_of(out.alloc(), queue)?;
         return write_text(out, "QueueArn", arn.as_str());
     }
     Ok(())
@@ -113,7 +104,6 @@ impl Policy for RedrivePolicy {
 }
 
 fn write_policy_if<P: Policy>(
-    alloc: Global,
     out: &mut Writer,
     name: &str,
     asked: bool,
@@ -124,7 +114,7 @@ fn write_policy_if<P: Policy>(
 {
     match policy {
         Some(policy) if asked => {
-            let text = policy.text(alloc)?;
+            let text = policy.text(out.alloc())?;
             write_text(out, name, text.as_str())
         }
         _ => Ok(()),

@@ -1,7 +1,7 @@
 //! What is told of the entries of a batch.
 ghost use Rattle.std.specs.Prelude.{◌≡◌};
 ghost use Rattle.sq_replies.specs.Replies.{is_senders_fault, failed_data, entry_data, failures, successes, batch_data};
-ghost use Rattle.sq_replies.specs.Told.{Adds, tokens_of, all_tokens};
+ghost use Rattle.sq_replies.specs.inside.Told.{Adds, tokens_of, all_tokens};
 
 use crate::reply::id_text;
 use crate::text::ascii_text;

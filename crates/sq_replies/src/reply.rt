@@ -6,18 +6,18 @@ ghost use Rattle.md5.specs.Md5.{md5};
 ghost use Rattle.serde_json.specs.Written.{compact_text};
 ghost use Rattle.sq_base.specs.Handles.{handle_text};
 ghost use Rattle.sq_replies.specs.Replies.{error_text, handle_of, sent_data, attributes_data, message_data, id_text, received_data, answer_data, reply_text_of, OnTurned};
-ghost use Rattle.sq_replies.specs.Told.{Adds, tokens_of, all_tokens, value_tokens, parts_tokens};
+ghost use Rattle.sq_replies.specs.inside.Told.{Adds, tokens_of, all_tokens, value_tokens, parts_tokens};
 
 use crate::attributes::write_shown;
 use crate::batches::write_batch;
-use crate::queues::{write_queue, write_queues, write_sources};
+use crate::queues::{write_queue, write_queues};
 use crate::tasks::{write_cancelled, write_started, write_tasks};
 use crate::text::{Text, ascii_text};
 use crate::turns::turned_text;
 use crate::writing::{
     Writer, begin_list, begin_member, begin_text, end_list, end_text, write_count_if, write_text,
 };
-use sq_base::handle::{Handle, write_handle};
+use sq_base::handle::{HANDLE_LENGTH, Handle, write_handle};
 use sq_base::ids::HomeId;
 use sq_base::message_id::MessageId;
 use sq_base::ranges::Receives;
@@ -92,24 +92,24 @@ fn answer_text(alloc: Global, answer: &Answer) -> Result<Vec<u8>, AllocError>
     ensures { IfOk result (λ bytes. bytes.items ≡ compact_text (answer_data answer.now)) }
 {
     let mut out = Writer::new(alloc)?;
-    write_answer(alloc, &mut out, answer)?;
+    write_answer(&mut out, answer)?;
     Ok(out.into_bytes())
 }
 
-fn write_answer(alloc: Global, out: &mut Writer, answer: &Answer) -> Result<(), AllocError>
+fn write_answer(out: &mut Writer, answer: &Answer) -> Result<(), AllocError>
     ensures { Adds result out.old out.new (tokens_of (answer_data answer.now)) }
 {
     match answer {
-        Answer::Queue(name) => write_queue(alloc, out, name),
-        Answer::Queues(names) => write_queues(alloc, out, names.as_slice()),
-        Answer::Sources(names) => write_sources(alloc, out, names.as_slice()),
-        Answer::Attributes(shown) => write_shown(alloc, out, shown),
+        Answer::Queue(name) => write_queue(out, name),
+        Answer::Queues(names) => write_queues(out, "QueueUrls", names.as_slice()),
+        Answer::Sources(names) => write_queues(out, "queueUrls", names.as_slice()),
+        Answer::Attributes(shown) => write_shown(out, shown),
         Answer::Sent(id, digest) => write_sent(out, id, digest),
         Answer::Received(received) => write_received(out, received),
         Answer::Batch(told) => write_batch(out, told.as_slice()),
         Answer::Started(task) => write_started(out, *task),
         Answer::Cancelled(moved) => write_cancelled(out, *moved),
-        Answer::Tasks(tasks) => write_tasks(alloc, out, tasks.as_slice()),
+        Answer::Tasks(tasks) => write_tasks(out, tasks.as_slice()),
         Answer::Done => write_empty(out),
     }
 }
@@ -195,7 +195,7 @@ fn write_parts(out: &mut Writer, home: &HomeId, row: &Row) -> Result<(), AllocEr
 {
     let digest = Digest::of(&row.body);
     let mut uuid = Uuid::encode_buffer();
-    let mut handle = [0u8; 51];
+    let mut handle = [0u8; HANDLE_LENGTH];
     write_handle(&handle_of(home, row), &mut handle);
     write_text(out, "Body", row.body.as_str())?;
     write_text(out, "MD5OfBody", ascii_text(digest.digits()))?;

@@ -4,8 +4,8 @@ ghost use Rattle.serde_json.specs.Data.{number, string, unsigned};
 ghost use Rattle.sq_calls.specs.TaskHandles.{task_handle_text};
 ghost use Rattle.sq_model.specs.Tasks.{is_running};
 ghost use Rattle.sq_policy.specs.PolicyTexts.{arn_text};
-ghost use Rattle.sq_replies.specs.Replies.{started_data, cancelled_data, status_word, reason_word, failure_word, task_values, task_data, tasks_data};
-ghost use Rattle.sq_replies.specs.Told.{Adds, tokens_of, all_tokens, value_tokens, values_tokens};
+ghost use Rattle.sq_replies.specs.Replies.{started_data, cancelled_data, status_word, failure_word, task_values, task_data, tasks_data};
+ghost use Rattle.sq_replies.specs.inside.Told.{Adds, tokens_of, all_tokens, value_tokens, values_tokens};
 
 use crate::text::ascii_text;
 use crate::writing::{
@@ -15,7 +15,7 @@ use sq_calls::task_handle::task_handle;
 use sq_model::item::TaskNo;
 use sq_model::task::{FailureReason, NamedQueue, Task, TaskStatus};
 use sq_policy::arn::arn_of;
-use std::alloc::{AllocError, Global};
+use std::alloc::AllocError;
 
 /// The handle of a task that was started (SQS API Reference, StartMessageMoveTask).
 pub(crate) fn write_started(out: &mut Writer, task: TaskNo) -> Result<(), AllocError>
@@ -33,41 +33,41 @@ pub(crate) fn write_cancelled(out: &mut Writer, moved: u64) -> Result<(), AllocE
 }
 
 /// Tasks, in their order (SQS API Reference, ListMessageMoveTasks).
-pub(crate) fn write_tasks(alloc: Global, out: &mut Writer, tasks: &[Task]) -> Result<(), AllocError>
+pub(crate) fn write_tasks(out: &mut Writer, tasks: &[Task]) -> Result<(), AllocError>
     ensures { Adds result out.old out.new (tokens_of (tasks_data tasks.now)) }
 {
     begin_list(out, "Results")?;
-    write_each(alloc, out, tasks)?;
+    write_each(out, tasks)?;
     end_list(out)
 }
 
 #[tactic(auto, using(crate::proofs::TellLaws::tasks_grow))]
-fn write_each(alloc: Global, out: &mut Writer, tasks: &[Task]) -> Result<(), AllocError>
+fn write_each(out: &mut Writer, tasks: &[Task]) -> Result<(), AllocError>
     ensures { Adds result out.old out.new (all_tokens (map task_data tasks.now)) }
 {
     for task in tasks {
-        write_task(alloc, out, task)?;
+        write_task(out, task)?;
     }
     Ok(())
 }
 
-fn write_task(alloc: Global, out: &mut Writer, task: &Task) -> Result<(), AllocError>
+fn write_task(out: &mut Writer, task: &Task) -> Result<(), AllocError>
     ensures { Adds result out.old out.new (tokens_of (task_data task.now)) }
 {
     out.begin_object()?;
-    write_members(alloc, out, task)?;
+    write_members(out, task)?;
     out.end_object()
 }
 
 // Its members, in the order of their names.
-fn write_members(alloc: Global, out: &mut Writer, task: &Task) -> Result<(), AllocError>
+fn write_members(out: &mut Writer, task: &Task) -> Result<(), AllocError>
     ensures { Adds result out.old out.new (values_tokens (task_values task.now)) }
 {
     write_number(out, "ApproximateNumberOfMessagesMoved", task.moved)?;
-    write_arn_if(alloc, out, "DestinationArn", &task.destination)?;
+    write_arn_if(out, "DestinationArn", &task.destination)?;
     write_word_if(out, "FailureReason", failure_word(&task.status))?;
     write_rate_if(out, task)?;
-    write_arn(alloc, out, "SourceArn", &task.source)?;
+    write_arn(out, "SourceArn", &task.source)?;
     write_number(out, "StartedTimestamp", task.started)?;
     write_text(out, "Status", status_word(&task.status))?;
     write_handle_if(out, task)
@@ -83,29 +83,19 @@ fn write_rate_if(out: &mut Writer, task: &Task) -> Result<(), AllocError>
     }
 }
 
-fn write_arn(
-    alloc: Global,
-    out: &mut Writer,
-    name: &str,
-    queue: &NamedQueue,
-) -> Result<(), AllocError>
+fn write_arn(out: &mut Writer, name: &str, queue: &NamedQueue) -> Result<(), AllocError>
     ensures { Adds result out.old out.new (value_tokens name.now (Some (string (arn_text queue.now.name)))) }
 {
-    let arn = arn_of(alloc, &queue.name)?;
+    let arn = arn_of(out.alloc(), &queue.name)?;
     write_text(out, name, arn.as_str())
 }
 
-fn write_arn_if(
-    alloc: Global,
-    out: &mut Writer,
-    name: &str,
-    queue: &Option<NamedQueue>,
-) -> Result<(), AllocError>
+fn write_arn_if(out: &mut Writer, name: &str, queue: &Option<NamedQueue>) -> Result<(), AllocError>
     ensures { Adds result out.old out.new
         (value_tokens name.now (option_map (λ queue. string (arn_text queue.name)) queue.now)) }
 {
     match queue {
-        Some(queue) => write_arn(alloc, out, name, queue),
+        Some(queue) => write_arn(out, name, queue),
         None => Ok(()),
     }
 }
@@ -156,22 +146,14 @@ fn status_word(status: &TaskStatus) -> &'static str
     }
 }
 
-fn reason_word(reason: FailureReason) -> &'static str
-    ensures { result.now ≡ reason_word reason }
-{
-    match reason {
-        FailureReason::NoOrigin => "CouldNotDetermineMessageSource",
-        FailureReason::SourceClosed => "SourceClosed",
-        FailureReason::DestinationClosed => "DestinationClosed",
-    }
-}
-
 // Why a task failed, where it did.
 fn failure_word(status: &TaskStatus) -> Option<&'static str>
     ensures { option_map (λ word. word.now) result ≡ failure_word status.now }
 {
     match status {
-        TaskStatus::Failed(reason) => Some(reason_word(*reason)),
+        TaskStatus::Failed(FailureReason::NoOrigin) => Some("CouldNotDetermineMessageSource"),
+        TaskStatus::Failed(FailureReason::SourceClosed) => Some("SourceClosed"),
+        TaskStatus::Failed(FailureReason::DestinationClosed) => Some("DestinationClosed"),
         TaskStatus::Running
         | TaskStatus::Completed
         | TaskStatus::Cancelling

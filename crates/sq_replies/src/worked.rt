@@ -1,15 +1,14 @@
 //! Worked cases: the texts of some answers, each the contract of a function without code.
 #![tactic(auto, unfolding(crate::proofs::OnLiterals::replies_on_literals))]
 
-ghost use Rattle.std.specs.Prelude.{◌≡◌, List, [], ◌∷◌, codes, Some, None, Ok};
+ghost use Rattle.std.specs.Prelude.{◌≡◌, List, [], ◌∷◌, ◌++◌, codes, map, Some, None, Ok};
 ghost use Rattle.sq_base.specs.declared.refusal.Refusal.TheVariants.{NoMemory, ClockRange, Worn, InvalidParameterValue};
 ghost use Rattle.sq_calls.specs.declared.calls.Answer.TheVariants.{Queues, Sources, Batch, Started, Cancelled, Tasks};
 ghost use Rattle.sq_calls.specs.declared.calls.Answered.TheVariants.{Turn};
-ghost use Rattle.sq_calls.specs.declared.turns.Turned.TheVariants as came;
 ghost use Rattle.sq_model.specs.declared.task.FailureReason.TheVariants.{NoOrigin};
 ghost use Rattle.sq_model.specs.declared.task.TaskStatus.TheVariants.{Running, Cancelling, Failed};
 ghost use Rattle.sq_replies.specs.Replies.{reply_text_of};
-ghost use Rattle.sq_replies.specs.Worked.{text_of, none_asked, all_asked, redrive_asked, q_shown, back_from_d, moved_to_q, deleted, sent_with, failed_with};
+ghost use Rattle.sq_replies.specs.Worked.{text_of, every_turned, none_asked, all_asked, redrive_asked, q_shown, back_from_d, moved_to_q, deleted, sent_with, failed_with};
 
 /// The URLs of no queue, of two queues, and of one queue that has another one for its dead letters.
 pub fn queues_are_listed_by_their_urls()
@@ -32,18 +31,8 @@ pub fn a_policy_is_a_text_within_a_text()
 
 /// What came of a turn is one word.
 pub fn a_turn_is_answered_by_one_word()
-    ensures left { reply_text_of (Ok (Turn came.Left)) ≡ codes "{\"Turn\":\"left\"}" }
-    ensures nothing { reply_text_of (Ok (Turn came.Nothing)) ≡ codes "{\"Turn\":\"nothing\"}" }
-    ensures entered { reply_text_of (Ok (Turn came.Entered)) ≡ codes "{\"Turn\":\"entered\"}" }
-    ensures turned { reply_text_of (Ok (Turn came.Turned)) ≡ codes "{\"Turn\":\"turned\"}" }
-    ensures back { reply_text_of (Ok (Turn came.Back)) ≡ codes "{\"Turn\":\"back\"}" }
-    ensures dropped { reply_text_of (Ok (Turn came.Dropped)) ≡ codes "{\"Turn\":\"dropped\"}" }
-    ensures full { reply_text_of (Ok (Turn came.Full)) ≡ codes "{\"Turn\":\"full\"}" }
-    ensures throttled { reply_text_of (Ok (Turn came.Throttled)) ≡ codes "{\"Turn\":\"throttled\"}" }
-    ensures failed { reply_text_of (Ok (Turn came.Failed)) ≡ codes "{\"Turn\":\"failed\"}" }
-    ensures finished { reply_text_of (Ok (Turn came.Finished)) ≡ codes "{\"Turn\":\"finished\"}" }
-    ensures waiting { reply_text_of (Ok (Turn came.Waiting)) ≡ codes "{\"Turn\":\"waiting\"}" }
-    ensures ended { reply_text_of (Ok (Turn came.Ended)) ≡ codes "{\"Turn\":\"ended\"}" }
+    ensures { map (λ turned. reply_text_of (Ok (Turn turned))) every_turned ≡ map (λ word. codes "{\"Turn\":\"" ++ (word ++ codes "\"}"))
+        (codes "left" ∷ codes "nothing" ∷ codes "entered" ∷ codes "turned" ∷ codes "back" ∷ codes "dropped" ∷ codes "full" ∷ codes "throttled" ∷ codes "failed" ∷ codes "finished" ∷ codes "waiting" ∷ codes "ended" ∷ []) }
 {}
 
 /// A task is started and cancelled: its handle, and what it had moved.

@@ -3,7 +3,7 @@ ghost use Rattle.std.specs.Prelude.{◌≡◌, ◌∷◌, [], decimal, IfOk};
 ghost use Rattle.json.specs.Print.{print};
 ghost use Rattle.json.specs.Token.{key, string, number, boolean, begin_object, end_object, begin_array, end_array};
 ghost use Rattle.sq_replies.specs.Replies.{if_asked};
-ghost use Rattle.sq_replies.specs.Told.{Adds, text_tokens};
+ghost use Rattle.sq_replies.specs.inside.Told.{Adds, text_tokens};
 
 use std::alloc::{AllocError, Global};
 use std::marker::Model;
@@ -14,6 +14,7 @@ const ROOM: usize = 256;
 /// JSON that is written. A clause sees its tokens.
 #[derive(Drop)]
 pub(crate) struct Writer {
+    alloc: Global,
     inside: json::Writer,
 }
 
@@ -37,7 +38,12 @@ impl Writer {
         ensures { IfOk result (λ out. out ≡ []) }
     {
         let inside = json::Writer::new(Vec::with_capacity(alloc, ROOM)?);
-        Ok(Writer { inside })
+        Ok(Writer { alloc, inside })
+    }
+
+    /// Where memory is got.
+    pub fn alloc(&self) -> Global {
+        self.alloc
     }
 
     /// The text that was written.

@@ -6,7 +6,7 @@ use Rattle.serde_json.specs.Data.{Data, Items, no_items, item}
 use Rattle.sq_base.specs.declared.handle.Handle.{Handle}
 use Rattle.sq_base.specs.declared.refusal.Refusal.{Refusal}
 use Rattle.sq_base.specs.declared.refusal.Refusal.TheVariants.{NoMemory, InvalidAddress, InvalidParameterValue, EmptyBatchRequest, TooManyEntriesInBatchRequest, InvalidBatchEntryId, BatchEntryIdsNotDistinct, BatchRequestTooLong}
-use Rattle.sq_calls.specs.BodyTexts.{is_too_small_or_large}
+use Rattle.sq_calls.specs.BodyTexts.{body_limit, is_too_small_or_large}
 use Rattle.sq_calls.specs.declared.batches.Entry.{Entry}
 use Rattle.sq_calls.specs.declared.batches.EntryAsk.{EntryAsk}
 use Rattle.sq_calls.specs.declared.batches.EntryAsk.TheVariants.{Send, Change}
@@ -16,7 +16,8 @@ use Rattle.sq_policy.specs.Reading.{◌>>=◌, IsUnrefused, Reads}
 use Rattle.sq_policy.specs.declared.amount.Amount.{Amount}
 use Rattle.sq_policy.specs.declared.amount.Amount.TheVariants.{Natural, Other}
 use Rattle.sq_requests.specs.Asked.{any_item, all_items}
-use Rattle.sq_requests.specs.Batches.{as_ask, ask_of, send_ask, has_body, behind, batch_check, batch_of, bodies_length, change_ask, entries_of, entry_of, has_id, have_same_id, how_many, entry_id, is_entry, items_at, members_of, repeat_an_id}
+use Rattle.sq_requests.specs.Batches.{as_ask, ask_of, send_ask, batch_check, batch_of, bodies_length, change_ask, entries_of, entry_of, has_id, have_same_id, how_many, entry_id, is_entry, items_at, members_of, repeat_an_id}
+use Rattle.sq_requests.specs.inside.Batches.{has_body, behind}
 use Rattle.sq_requests.specs.Memory.{ReadsAsking}
 use Rattle.sq_requests.specs.Members.{url_at}
 use Rattle.sq_requests.specs.declared.batches.BatchKind.{BatchKind}
@@ -133,7 +134,7 @@ ids_if false false false twice long h = absurd (cc)
 
 pub are_ids : (kind : BatchKind) (items : Items) → batch_check kind items ≡ Ok tt → all_items has_id items ≡ true
 unfolding batch_check
-are_ids kind items h = ids_if (how_many items == 0) (nat_lt 10 (how_many items)) (all_items has_id items) (repeat_an_id items) (nat_lt 262144 (bodies_length kind items)) h
+are_ids kind items h = ids_if (how_many items == 0) (nat_lt 10 (how_many items)) (all_items has_id items) (repeat_an_id items) (nat_lt body_limit (bodies_length kind items)) h
 
 -- ---- a batch
 

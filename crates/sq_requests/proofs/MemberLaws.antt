@@ -7,20 +7,15 @@ use Rattle.sq_base.specs.declared.handle.Handle.{Handle}
 use Rattle.sq_base.specs.declared.refusal.Refusal.{Refusal}
 use Rattle.sq_base.specs.declared.refusal.Refusal.TheVariants.{InvalidParameterValue, NoMemory}
 use Rattle.sq_calls.specs.BodyTexts.{is_too_small_or_large}
-use Rattle.sq_calls.specs.TaskHandles.{task_handle_at}
 use Rattle.sq_calls.specs.declared.calls.Call.TheVariants as call
 use Rattle.sq_policy.specs.Amounts.{amount_in_range}
 use Rattle.sq_policy.specs.Reading.{◌>>=◌, Reads}
 use Rattle.sq_policy.specs.declared.amount.Amount.{Amount}
 use Rattle.sq_requests.specs.Actions.{addressed, body_text, change_of, has_attributes_at, send_members, send_of}
-use Rattle.sq_requests.specs.Members.{amount_at, amount_if_at, arn_at, arn_if, arn_if_at, has_members_at, named_task, receipt_handle_at, text_at, text_if_at, url_at}
+use Rattle.sq_requests.specs.Members.{amount_at, amount_if_at, arn_at, arn_if, arn_if_at, has_members_at, receipt_handle_at, text_at, text_if_at, url_at}
 use Rattle.sq_requests.specs.Tasks.{move_members}
 use Rattle.sq_requests.specs.declared.actions.Addressee.{Addressee}
 use Rattle.sq_requests.specs.declared.actions.SendMembers.{SendMembers}
-
-pub names_task : (d : Data) (handle : List ℕ) (task : Option ℕ) → Ok handle ≡ text_at (codes "TaskHandle") d → task ≡ task_handle_at handle → Ok task ≡ named_task d
-unfolding named_task
-names_task d handle task read is = rw (← read, is) refl
 
 pub names_receipt : (d : Data) (text : List ℕ) (handle : Option Handle) → Ok text ≡ text_at (codes "ReceiptHandle") d → handle ≡ handle_at text → Ok handle ≡ receipt_handle_at d
 unfolding receipt_handle_at

@@ -1,9 +1,8 @@
 -- Reading a request.
-use Rattle.std.proofs.Common.{◌≡◌, ℕ, Bool, true, false, List, [], ◌∷◌, length, refl, arith, sym, ◌∙◌, ◌≤◌, Ok, Err, Result, Some, None, inl, inr, ◌⊎◌, ◌<◌}
-use Rattle.std.specs.Prelude.{nat_lt, ◌||◌, ◌==◌}
+use Rattle.std.proofs.Common.{◌≡◌, ℕ, Bool, true, false, List, [], ◌∷◌, length, refl, arith, Ok, Err, Result, Some, None, ◌<◌}
+use Rattle.std.specs.Prelude.{◌||◌}
 use Rattle.sq_base.specs.declared.refusal.Refusal.{Refusal}
 use Rattle.sq_base.specs.declared.refusal.Refusal.TheVariants.{NoMemory}
-use Rattle.std.proofs.lemmas.Bool.{lt-ltb, le-ltb}
 use Rattle.json.specs.Json.{value}
 use Rattle.json.specs.Lex.{lex, punctuate}
 use Rattle.serde_json.specs.Data.{Data}
@@ -11,7 +10,8 @@ use Rattle.serde_json.specs.Read.{read}
 use Rattle.std.specs.Str.{is_utf8}
 use Rattle.sq_policy.specs.Reading.{Reads}
 use Rattle.sq_requests.specs.Memory.{ReadsAsking}
-use Rattle.sq_requests.specs.Requests.{line_request, request_of, request_asks, ReadsLine}
+use Rattle.sq_requests.specs.Requests.{line_request, request_of, ReadsLine}
+use Rattle.sq_requests.specs.inside.Requests.{request_asks}
 use Rattle.sq_requests.specs.declared.request.Request.{Request}
 
 -- what is refused reads so
@@ -43,12 +43,3 @@ reads_line line d (Err refusal) utf8 e h = rw (utf8, e) h
 or_right : (a b : Bool) → b ≡ true → (a || b) ≡ true
 or_right true b e = refl
 or_right false b e = e
-
--- a length that is refused
-pub length_refused : (n : ℕ) (empty : Bool) → empty ≡ (n == 0) → (empty ≡ true) ⊎ ((empty ≡ false) × (262144 < n)) → (n == 0 || nat_lt 262144 n) ≡ true
-length_refused n empty e (inl h) = let t : (n == 0) ≡ true = sym e ∙ h in rw t refl
-length_refused n empty e (inr h) = or_right (n == 0) (nat_lt 262144 n) (lt-ltb _ _ h.1)
-
--- and one that is not
-pub length_allowed : (n : ℕ) (empty : Bool) → empty ≡ (n == 0) → empty ≡ false → n ≤ 262144 → (n == 0 || nat_lt 262144 n) ≡ false
-length_allowed n empty e h le = let t : (n == 0) ≡ false = sym e ∙ h in let u : nat_lt 262144 n ≡ false = le-ltb _ _ le in rw (t, u) refl

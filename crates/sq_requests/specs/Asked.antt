@@ -78,7 +78,7 @@ unfoldable pub shown_of : Items → AskedOfQueue
 shown_of names = record {
   visible = any_item (asks (codes "ApproximateNumberOfMessages")) names;
   delayed = any_item (asks (codes "ApproximateNumberOfMessagesDelayed")) names;
-  flying = any_item (asks (codes "ApproximateNumberOfMessagesNotVisible")) names;
+  in_flight = any_item (asks (codes "ApproximateNumberOfMessagesNotVisible")) names;
   delay = any_item (asks (codes "DelaySeconds")) names;
   retention = any_item (asks (codes "MessageRetentionPeriod")) names;
   arn = any_item (asks (codes "QueueArn")) names;

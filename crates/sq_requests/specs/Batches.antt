@@ -1,7 +1,7 @@
 -- What the actions on several messages ask (SQS API Reference, SendMessageBatch, DeleteMessageBatch, ChangeMessageVisibilityBatch): the checks in their order.
 -- First all members are read, those of each entry too; then come InvalidAddress, EmptyBatchRequest, TooManyEntriesInBatchRequest, InvalidBatchEntryId, BatchEntryIdsNotDistinct,
 -- BatchRequestTooLong. What else is wrong with an entry is its own.
-use Rattle.std.specs.Prelude.{ℕ, zero, suc, ◌+◌, ◌==◌, List, [], ◌∷◌, length, Bool, true, false, not, ◌&&◌, ◌||◌, nat_lt, if◌then◌else◌, Option, Some, None, Result, Ok, Err, codes, is_ok, ok_or}
+use Rattle.std.specs.Prelude.{ℕ, ◌+◌, ◌==◌, List, [], ◌∷◌, length, Bool, false, not, ◌&&◌, ◌||◌, nat_lt, if◌then◌else◌, Option, Some, None, Result, Ok, Err, codes, is_ok, ok_or}
 use Rattle.std.specs.Str.{bytes_eq}
 use Rattle.serde_json.specs.Data.{Data, Items, no_items, item}
 use Rattle.serde_json.specs.Find.{get, as_array}
@@ -12,6 +12,7 @@ use Rattle.sq_base.specs.declared.refusal.Refusal.TheVariants.{InvalidRequest, I
 use Rattle.sq_policy.specs.Reading.{◌>>=◌}
 use Rattle.sq_policy.specs.Amounts.{amount_in_range, in_range_if}
 use Rattle.sq_policy.specs.declared.amount.Amount.{Amount}
+use Rattle.sq_calls.specs.BodyTexts.{body_limit}
 use Rattle.sq_requests.specs.Members.{text_at, url_at, receipt_handle_at, amount_at, amount_if_at}
 use Rattle.sq_requests.specs.Asked.{any_item, all_items}
 use Rattle.sq_requests.specs.Actions.{body_text, has_attributes_at}
@@ -66,14 +67,6 @@ ask_of kind.Send d = send_of_entry d
 ask_of kind.Delete d = delete_of_entry d
 ask_of kind.Change d = change_of_entry d
 
--- memory is asked for the body of a send that nothing refuses
-abbrev pub has_body : EntryAsk → Bool
-has_body (ask.Send body delay) = true
-has_body other = false
-
-abbrev pub ask_asks : BatchKind → Data → Result Bool Refusal
-ask_asks kind d = ask_of kind d >>= λ asked. Ok (has_body asked)
-
 -- ---- what is read of all entries
 
 -- the id of an entry, as it is
@@ -118,12 +111,6 @@ abbrev pub bodies_length : BatchKind → Items → ℕ
 bodies_length kind no_items = 0
 bodies_length kind (item d rest) = body_length kind d + bodies_length kind rest
 
--- those behind the first n
-abbrev pub behind : ℕ → Items → Items
-behind zero items = items
-behind (suc n) no_items = no_items
-behind (suc n) (item d rest) = behind n rest
-
 abbrev pub how_many : Items → ℕ
 how_many no_items = 0
 how_many (item d rest) = 1 + how_many rest
@@ -152,7 +139,7 @@ batch_check kind items =
     else if nat_lt 10 (how_many items) then Err TooManyEntriesInBatchRequest
     else if not (all_items has_id items) then Err InvalidBatchEntryId
     else if repeat_an_id items then Err BatchEntryIdsNotDistinct
-    else if nat_lt 262144 (bodies_length kind items) then Err BatchRequestTooLong
+    else if nat_lt body_limit (bodies_length kind items) then Err BatchRequestTooLong
     else Ok tt
 
 -- an entry by its id, with what it asks
@@ -161,9 +148,6 @@ entry_of kind d = do
   id ← entry_id d
   asked ← ask_of kind d
   Ok (record { id = id; ask = asked })
-
-abbrev pub entry_asks : BatchKind → Data → Result Bool Refusal
-entry_asks kind d = entry_of kind d >>= λ entry. Ok (has_body entry.ask)
 
 abbrev pub entries_of : BatchKind → Items → Result (List Entry) Refusal
 entries_of kind no_items = Ok []

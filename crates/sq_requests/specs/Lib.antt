@@ -7,5 +7,5 @@ pub mod Actions
 pub mod Batches
 pub mod Queues
 pub mod Tasks
-pub mod Turns
 pub mod Requests
+pub mod inside

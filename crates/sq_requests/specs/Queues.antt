@@ -79,12 +79,3 @@ unfoldable pub named_queue : Data → Result (List ℕ) Refusal
 named_queue d = do
   url ← url_at d
   ok_or url InvalidAddress
-
-unfoldable pub purge_of : Data → Result Call Refusal
-purge_of d = named_queue d >>= λ queue. Ok (call.PurgeQueue queue)
-
-unfoldable pub delete_queue_of : Data → Result Call Refusal
-delete_queue_of d = named_queue d >>= λ queue. Ok (call.DeleteQueue queue)
-
-unfoldable pub list_sources_of : Data → Result Call Refusal
-list_sources_of d = named_queue d >>= λ queue. Ok (call.ListDeadLetterSourceQueues queue)

@@ -1,25 +1,25 @@
 -- What a line asks.
-use Rattle.std.specs.Prelude.{◌≡◌, ◌<◌, ℕ, List, Bool, false, length, if◌then◌else◌, Option, Some, None, Result, Ok, Err, codes, is_some, nat_lt, ◌||◌}
+use Rattle.std.specs.Prelude.{◌≡◌, ◌<◌, ℕ, List, Bool, false, length, if◌then◌else◌, Option, Some, None, Result, Ok, Err, codes, is_some, nat_lt}
 use Rattle.std.specs.Str.{bytes_eq, is_utf8}
 use Rattle.serde_json.specs.Data.{Data, Num, unsigned, negative, float}
 use Rattle.serde_json.specs.Find.{get, as_number, as_object}
 use Rattle.serde_json.specs.Read.{read}
 use Rattle.sq_base.specs.declared.refusal.Refusal.{Refusal}
 use Rattle.sq_base.specs.declared.refusal.Refusal.TheVariants.{InvalidRequest, NoMemory, UnsupportedOperation}
-use Rattle.sq_policy.specs.Reading.{◌>>=◌}
-use Rattle.sq_requests.specs.Members.{text_at}
-use Rattle.sq_requests.specs.Queues.{create_of, create_asks, set_of, set_asks, get_of, get_url_of, list_of, purge_of, delete_queue_of, list_sources_of}
+use Rattle.sq_policy.specs.Reading.{◌>>=◌, seen_as}
+use Rattle.sq_requests.specs.Members.{text_at, named_task}
+use Rattle.sq_requests.specs.Queues.{create_of, set_of, get_of, get_url_of, list_of, named_queue}
 use Rattle.sq_requests.specs.Actions.{send_of, receive_of, delete_of, change_of}
 use Rattle.sq_requests.specs.Batches.{batch_of}
 use Rattle.sq_requests.specs.declared.batches.BatchKind.{BatchKind}
 use Rattle.sq_requests.specs.declared.batches.BatchKind.TheVariants as kind
-use Rattle.sq_requests.specs.Tasks.{start_move_of, cancel_move_of, list_moves_of}
-use Rattle.sq_requests.specs.Turns.{dead_turn_of, task_turn_of}
 use Rattle.sq_calls.specs.declared.calls.Asked.{Asked}
 use Rattle.sq_calls.specs.declared.calls.Asked.TheVariants as asked
 use Rattle.sq_calls.specs.declared.calls.Call.{Call}
+use Rattle.sq_calls.specs.declared.calls.Call.TheVariants as call
 use Rattle.sq_calls.specs.declared.turns.Turn.{Turn}
-use Rattle.sq_calls.specs.declared.turns.Turn.TheVariants.{EnterTurn}
+use Rattle.sq_requests.specs.Tasks.{start_move_of, list_moves_of}
+use Rattle.sq_calls.specs.declared.turns.Turn.TheVariants.{DeadTurn, EnterTurn, TaskTurn}
 use Rattle.sq_requests.specs.declared.request.Request.{Request}
 
 -- the clock reading of a line, a whole number from 0 upwards
@@ -48,52 +48,22 @@ acting (Some d) = as_actor (as_number d)
 unfoldable pub actor_at : Data → Result ℕ Refusal
 actor_at d = acting (get (codes "Actor") d)
 
-unfoldable pub call_of : List ℕ → Data → Result Call Refusal
-call_of action d =
-    if bytes_eq action (codes "CreateQueue") then create_of d
-    else if bytes_eq action (codes "SetQueueAttributes") then set_of d
-    else if bytes_eq action (codes "GetQueueAttributes") then get_of d
-    else if bytes_eq action (codes "GetQueueUrl") then get_url_of d
-    else if bytes_eq action (codes "ListQueues") then list_of d
-    else if bytes_eq action (codes "PurgeQueue") then purge_of d
-    else if bytes_eq action (codes "DeleteQueue") then delete_queue_of d
-    else if bytes_eq action (codes "ListDeadLetterSourceQueues") then list_sources_of d
-    else if bytes_eq action (codes "SendMessage") then send_of d
-    else if bytes_eq action (codes "SendMessageBatch") then batch_of kind.Send d
-    else if bytes_eq action (codes "DeleteMessageBatch") then batch_of kind.Delete d
-    else if bytes_eq action (codes "ChangeMessageVisibilityBatch") then batch_of kind.Change d
-    else if bytes_eq action (codes "ReceiveMessage") then receive_of d
-    else if bytes_eq action (codes "DeleteMessage") then delete_of d
-    else if bytes_eq action (codes "ChangeMessageVisibility") then change_of d
-    else if bytes_eq action (codes "StartMessageMoveTask") then start_move_of d
-    else if bytes_eq action (codes "CancelMessageMoveTask") then cancel_move_of d
-    else if bytes_eq action (codes "ListMessageMoveTasks") then list_moves_of d
-    else Err UnsupportedOperation
-
--- the calls for which no memory is asked: on move tasks, on messages that are there, and on queues
-unfoldable pub task_call_of : List ℕ → Data → Result Call Refusal
-task_call_of action d =
-    if bytes_eq action (codes "StartMessageMoveTask") then start_move_of d
-    else if bytes_eq action (codes "CancelMessageMoveTask") then cancel_move_of d
-    else if bytes_eq action (codes "ListMessageMoveTasks") then list_moves_of d
-    else Err UnsupportedOperation
-
-unfoldable pub message_call_of : List ℕ → Data → Result Call Refusal
-message_call_of action d =
-    if bytes_eq action (codes "ReceiveMessage") then receive_of d
-    else if bytes_eq action (codes "DeleteMessage") then delete_of d
-    else if bytes_eq action (codes "ChangeMessageVisibility") then change_of d
-    else task_call_of action d
-
+-- the calls for which no memory is asked: on queues, on messages that are there, and on move tasks
 unfoldable pub plain_call_of : List ℕ → Data → Result Call Refusal
 plain_call_of action d =
     if bytes_eq action (codes "GetQueueAttributes") then get_of d
     else if bytes_eq action (codes "GetQueueUrl") then get_url_of d
     else if bytes_eq action (codes "ListQueues") then list_of d
-    else if bytes_eq action (codes "PurgeQueue") then purge_of d
-    else if bytes_eq action (codes "DeleteQueue") then delete_queue_of d
-    else if bytes_eq action (codes "ListDeadLetterSourceQueues") then list_sources_of d
-    else message_call_of action d
+    else if bytes_eq action (codes "PurgeQueue") then seen_as call.PurgeQueue (named_queue d)
+    else if bytes_eq action (codes "DeleteQueue") then seen_as call.DeleteQueue (named_queue d)
+    else if bytes_eq action (codes "ListDeadLetterSourceQueues") then seen_as call.ListDeadLetterSourceQueues (named_queue d)
+    else if bytes_eq action (codes "ReceiveMessage") then receive_of d
+    else if bytes_eq action (codes "DeleteMessage") then delete_of d
+    else if bytes_eq action (codes "ChangeMessageVisibility") then change_of d
+    else if bytes_eq action (codes "StartMessageMoveTask") then start_move_of d
+    else if bytes_eq action (codes "CancelMessageMoveTask") then seen_as call.CancelMessageMoveTask (named_task d)
+    else if bytes_eq action (codes "ListMessageMoveTasks") then list_moves_of d
+    else Err UnsupportedOperation
 
 -- what the entries of a batch do, where the action is one
 unfoldable pub kind_of : List ℕ → Option BatchKind
@@ -103,36 +73,37 @@ kind_of action =
     else if bytes_eq action (codes "ChangeMessageVisibilityBatch") then Some kind.Change
     else None
 
--- memory is asked for the text of a policy, for a body, and for the entries of a batch
-unfoldable pub call_asks : List ℕ → Data → Result Bool Refusal
-call_asks action d =
-    if bytes_eq action (codes "CreateQueue") then create_asks d
-    else if bytes_eq action (codes "SetQueueAttributes") then set_asks d
-    else call_of action d >>= λ call. Ok (bytes_eq action (codes "SendMessage") || is_some (kind_of action))
+abbrev pub batch_or : Option BatchKind → List ℕ → Data → Result Call Refusal
+batch_or (Some kind) action d = batch_of kind d
+batch_or None action d = plain_call_of action d
 
--- a turn, or else a call; an EnterTurn asks nothing of its line
-unfoldable pub call_or_turn_of : List ℕ → Data → Result Asked Refusal
-call_or_turn_of action d =
-    if bytes_eq action (codes "DeadTurn") then (dead_turn_of d >>= λ turn. Ok (asked.Turn turn))
-    else if bytes_eq action (codes "EnterTurn") then Ok (asked.Turn EnterTurn)
-    else if bytes_eq action (codes "TaskTurn") then (task_turn_of d >>= λ turn. Ok (asked.Turn turn))
-    else call_of action d >>= λ call. Ok (asked.Call call)
+unfoldable pub call_of : List ℕ → Data → Result Call Refusal
+call_of action d =
+    if bytes_eq action (codes "CreateQueue") then create_of d
+    else if bytes_eq action (codes "SetQueueAttributes") then set_of d
+    else if bytes_eq action (codes "SendMessage") then send_of d
+    else batch_or (kind_of action) action d
 
--- no memory is asked for a turn
-unfoldable pub call_or_turn_asks : List ℕ → Data → Result Bool Refusal
-call_or_turn_asks action d =
-    if bytes_eq action (codes "DeadTurn") then (dead_turn_of d >>= λ turn. Ok false)
-    else if bytes_eq action (codes "EnterTurn") then Ok false
-    else if bytes_eq action (codes "TaskTurn") then (task_turn_of d >>= λ turn. Ok false)
-    else call_asks action d
-
--- the turn that an action names, if it names one
+-- the turn that an action names, if it names one; an EnterTurn asks nothing of its line
 unfoldable pub turn_of : List ℕ → Data → Option (Result Turn Refusal)
 turn_of action d =
-    if bytes_eq action (codes "DeadTurn") then Some (dead_turn_of d)
+    if bytes_eq action (codes "DeadTurn") then Some (seen_as DeadTurn (named_queue d))
     else if bytes_eq action (codes "EnterTurn") then Some (Ok EnterTurn)
-    else if bytes_eq action (codes "TaskTurn") then Some (task_turn_of d)
+    else if bytes_eq action (codes "TaskTurn") then Some (seen_as TaskTurn (named_task d))
     else None
+
+-- a turn, or else a call
+abbrev pub turn_or : Option (Result Turn Refusal) → Result Call Refusal → Result Asked Refusal
+turn_or (Some turn) call = seen_as asked.Turn turn
+turn_or None call = seen_as asked.Call call
+
+unfoldable pub call_or_turn_of : List ℕ → Data → Result Asked Refusal
+call_or_turn_of action d = turn_or (turn_of action d) (call_of action d)
+
+-- no memory is asked for a turn
+abbrev pub asks_or : Option (Result Turn Refusal) → Result Bool Refusal → Result Bool Refusal
+asks_or (Some turn) asks = turn >>= λ turn. Ok false
+asks_or None asks = asks
 
 abbrev pub request_in : Data → Result Request Refusal
 request_in d = do
@@ -142,19 +113,9 @@ request_in d = do
   asked ← call_or_turn_of action d
   Ok (record { clock = clock; actor = actor; asked = asked })
 
-abbrev pub request_asks_in : Data → Result Bool Refusal
-request_asks_in d = do
-  action ← text_at (codes "Action") d
-  clock ← clock_at d
-  actor ← actor_at d
-  call_or_turn_asks action d
-
 -- a request is an object
 unfoldable pub request_of : Data → Result Request Refusal
 request_of d = if is_some (as_object d) then request_in d else Err InvalidRequest
-
-unfoldable pub request_asks : Data → Result Bool Refusal
-request_asks d = if is_some (as_object d) then request_asks_in d else Err InvalidRequest
 
 abbrev pub if_read : Option Data → Result Request Refusal
 if_read None = Err InvalidRequest

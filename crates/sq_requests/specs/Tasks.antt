@@ -6,7 +6,7 @@ use Rattle.sq_base.specs.declared.refusal.Refusal.{Refusal}
 use Rattle.sq_base.specs.declared.refusal.Refusal.TheVariants.{InvalidParameterValue, InvalidAddress}
 use Rattle.sq_policy.specs.Reading.{◌>>=◌}
 use Rattle.sq_policy.specs.Amounts.{in_range_if}
-use Rattle.sq_requests.specs.Members.{arn_at, arn_if_at, named_task, amount_if_at}
+use Rattle.sq_requests.specs.Members.{arn_at, arn_if_at, amount_if_at}
 use Rattle.sq_requests.specs.declared.tasks.MoveMembers.{MoveMembers}
 use Rattle.sq_calls.specs.declared.calls.Call.{Call}
 use Rattle.sq_calls.specs.declared.calls.Call.TheVariants as call
@@ -36,9 +36,6 @@ start_move_of d = do
   destination ← destination_of members.destination
   rate ← in_range_if 1 500 InvalidParameterValue members.rate
   if is_own_destination source destination then Err InvalidParameterValue else Ok (call.StartMessageMoveTask (record { source = source; destination = destination; rate = rate }))
-
-unfoldable pub cancel_move_of : Data → Result Call Refusal
-cancel_move_of d = named_task d >>= λ task. Ok (call.CancelMessageMoveTask task)
 
 -- without a number of tasks one is asked for
 unfoldable pub list_moves_of : Data → Result Call Refusal

@@ -163,7 +163,7 @@ fn shown_of(names: &Option<Value<'_, '_>>) -> AskedOfQueue
     AskedOfQueue {
         visible: is_asked(names, "ApproximateNumberOfMessages"),
         delayed: is_asked(names, "ApproximateNumberOfMessagesDelayed"),
-        flying: is_asked(names, "ApproximateNumberOfMessagesNotVisible"),
+        in_flight: is_asked(names, "ApproximateNumberOfMessagesNotVisible"),
         delay: is_asked(names, "DelaySeconds"),
         retention: is_asked(names, "MessageRetentionPeriod"),
         arn: is_asked(names, "QueueArn"),

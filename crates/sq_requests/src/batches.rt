@@ -2,11 +2,13 @@
 ghost use Rattle.std.specs.Prelude.{◌≡◌, ◌≢◌, ◌⊎◌, ◌<◌, is_ok, nat_lt, true, length, if◌then◌else◌, None, Some, Ok, Err, IfOk, IfErr};
 ghost use Rattle.sq_json.specs.View.{view};
 ghost use Rattle.sq_policy.specs.Reading.{seen_as, Reads};
+ghost use Rattle.sq_calls.specs.BodyTexts.{body_limit};
 ghost use Rattle.sq_requests.specs.Memory.{ReadsAsking};
 ghost use Rattle.sq_requests.specs.Lists.{listed_items};
 ghost use Rattle.sq_requests.specs.Asked.{all_items, any_item};
 ghost use Rattle.sq_requests.specs.Members.{receipt_handle_at};
-ghost use Rattle.sq_requests.specs.Batches.{as_ask, send_ask, change_ask, send_of_entry, change_of_entry, ask_of, ask_asks, entry_asks, how_many, behind, entry_id, is_entry, has_id, have_same_id, repeat_an_id, body_length, bodies_length, items_at, batch_check, entry_of, entries_of, batch_of};
+ghost use Rattle.sq_requests.specs.Batches.{as_ask, send_ask, change_ask, send_of_entry, change_of_entry, ask_of, how_many, entry_id, is_entry, has_id, have_same_id, repeat_an_id, body_length, bodies_length, items_at, batch_check, entry_of, entries_of, batch_of};
+ghost use Rattle.sq_requests.specs.inside.Batches.{ask_asks, entry_asks, behind};
 
 use crate::actions::has_attributes_at;
 use crate::members::{amount_at, amount_if_at, receipt_handle_at, text_at, url_at};
@@ -77,6 +79,7 @@ fn send_of_entry(alloc: Global, value: &Value<'_, '_>) -> Result<EntryAsk, Refus
     as_ask(send_ask(alloc, has_attributes, delay, body))
 }
 
+#[tactic(auto, unfolding(crate::specs::Batches::change_of_entry))]
 fn change_of_entry(value: &Value<'_, '_>) -> Result<EntryAsk, Refusal>
     ensures { result ≡ change_of_entry (view value.now) }
 {
@@ -236,7 +239,7 @@ fn body_length(kind: BatchKind, value: &Value<'_, '_>) -> usize
 
 // Whether the bodies have more bytes together than one may have.
 fn are_too_long(kind: BatchKind, entries: &Value<'_, '_>) -> bool
-    ensures { result ≡ nat_lt 262144 (bodies_length kind (listed_items entries.now)) }
+    ensures { result ≡ nat_lt body_limit (bodies_length kind (listed_items entries.now)) }
 {
     let Some(mut items) = entries.items() else {
         return false;
@@ -344,6 +347,7 @@ fn entries_of(
 /// line or of any entry), InvalidAddress, EmptyBatchRequest, TooManyEntriesInBatchRequest, InvalidBatchEntryId,
 /// BatchEntryIdsNotDistinct, BatchRequestTooLong; and as NoMemory only where none of these is. What is wrong with an entry
 /// alone is what it asks.
+#[tactic(auto, using(crate::proofs::RequestLaws::reads_refused), unfolding(crate::specs::Batches::batch_of, crate::specs::Batches::members_of))]
 pub fn batch_of(alloc: Global, value: &Value<'_, '_>, kind: BatchKind) -> Result<Call, Refusal>
     ensures { Reads result (batch_of kind (view value.now)) }
 {

@@ -9,4 +9,3 @@ pub mod members;
 pub mod queues;
 pub mod request;
 pub mod tasks;
-pub mod turns;

@@ -98,12 +98,11 @@ pub fn arn_if_at(value: &Value<'_, '_>, name: &str) -> Result<Option<Option<Queu
 }
 
 /// The task of the member `TaskHandle`; none where that is the handle of none.
-#[tactic(auto, using(crate::proofs::MemberLaws::names_task), unfolding(crate::specs::Members::named_task))]
+#[tactic(auto, unfolding(crate::specs::Members::named_task))]
 pub fn named_task(value: &Value<'_, '_>) -> Result<Option<TaskNo>, Refusal>
     ensures { result ≡ named_task (view value.now) }
 {
-    let handle = text_at(value, "TaskHandle")?;
-    Ok(read_task_handle(handle.as_bytes()))
+    text_at(value, "TaskHandle").map(|handle| read_task_handle(handle.as_bytes()))
 }
 
 /// Whether a member that may be there is an object with members.

@@ -2,7 +2,7 @@
 ghost use Rattle.std.specs.Prelude.{◌≡◌, option_map};
 ghost use Rattle.sq_json.specs.View.{view};
 ghost use Rattle.sq_requests.specs.Memory.{ReadsAsking};
-ghost use Rattle.sq_requests.specs.Queues.{create_of, create_asks, set_of, set_asks, get_of, get_url_of, prefix_of, prefix_if, list_of, named_queue, purge_of, delete_queue_of, list_sources_of};
+ghost use Rattle.sq_requests.specs.Queues.{create_of, create_asks, set_of, set_asks, get_of, get_url_of, prefix_of, prefix_if, list_of, named_queue};
 
 use crate::asked::{asked_of_queue, names_at};
 use crate::attributes::{attributes_of, given_at, given_if_at};
@@ -102,31 +102,4 @@ pub fn named_queue(value: &Value<'_, '_>) -> Result<QueueName, Refusal>
     ensures { result ≡ named_queue (view value.now) }
 {
     url_at(value)?.ok_or(Refusal::InvalidAddress)
-}
-
-/// What a PurgeQueue asks (SQS API Reference, PurgeQueue).
-#[tactic(auto, unfolding(crate::specs::Queues::purge_of))]
-pub fn purge_of(value: &Value<'_, '_>) -> Result<Call, Refusal>
-    ensures { result ≡ purge_of (view value.now) }
-{
-    let queue = named_queue(value)?;
-    Ok(Call::PurgeQueue(queue))
-}
-
-/// What a DeleteQueue asks (SQS API Reference, DeleteQueue).
-#[tactic(auto, unfolding(crate::specs::Queues::delete_queue_of))]
-pub fn delete_queue_of(value: &Value<'_, '_>) -> Result<Call, Refusal>
-    ensures { result ≡ delete_queue_of (view value.now) }
-{
-    let queue = named_queue(value)?;
-    Ok(Call::DeleteQueue(queue))
-}
-
-/// What a ListDeadLetterSourceQueues asks (SQS API Reference, ListDeadLetterSourceQueues).
-#[tactic(auto, unfolding(crate::specs::Queues::list_sources_of))]
-pub fn list_sources_of(value: &Value<'_, '_>) -> Result<Call, Refusal>
-    ensures { result ≡ list_sources_of (view value.now) }
-{
-    let queue = named_queue(value)?;
-    Ok(Call::ListDeadLetterSourceQueues(queue))
 }

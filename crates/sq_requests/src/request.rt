@@ -3,16 +3,14 @@ ghost use Rattle.std.specs.Prelude.{◌≡◌};
 ghost use Rattle.serde_json.specs.Find.{get};
 ghost use Rattle.sq_json.specs.View.{view};
 ghost use Rattle.sq_requests.specs.Memory.{ReadsAsking};
-ghost use Rattle.sq_requests.specs.Requests.{reading, actor_at, task_call_of, message_call_of, plain_call_of, kind_of, call_of, call_asks, call_or_turn_of, call_or_turn_asks, turn_of, request_of, request_asks, line_request, ReadsLine};
+ghost use Rattle.sq_requests.specs.Requests.{reading, actor_at, call_of, call_or_turn_of, request_of, line_request, ReadsLine, plain_call_of, kind_of, turn_of};
+ghost use Rattle.sq_requests.specs.inside.Requests.{call_asks, call_or_turn_asks, request_asks};
 
 use crate::actions::{change_of, delete_of, receive_of, send_of};
 use crate::batches::{BatchKind, batch_of};
-use crate::members::text_at;
-use crate::queues::{
-    create_of, delete_queue_of, get_of, get_url_of, list_of, list_sources_of, purge_of, set_of,
-};
-use crate::tasks::{cancel_move_of, list_moves_of, start_move_of};
-use crate::turns::{dead_turn_of, task_turn_of};
+use crate::members::{named_task, text_at};
+use crate::queues::{create_of, get_of, get_url_of, list_of, named_queue, set_of};
+use crate::tasks::{list_moves_of, start_move_of};
 use sq_base::refusal::Refusal;
 use sq_calls::calls::{Asked, Call};
 use sq_calls::turns::Turn;
@@ -52,33 +50,7 @@ fn actor_at(value: &Value<'_, '_>) -> Result<u32, Refusal>
     }
 }
 
-// A call on move tasks.
-#[tactic(auto, unfolding(crate::specs::Requests::task_call_of))]
-fn task_call_of(value: &Value<'_, '_>, action: &str) -> Result<Call, Refusal>
-    ensures { result ≡ task_call_of action.now (view value.now) }
-{
-    match action {
-        "StartMessageMoveTask" => start_move_of(value),
-        "CancelMessageMoveTask" => cancel_move_of(value),
-        "ListMessageMoveTasks" => list_moves_of(value),
-        _ => Err(Refusal::UnsupportedOperation),
-    }
-}
-
-// A call on a message that is there, or else one on move tasks.
-#[tactic(auto, unfolding(crate::specs::Requests::message_call_of))]
-fn message_call_of(value: &Value<'_, '_>, action: &str) -> Result<Call, Refusal>
-    ensures { result ≡ message_call_of action.now (view value.now) }
-{
-    match action {
-        "ReceiveMessage" => receive_of(value),
-        "DeleteMessage" => delete_of(value),
-        "ChangeMessageVisibility" => change_of(value),
-        _ => task_call_of(value, action),
-    }
-}
-
-// A call for which no memory is asked: on a queue, or else on messages or move tasks.
+// A call for which no memory is asked: on a queue, a message that is there, or a move task.
 #[tactic(auto, unfolding(crate::specs::Requests::plain_call_of))]
 fn plain_call_of(value: &Value<'_, '_>, action: &str) -> Result<Call, Refusal>
     ensures { result ≡ plain_call_of action.now (view value.now) }
@@ -87,10 +59,16 @@ fn plain_call_of(value: &Value<'_, '_>, action: &str) -> Result<Call, Refusal>
         "GetQueueAttributes" => get_of(value),
         "GetQueueUrl" => get_url_of(value),
         "ListQueues" => list_of(value),
-        "PurgeQueue" => purge_of(value),
-        "DeleteQueue" => delete_queue_of(value),
-        "ListDeadLetterSourceQueues" => list_sources_of(value),
-        _ => message_call_of(value, action),
+        "PurgeQueue" => named_queue(value).map(Call::PurgeQueue),
+        "DeleteQueue" => named_queue(value).map(Call::DeleteQueue),
+        "ListDeadLetterSourceQueues" => named_queue(value).map(Call::ListDeadLetterSourceQueues),
+        "ReceiveMessage" => receive_of(value),
+        "DeleteMessage" => delete_of(value),
+        "ChangeMessageVisibility" => change_of(value),
+        "StartMessageMoveTask" => start_move_of(value),
+        "CancelMessageMoveTask" => named_task(value).map(Call::CancelMessageMoveTask),
+        "ListMessageMoveTasks" => list_moves_of(value),
+        _ => Err(Refusal::UnsupportedOperation),
     }
 }
 
@@ -129,9 +107,9 @@ fn turn_of(value: &Value<'_, '_>, action: &str) -> Option<Result<Turn, Refusal>>
     ensures { result ≡ turn_of action.now (view value.now) }
 {
     match action {
-        "DeadTurn" => Some(dead_turn_of(value)),
+        "DeadTurn" => Some(named_queue(value).map(Turn::DeadTurn)),
         "EnterTurn" => Some(Ok(Turn::EnterTurn)),
-        "TaskTurn" => Some(task_turn_of(value)),
+        "TaskTurn" => Some(named_task(value).map(Turn::TaskTurn)),
         _ => None,
     }
 }
@@ -148,7 +126,7 @@ fn call_or_turn_of(alloc: Global, value: &Value<'_, '_>, action: &str) -> Result
     }
 }
 
-#[tactic(auto, unfolding(crate::specs::Requests::request_of, crate::specs::Requests::request_asks, crate::specs::Requests::clock_at))]
+#[tactic(auto, unfolding(crate::specs::Requests::request_of, crate::specs::inside::Requests::request_asks, crate::specs::Requests::clock_at))]
 fn request_of(alloc: Global, value: &Value<'_, '_>) -> Result<Request, Refusal>
     ensures { let d = view value.now in
         ReadsAsking (request_asks d) result (request_of d) }

@@ -1,9 +1,9 @@
 //! What the actions on message move tasks ask.
 ghost use Rattle.std.specs.Prelude.{◌≡◌};
 ghost use Rattle.sq_json.specs.View.{view};
-ghost use Rattle.sq_requests.specs.Tasks.{move_members, destination_of, is_own_destination, start_move_of, cancel_move_of, list_moves_of};
+ghost use Rattle.sq_requests.specs.Tasks.{move_members, destination_of, is_own_destination, start_move_of, list_moves_of};
 
-use crate::members::{amount_if_at, arn_at, arn_if_at, named_task};
+use crate::members::{amount_if_at, arn_at, arn_if_at};
 use sq_base::name::QueueName;
 use sq_base::ranges::MaxResults;
 use sq_base::refusal::Refusal;
@@ -71,15 +71,6 @@ pub fn start_move_of(value: &Value<'_, '_>) -> Result<Call, Refusal>
         destination,
         rate,
     }))
-}
-
-/// What a CancelMessageMoveTask asks (SQS API Reference, CancelMessageMoveTask).
-#[tactic(auto, unfolding(crate::specs::Tasks::cancel_move_of))]
-pub fn cancel_move_of(value: &Value<'_, '_>) -> Result<Call, Refusal>
-    ensures { result ≡ cancel_move_of (view value.now) }
-{
-    let task = named_task(value)?;
-    Ok(Call::CancelMessageMoveTask(task))
 }
 
 /// What a ListMessageMoveTasks asks (SQS API Reference, ListMessageMoveTasks); one task without a number. A text that is no

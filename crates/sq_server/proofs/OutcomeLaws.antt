@@ -9,7 +9,8 @@ use Rattle.sq_lines.proofs.WriteLaws.{appends_none, appends_more, part_of_end}
 use Rattle.sq_program.specs.Results.{line_of, listening_text, verdict_text}
 use Rattle.sq_program.specs.Streams.{stream, EndsWritten, WrittenWhole}
 use Rattle.sq_server.specs.declared.verdict.OneRun.{OneRun}
-use Rattle.sq_server.specs.Outcomes.{HasRaced, HasServed, HasToldEnd, HasToldRace}
+use Rattle.sq_server.specs.Outcomes.{HasRaced, HasServed}
+use Rattle.sq_server.specs.inside.Outcomes.{HasToldEnd, HasToldRace}
 
 -- a front of a text is one of it with more behind it
 cut_front : (n : ℕ) (xs ys : List ℕ) → (m : ℕ) × (take m (xs ++ ys) ≡ take n xs)

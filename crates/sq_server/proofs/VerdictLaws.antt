@@ -7,7 +7,8 @@ use Rattle.sq_audit.specs.declared.check.AuditFault.{AuditFault}
 use Rattle.sq_audit.specs.declared.check.AuditFault.TheVariants.{NoMemory, RecordMissing, RecordTwice, LeaveUnmatched, EnterUnmatched}
 use Rattle.sq_audit.specs.declared.parts.Parts.{Parts}
 use Rattle.sq_queue.specs.SessionValue.{SessionValue}
-use Rattle.sq_server.specs.Verdicts.{AreLeftBy, HasFault, HasOneRun, IsFaultLeft, IsOneRun, LeavesOneRun}
+use Rattle.sq_server.specs.Verdicts.{AreLeftBy, IsFaultLeft, IsOneRun, LeavesOneRun}
+use Rattle.sq_server.specs.inside.Verdicts.{HasFault, HasOneRun}
 
 -- parts that are left, and are judged to be one run
 pub run_left : {A : Type 0} (homes : ℕ) (sessions : List SessionValue) (p : Parts) (told : Result A AuditFault) → AreLeftBy homes sessions p → OnOk told (IsOneRun p) → OnOk told (LeavesOneRun homes sessions)

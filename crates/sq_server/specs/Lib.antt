@@ -1,5 +1,4 @@
-pub mod Clocks
-pub mod Crews
 pub mod Handles
 pub mod Outcomes
 pub mod Verdicts
+pub mod inside

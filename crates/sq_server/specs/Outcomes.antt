@@ -1,14 +1,11 @@
 -- What serving connections and a race have written when they end, by the status of the process.
-use Rattle.std.specs.Prelude.{ℕ, zero, suc, ◌-◌, ◌*◌, ◌^◌, min, ◌≡◌, ◌≢◌, ◌⊎◌, ◌++◌, List, take, Option, Some, None, Result, Ok, Err}
+use Rattle.std.specs.Prelude.{ℕ, zero, suc, ◌-◌, ◌*◌, ◌^◌, min, ◌≡◌, ◌++◌, List, take}
 use Rattle.std.specs.declared.net.socket_addr.SocketAddr.{SocketAddr}
-use Rattle.sq_audit.specs.declared.check.AuditFault.{AuditFault}
-use Rattle.sq_audit.specs.declared.check.AuditFault.TheVariants.{NoMemory}
 use Rattle.sq_flags.specs.declared.flags.RaceMode.{RaceMode}
 use Rattle.sq_program.specs.Results.{line_of, listening_text, race_text, verdict_text}
-use Rattle.sq_program.specs.Streams.{Stream, EndsWritten, IsUntouched, PutsOut, WrittenInPart, WrittenWhole}
+use Rattle.sq_program.specs.Streams.{Stream, IsUntouched, PutsOut, WrittenInPart, WrittenWhole}
 use Rattle.sq_program.specs.declared.program.Next.{Next}
 use Rattle.sq_program.specs.declared.program.Next.TheVariants as next
-use Rattle.sq_server.specs.declared.verdict.OneRun.{OneRun}
 
 -- where connections are taken
 abbrev pub IsListeningLine : List ℕ → Type 0
@@ -51,18 +48,3 @@ abbrev pub IsDone : {W : Type 0} → Next → Stream W → ℕ → Type 0
 IsDone (next.End answered) output status = (status ≡ answered) × IsUntouched output
 IsDone (next.Serve address mode) output status = HasServed output status
 IsDone (next.Race mode) output status = HasRaced mode output status
-
--- that what was done is no run, or that there was no memory to see it, is no line, but a status
-abbrev pub HasToldFault : {W : Type 0} → AuditFault → Stream W → ℕ → Type 0
-HasToldFault fault output status = (((fault ≡ NoMemory) × (status ≡ 1)) ⊎ ((fault ≢ NoMemory) × (status ≡ 3))) × IsUntouched output
-
--- By how serving ended, what is told of it: that it is one run, where there is the verdict that it is; else nothing.
-abbrev pub HasToldEnd : {W : Type 0} → Result (Option OneRun) AuditFault → Stream W → ℕ → Type 0
-HasToldEnd (Ok (Some run)) output status = EndsWritten (λ line. line ≡ line_of verdict_text) output status
-HasToldEnd (Ok None) output status = (status ≡ 1) × IsUntouched output
-HasToldEnd (Err fault) output status = HasToldFault fault output status
-
--- by how a race ended, with a verdict and so many sends that were answered, what is told of it
-abbrev pub HasToldRace : {W : Type 0} → RaceMode → Result (OneRun × ℕ) AuditFault → Stream W → ℕ → Type 0
-HasToldRace mode (Ok (run, sent)) output status = EndsWritten (λ line. line ≡ race_line mode sent) output status
-HasToldRace mode (Err fault) output status = HasToldFault fault output status

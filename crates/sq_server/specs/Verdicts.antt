@@ -8,7 +8,7 @@ use Rattle.sq_steps.specs.Journals.{AreDistinct}
 use Rattle.sq_audit.specs.Actors.{ActorsRise, PartsRise}
 use Rattle.sq_audit.specs.Faults.{IsWrong}
 use Rattle.sq_audit.specs.HomeIds.{histories_of}
-use Rattle.sq_audit.specs.SystemNow.{events_of, system_now}
+use Rattle.sq_audit.specs.SystemNow.{events_of, system_now, opening_now}
 use Rattle.sq_audit.specs.declared.check.AuditFault.{AuditFault}
 use Rattle.sq_audit.specs.declared.check.AuditFault.TheVariants.{NoMemory}
 use Rattle.sq_audit.specs.declared.parts.Parts.{Parts}
@@ -20,7 +20,7 @@ use Rattle.sq_queue.specs.Tallies.{directory_records, ledger_records}
 pub record IsOneRun (p : Parts) : Type 0 where
   pub run : List Tag
   pub merged : IsMerged p.directory.events p.ledger.history.events (events_of p.homes.homes) run
-  pub leaves : IsRun p.directory.directory.places p.ledger.history.ledger.limit (map (λ h. h.site) p.homes.homes) run (system_now p.directory p.ledger.history p.homes.homes)
+  pub leaves : IsRun (opening_now p.directory p.ledger.history p.homes.homes) run (system_now p.directory p.ledger.history p.homes.homes)
   pub matched : IsMatched p.directory.events p.ledger.history.events (histories_of p.homes.homes) p.records
   pub paired : IsPaired p.ledger.history.events (histories_of p.homes.homes)
   pub actors : ActorsRise run
@@ -46,10 +46,3 @@ LeavesFault homes sessions fault = (p : Parts) × AreLeftBy homes sessions p × 
 -- there was no memory for an audit, or it found a fault in parts that are left
 abbrev pub IsFaultLeft : ℕ → List SessionValue → AuditFault → Type 0
 IsFaultLeft homes sessions fault = (fault ≡ NoMemory) ⊎ LeavesFault homes sessions fault
-
--- the same of the sessions of a service, whatever they did
-abbrev pub HasOneRun : ℕ → Type 0
-HasOneRun homes = (sessions : List SessionValue) × LeavesOneRun homes sessions
-
-abbrev pub HasFault : ℕ → AuditFault → Type 0
-HasFault homes fault = (sessions : List SessionValue) × IsFaultLeft homes sessions fault

@@ -1,5 +1,6 @@
 //! The clients of a race, and what they ask.
-ghost use Rattle.std.specs.Prelude.{◌≡◌, ◌+◌, ◌*◌, ◌≤◌, IfErr, IfOk, IfSome, None, Some, codes, false};
+ghost use Rattle.std.specs.Prelude.{◌≡◌, ◌+◌, ◌*◌, ◌≤◌, IfErr, IfOk, IfSome, None, Some, codes, false, true};
+ghost use Rattle.sq_base.specs.Names.{is_name};
 ghost use Rattle.sq_calls.specs.declared.calls.Call.TheVariants as asks;
 ghost use Rattle.sq_model.specs.Policies.{nothing_given};
 ghost use Rattle.sq_server.specs.Handles.{first_given};
@@ -22,15 +23,23 @@ use std::sync::Wait;
 use std::sync::ledger::Ledger;
 use std::time::Clock;
 
+// The queue of this name.
+fn named(text: &[u8]) -> QueueName
+    requires { is_name text.now ≡ true }
+    ensures { result ≡ text.now }
+{
+    match QueueName::new(text) {
+        Some(name) => name,
+        None => unreachable!(),
+    }
+}
+
 // The queue of a race.
 #[tactic(auto, unfolding(sq_base::specs::Names::is_name_byte))]
 fn race_queue() -> QueueName
     ensures { result ≡ codes "race" }
 {
-    match QueueName::new(b"race") {
-        Some(name) => name,
-        None => unreachable!(),
-    }
+    named(b"race")
 }
 
 // The queue of its dead letters.
@@ -38,10 +47,7 @@ fn race_queue() -> QueueName
 fn dead_queue() -> QueueName
     ensures { result ≡ codes "race-dlq" }
 {
-    match QueueName::new(b"race-dlq") {
-        Some(name) => name,
-        None => unreachable!(),
-    }
+    named(b"race-dlq")
 }
 
 /// CreateQueue; where dead letters have a target, what was received twice goes there.
@@ -61,12 +67,11 @@ pub fn create(name: QueueName, target: Option<QueueName>) -> Call
 
 /// Makes the queue of a race, from which what was received twice goes to another.
 pub(crate) fn make_queues<R: Clock + Wait, D: Ledger, T: Ledger>(
-    rt: &R,
     service: &Served<'_, R, D, T, SlotStore>,
     client: &mut Client<D, T>,
 ) -> Result<(), Refusal> {
-    service.call(rt, client, &create(dead_queue(), None))?;
-    service.call(rt, client, &create(race_queue(), Some(dead_queue())))?;
+    service.call(client, &create(dead_queue(), None))?;
+    service.call(client, &create(race_queue(), Some(dead_queue())))?;
     Ok(())
 }
 
@@ -127,48 +132,42 @@ fn at_once() -> Call
 
 // Whether a message was sent. What is refused is passed over.
 fn sends<R: Clock + Wait, D: Ledger, T: Ledger>(
-    rt: &R,
-    alloc: Global,
     service: &Served<'_, R, D, T, SlotStore>,
     client: &mut Client<D, T>,
 ) -> bool {
-    match send(alloc, race_queue()) {
-        Ok(call) => service.call(rt, client, &call).is_ok(),
+    match send(service.alloc, race_queue()) {
+        Ok(call) => service.call(client, &call).is_ok(),
         Err(_) => false,
     }
 }
 
 // Receives what is visible again at once, and keeps the handle of what was given; where it is refused, the last one stays.
 fn receives<R: Clock + Wait, D: Ledger, T: Ledger>(
-    rt: &R,
     service: &Served<'_, R, D, T, SlotStore>,
     client: &mut Client<D, T>,
     given: &mut Option<Handle>,
 ) {
-    if let Ok(answer) = service.call(rt, client, &at_once()) {
+    if let Ok(answer) = service.call(client, &at_once()) {
         *given = first_handle(&answer);
     }
 }
 
 // Deletes what the last receive gave; where it gave nothing, receives again.
 fn deletes<R: Clock + Wait, D: Ledger, T: Ledger>(
-    rt: &R,
     service: &Served<'_, R, D, T, SlotStore>,
     client: &mut Client<D, T>,
     given: &mut Option<Handle>,
 ) {
     match given {
         Some(handle) => {
-            let _ = service.call(rt, client, &delete(race_queue(), *handle));
+            let _ = service.call(client, &delete(race_queue(), *handle));
         }
-        None => receives(rt, service, client, given),
+        None => receives(service, client, given),
     }
 }
 
 /// Makes so many calls of one client, a send, a receive and a delete by turns; how many sends were answered.
 pub(crate) fn make_calls<R: Clock + Wait, D: Ledger, T: Ledger>(
-    rt: &R,
-    alloc: Global,
     service: &Served<'_, R, D, T, SlotStore>,
     client: &mut Client<D, T>,
     calls: u64,
@@ -179,9 +178,9 @@ pub(crate) fn make_calls<R: Clock + Wait, D: Ledger, T: Ledger>(
     let mut sent = 0u64;
     for number in 0..calls {
         match number % 3 {
-            0 => sent = sent.saturating_add(sends(rt, alloc, service, client) as u64),
-            1 => receives(rt, service, client, &mut given),
-            _ => deletes(rt, service, client, &mut given),
+            0 => sent = sent.saturating_add(sends(service, client) as u64),
+            1 => receives(service, client, &mut given),
+            _ => deletes(service, client, &mut given),
         }
     }
     sent

@@ -1,7 +1,7 @@
 //! The clock of the system.
 ghost use Rattle.std.specs.Prelude.{◌≡◌, ◌/◌, IfOk, OnErr};
 ghost use Rattle.std.specs.Time.{system_time_nanos};
-ghost use Rattle.sq_server.specs.Clocks.{in_64_bits};
+ghost use Rattle.sq_server.specs.inside.Clocks.{in_64_bits};
 
 use std::io;
 use std::time::{Clock, SystemTime, UNIX_EPOCH};

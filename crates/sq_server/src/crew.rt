@@ -1,6 +1,6 @@
 //! The threads of a server or of a race: each has a session, and calls for clients or moves messages.
 ghost use Rattle.std.specs.Prelude.{◌≡◌, ◌⊎◌, ◌++◌, ◌-◌, ◌^◌, IfErr, IfOk, OnOk, map, min, replicate, sum_by, vec_len};
-ghost use Rattle.sq_server.specs.Crews.{roles_of};
+ghost use Rattle.sq_server.specs.inside.Crews.{roles_of};
 ghost use Rattle.sq_server.specs.Verdicts.{IsFaultLeft, LeavesOneRun};
 
 use crate::ending::end;
@@ -33,8 +33,6 @@ pub(crate) struct Member<D: Ledger, T: Ledger> {
 
 // So many more for a role.
 fn add<R: Clock + Wait, D: Ledger, T: Ledger>(
-    rt: &R,
-    alloc: Global,
     service: &Served<'_, R, D, T, SlotStore>,
     crew: &mut Vec<Member<D, T>>,
     many: u32,
@@ -46,7 +44,7 @@ fn add<R: Clock + Wait, D: Ledger, T: Ledger>(
 {
     for _ in 0..many {
         crew.push(Member {
-            client: service.client(rt, alloc)?,
+            client: service.client()?,
             role,
             count: 0,
         })?;
@@ -56,8 +54,6 @@ fn add<R: Clock + Wait, D: Ledger, T: Ledger>(
 
 /// So many threads that call, and then so many movers: where not all threads can be had, these come last.
 pub(crate) fn crew<R: Clock + Wait, D: Ledger, T: Ledger>(
-    rt: &R,
-    alloc: Global,
     service: &Served<'_, R, D, T, SlotStore>,
     callers: u32,
     movers: u32,
@@ -66,9 +62,9 @@ pub(crate) fn crew<R: Clock + Wait, D: Ledger, T: Ledger>(
     ensures count { IfOk result (λ crew. sum_by (λ m. m.count) crew.items ≡ 0) }
     ensures refused { IfErr result (λ e. (e ≡ Refusal.NoMemory) ⊎ (e ≡ Refusal.Worn)) }
 {
-    let mut crew = Vec::with_capacity(alloc, callers as usize + movers as usize)?;
-    add(rt, alloc, service, &mut crew, callers, Role::Call)?;
-    add(rt, alloc, service, &mut crew, movers, Role::Move)?;
+    let mut crew = Vec::with_capacity(service.alloc, callers as usize + movers as usize)?;
+    add(service, &mut crew, callers, Role::Call)?;
+    add(service, &mut crew, movers, Role::Move)?;
     Ok(crew)
 }
 
@@ -92,7 +88,6 @@ fn apart<D: Ledger, T: Ledger>(
 /// Ends a service after its threads: the verdict on what they did, and what they counted together. Refused where what was done
 /// is no run.
 pub(crate) fn conclude<R: Clock + Wait, D: Ledger, T: Ledger>(
-    alloc: Global,
     service: Served<'_, R, D, T, SlotStore>,
     crew: Vec<Member<D, T>>,
 ) -> Result<(OneRun, u64), AuditFault>
@@ -102,9 +97,9 @@ pub(crate) fn conclude<R: Clock + Wait, D: Ledger, T: Ledger>(
     ensures run { OnOk result (LeavesOneRun (vec_len service.entry.service.value.homes) (map (λ m. m.client) crew.items)) }
     ensures fault { IfErr result (IsFaultLeft (vec_len service.entry.service.value.homes) (map (λ m. m.client) crew.items)) }
 {
-    let Ok((count, clients)) = apart(alloc, crew) else {
+    let Ok((count, clients)) = apart(service.alloc, crew) else {
         return Err(AuditFault::NoMemory);
     };
-    let run = end(alloc, service, clients)?;
+    let run = end(service, clients)?;
     Ok((run, count))
 }

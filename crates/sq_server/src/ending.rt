@@ -55,7 +55,6 @@ fn gathered<R: Clock + Wait, D: Ledger, T: Ledger>(
 
 // The parts that a service leaves, in a box.
 fn parts_of<R: Clock + Wait, D: Ledger, T: Ledger>(
-    alloc: Global,
     service: Served<'_, R, D, T, SlotStore>,
     clients: Vec<Client<D, T>>,
 ) -> Option<Box<Parts>>
@@ -63,6 +62,7 @@ fn parts_of<R: Clock + Wait, D: Ledger, T: Ledger>(
     requires of_ledger { T.parts ≡ 4294967296 }
     ensures { IfSome result (λ parts. AreLeftBy (vec_len service.entry.service.value.homes) clients.items parts.value) }
 {
+    let alloc = service.alloc;
     let sessions = sessions_of(alloc, clients).ok()?;
     let parts = gathered(Box::into_inner(service.service), sessions)?;
     Box::new(alloc, parts).ok()
@@ -70,7 +70,6 @@ fn parts_of<R: Clock + Wait, D: Ledger, T: Ledger>(
 
 /// Ends a service with these clients, which are all that it had. Refused where what was done is no run.
 pub fn end<R: Clock + Wait, D: Ledger, T: Ledger>(
-    alloc: Global,
     service: Served<'_, R, D, T, SlotStore>,
     clients: Vec<Client<D, T>>,
 ) -> Result<OneRun, AuditFault>
@@ -79,7 +78,8 @@ pub fn end<R: Clock + Wait, D: Ledger, T: Ledger>(
     ensures run { OnOk result (LeavesOneRun (vec_len service.entry.service.value.homes) clients.items) }
     ensures fault { IfErr result (IsFaultLeft (vec_len service.entry.service.value.homes) clients.items) }
 {
-    match parts_of(alloc, service, clients) {
+    let alloc = service.alloc;
+    match parts_of(service, clients) {
         Some(parts) => judged(alloc, &parts),
         None => Err(AuditFault::NoMemory),
     }

@@ -4,7 +4,6 @@ ghost use Rattle.std.specs.Prelude.{◌≡◌, ◌*◌, min};
 use crate::served::{Client, Served};
 use sq_mover::mover::Mover;
 use sq_store::slots::SlotStore;
-use std::alloc::Global;
 use std::sync::Wait;
 use std::sync::atomic::{AtomicU64, Ordering};
 use std::sync::ledger::Ledger;
@@ -20,22 +19,20 @@ const LONGEST: u64 = 50;
 /// Makes rounds of turns until no connection is open. After one that moved nothing it rests, twice as long each time, from
 /// 1 ms up to `LONGEST`.
 pub(crate) fn move_while_open<R: Clock + Wait, D: Ledger, T: Ledger>(
-    rt: &R,
-    alloc: Global,
     service: &Served<'_, R, D, T, SlotStore>,
     client: &mut Client<D, T>,
     open: &AtomicU64,
 ) {
-    let mut mover = Mover::new(alloc);
+    let mut mover = Mover::new(service.alloc);
     let mut rest = 1;
-    for _ in rt.forever() {
+    for _ in service.rt.forever() {
         if open.load(Ordering::SeqCst) == 0 {
             break;
         }
-        if service.turns(rt, client, &mut mover, ROUND) {
+        if service.turns(client, &mut mover, ROUND) {
             rest = 1;
         } else {
-            thread::sleep(rt, Duration::from_millis(rest));
+            thread::sleep(service.rt, Duration::from_millis(rest));
             rest = longer(rest);
         }
     }

@@ -1,13 +1,14 @@
 //! A race of clients and movers at one queue.
 ghost use Rattle.std.specs.Prelude.{◌≡◌, ◌+◌, ◌*◌, ◌≤◌, IfErr, IfOk, OnOk, map, sum_by, vec_len};
 ghost use Rattle.sq_program.specs.Streams.{stream};
-ghost use Rattle.sq_server.specs.Crews.{roles_of};
-ghost use Rattle.sq_server.specs.Outcomes.{HasRaced, HasToldRace};
-ghost use Rattle.sq_server.specs.Verdicts.{HasFault, HasOneRun};
+ghost use Rattle.sq_server.specs.inside.Crews.{roles_of};
+ghost use Rattle.sq_server.specs.Outcomes.{HasRaced};
+ghost use Rattle.sq_server.specs.inside.Outcomes.{HasToldRace};
+ghost use Rattle.sq_server.specs.inside.Verdicts.{HasFault, HasOneRun};
 
 use crate::clients::{make_calls, make_queues};
 use crate::crew::{Member, Role, conclude, crew};
-use crate::served::Served;
+use crate::served::{Blanks, Served};
 use crate::threads::threads_for;
 use crate::verdict::OneRun;
 use sq_audit::check::AuditFault;
@@ -17,13 +18,12 @@ use sq_lines::counted::Counted;
 use sq_mover::mover::Mover;
 use sq_program::reports::{no_memory, report_audit};
 use sq_program::results::print_race;
-use sq_queue::actors::SEATS;
 use sq_store::slots::SlotStore;
 use std::alloc::Global;
 use std::io::Write;
 use std::marker::Brand;
 use std::sync::Wait;
-use std::sync::ledger::{Blank, Ledger};
+use std::sync::ledger::Ledger;
 use std::thread;
 use std::thread::Threads;
 use std::time::Clock;
@@ -33,8 +33,6 @@ const TURNS: u64 = 1000;
 
 // What one of the threads does.
 fn run<R: Clock + Wait, D: Ledger, T: Ledger>(
-    rt: &R,
-    alloc: Global,
     service: &Served<'_, R, D, T, SlotStore>,
     racer: &mut Member<D, T>,
     calls: u64,
@@ -44,18 +42,16 @@ fn run<R: Clock + Wait, D: Ledger, T: Ledger>(
     ensures client { racer.old.role ≡ Role.Call → 3 * racer.new.count ≤ calls + 2 }
 {
     match racer.role {
-        Role::Call => racer.count = make_calls(rt, alloc, service, &mut racer.client, calls),
+        Role::Call => racer.count = make_calls(service, &mut racer.client, calls),
         Role::Move => {
-            let mut mover = Mover::new(alloc);
-            service.turns(rt, &mut racer.client, &mut mover, TURNS);
+            let mut mover = Mover::new(service.alloc);
+            service.turns(&mut racer.client, &mut mover, TURNS);
         }
     }
 }
 
 // All of them at once.
 fn run_all<R: Threads + Wait + Clock + Sync, D: Ledger + Send + Sync, T: Ledger + Send + Sync>(
-    rt: &R,
-    alloc: Global,
     service: &Served<'_, R, D, T, SlotStore>,
     racers: &mut Vec<Member<D, T>>,
     calls: u64,
@@ -64,33 +60,29 @@ fn run_all<R: Threads + Wait + Clock + Sync, D: Ledger + Send + Sync, T: Ledger 
 {
     let threads = threads_for(racers.len());
     thread::for_each_mut(
-        rt,
+        service.rt,
         racers,
         threads,
-        &|_: usize, racer: &mut Member<D, T>| run(rt, alloc, service, racer, calls),
+        &|_: usize, racer: &mut Member<D, T>| run(service, racer, calls),
     );
 }
 
 // All that race, once the queues are made by a client that then goes.
 fn ready<R: Clock + Wait, D: Ledger, T: Ledger>(
-    rt: &R,
-    alloc: Global,
     service: &Served<'_, R, D, T, SlotStore>,
     mode: &RaceMode,
 ) -> Result<Vec<Member<D, T>>, Refusal>
     ensures roles { IfOk result (λ racers. map (λ m. m.role) racers.items ≡ roles_of mode.now.clients mode.now.movers) }
     ensures count { IfOk result (λ racers. sum_by (λ m. m.count) racers.items ≡ 0) }
 {
-    let mut first = service.client(rt, alloc)?;
-    make_queues(rt, service, &mut first)?;
-    service.retire(rt, first)?;
-    crew(rt, alloc, service, mode.clients, mode.movers)
+    let mut first = service.client()?;
+    make_queues(service, &mut first)?;
+    service.retire(first)?;
+    crew(service, mode.clients, mode.movers)
 }
 
 // The race at a service, which then ends.
 fn race_at<R: Threads + Wait + Clock + Sync, D: Ledger + Send + Sync, T: Ledger + Send + Sync>(
-    rt: &R,
-    alloc: Global,
     service: Served<'_, R, D, T, SlotStore>,
     racers: Vec<Member<D, T>>,
     calls: u64,
@@ -101,8 +93,28 @@ fn race_at<R: Threads + Wait + Clock + Sync, D: Ledger + Send + Sync, T: Ledger 
     ensures fault { IfErr result (HasFault (vec_len service.entry.service.value.homes)) }
 {
     let mut racers = racers;
-    run_all(rt, alloc, &service, &mut racers, calls);
-    conclude(alloc, service, racers)
+    run_all(&service, &mut racers, calls);
+    conclude(service, racers)
+}
+
+// How a race ends at a service of its own, whose counts have names. None for want of memory.
+fn raced<R: Threads + Wait + Clock + Sync, D: Ledger + Send + Sync, T: Ledger + Send + Sync>(
+    rt: &R,
+    alloc: Global,
+    mode: &RaceMode,
+    blanks: Blanks,
+) -> Option<Result<(OneRun, u64), AuditFault>>
+    requires of_directory { (blanks.directory.name ≡ D.name) × (blanks.directory.parts ≡ D.parts) × (D.parts ≡ 4294967296) }
+    requires of_ledger { (blanks.ledger.name ≡ T.name) × (blanks.ledger.parts ≡ T.parts) × (T.parts ≡ 4294967296) }
+{
+    let service: Served<'_, R, D, T, SlotStore> = Served::new(
+        rt,
+        alloc,
+        mode.options,
+        blanks,
+    ).ok()?;
+    let racers = ready(&service, mode).ok()?;
+    Some(race_at(service, racers, mode.calls))
 }
 
 // Tells how it ended: that it is one run, where it is given that it is.
@@ -127,43 +139,6 @@ fn tell_race<W: Write, E: Write>(
     }
 }
 
-// The race at a service of its own, whose counts have names.
-fn race_named<
-    R: Threads + Wait + Clock + Sync,
-    W: Write,
-    E: Write,
-    D: Ledger + Send + Sync,
-    T: Ledger + Send + Sync,
->(
-    rt: &R,
-    alloc: Global,
-    mode: &RaceMode,
-    output: &mut Counted<W>,
-    errors: &mut E,
-    of_directory: Blank,
-    of_ledger: Blank,
-) -> u8
-    requires of_directory { (of_directory.name ≡ D.name) × (of_directory.parts ≡ D.parts) × (D.parts ≡ 4294967296) }
-    requires of_ledger { (of_ledger.name ≡ T.name) × (of_ledger.parts ≡ T.parts) × (T.parts ≡ 4294967296) }
-    ensures { HasRaced mode.now (stream W.contents output.old output.new) result }
-{
-    let made: Result<Served<'_, R, D, T, SlotStore>, Refusal> = Served::new(
-        rt,
-        alloc,
-        mode.options,
-        of_directory,
-        of_ledger,
-    );
-    let Ok(service) = made else {
-        return no_memory(errors);
-    };
-    let Ok(racers) = ready(rt, alloc, &service, mode) else {
-        return no_memory(errors);
-    };
-    let ended = race_at(rt, alloc, service, racers, mode.calls);
-    tell_race(alloc, mode, ended, output, errors)
-}
-
 /// Lets clients and movers call at one queue at once, and holds what they did against the histories. Status 0 where what was done is one
 /// run, which is told with how many calls were made and how many sends answered; 1 for want of memory or an output that
 /// cannot be written; 3 where it is no run.
@@ -176,13 +151,8 @@ pub fn race<R: Threads + Wait + Clock + Sync, W: Write, E: Write>(
 ) -> u8
     ensures { HasRaced mode.now (stream W.contents output.old output.new) result }
 {
-    race_named::<R, W, E, Brand, Brand>(
-        rt,
-        alloc,
-        mode,
-        output,
-        errors,
-        Blank::new(SEATS),
-        Blank::new(SEATS),
-    )
+    match raced::<R, Brand, Brand>(rt, alloc, mode, Blanks::new()) {
+        Some(ended) => tell_race(alloc, mode, ended, output, errors),
+        None => no_memory(errors),
+    }
 }

@@ -1,13 +1,14 @@
 //! A server over sockets: a thread and a session for each connection, and movers beside them.
 ghost use Rattle.std.specs.Prelude.{◌≡◌, ◌==◌, IfErr, IfOk, IfSome, OnOk, is_some, map, sum_by, vec_len};
 ghost use Rattle.sq_program.specs.Streams.{stream};
-ghost use Rattle.sq_server.specs.Crews.{roles_of};
-ghost use Rattle.sq_server.specs.Outcomes.{HasServed, HasToldEnd};
-ghost use Rattle.sq_server.specs.Verdicts.{HasFault, HasOneRun};
+ghost use Rattle.sq_server.specs.inside.Crews.{roles_of};
+ghost use Rattle.sq_server.specs.Outcomes.{HasServed};
+ghost use Rattle.sq_server.specs.inside.Outcomes.{HasToldEnd};
+ghost use Rattle.sq_server.specs.inside.Verdicts.{HasFault, HasOneRun};
 
 use crate::crew::{Member, Role, conclude, crew};
 use crate::movers::move_while_open;
-use crate::served::{Client, Served};
+use crate::served::{Blanks, Client, Served};
 use crate::threads::threads_for;
 use crate::verdict::OneRun;
 use sq_audit::check::AuditFault;
@@ -15,7 +16,6 @@ use sq_flags::flags::ServeMode;
 use sq_lines::counted::Counted;
 use sq_program::reports::{Failure, fail, no_memory, report_audit};
 use sq_program::results::{print_listening, print_verdict};
-use sq_queue::actors::SEATS;
 use sq_store::slots::SlotStore;
 use std::alloc::Global;
 use std::io::Write;
@@ -23,7 +23,7 @@ use std::marker::Brand;
 use std::net::{Net, SocketAddr, TcpListener, TcpStream};
 use std::sync::Wait;
 use std::sync::atomic::{AtomicU64, Ordering};
-use std::sync::ledger::{Blank, Ledger};
+use std::sync::ledger::Ledger;
 use std::thread;
 use std::thread::Threads;
 use std::time::{Clock, Duration};
@@ -47,8 +47,6 @@ fn accepted(rt: &impl Clock, listener: &TcpListener) -> Option<TcpStream> {
 
 // Answers the lines of a connection, until its end or a fault, which ends it alone; whether one could be taken.
 fn connection<R: Clock + Wait, D: Ledger, T: Ledger>(
-    rt: &R,
-    alloc: Global,
     service: &Served<'_, R, D, T, SlotStore>,
     taken: Option<TcpStream>,
     client: &mut Client<D, T>,
@@ -62,14 +60,12 @@ fn connection<R: Clock + Wait, D: Ledger, T: Ledger>(
     let _ = stream.set_nodelay(true);
     let mut reader = Counted::new(&stream);
     let mut writer = Counted::new(&stream);
-    let _ = service.answer(rt, alloc, client, &mut reader, &mut writer);
+    let _ = service.answer(client, &mut reader, &mut writer);
     true
 }
 
 // What one of the threads does.
 fn work<R: Clock + Wait, D: Ledger, T: Ledger>(
-    rt: &R,
-    alloc: Global,
     service: &Served<'_, R, D, T, SlotStore>,
     listener: &TcpListener,
     open: &AtomicU64,
@@ -80,20 +76,18 @@ fn work<R: Clock + Wait, D: Ledger, T: Ledger>(
 {
     match worker.role {
         Role::Call => {
-            let taken = accepted(rt, listener);
-            if !connection(rt, alloc, service, taken, &mut worker.client) {
+            let taken = accepted(service.rt, listener);
+            if !connection(service, taken, &mut worker.client) {
                 worker.count = 1;
             }
             open.fetch_sub(1, Ordering::SeqCst);
         }
-        Role::Move => move_while_open(rt, alloc, service, &mut worker.client, open),
+        Role::Move => move_while_open(service, &mut worker.client, open),
     }
 }
 
 // All of them at once, until the last connection has ended.
 fn work_all<R: Threads + Wait + Clock + Sync, D: Ledger + Send + Sync, T: Ledger + Send + Sync>(
-    rt: &R,
-    alloc: Global,
     service: &Served<'_, R, D, T, SlotStore>,
     listener: &TcpListener,
     workers: &mut Vec<Member<D, T>>,
@@ -105,17 +99,16 @@ fn work_all<R: Threads + Wait + Clock + Sync, D: Ledger + Send + Sync, T: Ledger
     let left = &open;
     let threads = threads_for(workers.len());
     thread::for_each_mut(
-        rt,
+        service.rt,
         workers,
         threads,
-        &|_: usize, worker: &mut Member<D, T>| { work(rt, alloc, service, listener, left, worker) },
+        &|_: usize, worker: &mut Member<D, T>| { work(service, listener, left, worker) },
     );
 }
 
 // Ends a service after its threads: the verdict on what they did, where each connection could be taken; None where one could not.
 // Refused where what was done is no run.
 fn ended<R: Clock + Wait, D: Ledger, T: Ledger>(
-    alloc: Global,
     service: Served<'_, R, D, T, SlotStore>,
     workers: Vec<Member<D, T>>,
 ) -> Result<Option<OneRun>, AuditFault>
@@ -125,14 +118,12 @@ fn ended<R: Clock + Wait, D: Ledger, T: Ledger>(
     ensures run { OnOk result (HasOneRun (vec_len service.entry.service.value.homes)) }
     ensures fault { IfErr result (HasFault (vec_len service.entry.service.value.homes)) }
 {
-    let (run, lost) = conclude(alloc, service, workers)?;
+    let (run, lost) = conclude(service, workers)?;
     if lost == 0 { Ok(Some(run)) } else { Ok(None) }
 }
 
 // Serves at a listener, and ends the service.
 fn serve_at<R: Threads + Wait + Clock + Sync, D: Ledger + Send + Sync, T: Ledger + Send + Sync>(
-    rt: &R,
-    alloc: Global,
     service: Served<'_, R, D, T, SlotStore>,
     workers: Vec<Member<D, T>>,
     listener: &TcpListener,
@@ -144,8 +135,8 @@ fn serve_at<R: Threads + Wait + Clock + Sync, D: Ledger + Send + Sync, T: Ledger
     ensures fault { IfErr result (HasFault (vec_len service.entry.service.value.homes)) }
 {
     let mut workers = workers;
-    work_all(rt, alloc, &service, listener, &mut workers, connections);
-    ended(alloc, service, workers)
+    work_all(&service, listener, &mut workers, connections);
+    ended(service, workers)
 }
 
 // A listener at an address, and its address with the real port.
@@ -178,11 +169,10 @@ fn ready<'a, R: Clock + Wait, D: Ledger, T: Ledger>(
     rt: &'a R,
     alloc: Global,
     mode: &ServeMode,
-    of_directory: Blank,
-    of_ledger: Blank,
+    blanks: Blanks,
 ) -> Option<(Served<'a, R, D, T, SlotStore>, Vec<Member<D, T>>)>
-    requires of_directory { (of_directory.name ≡ D.name) × (of_directory.parts ≡ D.parts) × (D.parts ≡ 4294967296) }
-    requires of_ledger { (of_ledger.name ≡ T.name) × (of_ledger.parts ≡ T.parts) × (T.parts ≡ 4294967296) }
+    requires of_directory { (blanks.directory.name ≡ D.name) × (blanks.directory.parts ≡ D.parts) × (D.parts ≡ 4294967296) }
+    requires of_ledger { (blanks.ledger.name ≡ T.name) × (blanks.ledger.parts ≡ T.parts) × (T.parts ≡ 4294967296) }
     ensures homes { IfSome result (λ r. (r.0.service.value.per_queue ≡ mode.now.options.homes) × (r.0.service.value.sample ≡ mode.now.options.sample)) }
     ensures roles { IfSome result (λ r. map (λ w. w.role) r.1.items ≡ roles_of mode.now.connections mode.now.movers) }
 {
@@ -190,10 +180,9 @@ fn ready<'a, R: Clock + Wait, D: Ledger, T: Ledger>(
         rt,
         alloc,
         mode.options,
-        of_directory,
-        of_ledger,
+        blanks,
     ).ok()?;
-    let workers = crew(rt, alloc, &service, mode.connections, mode.movers).ok()?;
+    let workers = crew(&service, mode.connections, mode.movers).ok()?;
     Some((service, workers))
 }
 
@@ -211,14 +200,13 @@ fn serve_named<
     mode: &ServeMode,
     output: &mut Counted<W>,
     errors: &mut E,
-    of_directory: Blank,
-    of_ledger: Blank,
+    blanks: Blanks,
 ) -> u8
-    requires of_directory { (of_directory.name ≡ D.name) × (of_directory.parts ≡ D.parts) × (D.parts ≡ 4294967296) }
-    requires of_ledger { (of_ledger.name ≡ T.name) × (of_ledger.parts ≡ T.parts) × (T.parts ≡ 4294967296) }
+    requires of_directory { (blanks.directory.name ≡ D.name) × (blanks.directory.parts ≡ D.parts) × (D.parts ≡ 4294967296) }
+    requires of_ledger { (blanks.ledger.name ≡ T.name) × (blanks.ledger.parts ≡ T.parts) × (T.parts ≡ 4294967296) }
     ensures { HasServed (stream W.contents output.old output.new) result }
 {
-    let made = ready::<R, D, T>(rt, alloc, mode, of_directory, of_ledger);
+    let made = ready::<R, D, T>(rt, alloc, mode, blanks);
     let Some((service, workers)) = made else {
         return no_memory(errors);
     };
@@ -229,7 +217,7 @@ fn serve_named<
     if told != 0 {
         return told;
     }
-    let ended = serve_at(rt, alloc, service, workers, &listener, mode.connections);
+    let ended = serve_at(service, workers, &listener, mode.connections);
     tell_end(ended, output, errors)
 }
 
@@ -251,14 +239,5 @@ pub fn serve<
 ) -> u8
     ensures { HasServed (stream W.contents output.old output.new) result }
 {
-    serve_named::<R, W, E, Brand, Brand>(
-        rt,
-        alloc,
-        address,
-        mode,
-        output,
-        errors,
-        Blank::new(SEATS),
-        Blank::new(SEATS),
-    )
+    serve_named::<R, W, E, Brand, Brand>(rt, alloc, address, mode, output, errors, Blanks::new())
 }

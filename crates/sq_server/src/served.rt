@@ -1,7 +1,6 @@
 //! A service in a box, and its sessions: a function that has one on its own stack is proved with all that it is made of.
 ghost use Rattle.std.specs.Prelude.{◌≡◌, ◌⊎◌, ◌<◌, [], ℕ, IfErr, IfOk, IfSome, IsTrue, OnOk, length};
-ghost use Rattle.sq_actions.specs.Fits.{CallFits};
-ghost use Rattle.sq_actions.specs.Performs.{LeavesRecords};
+ghost use Rattle.sq_actions.specs.Performs.{CallFits, LeavesRecords};
 ghost use Rattle.sq_lines.specs.Lines.{lines_left};
 ghost use Rattle.sq_mover.specs.Movers.{GainsAtMost};
 ghost use Rattle.sq_opening.specs.Openings.{IsServed};
@@ -16,6 +15,7 @@ use sq_calls::calls::{Answer, Call};
 use sq_lines::counted::Counted;
 use sq_mover::mover::{Mover, run_mover};
 use sq_opening::options::Options;
+use sq_queue::actors::SEATS;
 use sq_queue::service::{Open, Service, Serving};
 use sq_queue::session::Session;
 use sq_store::slots::SlotStore;
@@ -32,9 +32,30 @@ use std::time::Clock;
 /// How often what takes memory at the end of a client or of a service is tried.
 pub(crate) const TRIES: u32 = 3;
 
-/// A service by the system's clock, which threads share.
+/// What the counts of a service get their names by: those of its directory's events and of its ledger's.
+#[derive(Drop)]
+pub struct Blanks {
+    pub directory: Blank,
+    pub ledger: Blank,
+}
+
+impl Blanks {
+    pub fn new() -> Blanks
+        ensures directory { result.directory.parts ≡ 4294967296 }
+        ensures ledger { result.ledger.parts ≡ 4294967296 }
+    {
+        Blanks {
+            directory: Blank::new(SEATS),
+            ledger: Blank::new(SEATS),
+        }
+    }
+}
+
+/// A service by the system's clock, which threads share, with what it runs on.
 #[derive(Drop)]
 pub struct Served<'a, R, D: Ledger, T: Ledger, S: Store> {
+    pub rt: &'a R,
+    pub alloc: Global,
     pub(crate) service: Box<Serving<SystemClock<'a, R>, Open, D, T, S>>,
 }
 
@@ -58,11 +79,10 @@ impl<'a, R: Clock + Wait, D: Ledger, T: Ledger> Served<'a, R, D, T, SlotStore> {
         rt: &'a R,
         alloc: Global,
         options: Options,
-        of_directory: Blank,
-        of_ledger: Blank,
+        blanks: Blanks,
     ) -> Result<Served<'a, R, D, T, SlotStore>, Refusal>
-        requires of_directory { (of_directory.name ≡ D.name) × (of_directory.parts ≡ D.parts) × (D.parts ≡ 4294967296) }
-        requires of_ledger { (of_ledger.name ≡ T.name) × (of_ledger.parts ≡ T.parts) × (T.parts ≡ 4294967296) }
+        requires of_directory { (blanks.directory.name ≡ D.name) × (blanks.directory.parts ≡ D.parts) × (D.parts ≡ 4294967296) }
+        requires of_ledger { (blanks.ledger.name ≡ T.name) × (blanks.ledger.parts ≡ T.parts) × (T.parts ≡ 4294967296) }
         ensures counts { IfOk result (λ s. (s.service.value.per_queue ≡ options.homes) × (s.service.value.sample ≡ options.sample)) }
         ensures served { OnOk result (IsServed options) }
         ensures refused { IfErr result (λ e. ((e ≡ Refusal.NoMemory) × IsServed options) ⊎ ((e ≡ Refusal.InvalidParameterValue) × (¬ IsServed options))) }
@@ -72,33 +92,35 @@ impl<'a, R: Clock + Wait, D: Ledger, T: Ledger> Served<'a, R, D, T, SlotStore> {
             options,
             SystemClock { rt },
             Open,
-            of_directory,
-            of_ledger,
+            blanks.directory,
+            blanks.ledger,
         )?;
         Ok(Served {
+            rt,
+            alloc,
             service: Box::new(alloc, service)?,
         })
     }
 
     /// A new client. Refused as Worn where all numbers of clients are given; NoMemory.
-    pub fn client(&self, rt: &R, alloc: Global) -> Result<Client<D, T>, Refusal>
+    pub fn client(&self) -> Result<Client<D, T>, Refusal>
         ensures made { IfOk result (λ c. (actor : ℕ) × (c ≡ new_session actor)) }
         ensures refused { IfErr result (λ e. (e ≡ Refusal.NoMemory) ⊎ (e ≡ Refusal.Worn)) }
     {
-        let session = self.service.session(rt)?;
+        let session = self.service.session(self.rt)?;
         Ok(Client {
-            session: Box::new(alloc, session)?,
+            session: Box::new(self.alloc, session)?,
         })
     }
 
     /// Takes a client back, and keeps what it did until the service ends. Where there is no memory for that it is tried again a few
     /// times; refused as NoMemory after that, and then what the client did is lost.
-    pub fn retire(&self, rt: &R, client: Client<D, T>) -> Result<(), Refusal>
+    pub fn retire(&self, client: Client<D, T>) -> Result<(), Refusal>
         ensures refused { IfErr result (λ e. e ≡ Refusal.NoMemory) }
     {
         let mut session = Box::into_inner(client.session);
         for _ in 0..TRIES {
-            match self.service.retire(rt, session) {
+            match self.service.retire(self.rt, session) {
                 Ok(()) => return Ok(()),
                 Err((_, back)) => session = back,
             }
@@ -107,17 +129,15 @@ impl<'a, R: Clock + Wait, D: Ledger, T: Ledger> Served<'a, R, D, T, SlotStore> {
     }
 
     /// Does what a client asks.
-    pub fn call(&self, rt: &R, client: &mut Client<D, T>, call: &Call) -> Result<Answer, Refusal>
+    pub fn call(&self, client: &mut Client<D, T>, call: &Call) -> Result<Answer, Refusal>
         ensures leaves_records { LeavesRecords (CallFits (service_counts self.now.service.value.per_queue self.now.service.value.sample) call.now) client.old.journal result client.new.journal }
     {
-        self.service.call(rt, &mut client.session, call)
+        self.service.call(self.rt, &mut client.session, call)
     }
 
     /// Answers each line of a reader with a line, until its end or a fault, as `serve` of `sq_wire`.
     pub fn answer<I: Read, O: Write>(
         &self,
-        rt: &R,
-        alloc: Global,
         client: &mut Client<D, T>,
         reader: &mut Counted<I>,
         writer: &mut Counted<O>,
@@ -131,8 +151,8 @@ impl<'a, R: Clock + Wait, D: Ledger, T: Ledger> Served<'a, R, D, T, SlotStore> {
         ensures count { IfErr result (λ f. IsOfCall f reader.old.failed reader.new.failed writer.old.failed writer.new.failed) }
     {
         serve(
-            alloc,
-            rt,
+            self.alloc,
+            self.rt,
             reader,
             writer,
             &*self.service,
@@ -141,12 +161,12 @@ impl<'a, R: Clock + Wait, D: Ledger, T: Ledger> Served<'a, R, D, T, SlotStore> {
     }
 
     /// Makes so many turns of a mover, and tells whether it was not refused and has a record more.
-    pub fn turns(&self, rt: &R, client: &mut Client<D, T>, mover: &mut Mover, turns: u64) -> bool
+    pub fn turns(&self, client: &mut Client<D, T>, mover: &mut Mover, turns: u64) -> bool
         ensures gains { GainsAtMost turns client.old.journal client.new.journal }
         ensures moved { IsTrue result → length client.old.journal.records < length client.new.journal.records }
     {
         let before = client.session.len();
-        let made = run_mover(&*self.service, rt, &mut client.session, mover, turns);
+        let made = run_mover(&*self.service, self.rt, &mut client.session, mover, turns);
         made.is_ok() && before < client.session.len()
     }
 }

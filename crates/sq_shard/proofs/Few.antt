@@ -10,7 +10,7 @@ use Rattle.sq_base.specs.declared.settings.Settings.{Settings}
 use Rattle.sq_model.specs.declared.calls.Receipt.{Receipt}
 use Rattle.sq_model.specs.declared.place.Limits.{Limits}
 use Rattle.sq_model.specs.Homes.{place_refusal, last_serial, slots}
-use Rattle.sq_model.specs.Rows.{trimmed, is_expired, without, is_named}
+use Rattle.sq_model.specs.Rows.{unexpired, is_expired, without, is_named}
 
 few_filtered : (p : Row → Bool) (rows : List Row) (most : ℕ) → length rows ≤ most → length (filter p rows) ≤ most
 few_filtered p [] most le = le
@@ -18,8 +18,8 @@ few_filtered p (row ∷ rows) most le =
     elim (p row) as (λ b. length (cond b (row ∷ filter p rows) (filter p rows)) ≤ most)
     [ true ↦ (let rest = few_filtered p rows (length rows) (omega arith) in omega (arith, le, rest)) | false ↦ few_filtered p rows most (omega (arith, le)) ]
 
-pub few_trimmed : (s : Settings) (m : ℕ) (rows : List Row) (most : ℕ) → length rows ≤ most → length (trimmed s m rows) ≤ most
-few_trimmed s m rows most le = few_filtered (λ row. not (is_expired s m row)) rows most le
+pub few_unexpired : (s : Settings) (m : ℕ) (rows : List Row) (most : ℕ) → length rows ≤ most → length (unexpired s m rows) ≤ most
+few_unexpired s m rows most le = few_filtered (λ row. not (is_expired s m row)) rows most le
 
 pub few_without : (receipt : Receipt) (rows : List Row) (most : ℕ) → length rows ≤ most → length (without receipt rows) ≤ most
 few_without receipt rows most le = few_filtered (λ row. not (is_named receipt row)) rows most le
@@ -39,12 +39,12 @@ upto a b h = grind (arith, common_steps)
 
 -- a home that is full has a slot left, as it may hold fewer rows than there are slots
 pub full_refused : (l : Limits) (next : ℕ) (s : Settings) (m : ℕ) (rows : List Row) (later : Option Refusal)
-    → next < last_serial → l.rows < slots → length rows ≤ l.rows → l.rows ≤ length (trimmed s m rows) → place_refusal l next (trimmed s m rows) later ≡ Some OverLimit
+    → next < last_serial → l.rows < slots → length rows ≤ l.rows → l.rows ≤ length (unexpired s m rows) → place_refusal l next (unexpired s m rows) later ≡ Some OverLimit
 full_refused l next s m rows later low fits within full =
-    let kept = few_trimmed s m rows l.rows within in
-    rw (above next last_serial low, above (length (trimmed s m rows)) slots (omega (arith, fits, kept)), upto l.rows (length (trimmed s m rows)) full) refl
+    let kept = few_unexpired s m rows l.rows within in
+    rw (above next last_serial low, above (length (unexpired s m rows)) slots (omega (arith, fits, kept)), upto l.rows (length (unexpired s m rows)) full) refl
 
 -- and one that is not full, with serials left, refuses no row
-pub place_left : (l : Limits) (next : ℕ) (s : Settings) (m : ℕ) (rows : List Row) → next < last_serial → l.rows < slots → length (trimmed s m rows) < l.rows → place_refusal l next (trimmed s m rows) None ≡ None
+pub place_left : (l : Limits) (next : ℕ) (s : Settings) (m : ℕ) (rows : List Row) → next < last_serial → l.rows < slots → length (unexpired s m rows) < l.rows → place_refusal l next (unexpired s m rows) None ≡ None
 place_left l next s m rows low fits room =
-    rw (above next last_serial low, above (length (trimmed s m rows)) slots (omega (arith, fits, room)), above (length (trimmed s m rows)) l.rows room) refl
+    rw (above next last_serial low, above (length (unexpired s m rows)) slots (omega (arith, fits, room)), above (length (unexpired s m rows)) l.rows room) refl

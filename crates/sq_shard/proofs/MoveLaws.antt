@@ -17,11 +17,12 @@ use Rattle.sq_model.specs.declared.item.Reason.TheVariants.{DeadLetter, Task}
 use Rattle.sq_model.specs.declared.replies.HomeReply.TheVariants.{Done, Entered}
 use Rattle.sq_model.specs.Homes.{Home, HomeStep, last_serial, slots, refused_if, may_enter, may_return, entered_row, entered_as, returned_row, returned_as}
 use Rattle.sq_model.specs.Homes.{Unopened as Never, Serving as Serves, Closed as Gone}
-use Rattle.sq_model.specs.Rows.{RisesFrom, Takes, trimmed}
-use Rattle.sq_model.proofs.RowLaws.{rises_weaker, rises_trimmed}
+use Rattle.sq_model.specs.Rows.{RisesFrom, Takes, unexpired}
+use Rattle.sq_model.proofs.RowLaws.{rises_weaker, rises_unexpired}
 use Rattle.sq_shard.specs.declared.shard.Status.{Status}
 use Rattle.sq_shard.specs.declared.shard.Status.TheVariants.{Unopened, Serving, Closed}
-use Rattle.sq_shard.specs.Moves.{IsNextOf, IsPut, HasRow, GoesWithout, coming_refusal}
+use Rattle.sq_shard.specs.Moves.{HasRow, GoesWithout, coming_refusal}
+use Rattle.sq_shard.specs.inside.Moves.{IsNextOf, IsPut}
 use Rattle.sq_slots.specs.Slots.{is_at}
 use Rattle.sq_shard.specs.ShardValue.{home_with}
 
@@ -102,17 +103,17 @@ over a b h = grind (arith, common_steps)
 below : (a b : ℕ) → nat_le b a ≡ false → a < b
 below a b h = grind (arith, common_steps, h)
 
-pub takes_one : (status : Status) (site : Site) (s : Settings) (v n m : ℕ) (rows : List Row) → coming_refusal site (home_with status s v n rows) m None ≡ None → TakesOne status site n (trimmed s m rows)
+pub takes_one : (status : Status) (site : Site) (s : Settings) (v n m : ℕ) (rows : List Row) → coming_refusal site (home_with status s v n rows) m None ≡ None → TakesOne status site n (unexpired s m rows)
 takes_one Unopened site s v n m rows h = absurd cc
 takes_one Closed site s v n m rows h = absurd cc
 takes_one Serving site s v n m rows h =
-    elim (nat_le last_serial n) as (λ a. nat_le last_serial n ≡ a → (if a || nat_le slots (length (trimmed s m rows)) then Some Worn else refused_if (nat_le site.limits.rows (length (trimmed s m rows))) OverLimit None) ≡ None → TakesOne Serving site n (trimmed s m rows)) [
+    elim (nat_le last_serial n) as (λ a. nat_le last_serial n ≡ a → (if a || nat_le slots (length (unexpired s m rows)) then Some Worn else refused_if (nat_le site.limits.rows (length (unexpired s m rows))) OverLimit None) ≡ None → TakesOne Serving site n (unexpired s m rows)) [
       | true ↦ (λ e k. absurd cc)
-      | false ↦ (λ e. elim (nat_le slots (length (trimmed s m rows))) as (λ b. nat_le slots (length (trimmed s m rows)) ≡ b → (if b then Some Worn else refused_if (nat_le site.limits.rows (length (trimmed s m rows))) OverLimit None) ≡ None → TakesOne Serving site n (trimmed s m rows)) [
+      | false ↦ (λ e. elim (nat_le slots (length (unexpired s m rows))) as (λ b. nat_le slots (length (unexpired s m rows)) ≡ b → (if b then Some Worn else refused_if (nat_le site.limits.rows (length (unexpired s m rows))) OverLimit None) ≡ None → TakesOne Serving site n (unexpired s m rows)) [
         | true ↦ (λ f k. absurd cc)
-        | false ↦ (λ f. elim (nat_le site.limits.rows (length (trimmed s m rows))) as (λ d. nat_le site.limits.rows (length (trimmed s m rows)) ≡ d → (if d then Some OverLimit else None) ≡ None → TakesOne Serving site n (trimmed s m rows)) [
+        | false ↦ (λ f. elim (nat_le site.limits.rows (length (unexpired s m rows))) as (λ d. nat_le site.limits.rows (length (unexpired s m rows)) ≡ d → (if d then Some OverLimit else None) ≡ None → TakesOne Serving site n (unexpired s m rows)) [
           | true ↦ (λ i k. absurd cc)
-          | false ↦ (λ i k. record { serves = refl; not_worn = below n last_serial e; slot_left = below (length (trimmed s m rows)) slots f; within = below (length (trimmed s m rows)) site.limits.rows i })
+          | false ↦ (λ i k. record { serves = refl; not_worn = below n last_serial e; slot_left = below (length (unexpired s m rows)) slots f; within = below (length (unexpired s m rows)) site.limits.rows i })
         ] refl)
       ] refl)
     ] refl h
@@ -123,7 +124,7 @@ place_later site Never m later h = absurd cc
 place_later site Gone m later h = absurd cc
 place_later site (Serves s v n rows) m later h =
     let takes = takes_one Serving site s v n m rows h in
-    rw (over n last_serial takes.not_worn, over (length (trimmed s m rows)) slots takes.slot_left, over (length (trimmed s m rows)) site.limits.rows takes.within) refl
+    rw (over n last_serial takes.not_worn, over (length (unexpired s m rows)) slots takes.slot_left, over (length (unexpired s m rows)) site.limits.rows takes.within) refl
 
 in_slot : (reason : Reason) (home : HomeId) (source serial slot m : ℕ) (row : Row) → record (entered_as reason home source serial 0 m row) { serial = serial; slot = slot } ≡ entered_as reason home source serial slot m row
 in_slot DeadLetter home source serial slot m row = refl
@@ -141,7 +142,7 @@ entered_at site Never m serial slot item after may next put = absurd next
 entered_at site Gone m serial slot item after may next put = absurd next
 entered_at site (Serves s v n rows) m serial slot item after may next put =
     let left : IsPut site (Serves s v n rows) m (entered_row site.home n 0 m item) slot after = subst (λ (k : ℕ). IsPut site (Serves s v n rows) m (entered_row site.home k 0 m item) slot after) next put in
-    rw next (may, put.0, refl, left.1 ∙ ap (λ (row : Row). Serves s v (n + 1) (trimmed s m rows ++ row ∷ [])) (in_slot item.reason site.home item.source n slot m item.row))
+    rw next (may, put.0, refl, left.1 ∙ ap (λ (row : Row). Serves s v (n + 1) (unexpired s m rows ++ row ∷ [])) (in_slot item.reason site.home item.source n slot m item.row))
 
 pub returned_at : (site : Site) (home : Home) (m serial slot : ℕ) (item : Item) (after : Home) → may_return site.home item ≡ true → IsNextOf home serial → IsPut site home m (returned_row serial 0 m item) slot after
     → HomeStep site home m (GiveBack item) (Entered (record { serial = serial; slot = slot })) after
@@ -150,7 +151,7 @@ returned_at site Never m serial slot item after may next put = absurd next
 returned_at site Gone m serial slot item after may next put = absurd next
 returned_at site (Serves s v n rows) m serial slot item after may next put =
     let left : IsPut site (Serves s v n rows) m (returned_row n 0 m item) slot after = subst (λ (k : ℕ). IsPut site (Serves s v n rows) m (returned_row k 0 m item) slot after) next put in
-    rw next (may, put.0, refl, left.1 ∙ ap (λ (row : Row). Serves s v (n + 1) (trimmed s m rows ++ row ∷ [])) (back_in_slot item.reason n slot m item.row))
+    rw next (may, put.0, refl, left.1 ∙ ap (λ (row : Row). Serves s v (n + 1) (unexpired s m rows ++ row ∷ [])) (back_in_slot item.reason n slot m item.row))
 
 pub turned_at : (site : Site) (home : Home) (m : ℕ) (item : Item) → home ≡ Gone → may_enter site.home item ≡ true → HomeStep site home m (TurnBack item) Done home
 unfolding HomeStep
@@ -167,9 +168,9 @@ pub record GoneOut (status : Status) (s : Settings) (v n m : ℕ) (rows rest : L
   pub without : GoesWithout (home_with status s v n rows) m row (home_with status s v n rest)
 
 pub gone_out : (status : Status) (s : Settings) (v n m : ℕ) (rows rest : List Row) (row taken : Row) → RisesFrom 0 rows n → HasRow (home_with status s v n rows) m row → is_at row.slot row.serial taken ≡ true
-    → Takes taken (trimmed s m rows) rest → GoneOut status s v n m rows rest row taken
+    → Takes taken (unexpired s m rows) rest → GoneOut status s v n m rows rest row taken
 gone_out Unopened s v n m rows rest row taken rises has at takes = absurd has
 gone_out Closed s v n m rows rest row taken rises has at takes = absurd has
 gone_out Serving s v n m rows rest row taken rises has at takes =
-    let same = taken_same (trimmed s m rows) rest n row taken (rises_trimmed s m 0 rows n rises) has takes at in
-    record { serves = refl; same = same; without = (rest, subst (λ (x : Row). Takes x (trimmed s m rows) rest) same takes, refl) }
+    let same = taken_same (unexpired s m rows) rest n row taken (rises_unexpired s m 0 rows n rises) has takes at in
+    record { serves = refl; same = same; without = (rest, subst (λ (x : Row). Takes x (unexpired s m rows) rest) same takes, refl) }

@@ -1,3 +1,5 @@
 pub mod ShardValue
 pub mod Looks
 pub mod Moves
+pub mod Calls
+pub mod inside

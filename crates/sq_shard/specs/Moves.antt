@@ -1,5 +1,5 @@
 -- Messages that leave a home or come in, as the home sees it.
-use Rattle.std.specs.Prelude.{◌≡◌, ℕ, ◌+◌, ◌≤◌, Bool, true, false, not, List, [], ◌∷◌, ◌++◌, Option, Some, None}
+use Rattle.std.specs.Prelude.{◌≡◌, ℕ, ◌+◌, ◌≤◌, Bool, true, false, not, List, Option, Some, None}
 use Rattle.std.specs.List.{Contains, list_any}
 use Rattle.sq_base.specs.declared.refusal.Refusal.{Refusal}
 use Rattle.sq_base.specs.declared.refusal.Refusal.TheVariants.{QueueDoesNotExist, UnsupportedOperation}
@@ -8,8 +8,8 @@ use Rattle.sq_model.specs.declared.calls.HomeCall.{HomeCall}
 use Rattle.sq_model.specs.declared.calls.HomeCall.TheVariants.{Send}
 use Rattle.sq_model.specs.declared.calls.HomeCall.TheVariants as call
 use Rattle.sq_model.specs.declared.place.Site.{Site}
-use Rattle.sq_model.specs.Homes.{Home, Unopened, Serving, Closed, HasPlace, dead_target, place_refusal, refused_if}
-use Rattle.sq_model.specs.Rows.{trimmed, is_dead, is_live, Takes}
+use Rattle.sq_model.specs.Homes.{Home, Unopened, Serving, Closed, dead_target, place_refusal, refused_if}
+use Rattle.sq_model.specs.Rows.{unexpired, is_dead, is_live, Takes}
 use Rattle.sq_model.specs.declared.item.Item.{Item}
 use Rattle.sq_model.specs.declared.shared.ItemAct.{ItemAct}
 use Rattle.sq_model.specs.declared.shared.ItemAct.TheVariants.{Enter, TurnBack, GiveBack, GiveUp}
@@ -18,19 +18,19 @@ use Rattle.sq_store.specs.Picked.{IsOneOf}
 
 -- a dead row of the home at m
 abbrev pub IsDeadAt : Home → ℕ → Row → Type 0
-IsDeadAt (Serving s v n rows) m row = IsOneOf (is_dead s m) (trimmed s m rows) row
+IsDeadAt (Serving s v n rows) m row = IsOneOf (is_dead s m) (unexpired s m rows) row
 IsDeadAt Unopened m row = ⊥
 IsDeadAt Closed m row = ⊥
 
 -- a live row of the home at m
 abbrev pub IsLiveAt : Home → ℕ → Row → Type 0
-IsLiveAt (Serving s v n rows) m row = IsOneOf (is_live s m) (trimmed s m rows) row
+IsLiveAt (Serving s v n rows) m row = IsOneOf (is_live s m) (unexpired s m rows) row
 IsLiveAt Unopened m row = ⊥
 IsLiveAt Closed m row = ⊥
 
 -- one is there
 abbrev pub has_live_row : Home → ℕ → Bool
-has_live_row (Serving s v n rows) m = list_any (is_live s m) (trimmed s m rows)
+has_live_row (Serving s v n rows) m = list_any (is_live s m) (unexpired s m rows)
 has_live_row Unopened m = false
 has_live_row Closed m = false
 
@@ -41,10 +41,10 @@ is_opened Unopened = false
 is_opened Closed = true
 
 -- without its expired rows
-abbrev pub trimmed_home : Home → ℕ → Home
-trimmed_home (Serving s v n rows) m = Serving s v n (trimmed s m rows)
-trimmed_home Unopened m = Unopened
-trimmed_home Closed m = Closed
+abbrev pub unexpired_home : Home → ℕ → Home
+unexpired_home (Serving s v n rows) m = Serving s v n (unexpired s m rows)
+unexpired_home Unopened m = Unopened
+unexpired_home Closed m = Closed
 
 -- the queue that a dead row leaves for
 abbrev pub target_at : Home → Option ℕ
@@ -54,22 +54,15 @@ target_at Closed = None
 
 -- the home has this row at m
 abbrev pub HasRow : Home → ℕ → Row → Type 0
-HasRow (Serving s v n rows) m row = Contains (trimmed s m rows) row
+HasRow (Serving s v n rows) m row = Contains (unexpired s m rows) row
 HasRow Unopened m row = ⊥
 HasRow Closed m row = ⊥
 
 -- the row goes out, and the others stay
 abbrev pub GoesWithout : Home → ℕ → Row → Home → Type 0
-GoesWithout (Serving s v n rows) m row after = (rest : List Row) × Takes row (trimmed s m rows) rest × (after ≡ Serving s v n rest)
+GoesWithout (Serving s v n rows) m row after = (rest : List Row) × Takes row (unexpired s m rows) rest × (after ≡ Serving s v n rest)
 GoesWithout Unopened m row after = ⊥
 GoesWithout Closed m row after = ⊥
-
--- a row is put last, with the next serial and this slot
-abbrev pub IsPut : Site → Home → ℕ → Row → ℕ → Home → Type 0
-IsPut site (Serving s v n rows) m row slot after =
-    HasPlace site.limits n slot (trimmed s m rows) × (after ≡ Serving s v (n + 1) (trimmed s m rows ++ record row { serial = n; slot = slot } ∷ []))
-IsPut site Unopened m row slot after = ⊥
-IsPut site Closed m row slot after = ⊥
 
 -- a row that comes in uses memory for one, and no other call does
 abbrev pub KeepsRowRoom : HomeCall → ℕ → ℕ → Type 0
@@ -85,15 +78,9 @@ PutsRow TurnBack = ⊥
 PutsRow GiveBack = Unit {0}
 PutsRow GiveUp = ⊥
 
--- the next serial of a home
-abbrev pub IsNextOf : Home → ℕ → Type 0
-IsNextOf (Serving s v n rows) serial = serial ≡ n
-IsNextOf Unopened serial = ⊥
-IsNextOf Closed serial = ⊥
-
 -- why a home takes no row at m
 abbrev pub coming_refusal : Site → Home → ℕ → Option Refusal → Option Refusal
-coming_refusal site (Serving s v n rows) m later = place_refusal site.limits n (trimmed s m rows) later
+coming_refusal site (Serving s v n rows) m later = place_refusal site.limits n (unexpired s m rows) later
 coming_refusal site Unopened m later = Some QueueDoesNotExist
 coming_refusal site Closed m later = Some QueueDoesNotExist
 

@@ -5,7 +5,7 @@ ghost use Rattle.sq_model.specs.declared.replies.HomeReply.TheVariants.{Entered}
 ghost use Rattle.sq_model.specs.Homes.{HomeStep, IsIdle, home_refusal, may_enter, may_return};
 ghost use Rattle.sq_model.specs.ItemActs.{call_with, is_its, may_act, replied_by};
 ghost use Rattle.sq_model.specs.Homes.{Closed as Gone};
-ghost use Rattle.sq_shard.specs.Moves.{IsDeadAt, IsLiveAt, HasRow, GoesWithout, IsFor, KeepsRowRoom, PutsRow, has_live_row, is_opened, target_at, trimmed_home, coming_refusal, closed_refusal, item_refusal};
+ghost use Rattle.sq_shard.specs.Moves.{IsDeadAt, IsLiveAt, HasRow, GoesWithout, IsFor, KeepsRowRoom, PutsRow, has_live_row, is_opened, target_at, unexpired_home, coming_refusal, closed_refusal, item_refusal};
 
 use crate::made;
 use crate::shard::{Shard, Status};
@@ -69,14 +69,14 @@ impl<S: Store> Shard<S> {
     }
 
     /// Lets go of the messages past their retention, and changes nothing else.
-    #[tactic(auto, using(sq_model::proofs::RowLaws::rises_trimmed, crate::proofs::Few::few_trimmed))]
-    pub fn trim(&mut self, moment: u64)
-        ensures home { self.new.home ≡ trimmed_home self.old.home moment }
+    #[tactic(auto, using(sq_model::proofs::RowLaws::rises_unexpired, crate::proofs::Few::few_unexpired))]
+    pub fn expire(&mut self, moment: u64)
+        ensures home { self.new.home ≡ unexpired_home self.old.home moment }
         ensures site { self.new.site ≡ self.old.site }
         ensures room { self.new.room ≡ self.old.room }
     {
         let settings = self.settings;
-        self.store.trim(&At { settings, moment });
+        self.store.expire(&At { settings, moment });
     }
 
     /// The queue that dead messages leave for.
@@ -99,7 +99,7 @@ impl<S: Store> Shard<S> {
     {
         let settings = self.settings;
         let at = At { settings, moment };
-        self.store.trim(&at);
+        self.store.expire(&at);
         match self.store.take_out(row.slot, row.serial) {
             Some(row) => row,
             None => unreachable!(),

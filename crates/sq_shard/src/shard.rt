@@ -4,10 +4,12 @@ ghost use Rattle.sq_base.specs.Stamps.{stamp_end};
 ghost use Rattle.sq_model.specs.Homes.{HomeStep, home_refusal};
 ghost use Rattle.sq_model.specs.Homes.{Unopened as Never, Closed as Gone};
 ghost use Rattle.sq_model.specs.declared.calls.HomeCall.TheVariants.{Configure, Close, Send, Look, Delete, Change, Purge, Count};
-ghost use Rattle.sq_model.specs.declared.replies.HomeReply.TheVariants.{Done, Sent, Counted};
+ghost use Rattle.sq_model.specs.declared.replies.HomeReply.TheVariants.{Sent, Counted};
 ghost use Rattle.sq_base.specs.declared.refusal.Refusal.{Refusal as Refused};
+ghost use Rattle.sq_shard.specs.Calls.{IsDoneOrRefused};
 ghost use Rattle.sq_shard.specs.Looks.{look_reply, look_after, GivesAny, GivesRows, MayBeGiven};
-ghost use Rattle.sq_shard.specs.Moves.{IsPut, coming_refusal};
+ghost use Rattle.sq_shard.specs.Moves.{coming_refusal};
+ghost use Rattle.sq_shard.specs.inside.Moves.{IsPut};
 ghost use Rattle.sq_model.specs.Rows.{ms};
 
 use crate::made;
@@ -56,7 +58,7 @@ pub(crate) enum Status {
 
 /// One home of a queue, over a store of its rows. Moments are in ms, below 2^62.
 ///
-/// A call that is refused leaves the home as it was, without a trim. It shows for how many rows more there was memory when the
+/// A call that is refused leaves the home as it was, and drops nothing that has expired. It shows for how many rows more there was memory when the
 /// last one came in, at least.
 #[derive(Drop)]
 pub struct Shard<S: Store> {
@@ -110,18 +112,14 @@ impl<S: Store> Shard<S> {
 
     /// Takes settings whose version is above its own; opens a home that was never opened.
     /// Refused as QueueDoesNotExist where the home is closed.
-    #[tactic(auto, unfolding(sq_model::specs::Homes::HomeStep, sq_model::specs::Homes::home_refusal), using(sq_model::proofs::RowLaws::rises_trimmed, crate::proofs::Few::few_trimmed))]
+    #[tactic(auto, unfolding(sq_model::specs::Homes::HomeStep, sq_model::specs::Homes::home_refusal), using(sq_model::proofs::RowLaws::rises_unexpired, crate::proofs::Few::few_unexpired))]
     pub fn configure(
         &mut self,
         moment: u64,
         settings: Settings,
         version: u64,
     ) -> Result<(), Refusal>
-        ensures step { OnOk result (HomeStep self.old.site self.old.home moment (Configure settings version) Done self.new.home) }
-        ensures site { self.new.site ≡ self.old.site }
-        ensures room { self.new.room ≡ self.old.room }
-        ensures refusal { IfErr result (λ e. home_refusal self.old.site self.old.home moment (Configure settings version) ≡ Some e) }
-        ensures err { OnErr result (self.new ≡ self.old) }
+        ensures { IsDoneOrRefused (Configure settings version) moment self.old self.new result }
     {
         match self.status {
             Status::Unopened => {
@@ -132,7 +130,7 @@ impl<S: Store> Shard<S> {
                 Ok(())
             }
             Status::Serving => {
-                self.store.trim(&At {
+                self.store.expire(&At {
                     settings: self.settings,
                     moment,
                 });
@@ -149,7 +147,7 @@ impl<S: Store> Shard<S> {
     /// Puts a message last; without a delay the home's is taken.
     /// Refused as QueueDoesNotExist (not serving), Worn (no serial is left), OverLimit (full), NoMemory (it shows room for no
     /// row).
-    #[tactic(auto, unfolding(sq_model::specs::Homes::HomeStep, sq_model::specs::Homes::home_refusal), using(sq_model::proofs::RowLaws::rises_trimmed, crate::proofs::Few::few_trimmed, sq_model::proofs::RowLaws::rises_push, crate::proofs::Few::few_pushed, crate::proofs::Few::full_refused, crate::proofs::Few::place_left))]
+    #[tactic(auto, unfolding(sq_model::specs::Homes::HomeStep, sq_model::specs::Homes::home_refusal), using(sq_model::proofs::RowLaws::rises_unexpired, crate::proofs::Few::few_unexpired, sq_model::proofs::RowLaws::rises_push, crate::proofs::Few::few_pushed, crate::proofs::Few::full_refused, crate::proofs::Few::place_left))]
     pub fn send(
         &mut self,
         moment: u64,
@@ -203,7 +201,7 @@ impl<S: Store> Shard<S> {
     {
         make_room(&mut self.store, self.room)?;
         let settings = self.settings;
-        self.store.trim(&At { settings, moment });
+        self.store.expire(&At { settings, moment });
         let mut row = row;
         row.serial = self.next;
         let slot = self.store.insert(row);
@@ -217,7 +215,7 @@ impl<S: Store> Shard<S> {
     /// What a look at this moment gives, as it stands after it, and nothing is changed yet: up to `max` messages, which are none
     /// where none is live; `None` where live messages are there and too many are in flight.
     /// Refused as QueueDoesNotExist (not serving), NoMemory (where it gives a message).
-    #[tactic(auto, unfolding(sq_model::specs::Homes::HomeStep, sq_model::specs::Homes::home_refusal), using(sq_model::proofs::RowLaws::rises_trimmed, crate::proofs::Few::few_trimmed, sq_model::proofs::RowLaws::rises_received, crate::proofs::Few::few_mapped, crate::proofs::LookLaws::nothing_given))]
+    #[tactic(auto, unfolding(sq_model::specs::Homes::HomeStep, sq_model::specs::Homes::home_refusal), using(sq_model::proofs::RowLaws::rises_unexpired, crate::proofs::Few::few_unexpired, sq_model::proofs::RowLaws::rises_received, crate::proofs::Few::few_mapped, crate::proofs::LookLaws::nothing_given))]
     pub fn choose(
         &self,
         alloc: Global,
@@ -241,8 +239,8 @@ impl<S: Store> Shard<S> {
         if !self.store.has_live(&at) {
             return Ok(Some(Rows::none()));
         }
-        let flying = self.store.count_flying(&at);
-        let room = (self.site.limits.flights as usize).saturating_sub(flying);
+        let in_flight = self.store.count_in_flight(&at);
+        let room = (self.site.limits.flights as usize).saturating_sub(in_flight);
         if room == 0 {
             return Ok(None);
         }
@@ -254,7 +252,7 @@ impl<S: Store> Shard<S> {
 
     /// Trims, and receives the live rows that were chosen; without a timeout the home's is taken. A home that does not serve
     /// stays as it was.
-    #[tactic(auto, using(sq_model::proofs::RowLaws::rises_trimmed, crate::proofs::Few::few_trimmed, sq_model::proofs::RowLaws::rises_received, crate::proofs::Few::few_mapped))]
+    #[tactic(auto, using(sq_model::proofs::RowLaws::rises_unexpired, crate::proofs::Few::few_unexpired, sq_model::proofs::RowLaws::rises_received, crate::proofs::Few::few_mapped))]
     pub fn give(&mut self, moment: u64, timeout: Option<Timeout>, picked: &Option<Rows>)
         requires moment { moment < stamp_end }
         requires picked { MayBeGiven self.old.home moment picked.now }
@@ -267,7 +265,7 @@ impl<S: Store> Shard<S> {
         };
         let settings = self.settings;
         let at = At { settings, moment };
-        self.store.trim(&at);
+        self.store.expire(&at);
         let until = after_seconds(moment, timeout.unwrap_or(self.settings.timeout).get());
         match picked {
             Some(picked) => self.store.receive(&at, picked.as_slice(), until),
@@ -299,13 +297,9 @@ impl<S: Store> Shard<S> {
 
     /// Takes out the row on which slot, serial and receive number agree; where there is none it is done too.
     /// Refused as QueueDoesNotExist (not serving), ReceiptHandleIsInvalid (a serial that was never given).
-    #[tactic(auto, unfolding(sq_model::specs::Homes::HomeStep, sq_model::specs::Homes::home_refusal), using(sq_model::proofs::RowLaws::rises_trimmed, crate::proofs::Few::few_trimmed, sq_model::proofs::RowLaws::rises_without, crate::proofs::Few::few_without))]
+    #[tactic(auto, unfolding(sq_model::specs::Homes::HomeStep, sq_model::specs::Homes::home_refusal), using(sq_model::proofs::RowLaws::rises_unexpired, crate::proofs::Few::few_unexpired, sq_model::proofs::RowLaws::rises_without, crate::proofs::Few::few_without))]
     pub fn delete(&mut self, moment: u64, receipt: Receipt) -> Result<(), Refusal>
-        ensures step { OnOk result (HomeStep self.old.site self.old.home moment (Delete receipt) Done self.new.home) }
-        ensures site { self.new.site ≡ self.old.site }
-        ensures room { self.new.room ≡ self.old.room }
-        ensures refusal { IfErr result (λ e. home_refusal self.old.site self.old.home moment (Delete receipt) ≡ Some e) }
-        ensures err { OnErr result (self.new ≡ self.old) }
+        ensures { IsDoneOrRefused (Delete receipt) moment self.old self.new result }
     {
         let Status::Serving = self.status else {
             return Err(Refusal::QueueDoesNotExist);
@@ -314,7 +308,7 @@ impl<S: Store> Shard<S> {
             return Err(Refusal::ReceiptHandleIsInvalid);
         }
         let settings = self.settings;
-        self.store.trim(&At { settings, moment });
+        self.store.expire(&At { settings, moment });
         self.store.take(&receipt);
         Ok(())
     }
@@ -324,14 +318,10 @@ impl<S: Store> Shard<S> {
     /// Refused as QueueDoesNotExist (not serving), ReceiptHandleIsInvalid (a serial that was never given),
     /// MessageNotInflight (no row in flight on which slot, serial and receive number agree), InvalidParameterValue
     /// (later than these 12 hours).
-    #[tactic(auto, unfolding(sq_model::specs::Homes::HomeStep, sq_model::specs::Homes::home_refusal), using(sq_model::proofs::RowLaws::rises_trimmed, crate::proofs::Few::few_trimmed, sq_model::proofs::RowLaws::rises_changed, crate::proofs::Few::few_mapped))]
+    #[tactic(auto, unfolding(sq_model::specs::Homes::HomeStep, sq_model::specs::Homes::home_refusal), using(sq_model::proofs::RowLaws::rises_unexpired, crate::proofs::Few::few_unexpired, sq_model::proofs::RowLaws::rises_changed, crate::proofs::Few::few_mapped))]
     pub fn change(&mut self, moment: u64, receipt: Receipt, timeout: Timeout) -> Result<(), Refusal>
         requires { moment < stamp_end }
-        ensures step { OnOk result (HomeStep self.old.site self.old.home moment (Change receipt timeout) Done self.new.home) }
-        ensures site { self.new.site ≡ self.old.site }
-        ensures room { self.new.room ≡ self.old.room }
-        ensures refusal { IfErr result (λ e. home_refusal self.old.site self.old.home moment (Change receipt timeout) ≡ Some e) }
-        ensures err { OnErr result (self.new ≡ self.old) }
+        ensures { IsDoneOrRefused (Change receipt timeout) moment self.old self.new result }
     {
         let Status::Serving = self.status else {
             return Err(Refusal::QueueDoesNotExist);
@@ -348,7 +338,7 @@ impl<S: Store> Shard<S> {
             return Err(Refusal::InvalidParameterValue);
         }
         let until = after_seconds(moment, timeout.get());
-        self.store.trim(&at);
+        self.store.expire(&at);
         self.store.change(&receipt, moment, until);
         Ok(())
     }
@@ -357,11 +347,7 @@ impl<S: Store> Shard<S> {
     /// Refused as QueueDoesNotExist (not serving).
     #[tactic(auto, unfolding(sq_model::specs::Homes::HomeStep, sq_model::specs::Homes::home_refusal))]
     pub fn purge(&mut self, moment: u64) -> Result<(), Refusal>
-        ensures step { OnOk result (HomeStep self.old.site self.old.home moment Purge Done self.new.home) }
-        ensures site { self.new.site ≡ self.old.site }
-        ensures room { self.new.room ≡ self.old.room }
-        ensures refusal { IfErr result (λ e. home_refusal self.old.site self.old.home moment Purge ≡ Some e) }
-        ensures err { OnErr result (self.new ≡ self.old) }
+        ensures { IsDoneOrRefused Purge moment self.old self.new result }
     {
         if let Status::Closed | Status::Unopened = self.status {
             return Err(Refusal::QueueDoesNotExist);
@@ -372,7 +358,7 @@ impl<S: Store> Shard<S> {
 
     /// How many messages are visible, in flight and delayed.
     /// Refused as QueueDoesNotExist (not serving).
-    #[tactic(auto, unfolding(sq_model::specs::Homes::HomeStep, sq_model::specs::Homes::home_refusal), using(sq_model::proofs::RowLaws::rises_trimmed, crate::proofs::Few::few_trimmed))]
+    #[tactic(auto, unfolding(sq_model::specs::Homes::HomeStep, sq_model::specs::Homes::home_refusal), using(sq_model::proofs::RowLaws::rises_unexpired, crate::proofs::Few::few_unexpired))]
     pub fn count(&mut self, moment: u64) -> Result<Counts, Refusal>
         ensures step { IfOk result (λ counts. HomeStep self.old.site self.old.home moment Count (Counted counts) self.new.home) }
         ensures site { self.new.site ≡ self.old.site }
@@ -384,7 +370,7 @@ impl<S: Store> Shard<S> {
             return Err(Refusal::QueueDoesNotExist);
         };
         let settings = self.settings;
-        self.store.trim(&At { settings, moment });
+        self.store.expire(&At { settings, moment });
         Ok(self.store.count(moment))
     }
 
@@ -392,11 +378,7 @@ impl<S: Store> Shard<S> {
     /// Refused as QueueDoesNotExist (closed already).
     #[tactic(auto, unfolding(sq_model::specs::Homes::HomeStep, sq_model::specs::Homes::home_refusal))]
     pub fn close(&mut self, moment: u64) -> Result<(), Refusal>
-        ensures step { OnOk result (HomeStep self.old.site self.old.home moment Close Done self.new.home) }
-        ensures site { self.new.site ≡ self.old.site }
-        ensures room { self.new.room ≡ self.old.room }
-        ensures refusal { IfErr result (λ e. home_refusal self.old.site self.old.home moment Close ≡ Some e) }
-        ensures err { OnErr result (self.new ≡ self.old) }
+        ensures { IsDoneOrRefused Close moment self.old self.new result }
     {
         if let Status::Closed = self.status {
             return Err(Refusal::QueueDoesNotExist);

@@ -6,7 +6,7 @@ use Rattle.std.proofs.lemmas.Grind.{common_steps}
 use Rattle.std.proofs.lemmas.List.Elements.{All-head, All-tail}
 pub use Rattle.slab.proofs.SlabLemmas.{Contains-cons, Contains-cons_cases}
 use Rattle.sq_base.specs.declared.row.Row.{Row}
-use Rattle.sq_slots.specs.Slots.{HaveOwnSlots, SerialsRise, is_in, with_row}
+use Rattle.sq_slots.specs.Slots.{SerialsRise, with_row}
 
 pub contains_first : {X : Type 0} (x : X) (xs : List X) → Contains (x ∷ xs) x
 contains_first x xs = (0, omega arith, refl)
@@ -196,16 +196,3 @@ rise_with low row (r ∷ rs) le h new =
     ] refl
 
 -- ---- rows of a table, the first and those after it
-
-pub own_serial : (low : ℕ) (row : Row) (rows : List Row) → SerialsRise low (row ∷ rows) → list_any (λ r. r.serial == row.serial) rows ≡ false
-own_serial low row rows h = any_is_found (λ (r : Row). r.serial == row.serial) rows ∙ ap is_some (none_found (λ (r : Row). r.serial == row.serial) rows
-    (λ r there. is_other r.serial row.serial (λ same. let above = not_below (row.serial + 1) rows r h.1 there in absurd (omega (arith, above, same)))))
-
-pub own_slot : (low : ℕ) (row : Row) (rows : List Row) → SerialsRise low (row ∷ rows) → HaveOwnSlots (row ∷ rows) → list_any (is_in row.slot) rows ≡ false
-own_slot low row rows h own = any_is_found (is_in row.slot) rows ∙ ap is_some (none_found (is_in row.slot) rows (λ r there. is_other r.slot row.slot (λ same.
-    let above = not_below (row.serial + 1) rows r h.1 there in
-    let one = own r row (Contains-cons row r rows there) (contains_first row rows) same in
-    absurd (omega (arith, above, ap (λ (x : Row). x.serial) one)))))
-
-pub own_slots_later : (row : Row) (rows : List Row) → HaveOwnSlots (row ∷ rows) → HaveOwnSlots rows
-own_slots_later row rows own r other there too e = own r other (Contains-cons row r rows there) (Contains-cons row other rows too) e

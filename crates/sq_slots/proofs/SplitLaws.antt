@@ -1,11 +1,12 @@
 -- The rows before and after the one of a slot, and what becomes of them where it goes out or changes.
-use Rattle.std.proofs.Common.{◌≡◌, ◌≢◌, ◌∙◌, ℕ, ◌+◌, ◌<◌, ◌≤◌, Bool, true, false, not, cond, List, [], ◌∷◌, ◌++◌, length, filter, map, Option, Some, None, Contains, refl, sym, ap, subst, arith}
-use Rattle.std.specs.Prelude.{◌&&◌, ◌==◌, find, if◌then◌else◌}
+use Rattle.std.proofs.Common.{◌≡◌, ◌≢◌, ◌∙◌, ℕ, ◌+◌, true, false, cond, List, [], ◌∷◌, ◌++◌, filter, map, Some, None, Contains, refl, sym, ap, subst, arith}
+use Rattle.std.specs.Prelude.{find, if◌then◌else◌}
 use Rattle.std.specs.List.{All}
 use Rattle.std.proofs.lemmas.Grind.{common_steps}
 use Rattle.std.proofs.lemmas.List.Elements.{All-contains_itself, All-cons, All-weaker}
 use Rattle.slab.proofs.SlabLemmas.{Contains-cons}
 use Rattle.sq_base.specs.declared.row.Row.{Row}
+use Rattle.sq_slots.specs.declared.table.Delivery.{Delivery}
 use Rattle.sq_slots.specs.Slots.{HaveOwnSlots, IsBetween, SerialsRise, is_at, is_away, updated, updated_at}
 use Rattle.sq_slots.proofs.RowLists.{contains_first, is_other, not_below}
 
@@ -15,19 +16,16 @@ not_at slot serial row other = rw (is_other row.slot slot other) refl
 at_slot : (slot serial : ℕ) (row : Row) → is_at slot serial row ≡ true → row.slot ≡ slot
 at_slot slot serial row h = grind (arith, common_steps, h)
 
-at_serial : (slot serial : ℕ) (row : Row) → is_at slot serial row ≡ true → row.serial ≡ serial
-at_serial slot serial row h = grind (arith, common_steps, h)
-
 -- none of other slots goes out
 all_stay : (slot serial : ℕ) (rows : List Row) → ((r : Row) → Contains rows r → r.slot ≢ slot) → filter (is_away slot serial) rows ≡ rows
 all_stay slot serial [] others = refl
 all_stay slot serial (r ∷ rs) others = rw (not_at slot serial r (others r (contains_first r rs))) (ap (λ (xs : List Row). r ∷ xs) (all_stay slot serial rs (λ x there. others x (Contains-cons r x rs there))))
 
 -- and none changes
-all_same : (slot serial receives visible_from : ℕ) (last_receive : Option ℕ) (rows : List Row) → ((r : Row) → Contains rows r → r.slot ≢ slot) → map (updated_at slot serial receives visible_from last_receive) rows ≡ rows
-all_same slot serial receives visible_from last_receive [] others = refl
-all_same slot serial receives visible_from last_receive (r ∷ rs) others =
-    rw (not_at slot serial r (others r (contains_first r rs))) (ap (λ (xs : List Row). r ∷ xs) (all_same slot serial receives visible_from last_receive rs (λ x there. others x (Contains-cons r x rs there))))
+all_same : (slot serial : ℕ) (delivery : Delivery) (rows : List Row) → ((r : Row) → Contains rows r → r.slot ≢ slot) → map (updated_at slot serial delivery) rows ≡ rows
+all_same slot serial delivery [] others = refl
+all_same slot serial delivery (r ∷ rs) others =
+    rw (not_at slot serial r (others r (contains_first r rs))) (ap (λ (xs : List Row). r ∷ xs) (all_same slot serial delivery rs (λ x there. others x (Contains-cons r x rs there))))
 
 all_of : (P : Row → Type 0) (rows : List Row) → ((r : Row) → Contains rows r → P r) → All P rows
 all_of P rows h = All-weaker (Contains rows) P h rows (All-contains_itself rows)
@@ -49,7 +47,7 @@ first_is_it slot serial low r rs rise own is =
       slot_is = here;
       others = all_of (λ (x : Row). x.slot ≢ slot) rs others;
       away = rw is (all_stay slot serial rs others);
-      changed = λ receives visible_from last_receive. rw is (ap (λ (xs : List Row). updated receives visible_from last_receive r ∷ xs) (all_same slot serial receives visible_from last_receive rs others));
+      changed = λ delivery. rw is (ap (λ (xs : List Row). updated delivery r ∷ xs) (all_same slot serial delivery rs others));
     }
 
 -- a row before it
@@ -65,7 +63,7 @@ one_before slot serial r rs row other s =
       slot_is = s.slot_is;
       others = All-cons (λ (x : Row). x.slot ≢ slot) r (s.before ++ s.after) other s.others;
       away = rw no (ap (λ (xs : List Row). r ∷ xs) s.away);
-      changed = λ receives visible_from last_receive. rw no (ap (λ (xs : List Row). r ∷ xs) (s.changed receives visible_from last_receive));
+      changed = λ delivery. rw no (ap (λ (xs : List Row). r ∷ xs) (s.changed delivery));
     }
 
 pub stands_between : (slot serial low : ℕ) (rows : List Row) (row : Row) → SerialsRise low rows → HaveOwnSlots rows → find (is_at slot serial) rows ≡ Some row → IsBetween slot serial rows row
@@ -83,10 +81,10 @@ stands_between slot serial low (r ∷ rs) row rise own h =
     ] refl h
 
 -- where no row is of this slot and serial none changes
-pub none_changes : (slot serial receives visible_from : ℕ) (last_receive : Option ℕ) (rows : List Row) → find (is_at slot serial) rows ≡ None → map (updated_at slot serial receives visible_from last_receive) rows ≡ rows
-none_changes slot serial receives visible_from last_receive [] h = refl
-none_changes slot serial receives visible_from last_receive (r ∷ rs) h =
-    elim (is_at slot serial r) as (λ b. cond b (Some r) (find (is_at slot serial) rs) ≡ None → (if b then updated receives visible_from last_receive r else r) ∷ map (updated_at slot serial receives visible_from last_receive) rs ≡ r ∷ rs) [
+pub none_changes : (slot serial : ℕ) (delivery : Delivery) (rows : List Row) → find (is_at slot serial) rows ≡ None → map (updated_at slot serial delivery) rows ≡ rows
+none_changes slot serial delivery [] h = refl
+none_changes slot serial delivery (r ∷ rs) h =
+    elim (is_at slot serial r) as (λ b. cond b (Some r) (find (is_at slot serial) rs) ≡ None → (if b then updated delivery r else r) ∷ map (updated_at slot serial delivery) rs ≡ r ∷ rs) [
       | true ↦ (λ found. absurd cc)
-      | false ↦ (λ found. ap (λ (xs : List Row). r ∷ xs) (none_changes slot serial receives visible_from last_receive rs found))
+      | false ↦ (λ found. ap (λ (xs : List Row). r ∷ xs) (none_changes slot serial delivery rs found))
     ] h

@@ -8,6 +8,7 @@ use Rattle.std.proofs.lemmas.List.Sums.{sum_by-cons}
 use Rattle.slab.proofs.SlabLemmas.{Contains-cons, Updates-with_value}
 use Rattle.slab.specs.Slab.{ContainsKey, Slab, Updates, get, slab_len, values, with_value}
 use Rattle.sq_base.specs.declared.row.Row.{Row}
+use Rattle.sq_slots.specs.declared.table.Delivery.{Delivery}
 use Rattle.sq_slots.specs.Slots.{AreApart, HaveOwnSlots, IsTable, SerialsRise, by_serial, in_slot, is_at, is_away, is_in, updated, updated_at}
 use Rattle.sq_slots.proofs.RowLists.{any_is_found, contains_first, filter_is_kept, is_other, is_same, is_this, kept_is_there, length-with_row, map_is_kept, none_found, one_found, rise_kept, rise_last, rise_with, same_rows, there_is_kept, with_row_cases, with_row_has}
 
@@ -131,6 +132,19 @@ found_at table h slot serial = found_one table h slot serial ∙ elim (get table
 
 pub any_at : (table : Slab Row) → IsTable table → (slot serial : ℕ) → list_any (is_at slot serial) (rows_of table) ≡ is_some (passing (λ row. row.serial == serial) (get table slot))
 any_at table h slot serial = any_is_found (is_at slot serial) (rows_of table) ∙ ap is_some (found_at table h slot serial)
+
+-- a row in its slot is found where its serial is this one
+pub found_where : (table : Slab Row) → IsTable table → (slot serial : ℕ) (row : Row) (same : Bool) → get table slot ≡ Some row → (row.serial == serial) ≡ same
+    → find (is_at slot serial) (rows_of table) ≡ (if same then Some row else None)
+found_where table h slot serial row same there is = rw (found_at table h slot serial, there, is) refl
+
+pub any_where : (table : Slab Row) → IsTable table → (slot serial : ℕ) (row : Row) (same : Bool) → get table slot ≡ Some row → (row.serial == serial) ≡ same
+    → list_any (is_at slot serial) (rows_of table) ≡ same
+any_where table h slot serial row same there is = any_is_found (is_at slot serial) (rows_of table) ∙ ap is_some (found_where table h slot serial row same there is) ∙ some_if same
+  where
+    some_if : (b : Bool) → is_some (if b then Some row else None) ≡ b
+    some_if true = refl
+    some_if false = refl
 
 -- ---- a row comes in
 
@@ -265,15 +279,15 @@ module _ (old new : Slab Row) (h : IsTable old) (slot serial : ℕ) (left : Opti
 
 -- ---- a row changes
 
-module _ (slot serial receives visible_from : ℕ) (last_receive : Option ℕ) where
+module _ (slot serial : ℕ) (delivery : Delivery) where
   abbrev change : Row → Row
-  change row = updated_at slot serial receives visible_from last_receive row
+  change row = updated_at slot serial delivery row
 
   abbrev changed : Row → Option Row
   changed row = Some (change row)
 
   change_keeps : (row : Row) → ((change row).slot ≡ row.slot) × ((change row).serial ≡ row.serial)
-  change_keeps row = elim (is_at slot serial row) as (λ b. ((if b then updated receives visible_from last_receive row else row).slot ≡ row.slot) × ((if b then updated receives visible_from last_receive row else row).serial ≡ row.serial)) [
+  change_keeps row = elim (is_at slot serial row) as (λ b. ((if b then updated delivery row else row).slot ≡ row.slot) × ((if b then updated delivery row else row).serial ≡ row.serial)) [
     | true ↦ (refl, refl)
     | false ↦ (refl, refl)
   ]
@@ -294,7 +308,7 @@ module _ (slot serial receives visible_from : ℕ) (last_receive : Option ℕ) w
 
     module _ (row : Row) (there : get table slot ≡ Some row) where
       -- the row that is there is updated where its serial is this one
-      pub is_updated : (row.serial == serial) ≡ true → updated receives visible_from last_receive row ≡ change row
+      pub is_updated : (row.serial == serial) ≡ true → updated delivery row ≡ change row
       is_updated same = rw (serial_decides table h slot serial row there, same) refl
 
       -- and else it is left as it was

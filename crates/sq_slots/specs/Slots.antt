@@ -1,8 +1,9 @@
 -- Rows in slots, seen by rising serial. Own.
-use Rattle.std.specs.Prelude.{◌≡◌, ◌≢◌, ℕ, ◌+◌, ◌-◌, ◌≤◌, Bool, true, not, ◌&&◌, ◌==◌, nat_le, nat_lt, List, [], ◌∷◌, ◌++◌, filter, map, Option, Some, if◌then◌else◌}
+use Rattle.std.specs.Prelude.{◌≡◌, ◌≢◌, ℕ, ◌+◌, ◌-◌, ◌≤◌, Bool, true, not, ◌&&◌, ◌==◌, nat_le, nat_lt, List, [], ◌∷◌, ◌++◌, filter, map, Some, if◌then◌else◌}
 use Rattle.std.specs.List.{All, Contains}
 use Rattle.slab.specs.Slab.{Slab, get, slab_len, values}
 use Rattle.sq_base.specs.declared.row.Row.{Row}
+use Rattle.sq_slots.specs.declared.table.Delivery.{Delivery}
 
 -- the rows by rising serial, the slot of the next row, and for how many more rows there is memory
 pub record TableValue : Type 0 where
@@ -51,12 +52,12 @@ abbrev pub is_away : ℕ → ℕ → Row → Bool
 is_away slot serial row = not (is_at slot serial row)
 
 -- a row after it was received, or hidden until another moment
-abbrev pub updated : ℕ → ℕ → Option ℕ → Row → Row
-updated receives visible_from last_receive row = record row { receives = receives; visible_from = visible_from; last_receive = last_receive }
+abbrev pub updated : Delivery → Row → Row
+updated delivery row = record row { receives = delivery.receives; visible_from = delivery.visible_from; last_receive = delivery.last_receive }
 
 -- the row of this slot and this serial so changed, and another as it is
-abbrev pub updated_at : ℕ → ℕ → ℕ → ℕ → Option ℕ → Row → Row
-updated_at slot serial receives visible_from last_receive row = if is_at slot serial row then updated receives visible_from last_receive row else row
+abbrev pub updated_at : ℕ → ℕ → Delivery → Row → Row
+updated_at slot serial delivery row = if is_at slot serial row then updated delivery row else row
 
 -- the row of a slot and a serial stands between others, of other slots
 pub record IsBetween (slot serial : ℕ) (rows : List Row) (row : Row) : Type 0 where
@@ -68,7 +69,7 @@ pub record IsBetween (slot serial : ℕ) (rows : List Row) (row : Row) : Type 0 
   pub slot_is : row.slot ≡ slot
   pub others : All (λ (r : Row). r.slot ≢ slot) (before ++ after)
   pub away : filter (is_away slot serial) rows ≡ before ++ after
-  pub changed : (receives visible_from : ℕ) (last_receive : Option ℕ) → map (updated_at slot serial receives visible_from last_receive) rows ≡ before ++ updated receives visible_from last_receive row ∷ after
+  pub changed : (delivery : Delivery) → map (updated_at slot serial delivery) rows ≡ before ++ updated delivery row ∷ after
 
 -- for how many more rows there is memory, where all slots are below 2^32
 abbrev pub reserved_of : Slab Row → ℕ

@@ -10,6 +10,14 @@ use sq_base::row::Row;
 use std::alloc::Global;
 use std::marker::Model;
 
+/// The receive number of a row, the moment in ms from which it is visible, and that of its last receive.
+#[derive(Clone, Copy, Debug)]
+pub struct Delivery {
+    pub receives: u32,
+    pub visible_from: u64,
+    pub last_receive: Option<u64>,
+}
+
 /// Rows in slots, seen in the order of their serials. A slot is used again once its row is taken out; the serial tells its
 /// rows apart.
 #[derive(Drop)]
@@ -116,22 +124,14 @@ impl SlotTable {
         ensures row { option_copied result ≡ find (is_in slot) self.now.rows }
         ensures apart { AreApart self.now.rows }
     {
-        let place = slot as usize;
-        self.rows.get(place)
+        let index = slot as usize;
+        self.rows.get(index)
     }
 
-    /// Sets the receive number of the row of a slot and a serial, the moment in ms from which it is visible, and that of its
-    /// last receive; whether it is there.
-    pub fn update(
-        &mut self,
-        slot: u32,
-        serial: Serial,
-        receives: u32,
-        visible_from: u64,
-        last_receive: Option<u64>,
-    ) -> bool
+    /// Sets the delivery of the row of a slot and a serial; whether it is there.
+    pub fn update(&mut self, slot: u32, serial: Serial, delivery: Delivery) -> bool
         ensures there { result ≡ list_any (is_at slot serial) self.old.rows }
-        ensures rows { self.new.rows ≡ map (updated_at slot serial receives visible_from last_receive) self.old.rows }
+        ensures rows { self.new.rows ≡ map (updated_at slot serial delivery) self.old.rows }
         ensures next { self.new.next ≡ self.old.next }
         ensures reserved { self.new.reserved ≡ self.old.reserved }
     {
@@ -141,9 +141,9 @@ impl SlotTable {
         if row.serial != serial {
             return false;
         }
-        row.receives = receives;
-        row.visible_from = visible_from;
-        row.last_receive = last_receive;
+        row.receives = delivery.receives;
+        row.visible_from = delivery.visible_from;
+        row.last_receive = delivery.last_receive;
         true
     }
 

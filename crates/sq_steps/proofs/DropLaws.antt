@@ -8,7 +8,7 @@ use Rattle.sq_base.specs.Stamps.{Below}
 use Rattle.sq_model.specs.RecordValues.{RecordValue, place_of_record, record_stamp, Journal, RecordsRise}
 use Rattle.sq_model.specs.Matches.{IsRecorded}
 use Rattle.sq_directory.specs.Makers.{IsSeen}
-use Rattle.sq_steps.specs.Records.{without_first}
+use Rattle.sq_steps.specs.inside.Records.{without_first}
 use Rattle.sq_steps.specs.Journals.{IsJournal, is_of_actor, journal_of, without_record, without_record_of, AreDistinct}
 use Rattle.sq_steps.proofs.JournalListLaws.{journal_own, found_there, differ, journal_once, same_place}
 use Rattle.sq_model.proofs.ElementLaws.{all_get, some_same}

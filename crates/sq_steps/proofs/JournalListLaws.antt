@@ -30,12 +30,6 @@ first_there actor (x ∷ xs) lt =
     elim (x.actor == actor) as (λ v. cond (not v) (1 + position_or_len (is_of_actor actor) xs) 0 < length (x ∷ xs) → slice_get (x ∷ xs) (cond (not v) (1 + position_or_len (is_of_actor actor) xs) 0) ≡ Some (if v then x else journal_of actor xs))
     [ true ↦ (λ l. refl) | false ↦ (λ l. let next : 1 + position_or_len (is_of_actor actor) xs ≡ suc (position_or_len (is_of_actor actor) xs) = omega arith in rw next (first_there actor xs (omega (arith, l)))) ] lt
 
-first_put : (b : Journal) (journals : List Journal) → position_or_len (is_of_actor b.actor) journals < length journals → slice_set journals (position_or_len (is_of_actor b.actor) journals) b ≡ put_journal b journals
-first_put b [] lt = absurd (omega (arith, lt))
-first_put b (x ∷ xs) lt =
-    elim (x.actor == b.actor) as (λ v. cond (not v) (1 + position_or_len (is_of_actor b.actor) xs) 0 < length (x ∷ xs) → slice_set (x ∷ xs) (cond (not v) (1 + position_or_len (is_of_actor b.actor) xs) 0) b ≡ (if v then b ∷ xs else x ∷ put_journal b xs))
-    [ true ↦ (λ l. refl) | false ↦ (λ l. let next : 1 + position_or_len (is_of_actor b.actor) xs ≡ suc (position_or_len (is_of_actor b.actor) xs) = omega arith in rw next (ap (λ ys. x ∷ ys) (first_put b xs (omega (arith, l))))) ] lt
-
 none_there : (actor : ℕ) (journals : List Journal) → length journals ≤ position_or_len (is_of_actor actor) journals → journal_of actor journals ≡ new_journal actor
 none_there actor [] le = refl
 none_there actor (x ∷ xs) le =
@@ -53,11 +47,6 @@ pub found_there : (actor : ℕ) (journals : List Journal) (at : ℕ) → positio
 found_there actor journals at h =
     elim (nat_lt (position_or_len (is_of_actor actor) journals) (length journals)) as (λ v. nat_lt (position_or_len (is_of_actor actor) journals) (length journals) ≡ v → cond v (Some (position_or_len (is_of_actor actor) journals)) None ≡ Some at → slice_get journals at ≡ Some (journal_of actor journals))
     [ true ↦ (λ e k. subst (λ (n : ℕ). slice_get journals n ≡ Some (journal_of actor journals)) (some_same k) (first_there actor journals (grind (arith, common_steps, e)))) | false ↦ (λ e k. absurd cc) ] refl h
-
-pub found_put : (b : Journal) (journals : List Journal) (at : ℕ) → position (is_of_actor b.actor) journals ≡ Some at → slice_set journals at b ≡ put_journal b journals
-found_put b journals at h =
-    elim (nat_lt (position_or_len (is_of_actor b.actor) journals) (length journals)) as (λ v. nat_lt (position_or_len (is_of_actor b.actor) journals) (length journals) ≡ v → cond v (Some (position_or_len (is_of_actor b.actor) journals)) None ≡ Some at → slice_set journals at b ≡ put_journal b journals)
-    [ true ↦ (λ e k. subst (λ (n : ℕ). slice_set journals n b ≡ put_journal b journals) (some_same k) (first_put b journals (grind (arith, common_steps, e)))) | false ↦ (λ e k. absurd cc) ] refl h
 
 -- and where it never does
 pub lost_there : (actor : ℕ) (journals : List Journal) → position (is_of_actor actor) journals ≡ None → journal_of actor journals ≡ new_journal actor

@@ -11,7 +11,7 @@ use Rattle.sq_history.specs.Records.{with_home}
 use Rattle.sq_steps.specs.declared.records.Kept.{Kept}
 use Rattle.sq_steps.specs.declared.records.Kept.TheVariants.{Home, Named, Other as AmongOthers}
 use Rattle.sq_steps.specs.declared.records.Other.{Other}
-use Rattle.sq_steps.specs.Records.{HasPut, IsFirstAt, IsIn, IsKeptAs, other_at, place_of_kept, value_of_kept, value_of_other, values_of_kept, without_first}
+use Rattle.sq_steps.specs.inside.Records.{HasPut, IsFirstAt, IsIn, IsKeptAs, other_at, place_of_kept, value_of_kept, value_of_other, values_of_kept, without_first}
 use Rattle.sq_steps.proofs.JournalLaws.{all_push, all_weaken}
 
 pub get_last : {X : Type 0} (xs : List X) (x : X) → slice_get (xs ++ x ∷ []) (length xs) ≡ Some x
@@ -158,11 +158,6 @@ pub none_out : {X : Type 0} (p : X → Bool) (xs : List X) → list_any p xs ≡
 none_out p [] none = refl
 none_out p (x ∷ xs) none =
     elim (p x) as (λ v. (v || list_any p xs) ≡ false → cond v xs (x ∷ without_first p xs) ≡ x ∷ xs) [ true ↦ (λ e. absurd cc) | false ↦ (λ e. ap (λ ys. x ∷ ys) (none_out p xs e)) ] none
-
--- what holds of all holds of those that stay
-pub all_but_first : {X : Type 0} (P : X → Type 0) (p : X → Bool) (xs : List X) → AllByRecursion P xs → AllByRecursion P (without_first p xs)
-all_but_first P p [] h = h
-all_but_first P p (x ∷ xs) h = elim (p x) as (λ v. AllByRecursion P (cond v xs (x ∷ without_first p xs))) [ true ↦ h.1 | false ↦ (h.0, all_but_first P p xs h.1) ]
 
 -- one element more, as at a step of a loop
 pub any_next : {X : Type 0} (p : X → Bool) (xs : List X) (i : ℕ) (x : X) → slice_get xs i ≡ Some x → list_any p (take (i + 1) xs) ≡ (list_any p (take i xs) || p x)

@@ -1,6 +1,6 @@
 -- A leave for a task: what the ledger is told, and why neither half is done.
 use Rattle.std.proofs.Common.{◌≡◌, ◌⊎◌, ℕ, Bool, true, false, not, List, Option, Some, None, Result, Ok, Err, refl, sym, ◌∙◌, ap, subst, inl, inr}
-use Rattle.std.specs.Prelude.{◌<◌, IfErr, IfOk, IfSome, OnOk, ◌&&◌}
+use Rattle.std.specs.Prelude.{◌<◌, IfErr, IfOk, OnOk, ◌&&◌}
 use Rattle.sq_base.specs.StampValue.{StampValue}
 use Rattle.sq_base.specs.declared.ids.HomeId.{HomeId}
 use Rattle.sq_base.specs.declared.refusal.Refusal.{Refusal}
@@ -26,7 +26,8 @@ use Rattle.sq_history.specs.declared.shared.HomeHalf.{HomeHalf}
 use Rattle.sq_task.specs.declared.leave.TaskLeave.{TaskLeave}
 use Rattle.sq_history.proofs.TaskLaws.{one_live}
 use Rattle.sq_ledger.specs.LedgerHistories.{IsLeaving}
-use Rattle.sq_steps.specs.SharedSteps.{IsPairRefused, IsToldLeft}
+use Rattle.sq_steps.specs.SharedSteps.{IsPairRefused}
+use Rattle.sq_steps.specs.inside.SharedSteps.{IsToldLeft}
 
 -- what the ledger said of the task at m, with memory for so many items before and after
 pub record IsSaid (l : Ledger) (old reserved m : ℕ) (home : HomeId) (number : ℕ) (said : TaskLeave) : Type 0 where
@@ -90,9 +91,6 @@ told_left l old reserved m site home after number said task SourceClosed left is
     rw a (refl, (task, takes l old reserved m site.home number said task is taker))
 told_left l old reserved m site home after number said task reply left is step taker a = elim a [ ]
 
-room_ready : (l : Ledger) (old reserved m : ℕ) (home : HomeId) (number n : ℕ) (said : TaskLeave) → IsSaid l old reserved m home number said → said.item ≡ Ok n → 0 < reserved
-room_ready l old reserved m home number n said is ok = subst (λ (r : Result ℕ Refusal). OnOk r (0 < reserved)) ok is.ready
-
 -- what the home's half says to it
 pub half_told : (old new : HistoryValue) (l : Ledger) (had reserved : ℕ) (by : Actor) (stamp : StampValue) (name : Option (List ℕ)) (number : ℕ) (said : TaskLeave) (task : Task) (half : HomeHalf) (left : Option Item)
     → IsSaid l had reserved stamp.moment old.site.home number said → DoesHalf old new by stamp name (call.LeaveTask said.number) half → IsTaker said task → IsTaskAnswer said task half.its_record.reply left
@@ -103,15 +101,6 @@ half_told old new l had reserved by stamp name number said task half left is doe
     subst (λ (h : HomeId). IsToldLeft l stamp.moment h number half.for_ledger.0 half.for_ledger.1 left) (sym (ap (λ (r : HomeRecordValue). r.home) does.does.record_is))
     (subst (λ (c : HomeCall). IsToldLeft l stamp.moment old.site.home number c half.for_ledger.1 left) (sym (does.ledger_call ∙ ap call.LeaveTask is.of_number))
     (subst (λ (r : HomeReply). IsToldLeft l stamp.moment old.site.home number (call.LeaveTask number) r left) (sym does.ledger_reply) told))
-
--- where one left there is memory for the item
-pub left_ready : (l : Ledger) (old reserved m : ℕ) (home : HomeId) (number : ℕ) (said : TaskLeave) (task : Task) (reply : HomeReply) (left : Option Item) → IsSaid l old reserved m home number said → IsTaskAnswer said task reply left
-    → IfSome left (λ _. 0 < reserved)
-left_ready l old reserved m home number said task (Left item) left is a = rw a.2 (room_ready l old reserved m home number item.number said is a.0.1)
-left_ready l old reserved m home number said task NoLiveRow left is a = rw a.1 tt
-left_ready l old reserved m home number said task (NoOrigin serial) left is a = rw a.2 tt
-left_ready l old reserved m home number said task SourceClosed left is a = rw a tt
-left_ready l old reserved m home number said task reply left is a = elim a [ ]
 
 -- ---- why neither half is done
 

@@ -3,3 +3,4 @@ pub mod Journals
 pub mod SharedSteps
 pub mod TaskActs
 pub mod Reads
+pub mod inside

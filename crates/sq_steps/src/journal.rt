@@ -12,7 +12,7 @@ ghost use Rattle.sq_steps.specs.TaskActs.{task_call};
 
 use crate::act::{HomeAct, TaskAct};
 use crate::record::Record;
-use crate::records::Records;
+use crate::records::{Other, Records};
 use sq_base::name::QueueName;
 use sq_base::refusal::Refusal;
 use sq_base::stamp::{STAMP_END, Stamp};
@@ -180,7 +180,7 @@ pub fn directory_step(
     ready(&journal.by, &mut journal.records, now)?;
     let (reply, record) = directory.step(alloc, &journal.by, now, call)?;
     count(&mut journal.by, record.step().stamp);
-    journal.records.push_directory(record);
+    journal.records.push_other(Other::Directory(record));
     Ok(reply)
 }
 
@@ -235,6 +235,6 @@ pub fn ledger_step(
     ready(&journal.by, &mut journal.records, now)?;
     let (reply, record) = task_step(alloc, ledger, &journal.by, now, act)?;
     count(&mut journal.by, record.step().stamp);
-    journal.records.push_ledger(record);
+    journal.records.push_other(Other::Ledger(record));
     Ok(reply)
 }

@@ -3,7 +3,7 @@ ghost use Rattle.std.specs.Prelude.{◌≡◌, ◌+◌, ◌<◌, ◌≤◌, [], 
 ghost use Rattle.std.specs.List.{IsDistinct};
 ghost use Rattle.std.specs.Str.{bytes_eq};
 ghost use Rattle.sq_base.specs.declared.refusal.Refusal.{Refusal as Why};
-ghost use Rattle.sq_steps.specs.Records.{HasPut};
+ghost use Rattle.sq_steps.specs.inside.Records.{HasPut};
 
 use crate::records::lesser;
 use indexmap::IndexSet;
@@ -21,7 +21,7 @@ pub(crate) struct Names {
 impl Model for Names {
     ghost use Rattle.std.specs.Prelude.{◌-◌, ◌≤◌, length};
     ghost use Rattle.indexmap.specs.IndexSet.{spare};
-    ghost use Rattle.sq_steps.specs.Records.{NamesValue, least};
+    ghost use Rattle.sq_steps.specs.inside.Records.{NamesValue, least};
 
     ghost Value = { NamesValue };
 

@@ -22,21 +22,24 @@ impl<'a> Record<'a> {
     pub fn place(&self) -> u64
         ensures { result ≡ place_of_record (value_of_record self.now) }
     {
-        match self {
-            Record::Directory(record) => record.step().place,
-            Record::Ledger(record) => record.step().place,
-            Record::Home(record) => record.step().place,
-        }
+        self.place_and_stamp().0
     }
 
     /// The stamp of its event.
     pub fn stamp(&self) -> Stamp
         ensures { result ≡ record_stamp (value_of_record self.now) }
     {
+        self.place_and_stamp().1
+    }
+
+    fn place_and_stamp(&self) -> (u64, Stamp)
+        ensures place { result.0 ≡ place_of_record (value_of_record self.now) }
+        ensures stamp { result.1 ≡ record_stamp (value_of_record self.now) }
+    {
         match self {
-            Record::Directory(record) => record.step().stamp,
-            Record::Ledger(record) => record.step().stamp,
-            Record::Home(record) => record.step().stamp,
+            Record::Directory(record) => (record.step().place, record.step().stamp),
+            Record::Ledger(record) => (record.step().place, record.step().stamp),
+            Record::Home(record) => (record.step().place, record.step().stamp),
         }
     }
 }

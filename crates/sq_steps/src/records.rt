@@ -2,9 +2,10 @@
 ghost use Rattle.std.specs.Prelude.{◌≡◌, ◌<◌, ◌≤◌, ◌+◌, ◌++◌, ◌∷◌, ◌==◌, [], None, Some, false, length, slice_get, IfErr, IfSome, OnOk};
 ghost use Rattle.std.specs.List.{list_any};
 ghost use Rattle.sq_base.specs.declared.refusal.Refusal.{Refusal as Why};
-ghost use Rattle.sq_model.specs.RecordValues.{OfDirectory, OfLedger, OfHome, place_of_record};
+ghost use Rattle.sq_model.specs.RecordValues.{OfHome, place_of_record};
 ghost use Rattle.sq_log.specs.Rooms.{IsReady, KeepsRoom};
-ghost use Rattle.sq_steps.specs.Records.{IsFirstAt, IsKeptAs, least, place_of_kept, value_of_other, value_of_record, without_first};
+ghost use Rattle.sq_steps.specs.Records.{value_of_record};
+ghost use Rattle.sq_steps.specs.inside.Records.{IsFirstAt, IsKeptAs, least, place_of_kept, value_of_other, without_first};
 
 use crate::names::Names;
 use crate::record::Record;
@@ -53,7 +54,7 @@ impl Model for Records {
     ghost use Rattle.std.specs.List.{AllByRecursion};
     ghost use Rattle.sq_log.specs.Rooms.{GrowingValue};
     ghost use Rattle.sq_model.specs.RecordValues.{RecordValue};
-    ghost use Rattle.sq_steps.specs.Records.{IsIn, least, values_of_kept};
+    ghost use Rattle.sq_steps.specs.inside.Records.{IsIn, least, values_of_kept};
 
     ghost Value = { GrowingValue RecordValue };
 
@@ -129,28 +130,8 @@ impl Records {
         self.room = spare(&self.kept, &self.others, &self.names);
     }
 
-    /// Puts a record of the directory last, for which `reserve` got memory.
-    pub(crate) fn push_directory(&mut self, its_record: DirectoryRecord)
-        requires { IsReady self.old.room self.old.reserved }
-        ensures items { self.new.items ≡ self.old.items ++ OfDirectory its_record ∷ [] }
-        ensures shown { self.new.room ≡ self.new.reserved }
-        ensures room { KeepsRoom self.old.room self.new.room }
-    {
-        self.push_other(Other::Directory(its_record));
-    }
-
-    /// Puts a record of the ledger last, for which `reserve` got memory.
-    pub(crate) fn push_ledger(&mut self, its_record: LedgerRecord)
-        requires { IsReady self.old.room self.old.reserved }
-        ensures items { self.new.items ≡ self.old.items ++ OfLedger its_record ∷ [] }
-        ensures shown { self.new.room ≡ self.new.reserved }
-        ensures room { KeepsRoom self.old.room self.new.room }
-    {
-        self.push_other(Other::Ledger(its_record));
-    }
-
-    // Puts a record apart, and where it is last.
-    fn push_other(&mut self, other: Other)
+    /// Puts a record of the directory or of the ledger last, for which `reserve` got memory: apart, with its place here.
+    pub(crate) fn push_other(&mut self, other: Other)
         requires { IsReady self.old.room self.old.reserved }
         ensures items { self.new.items ≡ self.old.items ++ value_of_other other ∷ [] }
         ensures shown { self.new.room ≡ self.new.reserved }

@@ -5,19 +5,18 @@ ghost use Rattle.sq_model.specs.declared.shared.SharedAct.TheVariants as asks;
 ghost use Rattle.sq_model.specs.ItemActs.{asked_with};
 ghost use Rattle.sq_model.specs.Shared.{shared_stamp};
 ghost use Rattle.sq_ledger.specs.LedgerHistories.{IsPrepared, LedgerShares};
-ghost use Rattle.sq_steps.specs.SharedSteps.{IsPairReady, IsSharedRefused, IsToldLeft, IsUnmoved, PairEnds, SharedMoves};
+ghost use Rattle.sq_steps.specs.SharedSteps.{IsSharedRefused, IsUnmoved, SharedMoves};
+ghost use Rattle.sq_steps.specs.inside.SharedSteps.{IsPairReady, IsToldLeft, PairEnds};
 
 use crate::act::SharedAct;
 use crate::journal::{Journal, count, ready};
-use sq_base::ids::HomeId;
 use sq_base::name::QueueName;
 use sq_base::refusal::Refusal;
 use sq_base::stamp::Stamp;
 use sq_history::record::HomeRecord;
 use sq_history::recorded::Home;
 use sq_history::shared::HomeHalf;
-use sq_ledger::ledger::TransitLedger;
-use sq_model::calls::HomeCall;
+use sq_ledger::ledger::{SharedEvent, TransitLedger};
 use sq_model::event::Actor;
 use sq_model::item::{Item, ItemNo, TaskNo};
 use sq_model::replies::HomeReply;
@@ -56,7 +55,13 @@ fn leave_dead(
         for_ledger,
         its_record,
     } = half;
-    ledger.take_in(by, stamp, its_record.home(), for_ledger, item);
+    let event = SharedEvent {
+        by,
+        stamp,
+        home: its_record.home(),
+        kept: for_ledger,
+    };
+    ledger.take_in(event, item);
     Ok(Some((answered, its_record)))
 }
 
@@ -83,37 +88,27 @@ fn leave_task(
         for_ledger,
         its_record,
     } = half;
-    tell_left(
-        ledger,
+    let event = SharedEvent {
         by,
         stamp,
-        its_record.home(),
-        for_ledger,
-        left,
-        number,
-    );
+        home: its_record.home(),
+        kept: for_ledger,
+    };
+    tell_left(ledger, event, left, number);
     Ok(Some((answered, its_record)))
 }
 
 // The ledger takes in the item that left for a task of a number, or notes that none did.
-fn tell_left(
-    ledger: &mut TransitLedger,
-    by: &Actor,
-    stamp: Stamp,
-    home: &HomeId,
-    kept: (HomeCall, HomeReply),
-    left: Option<Item>,
-    number: TaskNo,
-)
+fn tell_left(ledger: &mut TransitLedger, event: SharedEvent<'_>, left: Option<Item>, number: TaskNo)
     requires prepared { IsPrepared ledger.old }
-    requires above { Below ledger.old.history.last stamp }
-    requires told { IsToldLeft ledger.old.history.ledger stamp.moment home.now number kept.0 kept.1 left }
+    requires above { Below ledger.old.history.last event.stamp }
+    requires told { IsToldLeft ledger.old.history.ledger event.stamp.moment event.home.now number event.kept.0 event.kept.1 left }
     requires ready { IfSome left (λ _. 0 < ledger.old.item_reserved) }
-    ensures shares { LedgerShares ledger.old.history ledger.new.history by.now stamp home.now kept.0 kept.1 }
+    ensures shares { LedgerShares ledger.old.history ledger.new.history event.entry.by.now event.entry.stamp event.entry.home.now event.entry.kept.0 event.entry.kept.1 }
 {
     match left {
-        Some(item) => ledger.take_in(by, stamp, home, kept, item),
-        None => ledger.take_none(by, stamp, home, kept, number),
+        Some(item) => ledger.take_in(event, item),
+        None => ledger.take_none(event, number),
     }
 }
 
@@ -136,7 +131,13 @@ fn item_step(
         for_ledger,
         its_record,
     } = home.item_step(alloc, by, stamp, name, act, ledger.item(number))?;
-    ledger.item_step(by, stamp, its_record.home(), for_ledger, act, number);
+    let event = SharedEvent {
+        by,
+        stamp,
+        home: its_record.home(),
+        kept: for_ledger,
+    };
+    ledger.item_step(event, act, number);
     Ok(Some((answered, its_record)))
 }
 

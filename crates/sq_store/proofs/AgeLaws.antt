@@ -1,21 +1,21 @@
 -- Rows that are in the queue for long, found by their ages.
-use Rattle.std.proofs.Common.{◌≡◌, ℕ, ◌<◌, Bool, true, false, not, cond, List, [], ◌∷◌, ◌++◌, length, filter, map, Some, None, refl, sym, ap, ◌∙◌, subst, arith}
+use Rattle.std.proofs.Common.{◌≡◌, ℕ, Bool, true, false, not, cond, List, [], ◌∷◌, ◌++◌, filter, map, Some, None, refl, sym, ap, ◌∙◌, subst}
 use Rattle.std.specs.Prelude.{◌||◌, ◌==◌, find, nat_le}
 use Rattle.std.specs.List.{list_any}
 use Rattle.std.specs.List.Sorted.{IsPermutation}
-use Rattle.std.proofs.lemmas.List.{length-append}
 use Rattle.std.proofs.lemmas.List.Elements.{filter-append}
 use Rattle.sq_base.specs.declared.row.Row.{Row}
 use Rattle.sq_base.specs.declared.settings.Settings.{Settings}
 use Rattle.sq_deadline.specs.declared.deadline.Deadline.{Deadline}
 use Rattle.sq_deadline.specs.Deadlines.{is_due}
 use Rattle.sq_deadline.proofs.SetLaws.{found, none_found}
-use Rattle.sq_model.specs.Rows.{is_expired, trimmed}
+use Rattle.sq_model.specs.Rows.{is_expired, unexpired}
 use Rattle.sq_slots.specs.Slots.{AreApart, IsBetween, is_away, is_in}
 use Rattle.sq_slots.proofs.RowLists.{is_same, is_this, one_found}
 use Rattle.sq_slots.proofs.SplitLaws.{stands_between}
 use Rattle.sq_store.specs.Due.{Holds, enqueued_at}
-use Rattle.sq_store.specs.SlotStores.{IsFromBefore, any_row}
+use Rattle.sq_store.specs.SlotStores.{any_row}
+use Rattle.sq_store.specs.inside.SlotStores.{IsFromBefore}
 use Rattle.sq_store.proofs.AtLaws.{found_at}
 
 pub all_of_any : (rows : List Row) → filter any_row rows ≡ rows
@@ -54,16 +54,16 @@ is_from_before bound rows ages d row apart held h at =
     }
 
 -- a row past its retention goes out, and what is kept stays
-pub trimmed_without : (s : Settings) (m slot serial : ℕ) (rows : List Row) (row : Row) → IsBetween slot serial rows row → is_expired s m row ≡ true → trimmed s m (filter (is_away slot serial) rows) ≡ trimmed s m rows
-trimmed_without s m slot serial rows row there expired =
+pub unexpired_without : (s : Settings) (m slot serial : ℕ) (rows : List Row) (row : Row) → IsBetween slot serial rows row → is_expired s m row ≡ true → unexpired s m (filter (is_away slot serial) rows) ≡ unexpired s m rows
+unexpired_without s m slot serial rows row there expired =
     let kept : Row → Bool = λ r. not (is_expired s m r) in
     let rest : filter kept (row ∷ there.after) ≡ filter kept there.after = rw expired refl in
-    ap (trimmed s m) there.away ∙ filter-append kept there.before there.after ∙ ap (λ (xs : List Row). filter kept there.before ++ xs) (sym rest) ∙ sym (filter-append kept there.before (row ∷ there.after)) ∙ ap (trimmed s m) (sym there.whole)
+    ap (unexpired s m) there.away ∙ filter-append kept there.before there.after ∙ ap (λ (xs : List Row). filter kept there.before ++ xs) (sym rest) ∙ sym (filter-append kept there.before (row ∷ there.after)) ∙ ap (unexpired s m) (sym there.whole)
 
 -- where none is past its retention all are kept
-pub all_are_kept : (s : Settings) (m : ℕ) (rows : List Row) → list_any (is_expired s m) rows ≡ false → trimmed s m rows ≡ rows
+pub all_are_kept : (s : Settings) (m : ℕ) (rows : List Row) → list_any (is_expired s m) rows ≡ false → unexpired s m rows ≡ rows
 all_are_kept s m [] h = refl
-all_are_kept s m (r ∷ rs) h = elim (is_expired s m r) as (λ b. (b || list_any (is_expired s m) rs) ≡ false → cond (not b) (r ∷ trimmed s m rs) (trimmed s m rs) ≡ r ∷ rs) [
+all_are_kept s m (r ∷ rs) h = elim (is_expired s m r) as (λ b. (b || list_any (is_expired s m) rs) ≡ false → cond (not b) (r ∷ unexpired s m rs) (unexpired s m rs) ≡ r ∷ rs) [
   | true ↦ (λ none. absurd cc)
   | false ↦ (λ none. ap (λ (xs : List Row). r ∷ xs) (all_are_kept s m rs none))
 ] h
@@ -72,6 +72,6 @@ pub any_same : (p q : Row → Bool) → ((r : Row) → p r ≡ q r) → (rows : 
 any_same p q same [] = refl
 any_same p q same (r ∷ rs) = rw (same r, any_same p q same rs) refl
 
-pub none_goes : (s : Settings) (m : ℕ) → ((row : Row) → is_expired s m row ≡ false) → (rows : List Row) → trimmed s m rows ≡ rows
+pub none_goes : (s : Settings) (m : ℕ) → ((row : Row) → is_expired s m row ≡ false) → (rows : List Row) → unexpired s m rows ≡ rows
 none_goes s m none [] = refl
 none_goes s m none (r ∷ rs) = rw (none r) (ap (λ (xs : List Row). r ∷ xs) (none_goes s m none rs))

@@ -1,5 +1,5 @@
 -- What lists of rows say of the row of a slot, and of it alone.
-use Rattle.std.proofs.Common.{◌≡◌, ◌≢◌, ℕ, Bool, true, false, cond, List, [], ◌∷◌, ◌++◌, filter, map, Option, Some, None, refl, sym, ap, ◌∙◌, arith}
+use Rattle.std.proofs.Common.{◌≡◌, ◌≢◌, ℕ, Bool, true, false, not, cond, List, [], ◌∷◌, ◌++◌, filter, map, Option, Some, None, refl, sym, ap, ◌∙◌, arith}
 use Rattle.std.specs.Prelude.{◌&&◌, ◌||◌, ◌==◌, IfNone, IfSome, find, is_some, if◌then◌else◌}
 use Rattle.std.specs.List.{All, list_any}
 use Rattle.std.proofs.lemmas.Grind.{common_steps}
@@ -7,8 +7,9 @@ use Rattle.std.proofs.lemmas.List.Elements.{All-head, All-tail}
 use Rattle.sq_base.specs.declared.row.Row.{Row}
 use Rattle.sq_model.specs.declared.calls.Receipt.{Receipt}
 use Rattle.sq_model.specs.Rows.{Takes, changed_if, is_held, is_named}
-use Rattle.sq_slots.specs.Slots.{IsBetween, is_at, is_away, is_in}
+use Rattle.sq_slots.specs.Slots.{AreApart, IsBetween, is_at, is_away, is_in, updated_at}
 use Rattle.sq_slots.proofs.RowLists.{any_is_found}
+use Rattle.sq_slots.proofs.SplitLaws.{stands_between}
 
 -- ---- where the row is there
 
@@ -150,6 +151,33 @@ module _ (receipt : Receipt) where
     | true ↦ (λ h. rw h refl)
     | false ↦ (λ h. absurd cc)
   ] is
+
+-- what a receipt does at the row that its slot and its serial have
+module _ (receipt : Receipt) (rows : List Row) (row : Row) (apart : AreApart rows) (there : find (is_at receipt.slot receipt.serial) rows ≡ Some row) where
+  stands : IsBetween receipt.slot receipt.serial rows row
+  stands = stands_between receipt.slot receipt.serial 0 rows row apart.rise apart.slots there
+
+  -- it is held among those that are left, where it is left
+  pub held_if : (q : Row → Bool) (m : ℕ) (b : Bool) → q row ≡ b → list_any (is_held m receipt) (filter q rows) ≡ (b && is_held m receipt row)
+  held_if q m b is = any_left_at receipt.slot receipt.serial rows row stands (is_held m receipt) q (held_there receipt m) ∙ ap (λ (left : Bool). left && is_held m receipt row) is
+
+  -- it goes out where its receive number is its own
+  pub taken_if : (b : Bool) → (row.receives == receipt.receive) ≡ b
+      → filter (λ r. not (is_named receipt r)) rows ≡ (if b then filter (is_away receipt.slot receipt.serial) rows else rows)
+  taken_if b is = filter_at receipt.slot receipt.serial rows row stands (λ r. not (is_named receipt r)) (λ r other. rw (named_there receipt r other) refl)
+      ∙ rw (named_is receipt row stands.at, is) (elim b as (λ v. (if not v then rows else stands.before ++ stands.after) ≡ (if v then filter (is_away receipt.slot receipt.serial) rows else rows)) [
+        | true ↦ sym stands.away
+        | false ↦ refl
+      ])
+
+  -- it is hidden until another moment where it is held
+  pub changed_at : (m until : ℕ) (b : Bool) → is_held m receipt row ≡ b
+      → map (changed_if m receipt until) rows ≡ (if b then map (updated_at receipt.slot receipt.serial (record { receives = row.receives; visible_from = until; last_receive = row.last_receive })) rows else rows)
+  changed_at m until b is = map_at receipt.slot receipt.serial rows row stands (changed_if m receipt until) (changed_there receipt m until)
+      ∙ rw is (elim b as (λ v. stands.before ++ (if v then record row { visible_from = until } else row) ∷ stands.after ≡ (if v then map (updated_at receipt.slot receipt.serial (record { receives = row.receives; visible_from = until; last_receive = row.last_receive })) rows else rows)) [
+        | true ↦ sym (stands.changed _)
+        | false ↦ sym stands.whole
+      ])
 
 -- ---- one test after another
 

@@ -17,13 +17,13 @@ use Rattle.sq_deadline.specs.declared.deadline.Deadline.{Deadline}
 use Rattle.sq_deadline.specs.Deadlines.{DeadlinesRise, if_due, is_due}
 use Rattle.sq_deadline.proofs.OrderLaws.{one_if}
 use Rattle.sq_deadline.proofs.SetLaws.{along_permutation, due_first, due_is_counted, find_passes, none_due_is_past, permutation_filter}
-use Rattle.sq_model.specs.Rows.{is_delayed, is_expired, is_flying, is_visible, trimmed}
+use Rattle.sq_model.specs.Rows.{is_delayed, is_expired, is_in_flight, is_visible, unexpired}
 use Rattle.sq_slots.specs.Slots.{HaveOwnSlots, is_in}
 use Rattle.sq_slots.proofs.RowLists.{is_same, is_this, one_found}
 use Rattle.sq_store.specs.Due.{Holds, enqueued_at, visible_at}
-use Rattle.sq_store.specs.Found.{found, found_due, is_kept_and, row_of}
+use Rattle.sq_store.specs.inside.Found.{found, found_due, is_kept_and, row_of}
 use Rattle.sq_store.specs.Picked.{IsOneOf}
-use Rattle.sq_store.specs.SlotStores.{AreVisible, again_row, any_row, fresh_row, spent_row}
+use Rattle.sq_store.specs.SlotStores.{AreVisible, received_row, any_row, unreceived_row, exhausted_row}
 use Rattle.sq_store.specs.declared.visible.VisibleFrom.{VisibleFrom}
 use Rattle.sq_store.proofs.FoundLaws.{kept_there}
 
@@ -97,12 +97,12 @@ expired_else true = refl
 expired_else false = refl
 
 -- what is counted of the kept rows, and of the others, is what is counted of all
-pub count_kept : (s : Settings) (m : ℕ) (p : Row → Bool) (rows : List Row) → count_by p (trimmed s m rows) + count_by (λ row. is_expired s m row && p row) rows ≡ count_by p rows
+pub count_kept : (s : Settings) (m : ℕ) (p : Row → Bool) (rows : List Row) → count_by p (unexpired s m rows) + count_by (λ row. is_expired s m row && p row) rows ≡ count_by p rows
 count_kept s m p rows =
     let both = sum_by-filter_both (λ (row : Row). not (is_expired s m row)) (is_expired s m) (λ row. expired_else (is_expired s m row)) (λ row. one_if (p row)) rows in
     omega (arith, both, count_both (is_expired s m) p rows)
 
-pub length_kept : (s : Settings) (m : ℕ) (rows : List Row) → length (trimmed s m rows) + count_by (is_expired s m) rows ≡ length rows
+pub length_kept : (s : Settings) (m : ℕ) (rows : List Row) → length (unexpired s m rows) + count_by (is_expired s m) rows ≡ length rows
 length_kept s m rows =
     let both = length-filter_both (λ (row : Row). not (is_expired s m row)) (is_expired s m) (λ row. expired_else (is_expired s m row)) rows in
     omega (arith, both, length-filter (is_expired s m) rows)
@@ -116,11 +116,11 @@ count_nothing p none (x ∷ xs) = let one : one_if (p x) ≡ 0 = ap one_if (none
 
 -- the kept rows are those that are younger than a bound
 pub kept_by_age : (s : Settings) (m bound : ℕ) (rows : List Row) (ages : List Deadline) → Holds any_row enqueued_at rows ages → ((row : Row) → is_expired s m row ≡ nat_le row.enqueued bound)
-    → length (trimmed s m rows) + count_by (is_due bound) ages ≡ length rows
+    → length (unexpired s m rows) + count_by (is_due bound) ages ≡ length rows
 kept_by_age s m bound rows ages held same =
     omega (arith, length_kept s m rows, count_agree (is_expired s m) (λ row. nat_le row.enqueued bound) same rows, held_count any_row enqueued_at rows ages held (is_due bound))
 
-pub all_kept : (s : Settings) (m : ℕ) (rows : List Row) → ((row : Row) → is_expired s m row ≡ false) → length (trimmed s m rows) ≡ length rows
+pub all_kept : (s : Settings) (m : ℕ) (rows : List Row) → ((row : Row) → is_expired s m row ≡ false) → length (unexpired s m rows) ≡ length rows
 all_kept s m rows none = omega (arith, length_kept s m rows, count_nothing (is_expired s m) none rows)
 
 -- ---- states
@@ -148,9 +148,9 @@ state_cases true false = omega arith
 state_cases false true = omega arith
 state_cases false false = omega arith
 
-fresh_cases : (a : Bool) → 1 ≡ one_if (not a) + one_if a
-fresh_cases true = omega arith
-fresh_cases false = omega arith
+unreceived_cases : (a : Bool) → 1 ≡ one_if (not a) + one_if a
+unreceived_cases true = omega arith
+unreceived_cases false = omega arith
 
 abbrev pub is_received : Row → Bool
 is_received row = nat_lt 0 row.receives
@@ -160,30 +160,30 @@ all_counted [] = refl
 all_counted (x ∷ xs) = omega (arith, all_counted xs, sum_by-cons (λ x. 1) x xs)
 
 -- each row is visible, in flight or delayed
-pub count_states : (m : ℕ) (rows : List Row) → count_by (is_visible m) rows + (count_by (is_flying m) rows + count_by (is_delayed m) rows) ≡ length rows
+pub count_states : (m : ℕ) (rows : List Row) → count_by (is_visible m) rows + (count_by (is_in_flight m) rows + count_by (is_delayed m) rows) ≡ length rows
 count_states m rows =
-    let three = sum_by_three (λ row. one_if (is_visible m row)) (λ row. one_if (is_flying m row)) (λ row. one_if (is_delayed m row)) (λ row. 1)
+    let three = sum_by_three (λ row. one_if (is_visible m row)) (λ row. one_if (is_in_flight m row)) (λ row. one_if (is_delayed m row)) (λ row. 1)
     (λ row. rw (not_due m row.visible_from, is_zero row.receives) (state_cases (nat_lt 0 row.receives) (nat_le row.visible_from m))) rows in
     omega (arith, three, all_counted rows)
 
 module _ (rows : List Row) (v : VisibleFrom) (held : AreVisible rows v) (m : ℕ) where
-  received_count : length v.fresh.deadlines + count_by is_received rows ≡ length rows
+  received_count : length v.unreceived.deadlines + count_by is_received rows ≡ length rows
   received_count = omega (
     arith,
-    held_length fresh_row visible_at rows v.fresh.deadlines held.fresh,
+    held_length unreceived_row visible_at rows v.unreceived.deadlines held.unreceived,
     all_counted rows,
-    sum_by_both (λ row. one_if (fresh_row row)) (λ row. one_if (is_received row)) (λ row. 1) (λ row. rw (is_zero row.receives) (fresh_cases (nat_lt 0 row.receives))) rows,
+    sum_by_both (λ row. one_if (unreceived_row row)) (λ row. one_if (is_received row)) (λ row. 1) (λ row. rw (is_zero row.receives) (unreceived_cases (nat_lt 0 row.receives))) rows,
   )
 
   -- each received row is in flight, or visible again
-  pub flying_count : length v.fresh.deadlines + (count_by (is_flying m) rows + (count_by (is_due m) v.again.deadlines + count_by (is_due m) v.spent.deadlines)) ≡ length rows
-  flying_count =
-      let three = sum_by_three (λ row. one_if (is_flying m row)) (λ row. one_if (again_row v.most row && is_due m (visible_at row))) (λ row. one_if (spent_row v.most row && is_due m (visible_at row))) (λ row. one_if (is_received row))
+  pub in_flight_count : length v.unreceived.deadlines + (count_by (is_in_flight m) rows + (count_by (is_due m) v.received.deadlines + count_by (is_due m) v.exhausted.deadlines)) ≡ length rows
+  in_flight_count =
+      let three = sum_by_three (λ row. one_if (is_in_flight m row)) (λ row. one_if (received_row v.most row && is_due m (visible_at row))) (λ row. one_if (exhausted_row v.most row && is_due m (visible_at row))) (λ row. one_if (is_received row))
       (λ row. rw (not_due m row.visible_from, is_least v.most row.receives) (received_cases (nat_lt 0 row.receives) (nat_lt row.receives v.most) (nat_le row.visible_from m))) rows in
-      omega (arith, received_count, three, held_count (again_row v.most) visible_at rows v.again.deadlines held.again (is_due m), held_count (spent_row v.most) visible_at rows v.spent.deadlines held.spent (is_due m))
+      omega (arith, received_count, three, held_count (received_row v.most) visible_at rows v.received.deadlines held.received (is_due m), held_count (exhausted_row v.most) visible_at rows v.exhausted.deadlines held.exhausted (is_due m))
 
-  pub delayed_count : count_by (is_later m) v.fresh.deadlines ≡ count_by (is_delayed m) rows
-  delayed_count = held_count fresh_row visible_at rows v.fresh.deadlines held.fresh (is_later m)
+  pub delayed_count : count_by (is_later m) v.unreceived.deadlines ≡ count_by (is_delayed m) rows
+  delayed_count = held_count unreceived_row visible_at rows v.unreceived.deadlines held.unreceived (is_later m)
 
 -- ---- rows found by their deadlines
 
@@ -283,7 +283,7 @@ found_in_none p [] m ds none = ap (filter p) (nothing_of (filter (is_due m) ds))
 found_in_none p (row ∷ rows) m ds none = absurd (omega (arith, none))
 
 -- a kept row that passes is one of those that are kept
-pub is_one_of_kept : (p : Row → Bool) (s : Settings) (m slot : ℕ) (rows : List Row) (row : Row) → find (is_in slot) rows ≡ Some row → is_kept_and p s m row ≡ true → IsOneOf p (trimmed s m rows) row
+pub is_one_of_kept : (p : Row → Bool) (s : Settings) (m slot : ℕ) (rows : List Row) (row : Row) → find (is_in slot) rows ≡ Some row → is_kept_and p s m row ≡ true → IsOneOf p (unexpired s m rows) row
 is_one_of_kept p s m slot rows row at passes =
     let parts = and_parts (not (is_expired s m row)) (p row) passes in
     record { passes = parts.1; there = kept_there (λ (r : Row). not (is_expired s m r)) rows row (find_passes (is_in slot) rows row at).0 parts.0 }
@@ -310,18 +310,18 @@ is_received_else r = grind (arith, common_steps)
 
 -- what is found of the three classes is all that passes
 pub found_of_all : (p : Row → Bool) (m : ℕ) (rows : List Row) (v : VisibleFrom) → HaveOwnSlots rows → AreVisible rows v → ((row : Row) → p row ≡ true → is_visible m row ≡ true)
-    → IsPermutation (filter p rows) (found_due p rows m v.fresh.deadlines ++ (found_due p rows m v.again.deadlines ++ found_due p rows m v.spent.deadlines))
+    → IsPermutation (filter p rows) (found_due p rows m v.unreceived.deadlines ++ (found_due p rows m v.received.deadlines ++ found_due p rows m v.exhausted.deadlines))
 found_of_all p m rows v own held due =
     let all = filter p rows in
     let received = filter is_received all in
     let often : Row → Bool = λ row. nat_lt row.receives v.most in
-    let spent : Row → Bool = λ row. nat_le v.most row.receives in
-    let two : IsPermutation received (filter (again_row v.most) all ++ filter (spent_row v.most) all) =
-    subst (λ (rs : List Row). IsPermutation received (rs ++ filter (spent_row v.most) all)) (filter_both is_received often all)
-    (subst (λ (rs : List Row). IsPermutation received (filter often received ++ rs)) (filter_both is_received spent all) (IsPermutation-filter_both often spent (λ row. is_least v.most row.receives) received)) in
-    IsPermutation-trans _ _ _ (IsPermutation-filter_both fresh_row is_received (λ row. is_received_else row.receives) all)
-    (IsPermutation-append _ _ _ _ (found_of_visible fresh_row p m rows v.fresh.deadlines own held.fresh due)
-    (IsPermutation-trans _ _ _ two (IsPermutation-append _ _ _ _ (found_of_visible (again_row v.most) p m rows v.again.deadlines own held.again due) (found_of_visible (spent_row v.most) p m rows v.spent.deadlines own held.spent due))))
+    let exhausted : Row → Bool = λ row. nat_le v.most row.receives in
+    let two : IsPermutation received (filter (received_row v.most) all ++ filter (exhausted_row v.most) all) =
+    subst (λ (rs : List Row). IsPermutation received (rs ++ filter (exhausted_row v.most) all)) (filter_both is_received often all)
+    (subst (λ (rs : List Row). IsPermutation received (filter often received ++ rs)) (filter_both is_received exhausted all) (IsPermutation-filter_both often exhausted (λ row. is_least v.most row.receives) received)) in
+    IsPermutation-trans _ _ _ (IsPermutation-filter_both unreceived_row is_received (λ row. is_received_else row.receives) all)
+    (IsPermutation-append _ _ _ _ (found_of_visible unreceived_row p m rows v.unreceived.deadlines own held.unreceived due)
+    (IsPermutation-trans _ _ _ two (IsPermutation-append _ _ _ _ (found_of_visible (received_row v.most) p m rows v.received.deadlines own held.received due) (found_of_visible (exhausted_row v.most) p m rows v.exhausted.deadlines own held.exhausted due))))
 
 filtered_none : {X : Type 0} (p : X → Bool) (xs : List X) → ((x : X) → p x ≡ false) → filter p xs ≡ []
 filtered_none p [] none = refl
@@ -355,26 +355,26 @@ filtered_away {X} p (x ∷ xs) none =
 
 -- where none is found in the three classes, none of the kept rows passes
 pub none_found : (p : Row → Bool) (s : Settings) (m : ℕ) (rows : List Row) (v : VisibleFrom) → HaveOwnSlots rows → AreVisible rows v → ((row : Row) → is_kept_and p s m row ≡ true → is_visible m row ≡ true)
-    → found_due (is_kept_and p s m) rows m v.fresh.deadlines ≡ [] → found_due (is_kept_and p s m) rows m v.again.deadlines ≡ [] → found_due (is_kept_and p s m) rows m v.spent.deadlines ≡ []
-    → list_any p (trimmed s m rows) ≡ false
-none_found p s m rows v own held due fresh again spent =
-    let nothing : filter (is_kept_and p s m) rows ≡ [] = none_of_none (filter (is_kept_and p s m) rows) (rw (fresh, again, spent) at (found_of_all (is_kept_and p s m) m rows v own held due)) in
-    filtered_away p (trimmed s m rows) (filter_both (λ row. not (is_expired s m row)) p rows ∙ nothing)
+    → found_due (is_kept_and p s m) rows m v.unreceived.deadlines ≡ [] → found_due (is_kept_and p s m) rows m v.received.deadlines ≡ [] → found_due (is_kept_and p s m) rows m v.exhausted.deadlines ≡ []
+    → list_any p (unexpired s m rows) ≡ false
+none_found p s m rows v own held due unreceived received exhausted =
+    let nothing : filter (is_kept_and p s m) rows ≡ [] = none_of_none (filter (is_kept_and p s m) rows) (rw (unreceived, received, exhausted) at (found_of_all (is_kept_and p s m) m rows v own held due)) in
+    filtered_away p (unexpired s m rows) (filter_both (λ row. not (is_expired s m row)) p rows ∙ nothing)
 
 -- ---- those in flight
 
 -- those past their retention are found by their ages
-pub flying_kept : (s : Settings) (m bound : ℕ) (rows : List Row) (ages : List Deadline) → HaveOwnSlots rows → Holds any_row enqueued_at rows ages → ((row : Row) → is_expired s m row ≡ nat_le row.enqueued bound)
-    → count_by (is_flying m) (trimmed s m rows) + length (found_due (is_flying m) rows bound ages) ≡ count_by (is_flying m) rows
-flying_kept s m bound rows ages own held same =
-    let old : Row → Bool = λ row. nat_le row.enqueued bound && is_flying m row in
+pub in_flight_kept : (s : Settings) (m bound : ℕ) (rows : List Row) (ages : List Deadline) → HaveOwnSlots rows → Holds any_row enqueued_at rows ages → ((row : Row) → is_expired s m row ≡ nat_le row.enqueued bound)
+    → count_by (is_in_flight m) (unexpired s m rows) + length (found_due (is_in_flight m) rows bound ages) ≡ count_by (is_in_flight m) rows
+in_flight_kept s m bound rows ages own held same =
+    let old : Row → Bool = λ row. nat_le row.enqueued bound && is_in_flight m row in
     omega (
       arith,
-      count_kept s m (is_flying m) rows,
+      count_kept s m (is_in_flight m) rows,
       length-filter old rows,
-      count_agree (λ row. is_expired s m row && is_flying m row) old (λ row. ap (λ (b : Bool). b && is_flying m row) (same row)) rows,
-      length_permutation (filter old rows) (found_due (is_flying m) rows bound ages) (due_of_class any_row enqueued_at (λ row. refl) rows own ages held bound (is_flying m)),
+      count_agree (λ row. is_expired s m row && is_in_flight m row) old (λ row. ap (λ (b : Bool). b && is_in_flight m row) (same row)) rows,
+      length_permutation (filter old rows) (found_due (is_in_flight m) rows bound ages) (due_of_class any_row enqueued_at (λ row. refl) rows own ages held bound (is_in_flight m)),
     )
 
-pub all_flying_kept : (s : Settings) (m : ℕ) (rows : List Row) → ((row : Row) → is_expired s m row ≡ false) → count_by (is_flying m) (trimmed s m rows) ≡ count_by (is_flying m) rows
-all_flying_kept s m rows none = omega (arith, count_kept s m (is_flying m) rows, count_nothing (λ row. is_expired s m row && is_flying m row) (λ row. ap (λ (b : Bool). b && is_flying m row) (none row)) rows)
+pub all_in_flight_kept : (s : Settings) (m : ℕ) (rows : List Row) → ((row : Row) → is_expired s m row ≡ false) → count_by (is_in_flight m) (unexpired s m rows) ≡ count_by (is_in_flight m) rows
+all_in_flight_kept s m rows none = omega (arith, count_kept s m (is_in_flight m) rows, count_nothing (λ row. is_expired s m row && is_in_flight m row) (λ row. ap (λ (b : Bool). b && is_in_flight m row) (none row)) rows)

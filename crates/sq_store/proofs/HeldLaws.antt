@@ -11,7 +11,8 @@ use Rattle.sq_base.specs.declared.row.Row.{Row}
 use Rattle.sq_deadline.specs.declared.deadline.Deadline.{Deadline}
 use Rattle.sq_deadline.specs.Deadlines.{DeadlinesRise, is_same}
 use Rattle.sq_deadline.proofs.SetLaws.{comes_in_once, goes_out}
-use Rattle.sq_store.specs.Due.{Holds, with_if, without_if}
+use Rattle.sq_store.specs.Due.{Holds}
+use Rattle.sq_store.specs.inside.Due.{with_if, without_if}
 
 module _ (class : Row → Bool) (key : Row → Deadline) (before : List Row) (row : Row) (after : List Row) where
   -- what the rows of a class are, with the one in the middle

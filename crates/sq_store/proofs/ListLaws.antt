@@ -16,12 +16,13 @@ use Rattle.sq_model.specs.Rows.{is_distinct, serials_of}
 use Rattle.sq_model.proofs.RowLaws.{rises_distinct}
 use Rattle.sq_slots.specs.Slots.{AreApart, is_in}
 use Rattle.sq_store.specs.Due.{Holds, enqueued_at, visible_at}
-use Rattle.sq_store.specs.Found.{found, row_of}
-use Rattle.sq_store.specs.SlotStores.{AreVisible, again_row, any_row, fresh_row, spent_row}
+use Rattle.sq_store.specs.inside.Found.{found, row_of}
+use Rattle.sq_store.specs.SlotStores.{AreVisible, received_row, any_row, unreceived_row, exhausted_row}
 use Rattle.sq_store.specs.declared.visible.VisibleFrom.{VisibleFrom}
-use Rattle.sq_store.specs.Visible.{HasSpace, IsOrdered, IsSet, KeepsSpace}
+use Rattle.sq_store.specs.Visible.{HasRoomFor, HasSpace}
+use Rattle.sq_store.specs.inside.Visible.{IsOrdered, IsSet, KeepsSpace}
 use Rattle.sq_store.proofs.HeldLaws.{held_few}
-use Rattle.sq_store.proofs.MemoryLaws.{HasRoom, has_more, has_room}
+use Rattle.sq_store.proofs.MemoryLaws.{has_more, has_room}
 use Rattle.sq_store.proofs.DueLaws.{found_more, found_of_class}
 use Rattle.sq_store.proofs.PickLaws.{distinct_permutation, rise_rises, serial_of}
 use Rattle.sq_store.proofs.ReceiveLaws.{first_is_apart, is_number, none_first, other_way}
@@ -59,9 +60,9 @@ all_listed rows ages v apart held h =
     let same = all_found rows ages apart held in
     let full = found any_row rows ages in
     record {
-      fresh = same_class fresh_row visible_at rows full v.fresh.deadlines same h.fresh;
-      again = same_class (again_row v.most) visible_at rows full v.again.deadlines same h.again;
-      spent = same_class (spent_row v.most) visible_at rows full v.spent.deadlines same h.spent;
+      unreceived = same_class unreceived_row visible_at rows full v.unreceived.deadlines same h.unreceived;
+      received = same_class (received_row v.most) visible_at rows full v.received.deadlines same h.received;
+      exhausted = same_class (exhausted_row v.most) visible_at rows full v.exhausted.deadlines same h.exhausted;
     }
 
 -- the serial of the one that comes next was not there yet
@@ -120,7 +121,7 @@ kept_few h (d ∷ ds) = let rest = kept_few h ds in elim (h d) as (λ o. length 
 ]
 
 pub room_for_next : (rows : List Row) (ages : List Deadline) (place : ℕ) (first v : VisibleFrom) → Holds any_row enqueued_at rows ages → place < length ages → HasSpace (length rows) first → KeepsSpace first v
-    → AreVisible (found any_row rows (take place ages)) v → HasRoom v
+    → AreVisible (found any_row rows (take place ages)) v → (receives : ℕ) → HasRoomFor receives v
 room_for_next rows ages place first v held within memory kept h =
     let before = found any_row rows (take place ages) in
     let few = kept_few (row_of rows) (take place ages) in
@@ -128,7 +129,7 @@ room_for_next rows ages place first v held within memory kept h =
     let all = held_few any_row enqueued_at rows ages held in
     let less : length before + 1 ≤ length rows = omega (arith, few, taken, all, within) in
     let more = has_more (length rows) first v kept memory in
-    has_room before v h (record { fresh = omega (arith, less, more.fresh); again = omega (arith, less, more.again); spent = omega (arith, less, more.spent) })
+    has_room before v h (record { unreceived = omega (arith, less, more.unreceived); received = omega (arith, less, more.received); exhausted = omega (arith, less, more.exhausted) })
 
 pub none_is_past : (ds : List Deadline) (k : ℕ) → slice_get ds k ≡ None → length ds ≤ k
 none_is_past [] k h = omega arith

@@ -7,8 +7,9 @@ use Rattle.sq_base.specs.declared.row.Row.{Row}
 use Rattle.sq_store.specs.Due.{Holds, enqueued_at, space, visible_at}
 use Rattle.sq_store.specs.declared.visible.VisibleFrom.{VisibleFrom}
 use Rattle.sq_store.proofs.HeldLaws.{held_few}
-use Rattle.sq_store.specs.SlotStores.{AreVisible, SlotValue, again_row, any_row, fresh_row, reserved_in, spent_row}
-use Rattle.sq_store.specs.Visible.{HasSpace, KeepsSpace}
+use Rattle.sq_store.specs.SlotStores.{AreVisible, SlotValue, received_row, any_row, unreceived_row, reserved_in, exhausted_row}
+use Rattle.sq_store.specs.Visible.{HasRoomFor, HasSpace}
+use Rattle.sq_store.specs.inside.Visible.{KeepsSpace}
 
 -- there is memory for one row more
 pub record HasPlaceLeft (s : SlotValue) : Type 0 where
@@ -29,32 +30,27 @@ pub has_place : (s : SlotValue) → 0 < reserved_in s → HasPlaceLeft s
 has_place s h =
     let n = length s.table.rows in
     let lists = right s.table.reserved _ h in
-    let others = right (space s.visible.fresh - n) _ lists in
-    let last = right (space s.visible.again - n) _ others in
+    let others = right (space s.visible.unreceived - n) _ lists in
+    let last = right (space s.visible.received - n) _ others in
     record {
       table = left s.table.reserved _ h;
       visible = record {
-        fresh = above (space s.visible.fresh) n (left (space s.visible.fresh - n) _ lists);
-        again = above (space s.visible.again) n (left (space s.visible.again - n) _ others);
-        spent = above (space s.visible.spent) n (left (space s.visible.spent - n) _ last);
+        unreceived = above (space s.visible.unreceived) n (left (space s.visible.unreceived - n) _ lists);
+        received = above (space s.visible.received) n (left (space s.visible.received - n) _ others);
+        exhausted = above (space s.visible.exhausted) n (left (space s.visible.exhausted - n) _ last);
       };
-      ages = above (space s.ages) n (right (space s.visible.spent - n) _ last);
+      ages = above (space s.ages) n (right (space s.visible.exhausted - n) _ last);
     }
 
 -- where fewer stand in a list than there is memory for, one more may come in
 one_more : (count : ℕ) (index : IndexValue) → count + 1 ≤ space index → length index.deadlines ≤ count → 0 < index.reserved
 one_more count index memory few = omega (arith, memory, few)
 
-pub record HasRoom (v : VisibleFrom) : Type 0 where
-  pub fresh : 0 < v.fresh.reserved
-  pub again : 0 < v.again.reserved
-  pub spent : 0 < v.spent.reserved
-
-pub has_room : (rows : List Row) (v : VisibleFrom) → AreVisible rows v → HasSpace (length rows + 1) v → HasRoom v
-has_room rows v held memory = record {
-  fresh = one_more (length rows) v.fresh memory.fresh (held_few fresh_row visible_at rows v.fresh.deadlines held.fresh);
-  again = one_more (length rows) v.again memory.again (held_few (again_row v.most) visible_at rows v.again.deadlines held.again);
-  spent = one_more (length rows) v.spent memory.spent (held_few (spent_row v.most) visible_at rows v.spent.deadlines held.spent);
+pub has_room : (rows : List Row) (v : VisibleFrom) → AreVisible rows v → HasSpace (length rows + 1) v → (receives : ℕ) → HasRoomFor receives v
+has_room rows v held memory receives = record {
+  unreceived = λ is. one_more (length rows) v.unreceived memory.unreceived (held_few unreceived_row visible_at rows v.unreceived.deadlines held.unreceived);
+  received = λ is. one_more (length rows) v.received memory.received (held_few (received_row v.most) visible_at rows v.received.deadlines held.received);
+  exhausted = λ is. one_more (length rows) v.exhausted memory.exhausted (held_few (exhausted_row v.most) visible_at rows v.exhausted.deadlines held.exhausted);
 }
 
 pub has_age_room : (rows : List Row) (ages : IndexValue) → Holds any_row enqueued_at rows ages.deadlines → length rows + 1 ≤ space ages → 0 < ages.reserved
@@ -62,9 +58,9 @@ has_age_room rows ages held memory = one_more (length rows) ages memory (held_fe
 
 pub has_more : (count : ℕ) (old new : VisibleFrom) → KeepsSpace old new → HasSpace count old → HasSpace count new
 has_more count old new kept memory = record {
-  fresh = omega (arith, kept.fresh, memory.fresh);
-  again = omega (arith, kept.again, memory.again);
-  spent = omega (arith, kept.spent, memory.spent);
+  unreceived = omega (arith, kept.unreceived, memory.unreceived);
+  received = omega (arith, kept.received, memory.received);
+  exhausted = omega (arith, kept.exhausted, memory.exhausted);
 }
 
 pub least_more : (a b c d : ℕ) → a ≤ c + 1 → b ≤ d + 1 → min a b ≤ min c d + 1
@@ -81,9 +77,9 @@ pub keeps_places : (old new : SlotValue) → old.table.reserved ≤ new.table.re
 keeps_places old new table rows kept ages =
     let n = length new.table.rows in
     let m = length old.table.rows in
-    least_kept _ _ _ _ table (least_kept _ _ _ _ (less (space old.visible.fresh) (space new.visible.fresh) m n kept.fresh rows)
-    (least_kept _ _ _ _ (less (space old.visible.again) (space new.visible.again) m n kept.again rows)
-    (least_kept _ _ _ _ (less (space old.visible.spent) (space new.visible.spent) m n kept.spent rows) (less (space old.ages) (space new.ages) m n ages rows))))
+    least_kept _ _ _ _ table (least_kept _ _ _ _ (less (space old.visible.unreceived) (space new.visible.unreceived) m n kept.unreceived rows)
+    (least_kept _ _ _ _ (less (space old.visible.received) (space new.visible.received) m n kept.received rows)
+    (least_kept _ _ _ _ (less (space old.visible.exhausted) (space new.visible.exhausted) m n kept.exhausted rows) (less (space old.ages) (space new.ages) m n ages rows))))
 
 one_less : (a b m n : ℕ) → a ≤ b → n ≡ m + 1 → a - m ≤ b - n + 1
 one_less a b m n one other = omega (arith, one, other)
@@ -93,9 +89,9 @@ pub takes_place : (old new : SlotValue) → old.table.reserved ≡ new.table.res
 takes_place old new table rows kept ages =
     let n = length new.table.rows in
     let m = length old.table.rows in
-    least_more _ _ _ _ (omega (arith, table)) (least_more _ _ _ _ (one_less (space old.visible.fresh) (space new.visible.fresh) m n kept.fresh rows)
-    (least_more _ _ _ _ (one_less (space old.visible.again) (space new.visible.again) m n kept.again rows)
-    (least_more _ _ _ _ (one_less (space old.visible.spent) (space new.visible.spent) m n kept.spent rows) (one_less (space old.ages) (space new.ages) m n ages rows))))
+    least_more _ _ _ _ (omega (arith, table)) (least_more _ _ _ _ (one_less (space old.visible.unreceived) (space new.visible.unreceived) m n kept.unreceived rows)
+    (least_more _ _ _ _ (one_less (space old.visible.received) (space new.visible.received) m n kept.received rows)
+    (least_more _ _ _ _ (one_less (space old.visible.exhausted) (space new.visible.exhausted) m n kept.exhausted rows) (one_less (space old.ages) (space new.ages) m n ages rows))))
 
 pub keeps_on : (old mid new : VisibleFrom) → KeepsSpace old mid → KeepsSpace mid new → KeepsSpace old new
-keeps_on old mid new first then = record { fresh = omega (arith, first.fresh, then.fresh); again = omega (arith, first.again, then.again); spent = omega (arith, first.spent, then.spent) }
+keeps_on old mid new first then = record { unreceived = omega (arith, first.unreceived, then.unreceived); received = omega (arith, first.received, then.received); exhausted = omega (arith, first.exhausted, then.exhausted) }

@@ -14,16 +14,16 @@ use Rattle.sq_base.specs.declared.settings.Settings.{Settings}
 use Rattle.sq_deadline.specs.declared.deadline.Deadline.{Deadline}
 use Rattle.sq_deadline.specs.Deadlines.{IndexValue, DeadlinesRise as InOrder, is_due}
 use Rattle.sq_deadline.proofs.SetLaws.{along_permutation, due_first}
-use Rattle.sq_model.specs.Rows.{IsLook, RisesFrom, is_distinct, is_expired, is_live, received, serials_of, trimmed}
-use Rattle.sq_model.proofs.RowLaws.{rises_distinct, rises_filter, rises_trimmed}
+use Rattle.sq_model.specs.Rows.{IsLook, RisesFrom, is_distinct, is_expired, is_live, received, serials_of, unexpired}
+use Rattle.sq_model.proofs.RowLaws.{rises_distinct, rises_filter, rises_unexpired}
 use Rattle.sq_slots.specs.Slots.{AreApart, SerialsRise}
-use Rattle.sq_store.specs.Due.{most_under}
-use Rattle.sq_store.specs.Found.{found, found_due, is_kept_and, row_of}
+use Rattle.sq_store.specs.inside.Due.{most_under}
+use Rattle.sq_store.specs.inside.Found.{found, found_due, is_kept_and, row_of}
 use Rattle.sq_store.specs.SlotStores.{AreVisible}
-use Rattle.sq_store.specs.Visible.{AreBoth}
+use Rattle.sq_store.specs.inside.Visible.{AreBoth}
 use Rattle.sq_store.specs.declared.visible.VisibleFrom.{VisibleFrom}
 use Rattle.sq_store.proofs.DueLaws.{filter_both, found_of_all}
-use Rattle.sq_store.proofs.LiveLaws.{live_is_visible, no_spent_is_live}
+use Rattle.sq_store.proofs.LiveLaws.{live_is_visible, no_exhausted_is_live}
 
 -- ---- distinct numbers
 
@@ -81,14 +81,14 @@ received_serials m until [] = refl
 received_serials m until (row ∷ rows) = ap (λ (ns : List ℕ). row.serial ∷ ns) (received_serials m until rows)
 
 -- the first so many of the live rows are a look, in whatever order they stand
-pub first_are_look : (s : Settings) (m until n : ℕ) (rows live : List Row) → SerialsRise 0 rows → IsPermutation (filter (is_live s m) (trimmed s m rows)) live
-    → IsLook s m until n (trimmed s m rows) (take n (map (received m until) live))
+pub first_are_look : (s : Settings) (m until n : ℕ) (rows live : List Row) → SerialsRise 0 rows → IsPermutation (filter (is_live s m) (unexpired s m rows)) live
+    → IsLook s m until n (unexpired s m rows) (take n (map (received m until) live))
 first_are_look s m until n rows live rise same =
-    let kept = trimmed s m rows in
+    let kept = unexpired s m rows in
     let all = filter (is_live s m) kept in
     let given = map (received m until) live in
     let next = rise_rises 0 rows rise in
-    let once = rises_distinct 0 all next.0 (rises_filter (is_live s m) 0 kept next.0 (rises_trimmed s m 0 rows next.0 next.1)) in
+    let once = rises_distinct 0 all next.0 (rises_filter (is_live s m) 0 kept next.0 (rises_unexpired s m 0 rows next.0 next.1)) in
     let serials : serials_of (take n given) ≡ take n (serials_of live) = sym (take-map serial_of n given) ∙ ap (take n) (received_serials m until live) in
     record {
       exact = length-take n given ∙ ap (min n) (length-map live (received m until) ∙ length_permutation all live same ∙ length-filter (is_live s m) kept);
@@ -140,33 +140,33 @@ module _ (s : Settings) (m until n : ℕ) (rows : List Row) (v : VisibleFrom) (a
 
   -- what is picked of the three lists, two of them in one order or the other, is a look
   pub pick_is_look : (one two : IndexValue) → AreBoth v one two → (first second third : List Row) → first ≡ take n (picked_of one.deadlines) → second ≡ take n (first ++ picked_of two.deadlines)
-      → third ≡ take n (second ++ picked_of v.spent.deadlines) → IsLook s m until n (trimmed s m rows) third
+      → third ≡ take n (second ++ picked_of v.exhausted.deadlines) → IsLook s m until n (unexpired s m rows) third
   pick_is_look one two both first second third is_first is_second is_third =
       let p = is_kept_and (is_live s m) s m in
       let f = received m until in
       let a = found_due p rows m one.deadlines in
       let b = found_due p rows m two.deadlines in
-      let c = found_due p rows m v.spent.deadlines in
+      let c = found_due p rows m v.exhausted.deadlines in
       let pair : second ≡ take n (map f a ++ map f b) = is_second ∙ ap (λ (rs : List Row). take n (rs ++ map f b)) is_first ∙ take_twice n (map f a) (map f b) in
       let all : third ≡ take n ((map f a ++ map f b) ++ map f c) = is_third ∙ ap (λ (rs : List Row). take n (rs ++ map f c)) pair ∙ take_twice n (map f a ++ map f b) (map f c) in
       let joined : (map f a ++ map f b) ++ map f c ≡ map f (a ++ (b ++ c)) =
       append_assoc (map f a) (map f b) (map f c) ∙ ap (λ (rs : List Row). map f a ++ rs) (sym (map-append f b c)) ∙ sym (map-append f a (b ++ c)) in
-      let x = found_due p rows m v.fresh.deadlines in
-      let y = found_due p rows m v.again.deadlines in
-      let lists : IsPermutation (filter (is_live s m) (trimmed s m rows)) (x ++ (y ++ c)) =
+      let x = found_due p rows m v.unreceived.deadlines in
+      let y = found_due p rows m v.received.deadlines in
+      let lists : IsPermutation (filter (is_live s m) (unexpired s m rows)) (x ++ (y ++ c)) =
       rw (filter_both (λ row. not (is_expired s m row)) (is_live s m) rows) (found_of_all p m rows v apart.slots held (live_is_visible s m)) in
-      let same : IsPermutation (filter (is_live s m) (trimmed s m rows)) (a ++ (b ++ c)) =
+      let same : IsPermutation (filter (is_live s m) (unexpired s m rows)) (a ++ (b ++ c)) =
       ⊎_elim
-      (λ (as_they_are : (one ≡ v.fresh) × (two ≡ v.again)). rw (as_they_are.0, as_they_are.1) lists)
-      (λ (turned : (one ≡ v.again) × (two ≡ v.fresh)). rw (turned.0, turned.1) (IsPermutation-trans (filter (is_live s m) (trimmed s m rows)) (x ++ (y ++ c)) (y ++ (x ++ c)) lists (exchanged x y c)))
+      (λ (as_they_are : (one ≡ v.unreceived) × (two ≡ v.received)). rw (as_they_are.0, as_they_are.1) lists)
+      (λ (turned : (one ≡ v.received) × (two ≡ v.unreceived)). rw (turned.0, turned.1) (IsPermutation-trans (filter (is_live s m) (unexpired s m rows)) (x ++ (y ++ c)) (y ++ (x ++ c)) lists (exchanged x y c)))
       both in
       rw (all ∙ ap (take n) joined) (first_are_look s m until n rows (a ++ (b ++ c)) apart.rise same)
 
-  -- where none of the spent rows is live, the other two lists are enough
-  pub pick_without_spent : (one two : IndexValue) → AreBoth v one two → (first second : List Row) → most_under s.redrive ≤ v.most → first ≡ take n (picked_of one.deadlines)
-      → second ≡ take n (first ++ picked_of two.deadlines) → IsLook s m until n (trimmed s m rows) second
-  pick_without_spent one two both first second le is_first is_second =
-      let none : picked_of v.spent.deadlines ≡ [] = ap (map (received m until)) (no_spent_is_live s m rows v apart.slots held le) in
-      let few : second ≡ take n (second ++ picked_of v.spent.deadlines) =
+  -- where none of the exhausted rows is live, the other two lists are enough
+  pub pick_without_exhausted : (one two : IndexValue) → AreBoth v one two → (first second : List Row) → most_under s.redrive ≤ v.most → first ≡ take n (picked_of one.deadlines)
+      → second ≡ take n (first ++ picked_of two.deadlines) → IsLook s m until n (unexpired s m rows) second
+  pick_without_exhausted one two both first second le is_first is_second =
+      let none : picked_of v.exhausted.deadlines ≡ [] = ap (map (received m until)) (no_exhausted_is_live s m rows v apart.slots held le) in
+      let few : second ≡ take n (second ++ picked_of v.exhausted.deadlines) =
       rw (none, append-nil second) (sym (rw is_second (take-take n n (first ++ picked_of two.deadlines) (omega arith)))) in
       pick_is_look one two both first second second is_first is_second few

@@ -9,7 +9,7 @@ use Rattle.sq_base.specs.declared.settings.Settings.{Settings}
 use Rattle.sq_model.specs.Rows.{is_distinct, is_live, received, received_if, serials_of}
 use Rattle.sq_slots.proofs.RowLists.{Contains-cons, contains_first}
 use Rattle.sq_slots.specs.Slots.{is_at}
-use Rattle.sq_store.specs.SlotStores.{received_at}
+use Rattle.sq_store.specs.inside.SlotStores.{received_at}
 
 and_false : (b : Bool) → (b && false) ≡ false
 and_false true = refl
@@ -42,11 +42,11 @@ pub none_received : (s : Settings) (m until : ℕ) (rows : List Row) → rows �
 none_received s m until [] = refl
 none_received s m until (r ∷ rs) = rw (and_false (is_live s m r)) (ap (λ (xs : List Row). r ∷ xs) (none_received s m until rs))
 
-module _ (s : Settings) (m until : ℕ) (slot serial : ℕ) (done : List ℕ) (fresh : list_any (λ c. c == serial) done ≡ false) where
+module _ (s : Settings) (m until : ℕ) (slot serial : ℕ) (done : List ℕ) (unreceived : list_any (λ c. c == serial) done ≡ false) where
   -- the row of this serial was not received yet
   one_more : (r : Row) → r.slot ≡ slot → r.serial ≡ serial → received_at s slot serial m until (received_if s done m until r) ≡ received_if s (done ++ serial ∷ []) m until r
   one_more r at is =
-      let not_done : list_any (λ c. c == r.serial) done ≡ false = subst (λ (n : ℕ). list_any (λ c. c == n) done ≡ false) (sym is) fresh in
+      let not_done : list_any (λ c. c == r.serial) done ≡ false = subst (λ (n : ℕ). list_any (λ c. c == n) done ≡ false) (sym is) unreceived in
       let before : received_if s done m until r ≡ r = rw (not_done, and_false (is_live s m r)) refl in
       let here : is_at slot serial r ≡ true = rw (is_number r.slot slot at, is_number r.serial serial is) refl in
       let now_done : list_any (λ c. c == r.serial) (done ++ serial ∷ []) ≡ true = any_last (λ c. c == r.serial) done serial ∙ rw (not_done, is_number serial r.serial (sym is)) refl in

@@ -1,5 +1,5 @@
 -- The lists of a store, where a row comes in, goes out or changes.
-use Rattle.std.proofs.Common.{◌≡◌, ◌≢◌, ℕ, ◌+◌, ◌<◌, ◌≤◌, Bool, true, false, Option, List, [], ◌∷◌, ◌++◌, length, refl, sym, ◌∙◌, subst, arith}
+use Rattle.std.proofs.Common.{◌≡◌, ◌≢◌, ℕ, ◌+◌, ◌<◌, ◌≤◌, Bool, true, false, List, [], ◌∷◌, ◌++◌, length, refl, sym, ◌∙◌, subst, arith}
 use Rattle.std.specs.Prelude.{◌==◌, filter}
 use Rattle.std.specs.List.{All, list_any}
 use Rattle.std.proofs.lemmas.List.{append-nil, length-append}
@@ -8,14 +8,16 @@ use Rattle.sq_base.specs.declared.row.Row.{Row}
 use Rattle.sq_deadline.specs.declared.deadline.Deadline.{Deadline}
 use Rattle.sq_deadline.specs.Deadlines.{IndexValue, DeadlinesRise, with_deadline, is_other, is_same}
 use Rattle.sq_deadline.proofs.SetLaws.{is_absent, none_passes}
+use Rattle.sq_slots.specs.declared.table.Delivery.{Delivery}
 use Rattle.sq_slots.specs.Slots.{is_in, updated}
 use Rattle.sq_slots.proofs.RowLists.{is_this}
-use Rattle.sq_store.specs.Due.{Holds, enqueued_at, is_again, is_fresh, is_spent_by, space, visible_at}
+use Rattle.sq_store.specs.Due.{Holds, enqueued_at, is_received_below, is_unreceived, is_exhausted_by, space, visible_at}
 use Rattle.sq_store.specs.declared.visible.VisibleFrom.{VisibleFrom}
-use Rattle.sq_store.specs.Visible.{HasSpace, IsCleared, IsOrdered, IsSet}
-use Rattle.sq_store.specs.SlotStores.{AreVisible, IsIndexed, again_row, any_row, fresh_row, spent_row}
+use Rattle.sq_store.specs.Visible.{HasRoomFor, HasSpace}
+use Rattle.sq_store.specs.inside.Visible.{IsCleared, IsOrdered, IsSet}
+use Rattle.sq_store.specs.SlotStores.{AreVisible, IsIndexed, received_row, any_row, unreceived_row, exhausted_row}
 use Rattle.sq_store.proofs.HeldLaws.{held_in, held_out, held_same}
-use Rattle.sq_store.proofs.MemoryLaws.{HasRoom, has_more, has_room}
+use Rattle.sq_store.proofs.MemoryLaws.{has_more, has_room}
 
 module _ (before : List Row) (row : Row) (after : List Row) where
   -- no row of this slot stands in a list
@@ -32,18 +34,18 @@ module _ (before : List Row) (row : Row) (after : List Row) where
   comes_in old new fits others ordered set held =
       let most = old.most in
       record {
-        fresh = rw set.fresh (held_in fresh_row visible_at before row after (is_fresh row.receives) refl old.fresh.deadlines (absent fresh_row visible_at (λ r. refl) fits others (is_fresh row.receives) old.fresh.deadlines ordered.fresh held.fresh) held.fresh);
-        again = rw (set.most, set.again) (held_in (again_row most) visible_at before row after (is_again most row.receives) refl old.again.deadlines (absent (again_row most) visible_at (λ r. refl) fits others (is_again most row.receives) old.again.deadlines ordered.again held.again) held.again);
-        spent = rw (set.most, set.spent) (held_in (spent_row most) visible_at before row after (is_spent_by most row.receives) refl old.spent.deadlines (absent (spent_row most) visible_at (λ r. refl) fits others (is_spent_by most row.receives) old.spent.deadlines ordered.spent held.spent) held.spent);
+        unreceived = rw set.unreceived (held_in unreceived_row visible_at before row after (is_unreceived row.receives) refl old.unreceived.deadlines (absent unreceived_row visible_at (λ r. refl) fits others (is_unreceived row.receives) old.unreceived.deadlines ordered.unreceived held.unreceived) held.unreceived);
+        received = rw (set.most, set.received) (held_in (received_row most) visible_at before row after (is_received_below most row.receives) refl old.received.deadlines (absent (received_row most) visible_at (λ r. refl) fits others (is_received_below most row.receives) old.received.deadlines ordered.received held.received) held.received);
+        exhausted = rw (set.most, set.exhausted) (held_in (exhausted_row most) visible_at before row after (is_exhausted_by most row.receives) refl old.exhausted.deadlines (absent (exhausted_row most) visible_at (λ r. refl) fits others (is_exhausted_by most row.receives) old.exhausted.deadlines ordered.exhausted held.exhausted) held.exhausted);
       }
 
   pub goes_out : (old new : VisibleFrom) → IsOrdered row.receives old → IsCleared row.receives (visible_at row) old new → AreVisible (before ++ row ∷ after) old → AreVisible (before ++ after) new
   goes_out old new ordered cleared held =
       let most = old.most in
       record {
-        fresh = rw cleared.fresh (held_out fresh_row visible_at before row after (is_fresh row.receives) refl old.fresh.deadlines ordered.fresh held.fresh);
-        again = rw (cleared.most, cleared.again) (held_out (again_row most) visible_at before row after (is_again most row.receives) refl old.again.deadlines ordered.again held.again);
-        spent = rw (cleared.most, cleared.spent) (held_out (spent_row most) visible_at before row after (is_spent_by most row.receives) refl old.spent.deadlines ordered.spent held.spent);
+        unreceived = rw cleared.unreceived (held_out unreceived_row visible_at before row after (is_unreceived row.receives) refl old.unreceived.deadlines ordered.unreceived held.unreceived);
+        received = rw (cleared.most, cleared.received) (held_out (received_row most) visible_at before row after (is_received_below most row.receives) refl old.received.deadlines ordered.received held.received);
+        exhausted = rw (cleared.most, cleared.exhausted) (held_out (exhausted_row most) visible_at before row after (is_exhausted_by most row.receives) refl old.exhausted.deadlines ordered.exhausted held.exhausted);
       }
 
   pub ages_in : (ages : List Deadline) → row.slot < 4294967296 → All (λ (r : Row). r.slot ≢ row.slot) (before ++ after) → DeadlinesRise 0 ages
@@ -84,17 +86,17 @@ module _ (before : List Row) (row : Row) (after : List Row) where
   indexed_out old new ages later ordered cleared rise aged kept h = record {
     held = goes_out before row after old new ordered cleared h.held;
     aged = rw aged (ages_out before row after ages.deadlines rise h.aged);
-    memory = has_more _ old new cleared.space (record { fresh = omega (arith, fewer, h.memory.fresh); again = omega (arith, fewer, h.memory.again); spent = omega (arith, fewer, h.memory.spent) });
+    memory = has_more _ old new cleared.space (record { unreceived = omega (arith, fewer, h.memory.unreceived); received = omega (arith, fewer, h.memory.received); exhausted = omega (arith, fewer, h.memory.exhausted) });
     age_memory = omega (arith, fewer, kept, h.age_memory);
   }
 
   -- a row changes, and is as old as it was
-  pub indexed_changed : (receives visible_from : ℕ) (last_receive : Option ℕ) (old mid new : VisibleFrom) (ages : IndexValue) → row.slot < 4294967296 → All (λ (r : Row). r.slot ≢ row.slot) (before ++ after)
+  pub indexed_changed : (delivery : Delivery) (old mid new : VisibleFrom) (ages : IndexValue) → row.slot < 4294967296 → All (λ (r : Row). r.slot ≢ row.slot) (before ++ after)
       → IsOrdered row.receives old → IsCleared row.receives (visible_at row) old mid
-      → IsOrdered receives mid → IsSet receives (visible_at (updated receives visible_from last_receive row)) mid new
-      → IsIndexed (before ++ row ∷ after) old ages → IsIndexed (before ++ updated receives visible_from last_receive row ∷ after) new ages
-  indexed_changed receives visible_from last_receive old mid new ages fits others before_it cleared then set h =
-      let row' = updated receives visible_from last_receive row in
+      → IsOrdered delivery.receives mid → IsSet delivery.receives (visible_at (updated delivery row)) mid new
+      → IsIndexed (before ++ row ∷ after) old ages → IsIndexed (before ++ updated delivery row ∷ after) new ages
+  indexed_changed delivery old mid new ages fits others before_it cleared then set h =
+      let row' = updated delivery row in
       let long : length (before ++ row' ∷ after) ≡ length (before ++ row ∷ after) = omega (arith, length-append before (row ∷ after), length-append before (row' ∷ after)) in
       record {
         held = comes_in before row' after mid new fits others then set (goes_out before row after old mid before_it cleared h.held);
@@ -104,7 +106,7 @@ module _ (before : List Row) (row : Row) (after : List Row) where
       }
 
   -- where a row's moment went out, there is room for one in each list
-  pub room_beside : (old new : VisibleFrom) (ages : IndexValue) → IsOrdered row.receives old → IsCleared row.receives (visible_at row) old new → IsIndexed (before ++ row ∷ after) old ages → HasRoom new
+  pub room_beside : (old new : VisibleFrom) (ages : IndexValue) → IsOrdered row.receives old → IsCleared row.receives (visible_at row) old new → IsIndexed (before ++ row ∷ after) old ages → (receives : ℕ) → HasRoomFor receives new
   room_beside old new ages ordered cleared h =
       has_room (before ++ after) new (goes_out before row after old new ordered cleared h.held) (has_more _ old new cleared.space
-      (record { fresh = omega (arith, fewer, h.memory.fresh); again = omega (arith, fewer, h.memory.again); spent = omega (arith, fewer, h.memory.spent) }))
+      (record { unreceived = omega (arith, fewer, h.memory.unreceived); received = omega (arith, fewer, h.memory.received); exhausted = omega (arith, fewer, h.memory.exhausted) }))

@@ -1,5 +1,5 @@
 pub mod Due
 pub mod Visible
 pub mod SlotStores
-pub mod Found
 pub mod Picked
+pub mod inside

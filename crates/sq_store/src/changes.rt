@@ -5,7 +5,7 @@ ghost use Rattle.sq_deadline.specs.Deadlines.{DeadlinesRise, is_other};
 ghost use Rattle.sq_slots.specs.Slots.{IsBetween, in_slot, is_at, is_away, updated_at};
 ghost use Rattle.sq_store.specs.Due.{enqueued_at, visible_at};
 ghost use Rattle.sq_store.specs.SlotStores.{reserved_in};
-ghost use Rattle.sq_store.specs.Visible.{IsCleared, IsOrdered};
+ghost use Rattle.sq_store.specs.inside.Visible.{IsCleared, IsOrdered};
 
 use crate::slots::SlotStore;
 use crate::visible::VisibleFrom;
@@ -13,6 +13,7 @@ use sq_base::ids::Serial;
 use sq_base::row::Row;
 use sq_deadline::deadline::Deadline;
 use sq_deadline::index::DeadlineIndex;
+use sq_slots::table::Delivery;
 
 impl SlotStore {
     // Puts a row in, for which there is memory, and gives its slot.
@@ -39,16 +40,9 @@ impl SlotStore {
         slot
     }
 
-    // Sets the receive number of the row of a slot and a serial, from when it is visible, and the moment of its last receive.
-    pub(crate) fn revise(
-        &mut self,
-        slot: u32,
-        serial: Serial,
-        receives: u32,
-        visible_from: u64,
-        last_receive: Option<u64>,
-    )
-        ensures rows { self.new.table.rows ≡ map (updated_at slot serial receives visible_from last_receive) self.old.table.rows }
+    // Sets the delivery of the row of a slot and a serial.
+    pub(crate) fn revise(&mut self, slot: u32, serial: Serial, delivery: Delivery)
+        ensures rows { self.new.table.rows ≡ map (updated_at slot serial delivery) self.old.table.rows }
         ensures reserved { reserved_in self.old ≤ reserved_in self.new }
     {
         let Some(row) = self.table.get(slot, serial) else {
@@ -59,13 +53,12 @@ impl SlotStore {
             moment: row.visible_from,
             slot,
         };
-        self.table
-            .update(slot, serial, receives, visible_from, last_receive);
+        self.table.update(slot, serial, delivery);
         self.visible.clear(was, &until);
         self.visible.set(
-            receives,
+            delivery.receives,
             Deadline {
-                moment: visible_from,
+                moment: delivery.visible_from,
                 slot,
             },
         );

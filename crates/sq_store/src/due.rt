@@ -3,9 +3,9 @@ ghost use Rattle.std.specs.Prelude.{◌≡◌, ◌++◌, ◌≤◌, [], count_by
 ghost use Rattle.std.specs.List.{list_any};
 ghost use Rattle.sq_model.specs.Rows as model;
 ghost use Rattle.sq_slots.specs.Slots.{AreApart};
-ghost use Rattle.sq_store.specs.Found.{found_due, is_kept_and, is_wanted as wanted};
+ghost use Rattle.sq_store.specs.inside.Found.{found_due, is_kept_and, is_wanted as wanted};
 ghost use Rattle.sq_store.specs.Picked.{IsOneOf};
-ghost use Rattle.sq_store.specs.SlotStores.{IsFromBefore};
+ghost use Rattle.sq_store.specs.inside.SlotStores.{IsFromBefore};
 
 use crate::rows;
 use crate::slots::SlotStore;
@@ -24,8 +24,8 @@ pub(crate) enum Wanted {
     Dead,
 }
 
-// Whether a row is not past its retention, and is one that is looked for.
-fn is_wanted(what: Wanted, at: &At, row: &Row) -> bool
+/// Whether a row is not past its retention, and is one that is looked for.
+pub(crate) fn is_wanted(what: Wanted, at: &At, row: &Row) -> bool
     ensures { result ≡ is_kept_and (wanted what at.now.settings at.now.moment) at.now.settings at.now.moment row.now }
 {
     rows::is_kept(at, row)
@@ -42,7 +42,7 @@ pub(crate) fn first_of<'a>(
     what: Wanted,
     at: &At,
 ) -> Option<&'a Row>
-    ensures one { IfSome result (λ row. IsOneOf (wanted what at.now.settings at.now.moment) (model.trimmed at.now.settings at.now.moment table.now.rows) row.now) }
+    ensures one { IfSome result (λ row. IsOneOf (wanted what at.now.settings at.now.moment) (model.unexpired at.now.settings at.now.moment table.now.rows) row.now) }
     ensures none { IfNone result (found_due (is_kept_and (wanted what at.now.settings at.now.moment) at.now.settings at.now.moment) table.now.rows at.now.moment index.now.deadlines ≡ []) }
     ensures apart { AreApart table.now.rows }
 {
@@ -95,13 +95,13 @@ pub(crate) fn pick_of(
 }
 
 // How many rows are in flight, of those whose deadlines are due. It takes time by them.
-pub(crate) fn count_flying_of(
+pub(crate) fn count_in_flight_of(
     table: &SlotTable,
     index: &DeadlineIndex,
     due: u64,
     moment: u64,
 ) -> usize
-    ensures { result ≡ length (found_due (model.is_flying moment) table.now.rows due index.now.deadlines) }
+    ensures { result ≡ length (found_due (model.is_in_flight moment) table.now.rows due index.now.deadlines) }
 {
     let mut count = 0;
     for place in 0..index.len() {
@@ -109,7 +109,7 @@ pub(crate) fn count_flying_of(
             return count;
         };
         if let Some(row) = table.at(deadline.slot) {
-            if rows::is_flying(moment, row) {
+            if rows::is_in_flight(moment, row) {
                 count += 1;
             }
         }
@@ -136,19 +136,19 @@ impl SlotStore {
     }
 
     // How many rows are in flight: those that were received, less those of them that are visible again.
-    pub(crate) fn count_flying_rows(&self, moment: u64) -> usize
-        ensures count { result ≡ count_by (model.is_flying moment) self.now.table.rows }
+    pub(crate) fn count_in_flight_rows(&self, moment: u64) -> usize
+        ensures count { result ≡ count_by (model.is_in_flight moment) self.now.table.rows }
         ensures apart { AreApart self.now.table.rows }
     {
         let visible = &self.visible;
-        let received = self.table.len() - visible.fresh.len();
-        received - visible.again.count_due(moment) - visible.spent.count_due(moment)
+        let received = self.table.len() - visible.unreceived.len();
+        received - visible.received.count_due(moment) - visible.exhausted.count_due(moment)
     }
 
     // How many rows are delayed.
     pub(crate) fn count_delayed_rows(&self, moment: u64) -> usize
         ensures { result ≡ count_by (model.is_delayed moment) self.now.table.rows }
     {
-        count_later(&self.visible.fresh, moment)
+        count_later(&self.visible.unreceived, moment)
     }
 }

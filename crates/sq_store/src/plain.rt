@@ -1,9 +1,12 @@
 //! Rows one after another.
-ghost use Rattle.std.specs.Prelude.{◌≡◌, ◌-◌, ◌<◌, ◌==◌, ◌&&◌, ℕ, true, false, [], count_by, filter, length, map, not, position, take, vec_capacity, vec_len, IfErr, IfOk};
+ghost use Rattle.std.specs.Prelude.{◌≡◌, ◌-◌, ◌<◌, ◌==◌, ℕ, true, false, [], count_by, filter, length, map, not, position, take, vec_capacity, vec_len, IfErr, IfNone, IfOk, IfSome};
 ghost use Rattle.std.specs.List.{list_any};
 ghost use Rattle.sq_model.specs.Rows as model;
 ghost use Rattle.sq_slots.specs.Slots.{is_at};
+ghost use Rattle.sq_store.specs.inside.Found.{is_kept_and, is_wanted as wanted};
+ghost use Rattle.sq_store.specs.Picked.{IsOneOf};
 
+use crate::due::{Wanted, is_wanted};
 use crate::rows;
 use crate::store::{At, Store};
 use sq_base::ids::Serial;
@@ -39,20 +42,22 @@ fn index_at(rows: &[Row], slot: u32, serial: Serial) -> Option<usize>
     rows.iter().position(|row| rows::is_at(slot, serial, row))
 }
 
-// Where the first dead one of the kept rows is.
-fn first_dead(rows: &[Row], at: &At) -> Option<usize>
-    ensures { result ≡ position (λ row. not (model.is_expired at.now.settings at.now.moment row) && model.is_dead at.now.settings at.now.moment row) rows.now }
+// Where the first row is that is looked for.
+fn first_at(rows: &[Row], what: Wanted, at: &At) -> Option<usize>
+    ensures { result ≡ position (is_kept_and (wanted what at.now.settings at.now.moment) at.now.settings at.now.moment) rows.now }
 {
-    rows.iter()
-        .position(|row| rows::is_kept(at, row) && rows::is_dead(at, row))
+    rows.iter().position(|row| is_wanted(what, at, row))
 }
 
-// Where the first live one of the kept rows is.
-fn first_live(rows: &[Row], at: &At) -> Option<usize>
-    ensures { result ≡ position (λ row. not (model.is_expired at.now.settings at.now.moment row) && model.is_live at.now.settings at.now.moment row) rows.now }
+// That row.
+fn first_row<'a>(rows: &'a [Row], what: Wanted, at: &At) -> Option<&'a Row>
+    ensures one { IfSome result (λ row. IsOneOf (wanted what at.now.settings at.now.moment) (model.unexpired at.now.settings at.now.moment rows.now) row.now) }
+    ensures none { IfNone result (list_any (wanted what at.now.settings at.now.moment) (model.unexpired at.now.settings at.now.moment rows.now) ≡ false) }
 {
-    rows.iter()
-        .position(|row| rows::is_kept(at, row) && rows::is_live(at, row))
+    match first_at(rows, what, at) {
+        Some(first) => Some(&rows[first]),
+        None => None,
+    }
 }
 
 fn count_visible(rows: &[Row], moment: u64) -> usize
@@ -61,11 +66,11 @@ fn count_visible(rows: &[Row], moment: u64) -> usize
     rows.iter().filter(|row| row.visible_from <= moment).count()
 }
 
-fn count_hidden(rows: &[Row], moment: u64) -> usize
-    ensures { result ≡ count_by (model.is_flying moment) rows.now }
+fn count_in_flight(rows: &[Row], moment: u64) -> usize
+    ensures { result ≡ count_by (model.is_in_flight moment) rows.now }
 {
     rows.iter()
-        .filter(|row| rows::is_flying(moment, row))
+        .filter(|row| rows::is_in_flight(moment, row))
         .count()
 }
 
@@ -85,7 +90,7 @@ fn pick_first(
     until: u64,
     max: usize,
 ) -> Result<Listed<Row>, Refusal>
-    ensures picked { IfOk result (λ picked. picked ≡ take max (map (model.received at.now.moment until) (filter (model.is_live at.now.settings at.now.moment) (model.trimmed at.now.settings at.now.moment rows.now)))) }
+    ensures picked { IfOk result (λ picked. picked ≡ take max (map (model.received at.now.moment until) (filter (model.is_live at.now.settings at.now.moment) (model.unexpired at.now.settings at.now.moment rows.now)))) }
     ensures err { IfErr result (λ e. e ≡ Refusal.NoMemory) }
 {
     let mut picked = Listed::new(alloc);
@@ -158,11 +163,11 @@ impl Store for PlainStore {
             .count()
     }
 
-    fn count_flying(&self, at: &At) -> usize {
+    fn count_in_flight(&self, at: &At) -> usize {
         self.rows
             .iter()
             .filter(|row| rows::is_kept(at, row))
-            .filter(|row| rows::is_flying(at.moment, row))
+            .filter(|row| rows::is_in_flight(at.moment, row))
             .count()
     }
 
@@ -174,17 +179,11 @@ impl Store for PlainStore {
     }
 
     fn find_dead(&self, at: &At) -> Option<&Row> {
-        match first_dead(&self.rows, at) {
-            Some(first) => Some(&self.rows[first]),
-            None => None,
-        }
+        first_row(&self.rows, Wanted::Dead, at)
     }
 
     fn find_live(&self, at: &At) -> Option<&Row> {
-        match first_live(&self.rows, at) {
-            Some(place) => Some(&self.rows[place]),
-            None => None,
-        }
+        first_row(&self.rows, Wanted::Live, at)
     }
 
     fn has_held(&self, at: &At, receipt: &Receipt) -> bool {
@@ -205,7 +204,7 @@ impl Store for PlainStore {
     fn count(&self, moment: u64) -> Counts {
         Counts {
             visible: count_visible(&self.rows, moment) as u32,
-            flying: count_hidden(&self.rows, moment) as u32,
+            in_flight: count_in_flight(&self.rows, moment) as u32,
             delayed: count_delayed(&self.rows, moment) as u32,
         }
     }
@@ -223,7 +222,7 @@ impl Store for PlainStore {
         Ok(())
     }
 
-    fn trim(&mut self, at: &At) {
+    fn expire(&mut self, at: &At) {
         self.rows.retain(|row| rows::is_kept(at, row))
     }
 

@@ -3,7 +3,7 @@ ghost use Rattle.std.specs.Prelude.{◌≡◌, ◌+◌, ◌<◌, false, nat_le, 
 ghost use Rattle.sq_base.specs.declared.row.Row.{Row as RowValue};
 ghost use Rattle.sq_model.specs.Rows as model;
 ghost use Rattle.sq_slots.specs.Slots as slots;
-ghost use Rattle.sq_store.specs.Due as due;
+ghost use Rattle.sq_store.specs.inside.Due as due;
 
 use crate::store::At;
 use sq_base::ids::Serial;
@@ -42,8 +42,8 @@ pub(crate) fn most_under(policy: &Option<Redrive>) -> u32
 }
 
 /// Whether a row is in flight: received, and hidden.
-pub(crate) fn is_flying(moment: u64, row: &Row) -> bool
-    ensures { result ≡ model.is_flying moment row.now }
+pub(crate) fn is_in_flight(moment: u64, row: &Row) -> bool
+    ensures { result ≡ model.is_in_flight moment row.now }
 {
     0 < row.receives && moment < row.visible_from
 }
@@ -91,7 +91,7 @@ pub(crate) fn is_delayed(moment: u64, row: &Row) -> bool
 pub(crate) fn is_held(moment: u64, receipt: &Receipt, row: &Row) -> bool
     ensures { result ≡ model.is_held moment receipt.now row.now }
 {
-    is_named(receipt, row) && is_flying(moment, row)
+    is_named(receipt, row) && is_in_flight(moment, row)
 }
 
 /// Whether so many seconds after the moment are more than 12 hours after the last receive.

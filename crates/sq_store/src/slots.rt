@@ -1,8 +1,9 @@
 //! Rows in slots, found by what is due.
 ghost use Rattle.std.specs.Prelude.{◌≡◌, ◌≤◌, [], map};
-ghost use Rattle.sq_store.specs.SlotStores.{received_at, reserved_in};
+ghost use Rattle.sq_store.specs.SlotStores.{reserved_in};
+ghost use Rattle.sq_store.specs.inside.SlotStores.{received_at};
 
-use crate::due::{Wanted, count_flying_of, first_of, pick_of};
+use crate::due::{Wanted, count_in_flight_of, first_of, pick_of};
 use crate::rows;
 use crate::store::{At, Store};
 use crate::visible::VisibleFrom;
@@ -14,14 +15,14 @@ use sq_deadline::index::DeadlineIndex;
 use sq_model::calls::Receipt;
 use sq_model::listed::Listed;
 use sq_model::replies::Counts;
-use sq_slots::table::SlotTable;
+use sq_slots::table::{Delivery, SlotTable};
 use std::alloc::Global;
 use std::marker::Model;
 
 /// The store of a home: rows in slots, and in order from when each is visible and since when it is in the queue.
 ///
 /// A call takes time by the logarithm of the rows that are there, for each row that it says that it walks; those that say none walk
-/// none. No call walks a row that is neither due nor asked for, but a trim under another maxReceiveCount, and one that takes out all.
+/// none. No call walks a row that is neither due nor asked for, but what drops expired rows under another maxReceiveCount, and one that takes out all.
 #[derive(Drop)]
 pub struct SlotStore {
     pub(crate) table: SlotTable,
@@ -60,8 +61,12 @@ impl SlotStore {
             return;
         };
         if rows::is_live(at, row) {
-            let receives = row.receives + 1;
-            self.revise(slot, serial, receives, until, Some(at.moment));
+            let delivery = Delivery {
+                receives: row.receives + 1,
+                visible_from: until,
+                last_receive: Some(at.moment),
+            };
+            self.revise(slot, serial, delivery);
         }
     }
 }
@@ -79,12 +84,13 @@ impl Store for SlotStore {
         }
     }
 
-    // It takes time by the rows that a trim does not keep.
-    fn count_flying(&self, at: &At) -> usize {
-        let flying = self.count_flying_rows(at.moment);
+    // It takes time by the rows that have not expired.
+    fn count_in_flight(&self, at: &At) -> usize {
+        let in_flight = self.count_in_flight_rows(at.moment);
         match rows::expired_bound(at) {
-            Some(bound) => flying - count_flying_of(&self.table, &self.ages, bound, at.moment),
-            None => flying,
+            Some(bound) => in_flight
+                - count_in_flight_of(&self.table, &self.ages, bound, at.moment),
+            None => in_flight,
         }
     }
 
@@ -98,28 +104,28 @@ impl Store for SlotStore {
             return None;
         };
         let (table, visible) = (&self.table, &self.visible);
-        if let Some(row) = first_of(table, &visible.spent, Wanted::Dead, at) {
+        if let Some(row) = first_of(table, &visible.exhausted, Wanted::Dead, at) {
             return Some(row);
         }
         if visible.most <= redrive.max_receives.get() {
             return None;
         }
-        first_of(table, &visible.again, Wanted::Dead, at)
+        first_of(table, &visible.received, Wanted::Dead, at)
     }
 
     // It takes time by the rows that are due before it and not live.
     fn find_live(&self, at: &At) -> Option<&Row> {
         let (table, visible) = (&self.table, &self.visible);
-        if let Some(row) = first_of(table, &visible.fresh, Wanted::Live, at) {
+        if let Some(row) = first_of(table, &visible.unreceived, Wanted::Live, at) {
             return Some(row);
         }
-        if let Some(row) = first_of(table, &visible.again, Wanted::Live, at) {
+        if let Some(row) = first_of(table, &visible.received, Wanted::Live, at) {
             return Some(row);
         }
         if rows::most_under(&at.settings.redrive) <= visible.most {
             return None;
         }
-        first_of(table, &visible.spent, Wanted::Live, at)
+        first_of(table, &visible.exhausted, Wanted::Live, at)
     }
 
     // It is found by its slot, in no time that grows.
@@ -140,12 +146,12 @@ impl Store for SlotStore {
 
     // Found by binary search.
     fn count(&self, moment: u64) -> Counts {
-        let flying = self.count_flying_rows(moment);
+        let in_flight = self.count_in_flight_rows(moment);
         let delayed = self.count_delayed_rows(moment);
-        let visible = self.table.len() - flying - delayed;
+        let visible = self.table.len() - in_flight - delayed;
         Counts {
             visible: visible as u32,
-            flying: flying as u32,
+            in_flight: in_flight as u32,
             delayed: delayed as u32,
         }
     }
@@ -159,7 +165,7 @@ impl Store for SlotStore {
         pick_of(&mut picked, table, first, at, until, max)?;
         pick_of(&mut picked, table, second, at, until, max)?;
         if visible.most < rows::most_under(&at.settings.redrive) {
-            pick_of(&mut picked, table, &visible.spent, at, until, max)?;
+            pick_of(&mut picked, table, &visible.exhausted, at, until, max)?;
         }
         Ok(picked)
     }
@@ -178,9 +184,9 @@ impl Store for SlotStore {
         self.ages.reserve(count.saturating_sub(self.ages.len()))
     }
 
-    // One after another; and keeps the rows apart that these settings make spent. It takes time by the rows that it leaves out; and
-    // by all rows, where the number of receives that makes a row spent has changed.
-    fn trim(&mut self, at: &At) {
+    // One after another; and keeps the rows apart that these settings make exhausted. It takes time by the rows that it leaves
+    // out; and by all rows, where the number of receives that makes a row exhausted has changed.
+    fn expire(&mut self, at: &At) {
         self.split(rows::most_under(&at.settings.redrive));
         let Some(bound) = rows::expired_bound(at) else {
             return;
@@ -221,8 +227,12 @@ impl Store for SlotStore {
             return;
         };
         if rows::is_held(moment, receipt, row) {
-            let (receives, last_receive) = (row.receives, row.last_receive);
-            self.revise(receipt.slot, receipt.serial, receives, until, last_receive);
+            let delivery = Delivery {
+                receives: row.receives,
+                visible_from: until,
+                last_receive: row.last_receive,
+            };
+            self.revise(receipt.slot, receipt.serial, delivery);
         }
     }
 

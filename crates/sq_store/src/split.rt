@@ -1,8 +1,9 @@
-//! Rows that are spent, apart from those that a look may give again.
+//! Rows that are exhausted, apart from those that a look may give again.
 ghost use Rattle.std.specs.Prelude.{◌≡◌, ◌≤◌, [], length};
 ghost use Rattle.sq_store.specs.Due.{Holds, enqueued_at};
 ghost use Rattle.sq_store.specs.SlotStores.{any_row, reserved_in, AreVisible};
-ghost use Rattle.sq_store.specs.Visible.{HasSpace, KeepsSpace};
+ghost use Rattle.sq_store.specs.Visible.{HasSpace};
+ghost use Rattle.sq_store.specs.inside.Visible.{KeepsSpace};
 
 use crate::slots::SlotStore;
 use crate::visible::VisibleFrom;
@@ -13,9 +14,9 @@ use sq_slots::table::SlotTable;
 // Puts all rows into the lists of their classes, which are empty and have memory for them.
 fn list_all(table: &SlotTable, ages: &DeadlineIndex, visible: &mut VisibleFrom)
     requires aged { Holds any_row enqueued_at table.now.rows ages.now.deadlines }
-    requires fresh { visible.old.fresh.deadlines ≡ [] }
-    requires again { visible.old.again.deadlines ≡ [] }
-    requires spent { visible.old.spent.deadlines ≡ [] }
+    requires unreceived { visible.old.unreceived.deadlines ≡ [] }
+    requires received { visible.old.received.deadlines ≡ [] }
+    requires exhausted { visible.old.exhausted.deadlines ≡ [] }
     requires memory { HasSpace (length table.now.rows) visible.old }
     ensures held { AreVisible table.now.rows visible.new }
     ensures most { visible.new.most ≡ visible.old.most }

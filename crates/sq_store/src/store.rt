@@ -3,7 +3,7 @@ ghost use Rattle.std.specs.Prelude.{◌≡◌, ◌+◌, ◌++◌, ◌∷◌, [],
 ghost use Rattle.std.specs.List.{list_any};
 ghost use Rattle.sq_base.specs.declared.row.Row.{Row};
 ghost use Rattle.sq_model.specs.Homes.{counts_of};
-ghost use Rattle.sq_model.specs.Rows.{ms, trimmed, is_flying, is_live, is_dead, is_held, is_late, changed_if, IsLook, RisesFrom, serials_of, received_if, without, is_free, Takes};
+ghost use Rattle.sq_model.specs.Rows.{ms, unexpired, is_in_flight, is_live, is_dead, is_held, is_late, changed_if, IsLook, RisesFrom, serials_of, received_if, without, is_free, Takes};
 ghost use Rattle.sq_slots.specs.Slots.{is_at};
 ghost use Rattle.sq_store.specs.Picked.{AreTheirs, IsOneOf};
 
@@ -32,36 +32,36 @@ pub trait Store: Drop {
     /// For how many more rows there is memory.
     ghost reserved: { Self → ℕ };
 
-    /// How many rows a trim at this moment keeps.
+    /// How many rows have not expired at this moment.
     fn count_kept(&self, at: &At) -> usize
-        ensures { result ≡ length (trimmed at.now.settings at.now.moment (rows self.now)) };
+        ensures { result ≡ length (unexpired at.now.settings at.now.moment (rows self.now)) };
 
-    /// How many of the rows that a trim at this moment keeps are in flight.
-    fn count_flying(&self, at: &At) -> usize
-        ensures { result ≡ count_by (is_flying at.now.moment) (trimmed at.now.settings at.now.moment (rows self.now)) };
+    /// How many of the rows that have not expired at this moment are in flight.
+    fn count_in_flight(&self, at: &At) -> usize
+        ensures { result ≡ count_by (is_in_flight at.now.moment) (unexpired at.now.settings at.now.moment (rows self.now)) };
 
     /// Whether one of them is live.
     fn has_live(&self, at: &At) -> bool
-        ensures { result ≡ list_any (is_live at.now.settings at.now.moment) (trimmed at.now.settings at.now.moment (rows self.now)) };
+        ensures { result ≡ list_any (is_live at.now.settings at.now.moment) (unexpired at.now.settings at.now.moment (rows self.now)) };
 
     /// A dead one of them, any.
     fn find_dead(&self, at: &At) -> Option<&Row>
-        ensures one { IfSome result (λ row. IsOneOf (is_dead at.now.settings at.now.moment) (trimmed at.now.settings at.now.moment (rows self.now)) row.now) }
-        ensures none { IfNone result (list_any (is_dead at.now.settings at.now.moment) (trimmed at.now.settings at.now.moment (rows self.now)) ≡ false) };
+        ensures one { IfSome result (λ row. IsOneOf (is_dead at.now.settings at.now.moment) (unexpired at.now.settings at.now.moment (rows self.now)) row.now) }
+        ensures none { IfNone result (list_any (is_dead at.now.settings at.now.moment) (unexpired at.now.settings at.now.moment (rows self.now)) ≡ false) };
 
     /// A live one of them, any.
     fn find_live(&self, at: &At) -> Option<&Row>
-        ensures one { IfSome result (λ row. IsOneOf (is_live at.now.settings at.now.moment) (trimmed at.now.settings at.now.moment (rows self.now)) row.now) }
-        ensures none { IfNone result (list_any (is_live at.now.settings at.now.moment) (trimmed at.now.settings at.now.moment (rows self.now)) ≡ false) };
+        ensures one { IfSome result (λ row. IsOneOf (is_live at.now.settings at.now.moment) (unexpired at.now.settings at.now.moment (rows self.now)) row.now) }
+        ensures none { IfNone result (list_any (is_live at.now.settings at.now.moment) (unexpired at.now.settings at.now.moment (rows self.now)) ≡ false) };
 
     /// Whether one of them is the row of a receipt, and in flight.
     fn has_held(&self, at: &At, receipt: &Receipt) -> bool
-        ensures { result ≡ list_any (is_held at.now.moment receipt.now) (trimmed at.now.settings at.now.moment (rows self.now)) };
+        ensures { result ≡ list_any (is_held at.now.moment receipt.now) (unexpired at.now.settings at.now.moment (rows self.now)) };
 
     /// Whether that row would be hidden for more than 12 hours after its last receive, if it were hidden for so many
     /// seconds from the moment on.
     fn has_late(&self, at: &At, receipt: &Receipt, timeout: Timeout) -> bool
-        ensures { result ≡ list_any (λ row. is_held at.now.moment receipt.now row && is_late (at.now.moment + ms timeout) row.last_receive) (trimmed at.now.settings at.now.moment (rows self.now)) };
+        ensures { result ≡ list_any (λ row. is_held at.now.moment receipt.now row && is_late (at.now.moment + ms timeout) row.last_receive) (unexpired at.now.settings at.now.moment (rows self.now)) };
 
     /// How many rows are in which state, of those that are there.
     fn count(&self, moment: u64) -> Counts
@@ -71,7 +71,7 @@ pub trait Store: Drop {
     /// Up to `max` of the live ones, as they stand after a receive that hides them until a moment. Refused as NoMemory.
     fn pick(&self, alloc: Global, at: &At, until: u64, max: usize) -> Result<Listed<Row>, Refusal>
         requires { (next : ℕ) × RisesFrom 0 (rows self.now) next }
-        ensures look { IfOk result (λ picked. IsLook at.now.settings at.now.moment until max (trimmed at.now.settings at.now.moment (rows self.now)) picked) }
+        ensures look { IfOk result (λ picked. IsLook at.now.settings at.now.moment until max (unexpired at.now.settings at.now.moment (rows self.now)) picked) }
         ensures err { IfErr result (λ e. e ≡ Refusal.NoMemory) };
 
     /// For how many more rows there is memory.
@@ -86,8 +86,8 @@ pub trait Store: Drop {
         ensures err { IfErr result (λ e. e ≡ Refusal.NoMemory) };
 
     /// Leaves out the rows past their retention.
-    fn trim(&mut self, at: &At)
-        ensures rows { rows self.new ≡ trimmed at.now.settings at.now.moment (rows self.old) }
+    fn expire(&mut self, at: &At)
+        ensures rows { rows self.new ≡ unexpired at.now.settings at.now.moment (rows self.old) }
         ensures reserved { reserved self.old ≤ reserved self.new };
 
     /// Puts a row last, whose serial is above all, in a slot that no row has, and gives the slot.

@@ -1,7 +1,7 @@
 //! One message move task: how fast it goes, how it ends, and what became of its messages.
 ghost use Rattle.std.specs.Prelude.{◌≡◌, ◌+◌, ◌<◌, ◌≤◌, ◌&&◌, true, Some, IfErr, OnOk, OnErr};
 ghost use Rattle.sq_model.specs.Ledgers.{cancel_refusal, finish_refusal};
-ghost use Rattle.sq_model.specs.Tasks.{cancelled_as, failed_as, finished_as, is_active, is_running, left_in, may_leave, new_task, rate_of, second_of, with_back, with_given_up, with_left, with_moved, with_status};
+ghost use Rattle.sq_model.specs.Tasks.{is_active, is_running, left_in, may_leave, new_task, rate_of, second_of};
 ghost use Rattle.sq_task.specs.Counts.{IsTaskKept, settled, unsettled};
 ghost use Rattle.sq_task.specs.TaskSteps.{Cancel, CameBack, CameIn, Fail, Finish, GivenUp, Left, TaskStep};
 
@@ -112,8 +112,7 @@ impl MoveTask {
     pub fn note_left(&mut self, moment: u64)
         requires allowed { (is_running self.old.status && may_leave moment self.old) ≡ true }
         requires countable { self.old.left < u64.MAX }
-        ensures task { self.new ≡ with_left moment self.old }
-        ensures step { TaskStep self.old (Left moment) self.new }
+        ensures { TaskStep self.old (Left moment) self.new }
     {
         let second = second_of(moment);
         self.task.in_second = self.left_in(second) + 1;
@@ -124,8 +123,7 @@ impl MoveTask {
     /// Counts a message that came in at its destination. One is in transit.
     pub fn note_entered(&mut self)
         requires { 0 < unsettled self.old }
-        ensures task { self.new ≡ with_moved self.old }
-        ensures step { TaskStep self.old CameIn self.new }
+        ensures { TaskStep self.old CameIn self.new }
     {
         self.task.moved += 1;
     }
@@ -133,8 +131,7 @@ impl MoveTask {
     /// Counts a message that came back to its source. One is in transit.
     pub fn note_back(&mut self)
         requires { 0 < unsettled self.old }
-        ensures task { self.new ≡ with_back self.old }
-        ensures step { TaskStep self.old CameBack self.new }
+        ensures { TaskStep self.old CameBack self.new }
     {
         self.task.back += 1;
     }
@@ -142,8 +139,7 @@ impl MoveTask {
     /// Counts a message that was given up on its way back, since its source was closed too. One is in transit.
     pub fn note_dropped(&mut self)
         requires { 0 < unsettled self.old }
-        ensures task { self.new ≡ with_given_up self.old }
-        ensures step { TaskStep self.old GivenUp self.new }
+        ensures { TaskStep self.old GivenUp self.new }
     {
         self.task.given_up += 1;
     }
@@ -151,7 +147,6 @@ impl MoveTask {
     /// Takes no more messages, and goes on to wait for those in transit: RUNNING becomes CANCELLING. Nothing that was moved is
     /// moved back (SQS API Reference, CancelMessageMoveTask). Refused as UnsupportedOperation where it is not RUNNING.
     pub fn cancel(&mut self) -> Result<(), Refusal>
-        ensures cancelled { OnOk result (self.new ≡ with_status cancelled_as self.old) }
         ensures step { OnOk result (TaskStep self.old Cancel self.new) }
         ensures refused { IfErr result (λ e. cancel_refusal (Some self.old) ≡ Some e) }
         ensures kept { OnErr result (self.new ≡ self.old) }
@@ -166,7 +161,6 @@ impl MoveTask {
     /// Ends as it was asked to: RUNNING becomes COMPLETED, and CANCELLING becomes CANCELLED. Refused as UnsupportedOperation
     /// where it is over, and where messages of it are in transit.
     pub fn finish(&mut self) -> Result<(), Refusal>
-        ensures finished { OnOk result (self.new ≡ with_status finished_as self.old) }
         ensures step { OnOk result (TaskStep self.old Finish self.new) }
         ensures refused { IfErr result (λ e. finish_refusal (unsettled self.old) (Some self.old) ≡ Some e) }
         ensures kept { OnErr result (self.new ≡ self.old) }
@@ -187,8 +181,7 @@ impl MoveTask {
 
     /// Fails for a reason. One that is over stays as it ended. Messages in transit stay there.
     pub fn fail(&mut self, reason: FailureReason)
-        ensures task { self.new ≡ with_status (failed_as reason) self.old }
-        ensures step { TaskStep self.old (Fail reason) self.new }
+        ensures { TaskStep self.old (Fail reason) self.new }
     {
         if self.is_active() {
             self.task.status = TaskStatus::Failed(reason);

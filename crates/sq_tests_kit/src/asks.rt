@@ -78,7 +78,7 @@ pub fn answer_of(reply: &HomeReply) -> Answers {
         HomeReply::Looked(rows) => answer_of_rows(rows.as_slice()),
         HomeReply::Counted(counts) => Answers::Counts(
             counts.visible,
-            counts.flying,
+            counts.in_flight,
             counts.delayed,
         ),
         _ => Answers::Other,

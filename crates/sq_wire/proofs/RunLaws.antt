@@ -2,14 +2,14 @@
 use Rattle.std.proofs.Common.{inl, inr, ◌⊎◌, ◌≡◌, ℕ, zero, suc, ◌+◌, ◌<◌, ◌≤◌, List, [], ◌∷◌, ◌++◌, length, take, drop, Option, Some, None, refl, sym, ap, subst, ◌∙◌, append_assoc, arith, add-one, length-append}
 use Rattle.std.specs.Prelude.{false, IfSome, option_map, slice_get}
 use Rattle.std.specs.Io.KnownBytes.{Appends}
-use Rattle.sq_lines.specs.Lines.{LinesValue, read_of, lines_of, lines_left, with_feeds, has_feed, FirstIsOver, FirstIsWithin, GoesOn, OneMore}
+use Rattle.sq_lines.specs.Lines.{LinesValue, read_of, lines_of, lines_left, with_feeds, has_feed, FirstIsOver, FirstIsWithin, GoesOn}
 use Rattle.sq_lines.specs.Replies.{PutsFirst, PutsPart}
 use Rattle.sq_lines.specs.declared.lines.TheConstants.{LIMIT}
 use Rattle.std.proofs.lemmas.List.{append-nil}
 use Rattle.sq_wire.specs.declared.run.ServeFault.{ServeFault}
 use Rattle.sq_wire.specs.declared.run.ServeFault.TheVariants.{Read, Write, NoMemory, TooLong}
-use Rattle.sq_wire.specs.Owed.{CutAt}
-use Rattle.sq_wire.specs.Runs.{Answers, AllWithin, Writes, WritesNoMore, NextUnanswered, AreLeft, StopsAt, IsOfCall}
+use Rattle.sq_wire.specs.inside.Owed.{CutAt}
+use Rattle.sq_wire.specs.Runs.{Answers, AllWithin, Writes, WritesNoMore, NextUnanswered, AreLeft, StopsAt}
 use Rattle.sq_lines.proofs.WriteLaws.{appends_none, appends_more, feeds_append}
 use Rattle.sq_lines.proofs.ReplyLaws.{puts_all, part_behind}
 
@@ -218,13 +218,6 @@ pub so_far_over : {S : Type 0} (Replies : S → List ℕ → List ℕ → S → 
     → IfSome all (λ lines. Writes Replies old new state (take n lines) now × FirstIsOver LIMIT (drop n lines))
 so_far_over Replies None left old new state now n h e = tt
 so_far_over Replies (Some lines) left old new state now n h e = (so_far_written Replies lines left old new state now n h, subst (λ (o : Option (List (List ℕ))). IfSome o (λ l. FirstIsOver LIMIT l)) h.left_is e)
-
--- a cut is one failed call
-pub cut_counts : (f : ServeFault) (n : ℕ) (old new : Option (List ℕ)) (owed : List (List ℕ)) (r r2 w w2 : ℕ) → CutAt f n old new owed → r2 ≡ r → OneMore w w2 → IsOfCall f r r2 w w2
-cut_counts (Write m) n old new owed r r2 w w2 cut same one = (same, one)
-cut_counts (Read m) n old new owed r r2 w w2 cut same one = absurd cut
-cut_counts (NoMemory m) n old new owed r r2 w w2 cut same one = absurd cut
-cut_counts (TooLong m) n old new owed r r2 w w2 cut same one = absurd cut
 
 -- what waits is no more than what was there
 puts_few : (old new : Option (List ℕ)) (texts waiting : List (List ℕ)) → PutsFirst old new texts waiting → length waiting ≤ length texts

@@ -1,16 +1,26 @@
 -- A line that a session answers, whose answer has no text; and the lines of a client as a run over the session's journal.
-use Rattle.std.proofs.Common.{◌≡◌, ◌∙◌, ℕ, List, Option, Result, Ok, Err, length, refl, subst}
-use Rattle.std.specs.Prelude.{IsOk, OnErr, IfSome}
+use Rattle.std.proofs.Common.{◌≡◌, ◌∙◌, ℕ, List, Option, Result, Ok, Err, length, refl, subst, inl, inr}
+use Rattle.std.specs.Prelude.{IsOk, OnErr, IfOk, IfErr, IfSome}
 use Rattle.sq_base.specs.declared.refusal.Refusal.{Refusal}
+use Rattle.sq_base.specs.declared.refusal.Refusal.TheVariants.{NoMemory}
 use Rattle.sq_calls.specs.declared.calls.Answered.{Answered}
 use Rattle.sq_calls.specs.declared.calls.Answered.TheVariants.{Call, Turn}
 use Rattle.sq_actions.specs.Asks.{HomeCounts}
 use Rattle.sq_model.specs.RecordValues.{Journal}
 use Rattle.sq_replies.specs.Replies.{OnTurned}
+use Rattle.sq_requests.specs.Requests.{ReadsLine}
+use Rattle.sq_requests.specs.declared.request.Request.{Request}
 use Rattle.sq_wire.specs.Runs.{Writes, StopsAt}
-use Rattle.sq_wire.specs.Serves.{LineServed, ServedReplies, ServedUnanswered}
+use Rattle.sq_wire.specs.Serves.{CallServed, LineServed, ServedReplies, ServedUnanswered}
 use Rattle.sq_wire.specs.declared.run.ServeFault.{ServeFault}
 use Rattle.sq_wire.proofs.InsideLaws.{Inside, done_inside, stops_inside}
+
+-- a line's call by what was read of it
+pub line_served : (counts : HomeCounts) (old : Journal) (line : List ℕ) (read : Result Request Refusal) (by : Result Answered Refusal) (new : Journal)
+    → ReadsLine read line → IfOk read (λ request. CallServed counts old request.asked by new) → IfErr read (λ e. (by ≡ Err e) × (new ≡ old)) → LineServed counts old line by new
+line_served counts old line (Ok request) by new reads ok err = inr (request, reads, ok)
+line_served counts old line (Err NoMemory) by new reads ok err = inl (err.1, inl (err.0, reads))
+line_served counts old line (Err e) by new reads ok err = inl (err.1, inr (e, reads, err.0))
 
 pub served_unanswered : {X E : Type 0} (counts : HomeCounts) (old : Journal) (line : List ℕ) (by : Result Answered Refusal) (new : Journal) (text : Result X E)
     → LineServed counts old line by new → OnErr by (IsOk text) → OnTurned by (IsOk text) → OnErr text (ServedUnanswered counts old line new)

@@ -14,7 +14,7 @@ use Rattle.sq_model.specs.Merges.{IsMerged}
 use Rattle.sq_model.specs.Places.{run_ends, run_sends}
 use Rattle.sq_model.specs.Systems.{Tag, stamp_of, opening, IsRun, IsOnePlace}
 use Rattle.sq_audit.specs.Actors.{ActorsRise, PartsRise}
-use Rattle.sq_audit.specs.SystemNow.{events_of, system_now}
+use Rattle.sq_audit.specs.SystemNow.{events_of, system_now, opening_now}
 use Rattle.sq_merge.specs.WorldValue.{WorldValue}
 use Rattle.sq_audit.specs.HomeIds.{histories_of, IsNumbered}
 use Rattle.sq_places.specs.AllPlaces.{ArePlaces}
@@ -68,9 +68,9 @@ pub record IsAudit (w : WorldValue) (text : List ℕ) : Type 0 where
   pub matched : IsMatched w.directory.events w.ledger.events (histories_of w.homes) w.journals
   pub paired : IsPaired w.ledger.events (histories_of w.homes)
   pub merged : IsMerged w.directory.events w.ledger.events (events_of w.homes) run
-  pub is_run : IsRun w.directory.directory.places w.ledger.ledger.limit (map (λ h. h.site) w.homes) run (system_now w.directory w.ledger w.homes)
+  pub is_run : IsRun (opening_now w.directory w.ledger w.homes) run (system_now w.directory w.ledger w.homes)
   pub actors : ActorsRise run
   pub parts : PartsRise run
   pub numbered : IsNumbered w.per_queue w.homes
   pub one_place : IsOnePlace (map (λ h. h.site) w.homes)
-  pub tells : TellsRun run (run_ends (opening w.directory.directory.places w.ledger.ledger.limit (map (λ h. h.site) w.homes)) run (system_now w.directory w.ledger w.homes) is_run.steps) w.ledger.ledger.items text
+  pub tells : TellsRun run (run_ends (opening (opening_now w.directory w.ledger w.homes)) run (system_now w.directory w.ledger w.homes) is_run.steps) w.ledger.ledger.items text

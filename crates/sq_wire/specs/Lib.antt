@@ -1,5 +1,5 @@
 pub mod Audits
-pub mod Owed
 pub mod Runs
 pub mod Scripts
 pub mod Serves
+pub mod inside

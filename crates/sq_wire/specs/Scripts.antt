@@ -5,8 +5,7 @@ use Rattle.sq_base.specs.declared.refusal.Refusal.TheVariants.{NoMemory}
 use Rattle.sq_merge.specs.WorldValue.{WorldValue}
 use Rattle.sq_requests.specs.Requests.{line_request}
 use Rattle.sq_merge.specs.Acting.{world_counts, ActorStepped, TurnDone}
-use Rattle.sq_actions.specs.Fits.{CallFits}
-use Rattle.sq_actions.specs.Performs.{Performs}
+use Rattle.sq_actions.specs.Performs.{CallFits, Performs}
 use Rattle.sq_replies.specs.Replies.{reply_text_of}
 use Rattle.sq_calls.specs.declared.calls.Answer.{Answer}
 use Rattle.sq_calls.specs.declared.calls.Answered.{Answered}

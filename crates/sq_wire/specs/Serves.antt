@@ -5,8 +5,7 @@ use Rattle.sq_base.specs.declared.refusal.Refusal.TheVariants.{NoMemory, Unsuppo
 use Rattle.sq_model.specs.RecordValues.{Journal}
 use Rattle.sq_requests.specs.Requests.{line_request}
 use Rattle.sq_actions.specs.Asks.{HomeCounts}
-use Rattle.sq_actions.specs.Fits.{CallFits}
-use Rattle.sq_actions.specs.Performs.{LeavesRecords}
+use Rattle.sq_actions.specs.Performs.{CallFits, LeavesRecords}
 use Rattle.sq_replies.specs.Replies.{reply_text_of}
 use Rattle.sq_calls.specs.declared.calls.Answer.{Answer}
 use Rattle.sq_calls.specs.declared.calls.Answered.{Answered}

@@ -1,11 +1,10 @@
 //! The text of an audit.
-ghost use Rattle.std.specs.Prelude.{◌≡◌, ℕ, List, IfOk, IfErr, string_bytes};
+ghost use Rattle.std.specs.Prelude.{◌≡◌, IfOk, IfErr, string_bytes};
 ghost use Rattle.serde_json.specs.View.{view};
 ghost use Rattle.serde_json.specs.Written.{compact_text};
 ghost use Rattle.sq_audit.specs.Tags.{tags_of};
 ghost use Rattle.sq_model.specs.Places.{run_ends};
-ghost use Rattle.sq_model.specs.Systems.{System, RunFrom, opening, IsOnePlace};
-ghost use Rattle.sq_model.specs.declared.place.Site.{Site};
+ghost use Rattle.sq_model.specs.Systems.{System, RunFrom, opening, IsOnePlace, Opening};
 ghost use Rattle.sq_wire.specs.Audits.{ListsPlaces, stamp_text, place_name, placed_data, events_data, places_data, audit_data, IsAudit, TellsRun};
 
 use serde_json::{Value, json};
@@ -37,8 +36,8 @@ pub fn audit_world(alloc: Global, world: World) -> Result<Text, AuditFault>
 /// The line that tells a run, without its line feed: the stamps of its events in their order, and where each message is
 /// that was sent in it. Refused only where memory is out.
 pub fn audit_text(alloc: Global, run: &Run<'_>) -> Result<Text, Refusal>
-    ensures listed { (places limit : ℕ) (sites : List Site) (after : System) (r : RunFrom (opening places limit sites) run.now after) → IsOnePlace sites
-        → IfOk result (TellsRun run.now (run_ends (opening places limit sites) run.now after r) after.ledger.items) }
+    ensures listed { (o : Opening) (after : System) (r : RunFrom (opening o) run.now after) → IsOnePlace o.sites
+        → IfOk result (TellsRun run.now (run_ends (opening o) run.now after r) after.ledger.items) }
     ensures text { IfOk result (ListsPlaces run.now) }
     ensures memory { IfErr result (λ e. e ≡ Refusal.NoMemory) }
 {

@@ -3,7 +3,7 @@ ghost use Rattle.std.specs.Prelude.{◌≡◌, ◌⊎◌, ◌≤◌, ◌+◌, �
 ghost use Rattle.std.specs.Io.KnownBytes.{Appends};
 ghost use Rattle.sq_lines.specs.Lines.{has_feed, with_feeds, OneMore};
 ghost use Rattle.sq_lines.specs.Replies.{PutsFirst};
-ghost use Rattle.sq_wire.specs.Owed.{CutAt};
+ghost use Rattle.sq_wire.specs.inside.Owed.{CutAt};
 
 use crate::run::ServeFault;
 use sq_lines::counted::Counted;

@@ -1,10 +1,10 @@
 //! Lines of a client, answered by a session of a service.
 ghost use Rattle.std.proofs.Common.{◌∙◌};
-ghost use Rattle.std.specs.Prelude.{◌≡◌, ◌⊎◌, [], refl, OnOk, OnErr, IfOk, IfErr, IfSome, length};
+ghost use Rattle.std.specs.Prelude.{◌≡◌, ◌⊎◌, [], refl, OnOk, OnErr, IfOk, IfErr, IfSome, length, Err};
 ghost use Rattle.sq_lines.specs.Lines.{lines_left};
 ghost use Rattle.sq_queue.specs.Services.{service_counts};
 ghost use Rattle.sq_wire.specs.Runs.{Writes, StopsAt, IsOfCall};
-ghost use Rattle.sq_wire.specs.Serves.{CallServed, LineServed, ServedReplies, ServedUnanswered};
+ghost use Rattle.sq_wire.specs.Serves.{CallServed, ServedReplies, ServedUnanswered};
 
 use crate::answering::Answering;
 use crate::run::{ServeFault, answer_lines};
@@ -16,7 +16,7 @@ use sq_queue::service::{Clock, Gate, Service};
 use sq_queue::session::Session;
 use sq_replies::reply::reply_text;
 use sq_replies::text::Text;
-use sq_requests::request::read_request;
+use sq_requests::request::{Request, read_request};
 use std::alloc::{AllocError, Global};
 use std::io::{Read, Write};
 use std::sync::Wait;
@@ -31,37 +31,24 @@ struct Served<'a, C, G, D: Ledger, T: Ledger, X> {
     scratch: &'a mut Scratch,
 }
 
-// Does a call. A turn is a script's alone.
-fn do_asked<C: Clock + Drop, G: Gate + Drop, D: Ledger, T: Ledger, X: Wait>(
+// Does what was read of a line, where that is a call; a turn is a script's alone. The clock reading and the actor are passed over.
+fn do_read<C: Clock + Drop, G: Gate + Drop, D: Ledger, T: Ledger, X: Wait>(
     rt: &X,
     service: &Service<C, G, D, T>,
     session: &mut Session<D, T>,
-    asked: &Asked,
+    read: Result<Request, Refusal>,
 ) -> Result<Answered, Refusal>
-    ensures { CallServed (service_counts service.now.per_queue service.now.sample) session.old.journal asked.now result session.new.journal }
+    ensures ok { IfOk read (λ request. CallServed (service_counts service.now.per_queue service.now.sample) session.old.journal request.asked result session.new.journal) }
+    ensures err { IfErr read (λ e. (result ≡ Err e) × (session.new.journal ≡ session.old.journal)) }
 {
-    match asked {
+    let request = read?;
+    match &request.asked {
         Asked::Call(call) => {
             let answer = service.call(rt, session, call)?;
             Ok(Answered::Call(answer))
         }
         Asked::Turn(_) => Err(Refusal::UnsupportedOperation),
     }
-}
-
-// Does what a line asks. What it says of the clock reading and of the actor is read, and passed over.
-fn tell<C: Clock + Drop, G: Gate + Drop, D: Ledger, T: Ledger, X: Wait>(
-    rt: &X,
-    alloc: Global,
-    scratch: &mut Scratch,
-    service: &Service<C, G, D, T>,
-    session: &mut Session<D, T>,
-    line: &[u8],
-) -> Result<Answered, Refusal>
-    ensures { LineServed (service_counts service.now.per_queue service.now.sample) session.old.journal line.now result session.new.journal }
-{
-    let request = read_request(alloc, scratch, line)?;
-    do_asked(rt, service, session, &request.asked)
 }
 
 // Does what a line asks, and gives the text of its reply. Where there is no memory for the text of an answer, the call is done
@@ -78,7 +65,8 @@ fn answer<C: Clock + Drop, G: Gate + Drop, D: Ledger, T: Ledger, X: Wait>(
     ensures ok { IfOk result (λ text. ServedReplies (service_counts service.now.per_queue service.now.sample) session.old.journal line.now text session.new.journal) }
     ensures err { OnErr result (ServedUnanswered (service_counts service.now.per_queue service.now.sample) session.old.journal line.now session.new.journal) }
 {
-    let answered = tell(rt, alloc, scratch, service, session, line);
+    let read = read_request(alloc, scratch, line);
+    let answered = do_read(rt, service, session, read);
     reply_text(alloc, &answered)
 }
 

@@ -126,7 +126,7 @@ fn get(rt: &impl Abort, name: u8) -> Call {
         asked: AskedOfQueue {
             visible: true,
             delayed: true,
-            flying: true,
+            in_flight: true,
             delay: true,
             retention: true,
             arn: true,

@@ -140,8 +140,8 @@ fn counted<S: Store>(home: &mut Shard<S>, moment: u64) -> Result<Told, Refusal> 
     Ok(Told::Counted(home.count(moment)?))
 }
 
-fn trimmed<S: Store>(home: &mut Shard<S>, moment: u64) -> Told {
-    home.trim(moment);
+fn unexpired<S: Store>(home: &mut Shard<S>, moment: u64) -> Told {
+    home.expire(moment);
     Told::Done
 }
 
@@ -151,7 +151,7 @@ fn answer<S: Store>(alloc: Global, home: &mut Shard<S>, moment: u64, asked: Aske
     let answer = match asked {
         Asked::Send(delay) => sent(alloc, home, moment, delay),
         Asked::Count => counted(home, moment),
-        Asked::Trim => Ok(trimmed(home, moment)),
+        Asked::Trim => Ok(unexpired(home, moment)),
         Asked::Configure(settings, version) => Ok(done(home.configure(moment, settings, version))),
         Asked::Delete(receipt) => Ok(done(home.delete(moment, receipt))),
         Asked::Change(receipt, timeout) => Ok(done(home.change(moment, receipt, timeout))),
@@ -308,8 +308,8 @@ fn would_give(picked: &Option<Rows>, most: usize) -> Told {
 fn most_given(pair: &mut Pair, moment: u64, max: MaxMessages) -> Result<usize, Refusal> {
     let counts = pair.slots.count(moment)?;
     let wanted = pair.plain.count(moment)?;
-    let flying = counts.flying.max(wanted.flying);
-    let room = FLIGHTS.saturating_sub(flying);
+    let in_flight = counts.in_flight.max(wanted.in_flight);
+    let room = FLIGHTS.saturating_sub(in_flight);
     Ok(room.min(max.get()) as usize)
 }
 

@@ -1,6 +1,6 @@
 //! Plain values from outside, each call once where it succeeds, and how a refusal is written.
 use sq_base::body::{BODY_LIMIT, Body, body_md5};
-use sq_base::handle::{Handle, read_handle, write_handle};
+use sq_base::handle::{HANDLE_LENGTH, Handle, read_handle, write_handle};
 use sq_base::ids::{HomeNo, QueueNo, Serial};
 use sq_base::message_id::MessageId;
 use sq_base::name::QueueName;
@@ -24,8 +24,8 @@ fn handle_of(queue: u64, home: u64, slot: u32, serial: u64, receive: u64) -> Opt
 }
 
 // Whether a handle has this text, and this text is read as it.
-fn has_text(handle: &Option<Handle>, text: &[u8; 51]) -> bool {
-    let mut written = [0u8; 51];
+fn has_text(handle: &Option<Handle>, text: &[u8; HANDLE_LENGTH]) -> bool {
+    let mut written = [0u8; HANDLE_LENGTH];
     if let Some(h) = handle {
         h.fits();
         write_handle(h, &mut written);

@@ -1,5 +1,5 @@
 use Rattle.std.proofs.Common.{arith, rules, ◌≡◌, ◌∙◌, ◌<◌, Err}
-use Rattle.sq_actions.specs.Messages.{act_at_each}
+use Rattle.sq_actions.specs.inside.Messages.{act_at_each}
 use Rattle.sq_actions.proofs.ClientLaws.{more_passed, all_ended, all_passed, each_ends, passed_done}
 use Rattle.sq_actions.proofs.client.ask_all.Goals as goal
 

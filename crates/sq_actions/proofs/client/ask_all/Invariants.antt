@@ -1,7 +1,7 @@
 use Rattle.std.proofs.Common.{◌≡◌, List}
 use Rattle.sq_actions.specs.Asks.{Done}
 use Rattle.sq_actions.specs.Fits.{AskedAll}
-use Rattle.sq_actions.specs.Messages.{act_at_each}
+use Rattle.sq_actions.specs.inside.Messages.{act_at_each}
 use Rattle.sq_actions.specs.Performs.{Path}
 use Rattle.sq_actions.proofs.client.ask_all.Given as goal
 

@@ -1,6 +1,6 @@
 use Rattle.std.proofs.Common.{rules}
 use Rattle.sq_actions.specs.Entries.{OneFits}
-use Rattle.sq_actions.specs.Messages.{asked_by}
+use Rattle.sq_actions.specs.inside.Messages.{asked_by}
 use Rattle.sq_actions.proofs.ClientLaws.{answered_found, answered_lost}
 use Rattle.sq_actions.proofs.EntryLaws.{answered_as_entry, handle_as_entry}
 use Rattle.sq_actions.proofs.client.at_handle.Goals as goal

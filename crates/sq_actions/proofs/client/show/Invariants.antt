@@ -1,6 +1,6 @@
 use Rattle.std.proofs.Common.{◌≡◌, List}
 use Rattle.sq_actions.specs.Asks.{Done}
-use Rattle.sq_actions.specs.Calls.{AreFew}
+use Rattle.sq_actions.specs.inside.Calls.{AreFew}
 use Rattle.sq_actions.specs.Fits.{CountedAll}
 use Rattle.sq_actions.specs.Performs.{Path}
 use Rattle.sq_actions.proofs.client.show.Given as goal

@@ -2,7 +2,7 @@ use Rattle.std.proofs.Common.{rules, ◌≡◌, refl, inl, inr, Ok, Err}
 use Rattle.sq_calls.specs.declared.batches.EntryAnswer.TheVariants.{Done}
 use Rattle.sq_actions.specs.Calls.{receipt_of}
 use Rattle.sq_actions.specs.Entries.{HandleAt}
-use Rattle.sq_actions.specs.Messages.{act_of}
+use Rattle.sq_actions.specs.inside.Messages.{act_of}
 use Rattle.sq_actions.specs.Steps.{home_step}
 use Rattle.sq_actions.proofs.ClientLaws.{message_done}
 use Rattle.sq_actions.proofs.PathLaws.{answered_none, answered_one}

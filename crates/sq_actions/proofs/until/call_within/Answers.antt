@@ -1,5 +1,5 @@
 use Rattle.sq_actions.specs.Fits.{CallFits}
-use Rattle.sq_actions.specs.Stops.{LimitedStep}
+use Rattle.sq_actions.specs.inside.Stops.{LimitedStep}
 use Rattle.sq_actions.proofs.PathLaws.{path_inside}
 use Rattle.sq_actions.proofs.StopPaths.{until_fits}
 use Rattle.sq_actions.proofs.until.call_within.Goals as goal

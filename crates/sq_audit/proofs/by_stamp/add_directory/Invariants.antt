@@ -4,5 +4,5 @@ use Rattle.sq_model.specs.Systems.{OfDirectory}
 use Rattle.sq_audit.specs.Tags.{tags_of}
 use Rattle.sq_audit.proofs.by_stamp.add_directory.Given as goal
 
-abbrev pub invariant-loop-place : goal.invariant-loop-place
-invariant-loop-place l = tags_of l.all.items ≡ tags_of l.initial.all.items ++ map OfDirectory (take l.place l.events.items)
+abbrev pub invariant-loop-at : goal.invariant-loop-at
+invariant-loop-at l = tags_of l.all.items ≡ tags_of l.initial.all.items ++ map OfDirectory (take l.at l.events.items)

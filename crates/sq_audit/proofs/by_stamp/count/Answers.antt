@@ -1,7 +1,8 @@
 use Rattle.std.proofs.Common.{arith, ℕ, ◌≡◌, ◌+◌, ◌-◌, ◌^◌, min, length, take, map, ◌∙◌, ap}
 use Rattle.std.proofs.lemmas.List.{length-map, length-append}
 use Rattle.sq_model.specs.Systems.{OfHome}
-use Rattle.sq_audit.specs.SystemNow.{by_part, events_of}
+use Rattle.sq_audit.specs.SystemNow.{events_of}
+use Rattle.sq_audit.specs.inside.SystemNow.{by_part}
 use Rattle.sq_audit.proofs.PartLaws.{by_part_more}
 use Rattle.sq_audit.proofs.by_stamp.count.Goals as goal
 

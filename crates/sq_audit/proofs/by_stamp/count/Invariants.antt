@@ -1,6 +1,7 @@
 use Rattle.std.proofs.Common.{◌≡◌, take}
 use Rattle.std.specs.Prelude.{◌-◌, ◌^◌, min, length}
-use Rattle.sq_audit.specs.SystemNow.{by_part, events_of}
+use Rattle.sq_audit.specs.SystemNow.{events_of}
+use Rattle.sq_audit.specs.inside.SystemNow.{by_part}
 use Rattle.sq_audit.proofs.by_stamp.count.Given as goal
 
 abbrev pub invariant-loop-home : goal.invariant-loop-home

@@ -1,7 +1,8 @@
 use Rattle.std.proofs.lemmas.Result.{on_ok_weaker, IfErr-weaker}
 use Rattle.sq_audit.specs.HomeIds.{histories_of}
 use Rattle.sq_audit.specs.declared.check.Part.TheVariants.{Directory}
-use Rattle.sq_audit.specs.Faults.{IsWrong, HasEventFault}
+use Rattle.sq_audit.specs.Faults.{IsWrong}
+use Rattle.sq_audit.specs.inside.Faults.{HasEventFault}
 use Rattle.sq_audit.proofs.CheckLaws.{directory_fits, directory_wrong}
 use Rattle.sq_audit.proofs.check.check_directory.Goals as goal
 

@@ -2,8 +2,8 @@ use Rattle.std.proofs.Common.{rules, ◌≡◌, ◌≤◌, length, None, Some, r
 use Rattle.std.specs.Prelude.{position}
 use Rattle.sq_steps.specs.Journals.{is_of_actor}
 use Rattle.sq_steps.specs.Records.{value_of_record}
-use Rattle.sq_audit.specs.EvidenceValue.{EvidenceValue}
-use Rattle.sq_audit.specs.Faults.{IsAt, IsRecordedAt}
+use Rattle.sq_audit.specs.inside.EvidenceValue.{EvidenceValue}
+use Rattle.sq_audit.specs.inside.Faults.{IsAt, IsRecordedAt}
 use Rattle.sq_steps.proofs.DropLaws.{recorded_lost}
 use Rattle.sq_audit.proofs.CheckLaws.{no_record, record_there}
 use Rattle.sq_audit.proofs.check.check_event.Goals as goal

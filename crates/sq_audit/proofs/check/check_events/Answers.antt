@@ -1,7 +1,7 @@
 use Rattle.std.proofs.Common.{rules, ◌≡◌, ◌<◌, length, Err, sym, ◌∙◌, subst}
 use Rattle.std.proofs.lemmas.Option.{slice_get_within}
 use Rattle.sq_model.specs.declared.event.Event.{Event}
-use Rattle.sq_audit.specs.Faults.{EventFits, IsAt, IsRecordedAt}
+use Rattle.sq_audit.specs.inside.Faults.{EventFits, IsAt, IsRecordedAt}
 use Rattle.sq_model.proofs.ElementLaws.{below_more, some_same}
 use Rattle.sq_audit.proofs.check.check_events.Goals as goal
 

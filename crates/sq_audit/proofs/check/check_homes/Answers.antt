@@ -1,8 +1,8 @@
 use Rattle.std.proofs.Common.{rules, ◌≡◌, ◌<◌, ℕ, length, Err, subst, sym}
 use Rattle.sq_audit.specs.HomeIds.{home_history, histories_of}
-use Rattle.sq_audit.specs.EvidenceValue.{EvidenceValue}
+use Rattle.sq_audit.specs.inside.EvidenceValue.{EvidenceValue}
 use Rattle.sq_audit.specs.declared.check.Part.TheVariants.{Home}
-use Rattle.sq_audit.specs.Faults.{HomeFits, HasEventFault}
+use Rattle.sq_audit.specs.inside.Faults.{HomeFits, HasEventFault}
 use Rattle.sq_model.proofs.ElementLaws.{below_more}
 use Rattle.sq_audit.proofs.CheckLaws.{read_home, home_fits, home_wrong, all_homes}
 use Rattle.sq_audit.proofs.check.check_homes.Goals as goal

@@ -1,6 +1,6 @@
 use Rattle.std.proofs.Common.{rules, ◌<◌, ℕ, length}
 use Rattle.sq_steps.specs.Journals.{RecordsRiseAt}
-use Rattle.sq_audit.specs.Faults.{RecordFits}
+use Rattle.sq_audit.specs.inside.Faults.{RecordFits}
 use Rattle.sq_model.proofs.ElementLaws.{below_more}
 use Rattle.sq_audit.proofs.CheckLaws.{all_journals, all_rise_at}
 use Rattle.sq_audit.proofs.check.check_journals.Goals as goal

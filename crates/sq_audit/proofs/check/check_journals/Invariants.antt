@@ -1,6 +1,6 @@
 use Rattle.std.proofs.Common.{◌<◌, ℕ}
 use Rattle.sq_steps.specs.Journals.{RecordsRiseAt}
-use Rattle.sq_audit.specs.Faults.{RecordFits}
+use Rattle.sq_audit.specs.inside.Faults.{RecordFits}
 use Rattle.sq_audit.proofs.check.check_journals.Given as goal
 
 abbrev pub invariant-loop-at : goal.invariant-loop-at

@@ -2,8 +2,8 @@ use Rattle.std.proofs.Common.{rules, ◌≡◌, ◌<◌, length, Some, slice_get
 use Rattle.std.proofs.lemmas.Option.{slice_get_within}
 use Rattle.sq_model.specs.Ledgers.{LedgerEvent, is_own}
 use Rattle.sq_model.specs.Matches.{InHome, IsOfLedger, IsRecorded}
-use Rattle.sq_audit.specs.EvidenceValue.{EvidenceValue}
-use Rattle.sq_audit.specs.Faults.{HomeHas, LedgerFits}
+use Rattle.sq_audit.specs.inside.EvidenceValue.{EvidenceValue}
+use Rattle.sq_audit.specs.inside.Faults.{HomeHas, LedgerFits}
 use Rattle.sq_audit.proofs.CheckLaws.{all_shared}
 use Rattle.sq_model.proofs.ElementLaws.{below_more, some_same}
 use Rattle.sq_audit.proofs.check.check_ledger.Goals as goal

@@ -1,5 +1,5 @@
 use Rattle.std.proofs.Common.{◌<◌, ℕ}
-use Rattle.sq_audit.specs.Faults.{HomeHas, LedgerFits}
+use Rattle.sq_audit.specs.inside.Faults.{HomeHas, LedgerFits}
 use Rattle.sq_audit.proofs.check.check_ledger.Given as goal
 
 abbrev pub invariant-loop-index : goal.invariant-loop-index

@@ -3,7 +3,8 @@ use Rattle.std.proofs.lemmas.Result.{on_ok_weaker, IfErr-weaker}
 use Rattle.sq_model.specs.Ledgers.{is_own}
 use Rattle.sq_audit.specs.HomeIds.{histories_of}
 use Rattle.sq_audit.specs.declared.check.Part.TheVariants.{Ledger}
-use Rattle.sq_audit.specs.Faults.{IsEventFault, IsWrong}
+use Rattle.sq_audit.specs.Faults.{IsWrong}
+use Rattle.sq_audit.specs.inside.Faults.{IsEventFault}
 use Rattle.sq_audit.proofs.CheckLaws.{ledger_fits, ledger_wrong, own_if}
 use Rattle.sq_audit.proofs.check.check_ledger_event.Goals as goal
 

@@ -1,6 +1,6 @@
 use Rattle.std.proofs.Common.{rules, ◌≡◌, ◌∙◌, sym, true}
 use Rattle.std.specs.List.{list_all}
-use Rattle.sq_base.specs.Bodies.{is_short}
+use Rattle.sq_base.specs.inside.Bodies.{is_short}
 use Rattle.sq_base.proofs.BodyLaws.{short_text}
 use Rattle.sq_base.proofs.body.has_allowed.Goals as goal
 

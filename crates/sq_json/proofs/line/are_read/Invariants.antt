@@ -1,6 +1,6 @@
 use Rattle.std.proofs.Common.{◌≡◌, ◌+◌, ◌≤◌, map, drop}
 use Rattle.json.specs.Tape.{node_token}
-use Rattle.sq_json.specs.Fits.{fits}
+use Rattle.sq_json.specs.inside.Fits.{fits}
 use Rattle.sq_json.proofs.line.are_read.Given as goal
 
 abbrev pub invariant-loop-node : goal.invariant-loop-node

@@ -3,7 +3,7 @@ use Rattle.sq_laws.proofs.Computed.{computed}
 use Rattle.sq_laws.proofs.worked_run.a_dead_letter_waits_for_room.Goals as goal
 
 pub returns-clause-run : goal.returns-clause-run
-returns-clause-run c = computed _ _ _ _ _ refl refl
+returns-clause-run c = computed _ _ _ refl refl
 
 pub returns-clause-until : goal.returns-clause-until
-returns-clause-until c = computed _ _ _ _ _ refl refl
+returns-clause-until c = computed _ _ _ refl refl

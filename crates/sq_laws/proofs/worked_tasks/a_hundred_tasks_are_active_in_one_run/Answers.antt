@@ -5,7 +5,7 @@ use Rattle.sq_laws.proofs.worked_tasks.a_hundred_tasks_are_active_in_one_run.Goa
 
 pub returns-clause-run : goal.returns-clause-run
 unfolding digits
-returns-clause-run c = computed _ _ _ _ _ refl refl
+returns-clause-run c = computed _ _ _ refl refl
 
 pub returns-clause-is_source : goal.returns-clause-is_source
 unfolding digits

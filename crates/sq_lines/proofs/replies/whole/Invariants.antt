@@ -1,5 +1,5 @@
 use Rattle.std.proofs.Common.{◌≡◌, ◌+◌, drop}
-use Rattle.sq_lines.specs.Replies.{whole_in}
+use Rattle.sq_lines.specs.inside.Replies.{whole_in}
 use Rattle.sq_lines.proofs.replies.whole.Given as goal
 
 abbrev pub invariant-loop-index : goal.invariant-loop-index

@@ -1,5 +1,5 @@
 use Rattle.std.proofs.Common.{◌-◌, ◌≤◌, length}
-use Rattle.sq_log.specs.Events.{IsParted}
+use Rattle.sq_log.specs.inside.Events.{IsParted}
 use Rattle.sq_log.proofs.events.count_before.Given as goal
 
 abbrev pub invariant-loop-low : goal.invariant-loop-low

@@ -1,4 +1,4 @@
-use Rattle.std.proofs.Common.{rules, ◌≡◌, Bor, Some, None, slice_get, sym, ◌∙◌, ap}
+use Rattle.std.proofs.Common.{rules, ◌≡◌, Bor, Some, None, sym, ◌∙◌, ap}
 use Rattle.std.specs.Prelude.{option_map}
 use Rattle.sq_log.proofs.EventLaws.{at_point, same_stamp}
 use Rattle.sq_log.proofs.events.event_at.Goals as goal

@@ -2,7 +2,7 @@ use Rattle.std.proofs.Common.{◌∙◌, ◌++◌, sym, ap, List}
 use Rattle.std.proofs.lemmas.Result.{on_ok_weaker}
 use Rattle.sq_model.specs.declared.place.Place.TheVariants as at
 use Rattle.sq_places.specs.declared.state.RowState.{RowState}
-use Rattle.sq_places.specs.Audits.{placed}
+use Rattle.sq_places.specs.inside.Audits.{placed}
 use Rattle.sq_places.proofs.StateLaws.{filter_all, filter_none}
 use Rattle.sq_places.proofs.home_states.change.Goals as goal
 

@@ -1,7 +1,7 @@
 use Rattle.std.proofs.Common.{rules, ◌≡◌, take, sym, ap, ◌∙◌, []}
 use Rattle.std.proofs.lemmas.List.{take_all}
 use Rattle.sq_audit.specs.Tags.{tag_of, tags_of}
-use Rattle.sq_places.specs.MessagePasses.{pass_step, pass_from, pass_start, answer}
+use Rattle.sq_places.specs.inside.MessagePasses.{pass_step, pass_from, pass_start, answer}
 use Rattle.sq_places.proofs.FollowLaws.{pass_next, place_law}
 use Rattle.sq_places.proofs.message_pass.place_of.Goals as goal
 
@@ -14,9 +14,9 @@ loop-index-preserved c =
 
 pub returns : goal.returns
 returns c = record {
-  place = λ places limit sites after r one.
+  place = λ o after r one.
       let events = c.events-events.result.now in
       let all : take c.loop-index.index events ≡ events = take_all c.loop-index.index events (search rules) in
       let pass : c.loop-index.message_pass ≡ pass_from c.args.x.now [] pass_start (tags_of events) = rw all at c.loop-index.invariant in
-      c.answer.ensures ∙ ap (λ k. answer k.state) pass ∙ sym (place_law c.args.x.now places limit sites events c.args.run.now c.events-events.ensures after r one);
+      c.answer.ensures ∙ ap (λ k. answer k.state) pass ∙ sym (place_law c.args.x.now o events c.args.run.now c.events-events.ensures after r one);
 }

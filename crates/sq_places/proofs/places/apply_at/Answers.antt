@@ -1,6 +1,6 @@
 use Rattle.std.proofs.Common.{◌≡◌, ◌+◌, ◌++◌, get_or, arith, refl, subst}
-use Rattle.sq_places.specs.HomeValues.{HomeValue}
-use Rattle.sq_places.specs.Audits.{no_states, placed_ends, AreSameEnds}
+use Rattle.sq_places.specs.inside.HomeValues.{HomeValue}
+use Rattle.sq_places.specs.inside.Audits.{no_states, placed_ends, AreSameEnds}
 use Rattle.sq_places.proofs.ListLaws.{read_grown}
 use Rattle.sq_places.proofs.places.apply_at.Goals as goal
 

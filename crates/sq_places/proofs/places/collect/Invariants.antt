@@ -1,7 +1,7 @@
 use Rattle.std.proofs.Common.{take}
 use Rattle.std.specs.List.{fold}
 use Rattle.sq_audit.specs.Tags.{tag_of}
-use Rattle.sq_places.specs.Audits.{IsSameAudit, audit_step, no_audit}
+use Rattle.sq_places.specs.inside.Audits.{IsSameAudit, audit_step, no_audit}
 use Rattle.sq_places.proofs.places.collect.Given as goal
 
 abbrev pub invariant-loop-tagged : goal.invariant-loop-tagged

@@ -1,5 +1,5 @@
 use Rattle.std.proofs.Common.{◌≡◌, ◌+◌, length}
-use Rattle.sq_places.specs.Audits.{grown}
+use Rattle.sq_places.specs.inside.Audits.{grown}
 use Rattle.sq_places.proofs.places.grow.Given as goal
 
 abbrev pub invariant-loop : goal.invariant-loop

@@ -3,7 +3,7 @@ use Rattle.std.specs.List.{fold}
 use Rattle.std.specs.Prelude.{Option}
 use Rattle.sq_model.specs.declared.place.Place.{Place}
 use Rattle.sq_audit.proofs.IdOrder.{lookup_id}
-use Rattle.sq_places.specs.AllPlaces.{after_move}
+use Rattle.sq_places.specs.inside.AllPlaces.{after_move}
 use Rattle.sq_places.proofs.places.listed.Goals as goal
 
 pub returns-clause-listed : goal.returns-clause-listed

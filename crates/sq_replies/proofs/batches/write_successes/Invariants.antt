@@ -1,6 +1,6 @@
 use Rattle.std.proofs.Common.{◌≡◌, ◌++◌, take}
 use Rattle.sq_replies.specs.Replies.{successes}
-use Rattle.sq_replies.specs.Told.{all_tokens}
+use Rattle.sq_replies.specs.inside.Told.{all_tokens}
 use Rattle.sq_replies.proofs.batches.write_successes.Given as goal
 
 abbrev pub invariant-loop-entry : goal.invariant-loop-entry

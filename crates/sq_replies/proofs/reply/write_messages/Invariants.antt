@@ -1,6 +1,6 @@
 use Rattle.std.proofs.Common.{◌≡◌, ◌++◌, map, take}
 use Rattle.sq_replies.specs.Replies.{message_data}
-use Rattle.sq_replies.specs.Told.{all_tokens}
+use Rattle.sq_replies.specs.inside.Told.{all_tokens}
 use Rattle.sq_replies.proofs.reply.write_messages.Given as goal
 
 abbrev pub invariant-loop-row : goal.invariant-loop-row

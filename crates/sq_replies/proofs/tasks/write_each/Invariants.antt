@@ -1,6 +1,6 @@
 use Rattle.std.proofs.Common.{◌≡◌, ◌++◌, map, take}
 use Rattle.sq_replies.specs.Replies.{task_data}
-use Rattle.sq_replies.specs.Told.{all_tokens}
+use Rattle.sq_replies.specs.inside.Told.{all_tokens}
 use Rattle.sq_replies.proofs.tasks.write_each.Given as goal
 
 abbrev pub invariant-loop-task : goal.invariant-loop-task

@@ -6,18 +6,6 @@ use Rattle.sq_requests.proofs.BatchLaws.{are_ids, batch_reads, wants_memory}
 use Rattle.sq_requests.proofs.RequestLaws.{reads_refused}
 use Rattle.sq_requests.proofs.batches.batch_of.Goals as goal
 
-pub returns-in_err-url : goal.returns-in_err-url
-unfolding batch_of
-returns-in_err-url c =
-    let refused : c.from_residual.result ≡ Err c.in_err-url.field-0.0 = search rules in
-    rw refused (reads_refused c.in_err-url.field-0.0 _ (rw (← c.in_err-url.ensures) refl))
-
-pub returns-in_err-entries : goal.returns-in_err-entries
-unfolding batch_of
-returns-in_err-entries c =
-    let refused : c.from_residual-in_err-entries.result ≡ Err c.in_err-entries.field-0.0 = search rules in
-    rw refused (reads_refused c.in_err-entries.field-0.0 _ (rw (← c.in_ok-url.ensures, ← c.in_err-entries.ensures) refl))
-
 pub returns-then-not-are_entries : goal.returns-then-not-are_entries
 unfolding batch_of members_of
 returns-then-not-are_entries c = rw (← c.in_ok-url.ensures, ← c.in_ok-entries.ensures, ← c.if-not-are_entries.ensures) refl

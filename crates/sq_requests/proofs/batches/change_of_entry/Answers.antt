@@ -3,10 +3,6 @@ use Rattle.sq_requests.specs.Batches.{change_of_entry}
 use Rattle.sq_requests.proofs.BatchLaws.{changes_ask}
 use Rattle.sq_requests.proofs.batches.change_of_entry.Goals as goal
 
-pub returns-in_err-handle : goal.returns-in_err-handle
-unfolding change_of_entry
-returns-in_err-handle c = rw (← c.in_err-handle.ensures) (search rules)
-
 pub returns-in_err-amount : goal.returns-in_err-amount
 unfolding change_of_entry
 returns-in_err-amount c = rw (← c.in_ok-handle.ensures, ← c.in_err-amount.ensures) (search rules)

@@ -1,7 +1,8 @@
 use Rattle.std.proofs.Common.{◌≡◌}
 use Rattle.sq_json.specs.View.{items_view}
 use Rattle.sq_requests.specs.Lists.{listed_items}
-use Rattle.sq_requests.specs.Batches.{behind, repeat_an_id}
+use Rattle.sq_requests.specs.Batches.{repeat_an_id}
+use Rattle.sq_requests.specs.inside.Batches.{behind}
 use Rattle.sq_requests.proofs.batches.repeat_an_id.Given as goal
 
 abbrev pub invariant-loop-passed : goal.invariant-loop-passed

@@ -6,7 +6,8 @@ use Rattle.serde_json.specs.Read.{read}
 use Rattle.sq_base.specs.declared.refusal.Refusal.TheVariants.{InvalidRequest}
 use Rattle.sq_json.specs.View.{view}
 use Rattle.sq_requests.specs.Memory.{ReadsAsking}
-use Rattle.sq_requests.specs.Requests.{line_request, request_of, request_asks}
+use Rattle.sq_requests.specs.Requests.{line_request, request_of}
+use Rattle.sq_requests.specs.inside.Requests.{request_asks}
 use Rattle.sq_requests.proofs.RequestLaws.{reads_line}
 use Rattle.sq_requests.proofs.request.read_request.Goals as goal
 

@@ -1,7 +1,7 @@
 use Rattle.sq_server.proofs.race.race.Given as goal
 
-abbrev pub ghosts-race_named-D-Ledger : goal.ghosts-race_named-D-Ledger
-ghosts-race_named-D-Ledger g a = record { name = a.of_directory.name; parts = a.of_directory.parts }
+abbrev pub ghosts-raced-D-Ledger : goal.ghosts-raced-D-Ledger
+ghosts-raced-D-Ledger g a = record { name = a.blanks.directory.name; parts = a.blanks.directory.parts }
 
-abbrev pub ghosts-race_named-T-Ledger : goal.ghosts-race_named-T-Ledger
-ghosts-race_named-T-Ledger g a = record { name = a.of_ledger.name; parts = a.of_ledger.parts }
+abbrev pub ghosts-raced-T-Ledger : goal.ghosts-raced-T-Ledger
+ghosts-raced-T-Ledger g a = record { name = a.blanks.ledger.name; parts = a.blanks.ledger.parts }

@@ -1,7 +1,7 @@
 use Rattle.sq_server.proofs.serve.serve.Given as goal
 
 abbrev pub ghosts-serve_named-D-Ledger : goal.ghosts-serve_named-D-Ledger
-ghosts-serve_named-D-Ledger g a = record { name = a.of_directory.name; parts = a.of_directory.parts }
+ghosts-serve_named-D-Ledger g a = record { name = a.blanks.directory.name; parts = a.blanks.directory.parts }
 
 abbrev pub ghosts-serve_named-T-Ledger : goal.ghosts-serve_named-T-Ledger
-ghosts-serve_named-T-Ledger g a = record { name = a.of_ledger.name; parts = a.of_ledger.parts }
+ghosts-serve_named-T-Ledger g a = record { name = a.blanks.ledger.name; parts = a.blanks.ledger.parts }

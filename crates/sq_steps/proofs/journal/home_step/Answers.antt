@@ -5,7 +5,6 @@ use Rattle.sq_steps.proofs.journal.home_step.Goals as goal
 
 pub invariant_of-journal-2 : goal.invariant_of-journal-2
 invariant_of-journal-2 c =
-    let its_record = c.in_ok-reply.record in
     let recorded = c.in_ok-reply.ensures.recorded in
     rw (c.count.ensures, c.step-2.ensures, c.push_home.ensures.items, c.ready.ensures.items)
-    (after_journal_more _ _ c.args.now (OfHome its_record) c.push_home.new.self.room c.journal.invariant recorded.stamped (ap (λ (n : HomeRecordValue). n.place) recorded.record_is))
+    (after_journal_more _ _ c.args.now (OfHome c.in_ok-reply.record) c.push_home.new.self.room c.journal.invariant recorded.stamped (ap (λ (n : HomeRecordValue). n.place) recorded.record_is))

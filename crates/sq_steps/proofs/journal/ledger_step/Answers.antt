@@ -5,7 +5,6 @@ use Rattle.sq_steps.proofs.journal.ledger_step.Goals as goal
 
 pub invariant_of-journal-2 : goal.invariant_of-journal-2
 invariant_of-journal-2 c =
-    let its_record = c.in_ok-reply.record in
     let recorded = c.in_ok-reply.ensures.recorded in
-    rw (c.count.ensures, c.step.ensures, c.push_ledger.ensures.items, c.ready.ensures.items)
-    (after_journal_more _ _ c.args.now (OfLedger its_record) c.push_ledger.new.self.room c.journal.invariant recorded.stamped (ap (λ (n : LedgerRecordValue). n.place) recorded.record_is))
+    rw (c.count.ensures, c.step.ensures, c.push_other.ensures.items, c.ready.ensures.items)
+    (after_journal_more _ _ c.args.now (OfLedger c.in_ok-reply.record) c.push_other.new.self.room c.journal.invariant recorded.stamped (ap (λ (n : LedgerRecordValue). n.place) recorded.record_is))

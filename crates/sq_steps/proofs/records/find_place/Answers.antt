@@ -1,7 +1,7 @@
 use Rattle.std.proofs.Common.{rules, ◌≡◌, Bool, true, false}
 use Rattle.std.specs.Prelude.{◌==◌}
 use Rattle.sq_steps.specs.declared.records.Kept.{Kept}
-use Rattle.sq_steps.specs.Records.{place_of_kept}
+use Rattle.sq_steps.specs.inside.Records.{place_of_kept}
 use Rattle.sq_steps.proofs.RecordLaws.{any_next, get_within}
 use Rattle.sq_steps.proofs.records.find_place.Goals as goal
 

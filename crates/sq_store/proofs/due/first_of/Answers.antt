@@ -4,7 +4,7 @@ use Rattle.std.specs.List.{cons_option}
 use Rattle.sq_deadline.specs.Deadlines.{if_due}
 use Rattle.sq_deadline.proofs.SetLaws.{due_at}
 use Rattle.sq_slots.specs.Slots.{is_in}
-use Rattle.sq_store.specs.Found.{is_kept_and, is_wanted, row_of}
+use Rattle.sq_store.specs.inside.Found.{is_kept_and, is_wanted, row_of}
 use Rattle.sq_store.proofs.DueLaws.{found_at_end, found_before, found_in_none, is_one_of_kept, passed_over, walks_on}
 use Rattle.sq_store.proofs.due.first_of.Goals as goal
 use Rattle.sq_store.proofs.due.first_of.Goals.{in-Some+else-is_wanted, in_default}

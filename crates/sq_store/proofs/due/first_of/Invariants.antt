@@ -1,7 +1,7 @@
 use Rattle.std.proofs.Common.{◌≡◌, ◌≤◌, [], take}
 use Rattle.std.specs.Prelude.{count_by}
 use Rattle.sq_deadline.specs.Deadlines.{is_due}
-use Rattle.sq_store.specs.Found.{found, is_kept_and, is_wanted}
+use Rattle.sq_store.specs.inside.Found.{found, is_kept_and, is_wanted}
 use Rattle.sq_store.proofs.due.first_of.Given as goal
 
 -- those passed over are due, and none of them is looked for

@@ -6,7 +6,7 @@ use Rattle.sq_base.specs.declared.row.Row.{Row}
 use Rattle.sq_deadline.specs.Deadlines.{if_due}
 use Rattle.sq_deadline.proofs.SetLaws.{due_at}
 use Rattle.sq_model.specs.Rows.{is_live, received}
-use Rattle.sq_store.specs.Found.{found, is_kept_and, row_of}
+use Rattle.sq_store.specs.inside.Found.{found, is_kept_and, row_of}
 use Rattle.sq_store.proofs.DueLaws.{at_most_one, found_at_end, found_before, found_in_none, found_more, walks_on}
 use Rattle.sq_store.proofs.PickLaws.{picked_all, picked_full}
 use Rattle.sq_store.proofs.due.pick_of.Goals as goal

@@ -2,7 +2,7 @@ use Rattle.std.proofs.Common.{◌≡◌, ◌≤◌, ◌++◌, length, map, take}
 use Rattle.std.specs.Prelude.{count_by}
 use Rattle.sq_deadline.specs.Deadlines.{is_due}
 use Rattle.sq_model.specs.Rows.{is_live, received}
-use Rattle.sq_store.specs.Found.{found, is_kept_and}
+use Rattle.sq_store.specs.inside.Found.{found, is_kept_and}
 use Rattle.sq_store.proofs.due.pick_of.Given as goal
 
 -- those walked over are due, and the live ones are picked

@@ -2,12 +2,12 @@ use Rattle.std.proofs.Common.{rules, ◌≡◌, ◌<◌, ◌∙◌, Some, None, 
 use Rattle.std.specs.Prelude.{slice_get}
 use Rattle.std.proofs.lemmas.List.{take_all}
 use Rattle.sq_deadline.specs.declared.deadline.Deadline.{Deadline}
-use Rattle.sq_store.specs.Found.{found, row_of}
+use Rattle.sq_store.specs.inside.Found.{found, row_of}
 use Rattle.sq_store.specs.SlotStores.{AreVisible, any_row}
 use Rattle.sq_store.proofs.ListLaws.{all_listed, its_slot, listed_more, none_is_past, none_more, room_for_next, slot_fits}
-use Rattle.sq_store.proofs.MemoryLaws.{HasRoom, keeps_on}
+use Rattle.sq_store.proofs.MemoryLaws.{keeps_on}
 use Rattle.sq_store.proofs.split.list_all.Goals as goal
-use Rattle.sq_store.proofs.split.list_all.Goals.{After-at, in-Some+in-Some-at, in-Some+in_default-at, in_default}
+use Rattle.sq_store.proofs.split.list_all.Goals.{in-Some+in-Some-at, in-Some+in_default-at, in_default}
 
 pub returns : goal.returns
 returns c =
@@ -17,17 +17,8 @@ returns c =
     let listed : AreVisible (found any_row rows ages) c.loop-place.visible = subst (λ (ds : List Deadline). AreVisible (found any_row rows ds) c.loop-place.visible) whole c.loop-place.invariant.listed in
     record { held = all_listed rows ages c.loop-place.visible c.len.ensures.apart c.requires.aged listed; most = c.loop-place.invariant.most; space = c.loop-place.invariant.space }
 
-room : (c : After-at) → HasRoom c.loop-place.visible
-room c = room_for_next c.args.table.now.rows c.args.ages.now.deadlines c.loop-place.place c.args.visible.now c.loop-place.visible c.requires.aged (omega arith) c.requires.memory c.loop-place.invariant.space c.loop-place.invariant.listed
-
-pub set-requires-clause-fresh : goal.set-requires-clause-fresh
-set-requires-clause-fresh c = λ is. (room (goal.at.set-requires-clause-fresh c).After-at).fresh
-
-pub set-requires-clause-again : goal.set-requires-clause-again
-set-requires-clause-again c = λ is. (room (goal.at.set-requires-clause-again c).After-at).again
-
-pub set-requires-clause-spent : goal.set-requires-clause-spent
-set-requires-clause-spent c = λ is. (room (goal.at.set-requires-clause-spent c).After-at).spent
+pub set-requires : goal.set-requires
+set-requires c = room_for_next c.args.table.now.rows c.args.ages.now.deadlines c.loop-place.place c.args.visible.now c.loop-place.visible c.requires.aged (omega arith) c.requires.memory c.loop-place.invariant.space c.loop-place.invariant.listed _
 
 pub loop-place-preserved : goal.loop-place-preserved
 loop-place-preserved c =

@@ -1,7 +1,7 @@
 use Rattle.std.proofs.Common.{◌≡◌, take}
-use Rattle.sq_store.specs.Found.{found}
+use Rattle.sq_store.specs.inside.Found.{found}
 use Rattle.sq_store.specs.SlotStores.{AreVisible, any_row}
-use Rattle.sq_store.specs.Visible.{KeepsSpace}
+use Rattle.sq_store.specs.inside.Visible.{KeepsSpace}
 use Rattle.sq_store.proofs.split.list_all.Given as goal
 
 -- the rows of the ages so far stand in the lists of their classes

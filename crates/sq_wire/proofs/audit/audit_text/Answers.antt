@@ -11,8 +11,8 @@ bytes_of : (v : Vec ℕ Global) (text : String Global) → v ≡ string_vec text
 bytes_of v text is = ap (λ (b : Vec ℕ Global). b.items) is
 
 pub returns-clause-listed : goal.returns-clause-listed
-returns-clause-listed c places limit sites after r one_place =
-    (c.in_ok-places.places.items, c.in_ok-places.ensures.places places limit sites after r one_place, c.made.ensures ∙ bytes_of c.into_bytes.result c.in_ok-audit_string.field-0 c.into_bytes.ensures.value ∙ c.in_ok-audit_string.ensures ∙ ap₂ (λ run listed. compact_text (audit_data run listed)) c.events.ensures c.deref.ensures.value)
+returns-clause-listed c o after r one_place =
+    (c.in_ok-places.places.items, c.in_ok-places.ensures.places o after r one_place, c.made.ensures ∙ bytes_of c.into_bytes.result c.in_ok-audit_string.field-0 c.into_bytes.ensures.value ∙ c.in_ok-audit_string.ensures ∙ ap₂ (λ run listed. compact_text (audit_data run listed)) c.events.ensures c.deref.ensures.value)
 
 pub returns-clause-text : goal.returns-clause-text
 returns-clause-text c = (c.in_ok-places.places.items, c.made.ensures ∙ bytes_of c.into_bytes.result c.in_ok-audit_string.field-0 c.into_bytes.ensures.value ∙ c.in_ok-audit_string.ensures ∙ ap₂ (λ run listed. compact_text (audit_data run listed)) c.events.ensures c.deref.ensures.value)

@@ -2,7 +2,7 @@ use Rattle.std.proofs.Common.{map}
 use Rattle.sq_model.specs.Matches.{IsMatched, IsPaired}
 use Rattle.sq_model.specs.Merges.{IsMerged}
 use Rattle.sq_model.specs.Systems.{IsRun, IsOnePlace}
-use Rattle.sq_audit.specs.SystemNow.{events_of, system_now}
+use Rattle.sq_audit.specs.SystemNow.{events_of, system_now, opening_now}
 use Rattle.sq_audit.specs.HomeIds.{histories_of}
 use Rattle.sq_wire.proofs.audit.audit_world.Goals as goal
 
@@ -14,7 +14,7 @@ returns-in-Ok-clause-listed c =
     let matched : IsMatched w.directory.events w.ledger.events (histories_of w.homes) w.journals = rw (are.directory, are.ledger, are.homes, are.records) at c.in_ok-run.ensures.matched in
     let paired : IsPaired w.ledger.events (histories_of w.homes) = rw (are.ledger, are.homes) at c.in_ok-run.ensures.paired in
     let merged : IsMerged w.directory.events w.ledger.events (events_of w.homes) run = rw (are.directory, are.ledger, are.homes) at c.in_ok-run.ensures.merged in
-    let is_run : IsRun w.directory.directory.places w.ledger.ledger.limit (map (λ h. h.site) w.homes) run (system_now w.directory w.ledger w.homes) = rw (are.directory, are.ledger, are.homes) at c.in_ok-run.ensures.run in
+    let is_run : IsRun (opening_now w.directory w.ledger w.homes) run (system_now w.directory w.ledger w.homes) = rw (are.directory, are.ledger, are.homes) at c.in_ok-run.ensures.run in
     let one_place : IsOnePlace (map (λ h. h.site) w.homes) = rw are.homes at c.in_ok-run.ensures.one_place in
     record {
       run = run;
@@ -26,5 +26,5 @@ returns-in-Ok-clause-listed c =
       parts = c.in_ok-run.ensures.parts;
       numbered = rw are.homes at c.in_ok-run.ensures.numbered;
       one_place = one_place;
-      tells = c.in-Ok.ensures.listed w.directory.directory.places w.ledger.ledger.limit (map (λ h. h.site) w.homes) (system_now w.directory w.ledger w.homes) is_run.steps one_place;
+      tells = c.in-Ok.ensures.listed (opening_now w.directory w.ledger w.homes) (system_now w.directory w.ledger w.homes) is_run.steps one_place;
     }

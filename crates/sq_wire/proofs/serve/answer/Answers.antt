@@ -1,11 +1,15 @@
 use Rattle.std.proofs.lemmas.Result.{IfOk-weaker}
 use Rattle.sq_wire.specs.Serves.{ServedReplies}
-use Rattle.sq_wire.proofs.ServedLaws.{served_unanswered}
+use Rattle.sq_wire.proofs.ServedLaws.{line_served, served_unanswered}
 use Rattle.sq_wire.proofs.serve.answer.Goals as goal
 
 pub returns-clause-ok : goal.returns-clause-ok
 unfolding ServedReplies
-returns-clause-ok g c = IfOk-weaker c.reply_text.result _ _ (λ text is. (c.tell-answered.result, c.tell-answered.ensures, is)) c.reply_text.ensures.text
+returns-clause-ok g c =
+    let served = line_served _ _ c.args.line.now c.read_request-read.result c.do_read-answered.result _ c.read_request-read.ensures c.do_read-answered.ensures.ok c.do_read-answered.ensures.err in
+    IfOk-weaker c.reply_text.result _ _ (λ text is. (c.do_read-answered.result, served, is)) c.reply_text.ensures.text
 
 pub returns-clause-err : goal.returns-clause-err
-returns-clause-err g c = served_unanswered _ _ _ c.tell-answered.result _ c.reply_text.result c.tell-answered.ensures c.reply_text.ensures.refused c.reply_text.ensures.turned
+returns-clause-err g c =
+    let served = line_served _ _ c.args.line.now c.read_request-read.result c.do_read-answered.result _ c.read_request-read.ensures c.do_read-answered.ensures.ok c.do_read-answered.ensures.err in
+    served_unanswered _ _ _ c.do_read-answered.result _ c.reply_text.result served c.reply_text.ensures.refused c.reply_text.ensures.turned

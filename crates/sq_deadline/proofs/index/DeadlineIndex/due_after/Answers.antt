@@ -12,5 +12,5 @@ returns-clause-due c =
     let d = c.args.deadline.now in
     let order = c.nth_due.ensures.order in
     let above = above_is 0 d ds order in
-    let place : c.count_below.result ≡ position_or_len (is_above d) ds = search (rules, above, order) in
-    c.nth_due.ensures.due ∙ ap (λ n. if_due c.args.moment (slice_get ds n)) place ∙ sym (first_due_above c.args.moment 0 d ds order)
+    let index : c.count_below.result ≡ position_or_len (is_above d) ds = search (rules, above, order) in
+    c.nth_due.ensures.due ∙ ap (λ n. if_due c.args.moment (slice_get ds n)) index ∙ sym (first_due_above c.args.moment 0 d ds order)

@@ -2,7 +2,8 @@ use Rattle.std.proofs.Common.{rules, arith, ◌≡◌, ◌∙◌, ◌<◌, false
 use Rattle.std.proofs.lemmas.List.Edits.{length-insert}
 use Rattle.std.specs.Prelude.{slice_get}
 use Rattle.std.specs.List.{insert}
-use Rattle.sq_deadline.specs.Deadlines.{DeadlinesRise, is_this, with_deadline}
+use Rattle.sq_deadline.specs.Deadlines.{DeadlinesRise, with_deadline}
+use Rattle.sq_deadline.specs.inside.Deadlines.{is_this}
 use Rattle.sq_deadline.specs.Trees.{listed}
 use Rattle.sq_deadline.proofs.OrderLaws.{comes_in, place_of, rise_with, stays}
 use Rattle.sq_deadline.proofs.index.DeadlineIndex.set.Goals as goal
@@ -26,6 +27,6 @@ pub invariant_of-self : goal.invariant_of-self
 invariant_of-self c =
     let ds = c.args.self.now.deadlines in
     let slot : c.args.deadline.slot < 4294967296 = search rules in
-    let rises : DeadlinesRise 0 (listed c.insert.new.self) = rw (came (goal.at.invariant_of-self c).After-insert) (rise_with 0 c.args.deadline ds (omega arith) slot c.place-place.ensures.order) in
-    let rest = length-insert (listed c.self.inside.tree) c.place-place.result c.args.deadline in
+    let rises : DeadlinesRise 0 (listed c.insert.new.self) = rw (came (goal.at.invariant_of-self c).After-insert) (rise_with 0 c.args.deadline ds (omega arith) slot c.index-index.ensures.order) in
+    let rest = length-insert (listed c.self.inside.tree) c.index-index.result c.args.deadline in
     search (rules, rises, rest)

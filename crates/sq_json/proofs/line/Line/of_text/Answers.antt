@@ -1,7 +1,7 @@
 use Rattle.std.proofs.Common.{◌≡◌, true, Some, IsSome, refl, sym, ap, ◌∙◌, subst, arith}
 use Rattle.json.specs.Lex.{tokens}
 use Rattle.json.specs.Json.{document}
-use Rattle.sq_json.specs.Fits.{fits}
+use Rattle.sq_json.specs.inside.Fits.{fits}
 use Rattle.sq_json.proofs.Views.{some_data, view_is}
 use Rattle.sq_json.proofs.Readings.{read_fitting, no_document, no_fit}
 use Rattle.sq_json.proofs.line.Line.of_text.Goals as goal

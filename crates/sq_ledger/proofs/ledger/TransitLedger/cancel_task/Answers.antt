@@ -1,7 +1,6 @@
-use Rattle.std.proofs.Common.{rules, refl}
+use Rattle.std.proofs.Common.{rules, ap, refl}
 use Rattle.sq_model.specs.declared.ledger.LedgerCall.TheVariants as asks
-use Rattle.sq_ledger.specs.LedgerHistory.{history_of}
-use Rattle.sq_ledger.specs.LedgerHistories.{IsLedgerRefused}
+use Rattle.sq_ledger.specs.LedgerHistory.{LedgerValue}
 use Rattle.sq_ledger.proofs.LedgerLaws.{own_kept}
 use Rattle.sq_ledger.proofs.TaskCallLaws.{cancelled, cancels_as, recorded_as, refused_as}
 use Rattle.sq_ledger.proofs.ledger.TransitLedger.cancel_task.Goals as goal
@@ -16,9 +15,4 @@ pub invariant_of-self-3 : goal.invariant_of-self-3
 invariant_of-self-3 c = own_kept _ _ c.args.by.now c.args.now (asks.CancelTask c.args.number) c.add_own.result c.self.invariant refl refl c.add_own.ensures.rising (rw (← c.self.view_is) at (returns-clause-recorded c))
 
 pub returns-in_err-moved-clause-refusal : goal.returns-in_err-moved-clause-refusal
-returns-in_err-moved-clause-refusal c =
-    let t = c.self.inside in
-    let h = history_of t.items.items t.next t.tasks t.limit t.log in
-    let call = asks.CancelTask c.args.number in
-    let refused : IsLedgerRefused c.args.self.now.history c.args.by.now c.args.now call c.in_err-moved.field-0.0 = rw (← c.self.view_is) (refused_as h c.args.by.now c.args.now call c.in_ok-stamp.stamp c.in_err-moved.field-0.0 c.in_ok-stamp.ensures.stamped (cancels_as h.ledger c.in_ok-stamp.stamp.moment c.args.number c.in_err-moved.field-0.0 c.in_err-moved.ensures.refused)) in
-    search rules
+returns-in_err-moved-clause-refusal c = search (rules, refused_as _ c.args.self.now c.args.by.now c.args.now (asks.CancelTask c.args.number) c.in_ok-stamp.stamp c.in_err-moved.field-0.0 (ap (λ (v : LedgerValue). v.history) c.self.view_is) c.in_ok-stamp.ensures.stamped (cancels_as _ c.in_ok-stamp.stamp.moment c.args.number c.in_err-moved.field-0.0 c.in_err-moved.ensures.refused))

@@ -1,11 +1,16 @@
-use Rattle.std.proofs.Common.{rules, ◌∙◌, refl, sym}
+use Rattle.std.proofs.Common.{rules, ◌≡◌, ◌∙◌, None, refl, sym}
+use Rattle.std.specs.Prelude.{◌≢◌}
+use Rattle.sq_base.specs.declared.refusal.Refusal.{Refusal}
+use Rattle.sq_base.specs.declared.refusal.Refusal.TheVariants.{NoMemory}
 use Rattle.sq_model.specs.declared.ledger.LedgerCall.TheVariants as asks
 use Rattle.sq_model.specs.declared.ledger.LedgerReply.TheVariants as answers
 use Rattle.sq_ledger.proofs.LedgerLaws.{own_kept}
 use Rattle.sq_ledger.specs.LedgerHistory.{history_of}
 use Rattle.sq_ledger.specs.LedgerHistories.{IsLedgerRefused}
+use Rattle.sq_ledger.specs.TaskIndexes.{newest}
 use Rattle.sq_ledger.proofs.TaskCallLaws.{list_out, listed, recorded_as}
 use Rattle.sq_ledger.proofs.ledger.TransitLedger.list_tasks.Goals as goal
+use Rattle.sq_ledger.proofs.ledger.TransitLedger.list_tasks.Goals.{After-list}
 
 pub returns-clause-recorded : goal.returns-clause-recorded
 returns-clause-recorded c =
@@ -17,23 +22,17 @@ returns-clause-recorded c =
 pub invariant_of-self-2 : goal.invariant_of-self-2
 invariant_of-self-2 c = own_kept _ _ c.args.by.now c.args.now (asks.ListTasks c.args.source c.args.most) c.add_own.result c.self.invariant refl refl c.add_own.ensures.rising (rw (← c.self.view_is) at (returns-clause-recorded c))
 
-pub returns-in_err-listed-clause-refusal : goal.returns-in_err-listed-clause-refusal
-returns-in_err-listed-clause-refusal c =
+-- where a list cannot be copied, memory is out
+out : (c : After-list) → (e : Refusal) → (e ≡ NoMemory) × (newest c.args.source c.self.inside.tasks.items ≢ None) → IsLedgerRefused c.args.self.now.history c.args.by.now c.args.now (asks.ListTasks c.args.source c.args.most) e
+out c e is =
     let t = c.self.inside in
-    let out = c.in_err-listed.ensures.refused in
-    let refused : IsLedgerRefused c.args.self.now.history c.args.by.now c.args.now (asks.ListTasks c.args.source c.args.most) c.in_err-listed.field-0.0 = rw (← c.self.view_is) (list_out (history_of t.items.items t.next t.tasks t.limit t.log) c.args.by.now c.args.now c.args.source c.args.most c.in_ok-stamp.stamp c.in_err-listed.field-0.0 c.in_ok-stamp.ensures.stamped out.0 out.1) in
-    search rules
+    rw (← c.self.view_is) (list_out (history_of t.items.items t.next t.tasks t.limit t.log) c.args.by.now c.args.now c.args.source c.args.most c.in_ok-stamp.stamp e c.in_ok-stamp.ensures.stamped is.0 is.1)
+
+pub returns-in_err-listed-clause-refusal : goal.returns-in_err-listed-clause-refusal
+returns-in_err-listed-clause-refusal c = search (rules, out (goal.at.returns-in_err-listed-clause-refusal c).After-list c.in_err-listed.field-0.0 c.in_err-listed.ensures.refused)
 
 pub returns-in_err-in_event-clause-refusal : goal.returns-in_err-in_event-clause-refusal
-returns-in_err-in_event-clause-refusal c =
-    let t = c.self.inside in
-    let out = c.in_err-in_event.ensures.refused in
-    let refused : IsLedgerRefused c.args.self.now.history c.args.by.now c.args.now (asks.ListTasks c.args.source c.args.most) c.in_err-in_event.field-0.0 = rw (← c.self.view_is) (list_out (history_of t.items.items t.next t.tasks t.limit t.log) c.args.by.now c.args.now c.args.source c.args.most c.in_ok-stamp.stamp c.in_err-in_event.field-0.0 c.in_ok-stamp.ensures.stamped out.0 out.1) in
-    search rules
+returns-in_err-in_event-clause-refusal c = search (rules, out (goal.at.returns-in_err-in_event-clause-refusal c).After-list c.in_err-in_event.field-0.0 c.in_err-in_event.ensures.refused)
 
 pub returns-in_err-in_record-clause-refusal : goal.returns-in_err-in_record-clause-refusal
-returns-in_err-in_record-clause-refusal c =
-    let t = c.self.inside in
-    let out = c.in_err-in_record.ensures.refused in
-    let refused : IsLedgerRefused c.args.self.now.history c.args.by.now c.args.now (asks.ListTasks c.args.source c.args.most) c.in_err-in_record.field-0.0 = rw (← c.self.view_is) (list_out (history_of t.items.items t.next t.tasks t.limit t.log) c.args.by.now c.args.now c.args.source c.args.most c.in_ok-stamp.stamp c.in_err-in_record.field-0.0 c.in_ok-stamp.ensures.stamped out.0 out.1) in
-    search rules
+returns-in_err-in_record-clause-refusal c = search (rules, out (goal.at.returns-in_err-in_record-clause-refusal c).After-list c.in_err-in_record.field-0.0 c.in_err-in_record.ensures.refused)

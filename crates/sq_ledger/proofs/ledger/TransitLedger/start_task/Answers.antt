@@ -3,7 +3,7 @@ use Rattle.sq_base.specs.StampValue.{StampValue}
 use Rattle.sq_model.specs.declared.ledger.LedgerCall.TheVariants as asks
 use Rattle.sq_model.specs.declared.ledger.LedgerReply.TheVariants as answers
 use Rattle.sq_model.specs.Tasks.{new_task}
-use Rattle.sq_ledger.specs.LedgerHistory.{history_of}
+use Rattle.sq_ledger.specs.LedgerHistory.{LedgerValue, history_of}
 use Rattle.sq_ledger.specs.LedgerHistories.{IsLedgerRefused}
 use Rattle.sq_ledger.proofs.LedgerLaws.{own_kept}
 use Rattle.sq_ledger.proofs.TaskCallLaws.{recorded_as, refused_as, start_passes, started, starts_as}
@@ -12,12 +12,8 @@ use Rattle.sq_ledger.proofs.ledger.TransitLedger.start_task.Goals as goal
 
 pub returns-in_err-number-clause-refusal : goal.returns-in_err-number-clause-refusal
 returns-in_err-number-clause-refusal c =
-    let t = c.self.inside in
-    let h = history_of t.items.items t.next t.tasks t.limit t.log in
     let asked = c.args.asked.now in
-    let call = asks.StartTask asked.source asked.destination asked.rate in
-    let refused : IsLedgerRefused c.args.self.now.history c.args.by.now c.args.now call c.in_err-number.field-0.0 = rw (← c.self.view_is) (refused_as h c.args.by.now c.args.now call c.in_ok-stamp.stamp c.in_err-number.field-0.0 c.in_ok-stamp.ensures.stamped (starts_as h.ledger c.in_ok-stamp.stamp.moment asked.source asked.destination asked.rate c.in_err-number.field-0.0 c.in_err-number.ensures.refused)) in
-    search rules
+    search (rules, refused_as _ c.args.self.now c.args.by.now c.args.now (asks.StartTask asked.source asked.destination asked.rate) c.in_ok-stamp.stamp c.in_err-number.field-0.0 (ap (λ (v : LedgerValue). v.history) c.self.view_is) c.in_ok-stamp.ensures.stamped (starts_as _ c.in_ok-stamp.stamp.moment asked.source asked.destination asked.rate c.in_err-number.field-0.0 c.in_err-number.ensures.refused))
 
 pub returns-in_err-start-clause-refusal : goal.returns-in_err-start-clause-refusal
 returns-in_err-start-clause-refusal c =

@@ -1,5 +1,5 @@
 use Rattle.std.proofs.Common.{◌≡◌, ◌++◌}
-use Rattle.sq_places.specs.Audits.{placed}
+use Rattle.sq_places.specs.inside.Audits.{placed}
 use Rattle.sq_places.proofs.home_rows.HomeRows.clear.Given as goal
 
 abbrev pub invariant-loop-row : goal.invariant-loop-row

@@ -1,6 +1,6 @@
 use Rattle.std.proofs.Common.{rules, ◌≡◌, ◌∙◌, ap, sym, map, take, true, false}
 use Rattle.sq_base.specs.declared.row.Row.{Row}
-use Rattle.sq_places.specs.RowStates.{raised, has_serial_of}
+use Rattle.sq_places.specs.inside.RowStates.{raised, has_serial_of}
 use Rattle.sq_places.proofs.IndexLaws.{looked_none, look_more, look_again}
 use Rattle.sq_places.proofs.home_rows.HomeRows.receive_all.Goals as goal
 use Rattle.sq_places.proofs.home_rows.HomeRows.receive_all.Goals.{then-not-has_serial, else-not-has_serial}

@@ -1,5 +1,5 @@
 use Rattle.std.proofs.Common.{◌≡◌, take, map}
-use Rattle.sq_places.specs.RowStates.{looked}
+use Rattle.sq_places.specs.inside.RowStates.{looked}
 use Rattle.sq_places.proofs.home_rows.HomeRows.receive_all.Given as goal
 
 abbrev pub invariant-loop-index : goal.invariant-loop-index

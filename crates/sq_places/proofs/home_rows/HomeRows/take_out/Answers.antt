@@ -1,4 +1,4 @@
-use Rattle.sq_places.specs.RowStates.{is_state_of}
+use Rattle.sq_places.specs.inside.RowStates.{is_state_of}
 use Rattle.sq_places.proofs.IndexLaws.{take_law, left_ages, only_of}
 use Rattle.sq_places.proofs.home_rows.HomeRows.take_out.Goals as goal
 

@@ -1,8 +1,8 @@
 use Rattle.std.proofs.Common.{rules, ◌≡◌, sym, ◌∙◌}
-use Rattle.sq_model.specs.Rows.{trimmed}
-use Rattle.sq_model.proofs.RowLaws.{rises_trimmed}
+use Rattle.sq_model.specs.Rows.{unexpired}
+use Rattle.sq_model.proofs.RowLaws.{rises_unexpired}
 use Rattle.sq_shard.specs.declared.shard.Status.TheVariants.{Unopened, Serving, Closed}
-use Rattle.sq_shard.proofs.Few.{few_trimmed}
+use Rattle.sq_shard.proofs.Few.{few_unexpired}
 use Rattle.sq_shard.proofs.MoveLaws.{GoneOut, gone_out, rises_rest, few_rest}
 use Rattle.sq_shard.specs.Moves.{HasRow}
 use Rattle.sq_shard.specs.ShardValue.{home_with}
@@ -21,10 +21,10 @@ invariant_of-self g c =
     let rows = g.S.Store.rows c.self.inside.store in
     let s = c.self.inside.settings in
     record {
-      rising = rises_rest (trimmed s c.args.moment rows) (g.S.Store.rows c.take_out.new.self) c.in-Some.row 0 c.self.inside.next (rises_trimmed s c.args.moment 0 rows c.self.inside.next c.self.invariant.rising) (search rules);
+      rising = rises_rest (unexpired s c.args.moment rows) (g.S.Store.rows c.take_out.new.self) c.in-Some.row 0 c.self.inside.next (rises_unexpired s c.args.moment 0 rows c.self.inside.next c.self.invariant.rising) (search rules);
       empty = (λ e. let k : Serving ≡ Unopened = sym serves ∙ e in cc);
       left = (λ e. let k : Serving ≡ Closed = sym serves ∙ e in cc);
-      within = few_rest (trimmed s c.args.moment rows) (g.S.Store.rows c.take_out.new.self) c.in-Some.row c.self.inside.site.limits.rows (search rules) (few_trimmed s c.args.moment rows c.self.inside.site.limits.rows c.self.invariant.within);
+      within = few_rest (unexpired s c.args.moment rows) (g.S.Store.rows c.take_out.new.self) c.in-Some.row c.self.inside.site.limits.rows (search rules) (few_unexpired s c.args.moment rows c.self.inside.site.limits.rows c.self.invariant.within);
       room = search rules;
     }
 

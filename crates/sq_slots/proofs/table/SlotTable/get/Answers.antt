@@ -1,7 +1,6 @@
-use Rattle.std.proofs.Common.{rules, ◌≡◌, Some, None, true, false, refl}
-use Rattle.std.specs.Prelude.{◌==◌}
+use Rattle.std.proofs.Common.{rules, ◌≡◌, None, true, false, refl, sym}
 use Rattle.slab.specs.Slab.{get}
-use Rattle.sq_slots.proofs.TableLaws.{found_at, rows_apart}
+use Rattle.sq_slots.proofs.TableLaws.{found_at, found_where, rows_apart}
 use Rattle.sq_slots.proofs.table.SlotTable.get.Goals as goal
 
 pub returns-in_err-row-clause-row : goal.returns-in_err-row-clause-row
@@ -11,16 +10,10 @@ returns-in_err-row-clause-row c =
     rw (← c.self.view_is, found_at c.self.inside.rows c.self.invariant c.args.slot c.args.serial, none, out) refl
 
 pub returns-then-eq-clause-row : goal.returns-then-eq-clause-row
-returns-then-eq-clause-row c =
-    let there : get c.self.inside.rows c.args.slot ≡ Some c.in_ok-row.row.now = search rules in
-    let same : (c.in_ok-row.row.now.serial == c.args.serial) ≡ true = search rules in
-    rw (← c.self.view_is, found_at c.self.inside.rows c.self.invariant c.args.slot c.args.serial, there, same) refl
+returns-then-eq-clause-row c = rw (← c.self.view_is) (sym (found_where c.self.inside.rows c.self.invariant c.args.slot c.args.serial c.in_ok-row.row.now true (search rules) (search rules)))
 
 pub returns-else-eq-clause-row : goal.returns-else-eq-clause-row
-returns-else-eq-clause-row c =
-    let there : get c.self.inside.rows c.args.slot ≡ Some c.in_ok-row.row.now = search rules in
-    let other : (c.in_ok-row.row.now.serial == c.args.serial) ≡ false = search rules in
-    rw (← c.self.view_is, found_at c.self.inside.rows c.self.invariant c.args.slot c.args.serial, there, other) refl
+returns-else-eq-clause-row c = rw (← c.self.view_is) (sym (found_where c.self.inside.rows c.self.invariant c.args.slot c.args.serial c.in_ok-row.row.now false (search rules) (search rules)))
 
 pub returns-in_err-row-clause-apart : goal.returns-in_err-row-clause-apart
 returns-in_err-row-clause-apart c = rw (← c.self.view_is) (rows_apart c.self.inside.rows c.self.invariant)

@@ -1,4 +1,4 @@
-use Rattle.std.proofs.Common.{rules, ◌≡◌, ◌+◌, ◌<◌, ◌≤◌, length, arith}
+use Rattle.std.proofs.Common.{rules, ◌+◌, ◌≤◌, arith}
 use Rattle.slab.specs.Slab.{slab_len}
 use Rattle.sq_slots.proofs.TableLaws.{rows_counted}
 use Rattle.sq_slots.proofs.table.SlotTable.reserve.Goals as goal

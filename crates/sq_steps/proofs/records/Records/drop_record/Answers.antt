@@ -1,7 +1,7 @@
 use Rattle.std.proofs.Common.{◌∙◌, Bool, ap, sym, refl}
 use Rattle.std.specs.Prelude.{◌==◌}
 use Rattle.sq_steps.specs.declared.records.Kept.{Kept}
-use Rattle.sq_steps.specs.Records.{place_of_kept, values_of_kept}
+use Rattle.sq_steps.specs.inside.Records.{place_of_kept, values_of_kept}
 use Rattle.sq_steps.proofs.RecordLaws.{any_places, first_out, first_there, none_out, without_places}
 use Rattle.sq_steps.proofs.records.Records.drop_record.Goals as goal
 

@@ -11,14 +11,8 @@ use Rattle.sq_store.proofs.slots.SlotStore.put.Goals.{After-insert-slot}
 place : (c : After-insert-slot) → HasPlaceLeft (record { table = c.self.inside.table; visible = c.self.inside.visible; ages = c.self.inside.ages })
 place c = has_place (record { table = c.self.inside.table; visible = c.self.inside.visible; ages = c.self.inside.ages }) (rw (← c.self.view_is) at c.requires.reserved)
 
-pub set-requires-clause-fresh : goal.set-requires-clause-fresh
-set-requires-clause-fresh c = λ is. (has_room c.self.inside.table.rows c.self.inside.visible c.self.invariant.held (place (goal.at.set-requires-clause-fresh c).After-insert-slot).visible).fresh
-
-pub set-requires-clause-again : goal.set-requires-clause-again
-set-requires-clause-again c = λ is. (has_room c.self.inside.table.rows c.self.inside.visible c.self.invariant.held (place (goal.at.set-requires-clause-again c).After-insert-slot).visible).again
-
-pub set-requires-clause-spent : goal.set-requires-clause-spent
-set-requires-clause-spent c = λ is. (has_room c.self.inside.table.rows c.self.inside.visible c.self.invariant.held (place (goal.at.set-requires-clause-spent c).After-insert-slot).visible).spent
+pub set-requires : goal.set-requires
+set-requires c = has_room c.self.inside.table.rows c.self.inside.visible c.self.invariant.held (place (goal.at.set-requires c).After-insert-slot).visible _
 
 pub set-requires-2 : goal.set-requires-2
 set-requires-2 c = has_age_room c.self.inside.table.rows c.self.inside.ages c.self.invariant.aged (place (goal.at.set-requires-2 c).After-insert-slot).ages

@@ -3,7 +3,7 @@ use Rattle.std.specs.Prelude.{find}
 use Rattle.sq_model.specs.Rows.{is_live}
 use Rattle.sq_slots.specs.Slots.{IsBetween, is_at}
 use Rattle.sq_slots.proofs.SplitLaws.{stands_between}
-use Rattle.sq_store.specs.SlotStores.{received_at}
+use Rattle.sq_store.specs.inside.SlotStores.{received_at}
 use Rattle.sq_store.proofs.AtLaws.{map_at, map_none, not_there}
 use Rattle.sq_store.proofs.slots.SlotStore.receive_row.Goals as goal
 use Rattle.sq_store.proofs.slots.SlotStore.receive_row.Goals.{After-is_live}
@@ -30,7 +30,7 @@ returns-then-is_live-clause-rows c =
     let s = split after in
     let row = c.in-Some.row.now in
     let live : is_live c.args.at.now.settings c.args.at.now.moment row ≡ true = search rules in
-    c.revise.ensures.rows ∙ rw (← c.self.view_is) (s.changed (row.receives + 1) c.args.until (Some c.args.at.now.moment) ∙ sym (received after ∙ rw (s.at, live) refl))
+    c.revise.ensures.rows ∙ rw (← c.self.view_is) (s.changed (record { receives = row.receives + 1; visible_from = c.args.until; last_receive = Some c.args.at.now.moment }) ∙ sym (received after ∙ rw (s.at, live) refl))
 
 pub returns-else-is_live-clause-rows : goal.returns-else-is_live-clause-rows
 returns-else-is_live-clause-rows c =

@@ -12,6 +12,6 @@ overflow_sub-visible-2 c =
 pub returns : goal.returns
 returns c =
     let long : c.len.result ≡ length c.args.self.now.table.rows = rw (← c.self.view_is) c.len.ensures.len in
-    let visible : c.len.result - c.count_flying_rows-flying.result - c.count_delayed_rows-delayed.result ≡ count_by (is_visible c.args.moment) c.args.self.now.table.rows =
+    let visible : c.len.result - c.count_in_flight_rows-in_flight.result - c.count_delayed_rows-delayed.result ≡ count_by (is_visible c.args.moment) c.args.self.now.table.rows =
     omega (arith, long, count_states c.args.moment c.args.self.now.table.rows) in
     cc

@@ -1,10 +1,10 @@
-use Rattle.sq_store.proofs.LiveLaws.{if_none, no_spent_is_live, none_is_live}
+use Rattle.sq_store.proofs.LiveLaws.{if_none, no_exhausted_is_live, none_is_live}
 use Rattle.sq_store.proofs.slots.SlotStoreStore.find_live.Goals as goal
 
 pub returns-then-most_under-visible-clause-none : goal.returns-then-most_under-visible-clause-none
 returns-then-most_under-visible-clause-none c =
     let own = c.first_of.ensures.apart.slots in
-    let none = no_spent_is_live c.args.at.now.settings c.args.at.now.moment c.self.inside.table.rows c.self.inside.visible own c.self.invariant.held (rw (← c.most_under.ensures) c.if-most_under-visible.true) in
+    let none = no_exhausted_is_live c.args.at.now.settings c.args.at.now.moment c.self.inside.table.rows c.self.inside.visible own c.self.invariant.held (rw (← c.most_under.ensures) c.if-most_under-visible.true) in
     rw (← c.self.view_is) (none_is_live c.args.at.now.settings c.args.at.now.moment c.self.inside.table.rows c.self.inside.visible own c.self.invariant.held c.in_default.ensures.none c.in_default-first_of.ensures.none none)
 
 pub returns-clause-none : goal.returns-clause-none

@@ -1,7 +1,7 @@
 use Rattle.std.proofs.Common.{rules, ◌≡◌, ◌+◌, ◌∙◌, Some, None, true, false, not, refl, sym}
 use Rattle.std.specs.Prelude.{◌&&◌, find}
 use Rattle.std.specs.List.{list_any}
-use Rattle.sq_model.specs.Rows.{is_expired, is_held, is_late, ms, trimmed}
+use Rattle.sq_model.specs.Rows.{is_expired, is_held, is_late, ms, unexpired}
 use Rattle.sq_slots.specs.Slots.{IsBetween, is_at}
 use Rattle.sq_slots.proofs.SplitLaws.{stands_between}
 use Rattle.sq_store.proofs.AtLaws.{any_left_at, any_left_none, both_and, held_at, held_there, not_both_and}
@@ -29,7 +29,7 @@ is_its c =
     c.has_held.ensures ∙ rw (← c.self.view_is) (any_left_at c.args.receipt.now.slot c.args.receipt.now.serial rows c.in-Some.row.now (split c) (is_held c.args.at.now.moment c.args.receipt.now) (λ r. not (is_expired c.args.at.now.settings c.args.at.now.moment r)) (held_there c.args.receipt.now c.args.at.now.moment))
 
 -- and late too
-is_all : (c : After-has_held) → list_any (λ r. is_held c.args.at.now.moment c.args.receipt.now r && is_late (c.args.at.now.moment + ms c.args.timeout) r.last_receive) (trimmed c.args.at.now.settings c.args.at.now.moment c.args.self.now.table.rows)
+is_all : (c : After-has_held) → list_any (λ r. is_held c.args.at.now.moment c.args.receipt.now r && is_late (c.args.at.now.moment + ms c.args.timeout) r.last_receive) (unexpired c.args.at.now.settings c.args.at.now.moment c.args.self.now.table.rows)
     ≡ (not (is_expired c.args.at.now.settings c.args.at.now.moment c.in-Some.row.now) && (is_held c.args.at.now.moment c.args.receipt.now c.in-Some.row.now && is_late (c.args.at.now.moment + ms c.args.timeout) c.in-Some.row.now.last_receive))
 is_all c =
     let rows = c.self.inside.table.rows in

@@ -1,4 +1,4 @@
-use Rattle.sq_store.proofs.PickLaws.{pick_is_look, pick_without_spent}
+use Rattle.sq_store.proofs.PickLaws.{pick_is_look, pick_without_exhausted}
 use Rattle.sq_store.proofs.slots.SlotStoreStore.pick.Goals as goal
 use Rattle.sq_store.proofs.slots.SlotStoreStore.pick.Goals.{then-visible-most_under+in_ok-pick_of-3, else-visible-most_under}
 
@@ -15,5 +15,5 @@ returns-clause-look c =
     let both = c.in_turn.ensures.both in
     rw (← c.self.view_is) (elim c.if-visible-most_under.branch [
       | then-visible-most_under+in_ok-pick_of-3 w ↦ rw w.picked-is (pick_is_look s m c.args.until c.args.max rows v c.pick_of.ensures.apart c.self.invariant.held one two both c.pick_of.new.picked c.pick_of-2.new.picked _ first second w.in_ok-pick_of-3.ensures.picked)
-      | else-visible-most_under w ↦ rw w.picked-is (pick_without_spent s m c.args.until c.args.max rows v c.pick_of.ensures.apart c.self.invariant.held one two both c.pick_of.new.picked c.pick_of-2.new.picked (rw (← c.most_under.ensures) w.if-visible-most_under.false) first second)
+      | else-visible-most_under w ↦ rw w.picked-is (pick_without_exhausted s m c.args.until c.args.max rows v c.pick_of.ensures.apart c.self.invariant.held one two both c.pick_of.new.picked c.pick_of-2.new.picked (rw (← c.most_under.ensures) w.if-visible-most_under.false) first second)
     ])

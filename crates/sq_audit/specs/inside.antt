@@ -1,0 +1,5 @@
+-- What only the bodies of this crate need: no contract that others see rests on it.
+pub mod Actors
+pub mod EvidenceValue
+pub mod Faults
+pub mod SystemNow

@@ -1,0 +1,18 @@
+-- The system that the parts are, and their events before they are sorted.
+use Rattle.std.specs.Prelude.{ℕ, ◌+◌, List, [], ◌∷◌, ◌++◌, filter, map}
+use Rattle.sq_model.specs.Ledgers.{LedgerEvent, is_own}
+use Rattle.sq_model.specs.Replays.{HomeEvent}
+use Rattle.sq_model.specs.Systems.{DirectoryEvent, Tag, OfDirectory, OfLedger, OfHome}
+
+-- of the events of the ledger, those that it shares with no home
+abbrev pub own_events : List LedgerEvent → List LedgerEvent
+own_events ledger = filter (λ e. is_own e.call) ledger
+
+-- the events of all homes from this place on, one home after another
+abbrev pub home_tags : ℕ → List (List HomeEvent) → List Tag
+home_tags place [] = []
+home_tags place (es ∷ rest) = map (λ e. OfHome place e) es ++ home_tags (place + 1) rest
+
+-- the events of the directory, then those of the ledger alone, and then those of one home after another
+abbrev pub by_part : List DirectoryEvent → List LedgerEvent → List (List HomeEvent) → List Tag
+by_part directory ledger homes = map OfDirectory directory ++ map OfLedger (own_events ledger) ++ home_tags 0 homes

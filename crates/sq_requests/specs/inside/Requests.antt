@@ -1,0 +1,34 @@
+-- What a line asks.
+use Rattle.std.specs.Prelude.{ℕ, List, Bool, if◌then◌else◌, Result, Ok, Err, codes, is_some, ◌||◌}
+use Rattle.std.specs.Str.{bytes_eq}
+use Rattle.serde_json.specs.Data.{Data}
+use Rattle.serde_json.specs.Find.{as_object}
+use Rattle.sq_base.specs.declared.refusal.Refusal.{Refusal}
+use Rattle.sq_base.specs.declared.refusal.Refusal.TheVariants.{InvalidRequest}
+use Rattle.sq_policy.specs.Reading.{◌>>=◌}
+use Rattle.sq_requests.specs.Members.{text_at}
+use Rattle.sq_requests.specs.Queues.{create_asks, set_asks}
+use Rattle.sq_requests.specs.declared.batches.BatchKind.TheVariants as kind
+use Rattle.sq_calls.specs.declared.calls.Asked.TheVariants as asked
+use Rattle.sq_calls.specs.declared.calls.Call.TheVariants as call
+use Rattle.sq_requests.specs.Requests.{clock_at, actor_at, call_of, kind_of, turn_of, asks_or}
+
+-- memory is asked for the text of a policy, for a body, and for the entries of a batch
+unfoldable pub call_asks : List ℕ → Data → Result Bool Refusal
+call_asks action d =
+    if bytes_eq action (codes "CreateQueue") then create_asks d
+    else if bytes_eq action (codes "SetQueueAttributes") then set_asks d
+    else call_of action d >>= λ call. Ok (bytes_eq action (codes "SendMessage") || is_some (kind_of action))
+
+unfoldable pub call_or_turn_asks : List ℕ → Data → Result Bool Refusal
+call_or_turn_asks action d = asks_or (turn_of action d) (call_asks action d)
+
+abbrev pub request_asks_in : Data → Result Bool Refusal
+request_asks_in d = do
+  action ← text_at (codes "Action") d
+  clock ← clock_at d
+  actor ← actor_at d
+  call_or_turn_asks action d
+
+unfoldable pub request_asks : Data → Result Bool Refusal
+request_asks d = if is_some (as_object d) then request_asks_in d else Err InvalidRequest
