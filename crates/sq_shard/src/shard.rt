@@ -58,8 +58,8 @@ pub(crate) enum Status {
 
 /// One home of a queue, over a store of its rows. Moments are in ms, below 2^62.
 ///
-/// A call that is refused leaves the home as it was, and drops nothing that has expired. It shows for how many rows more there was memory when the
-/// last one came in, at least.
+/// A call that is refused leaves the home as it was, and drops nothing that has expired. It shows for how many rows more there was
+/// memory when the last one came in, at least.
 #[derive(Drop)]
 pub struct Shard<S: Store> {
     pub(crate) site: Site,
