@@ -21,14 +21,14 @@ use Rattle.sq_model.specs.declared.directory.DirectoryCall.TheVariants as asks
 use Rattle.sq_model.specs.declared.directory.DirectoryReply.{DirectoryReply}
 use Rattle.sq_model.specs.declared.directory.DirectoryReply.TheVariants as answers
 use Rattle.sq_model.specs.declared.directory.Queue.{Queue}
-use Rattle.sq_model.specs.Rows.{ms, unexpired, is_dead, is_held, is_late, is_live}
+use Rattle.sq_model.specs.Rows.{ms, is_dead, is_held, is_late, is_live}
 use Rattle.sq_model.specs.declared.task.Task.{Task}
 use Rattle.sq_model.specs.Tasks.{is_running}
 use Rattle.sq_model.specs.Ledgers.{Ledger, LedgerStep, cancel_refusal, finish_refusal, in_transit, is_of_source, item_of, last_number, ledger_refusal, room_refusal, task_of}
 use Rattle.sq_model.specs.Shared.{after_given, is_entering, is_returning, is_throttled, shared_refusal, task_refusal}
 use Rattle.sq_model.specs.declared.shared.SharedAct.{SharedAct}
 use Rattle.sq_model.specs.declared.shared.SharedAct.TheVariants as move
-use Rattle.sq_model.specs.Homes.{Home, Unopened, Serving, Closed, last_serial, slots, HomeStep, home_refusal, place_refusal, refused_if}
+use Rattle.sq_model.specs.Homes.{Home, Unopened, Serving, Closed, last_serial, slots, HomeStep, home_refusal, full_refusal, refused_if, unexpired_rows}
 use Rattle.sq_model.specs.declared.place.Site.{Site}
 use Rattle.sq_model.specs.declared.replies.HomeReply.{HomeReply}
 use Rattle.sq_model.specs.declared.replies.HomeReply.TheVariants as reply
@@ -57,7 +57,7 @@ reply_is site home m (act.Change receipt timeout) reply.Done after h = tt
 reply_is site home m act.Purge reply.Done after h = tt
 reply_is site home m act.Count (reply.Counted counts) after h = tt
 reply_is site Unopened m a by after h = elim h [ ]
-reply_is site (Serving s v n rows) m a by after h = elim h [ ]
+reply_is site (Serving its) m a by after h = elim h [ ]
 reply_is site Closed m a by after h = elim h [ ]
 
 refused_cases : (test : Bool) (r : Refusal) (later : Option Refusal) (e : Refusal) → refused_if test r later ≡ Some e → (e ≡ r) ⊎ (later ≡ Some e)
@@ -82,32 +82,32 @@ three_cases a b c x y z e h = elim (refused_cases a x (refused_if b y (refused_i
 -- why a home refuses an act
 refusal_is : (site : Site) (home : Home) (m : ℕ) (a : HomeAct) (e : Refusal) → home_refusal site home m (call_of a) ≡ Some e → IsOfAnyStep e ⊎ (e ≡ QueueDoesNotExist) ⊎ IsOfAct a e
 unfolding home_refusal
-refusal_is site (Serving s v n rows) m (act.Configure settings version) e h = absurd cc
+refusal_is site (Serving its) m (act.Configure settings version) e h = absurd cc
 refusal_is site Unopened m (act.Configure settings version) e h = absurd cc
 refusal_is site Closed m (act.Configure settings version) e h = inr (inl cc)
-refusal_is site (Serving s v n rows) m act.Close e h = absurd cc
+refusal_is site (Serving its) m act.Close e h = absurd cc
 refusal_is site Unopened m act.Close e h = absurd cc
 refusal_is site Closed m act.Close e h = inr (inl cc)
-refusal_is site (Serving s v n rows) m (act.Send body delay) e h =
-    let kept : List Row = unexpired s m rows in
-    elim (two_cases (nat_le last_serial n || nat_le slots (length kept)) (nat_le site.limits.rows (length kept)) Worn OverLimit e h) [ inl worn ↦ inl (inr (inr worn)) | inr over ↦ inr (inr over) ]
+refusal_is site (Serving its) m (act.Send body delay) e h =
+    let kept : List Row = unexpired_rows its m in
+    elim (two_cases (nat_le last_serial its.next || nat_le slots (length kept)) (nat_le site.limits.rows (length kept)) Worn OverLimit e h) [ inl worn ↦ inl (inr (inr worn)) | inr over ↦ inr (inr over) ]
 refusal_is site Unopened m (act.Send body delay) e h = inr (inl cc)
 refusal_is site Closed m (act.Send body delay) e h = inr (inl cc)
-refusal_is site (Serving s v n rows) m (act.Look max timeout) e h = absurd cc
+refusal_is site (Serving its) m (act.Look max timeout) e h = absurd cc
 refusal_is site Unopened m (act.Look max timeout) e h = inr (inl cc)
 refusal_is site Closed m (act.Look max timeout) e h = inr (inl cc)
-refusal_is site (Serving s v n rows) m (act.Delete receipt) e h = inr (inr (one_case (nat_le n receipt.serial) ReceiptHandleIsInvalid e h))
+refusal_is site (Serving its) m (act.Delete receipt) e h = inr (inr (one_case (nat_le its.next receipt.serial) ReceiptHandleIsInvalid e h))
 refusal_is site Unopened m (act.Delete receipt) e h = inr (inl cc)
 refusal_is site Closed m (act.Delete receipt) e h = inr (inl cc)
-refusal_is site (Serving s v n rows) m (act.Change receipt timeout) e h =
-    let kept : List Row = unexpired s m rows in
-    inr (inr (three_cases (nat_le n receipt.serial) (not (list_any (is_held m receipt) kept)) (list_any (λ row. is_held m receipt row && is_late (m + ms timeout) row.last_receive) kept) ReceiptHandleIsInvalid MessageNotInflight InvalidParameterValue e h))
+refusal_is site (Serving its) m (act.Change receipt timeout) e h =
+    let kept : List Row = unexpired_rows its m in
+    inr (inr (three_cases (nat_le its.next receipt.serial) (not (list_any (is_held m receipt) kept)) (list_any (λ row. is_held m receipt row && is_late (m + ms timeout) row.last_receive) kept) ReceiptHandleIsInvalid MessageNotInflight InvalidParameterValue e h))
 refusal_is site Unopened m (act.Change receipt timeout) e h = inr (inl cc)
 refusal_is site Closed m (act.Change receipt timeout) e h = inr (inl cc)
-refusal_is site (Serving s v n rows) m act.Purge e h = absurd cc
+refusal_is site (Serving its) m act.Purge e h = absurd cc
 refusal_is site Unopened m act.Purge e h = inr (inl cc)
 refusal_is site Closed m act.Purge e h = inr (inl cc)
-refusal_is site (Serving s v n rows) m act.Count e h = absurd cc
+refusal_is site (Serving its) m act.Count e h = absurd cc
 refusal_is site Unopened m act.Count e h = inr (inl cc)
 refusal_is site Closed m act.Count e h = inr (inl cc)
 
@@ -156,26 +156,26 @@ task_cases home number (Some task) later e own h = elim (refused_cases (not (is_
 ]
 
 -- why an item does not come in at a home that serves, where it is not for this home or else
-arrival_is : (site : Site) (n : ℕ) (rows : List Row) (other : Bool) (e : Refusal) → place_refusal site.limits n rows (refused_if other UnsupportedOperation None) ≡ Some e → IsOfAnyStep e ⊎ (e ≡ QueueDoesNotExist) ⊎ (e ≡ OverLimit) ⊎ (e ≡ UnsupportedOperation)
+arrival_is : (site : Site) (n : ℕ) (rows : List Row) (other : Bool) (e : Refusal) → full_refusal site.limits n rows (refused_if other UnsupportedOperation None) ≡ Some e → IsOfAnyStep e ⊎ (e ≡ QueueDoesNotExist) ⊎ (e ≡ OverLimit) ⊎ (e ≡ UnsupportedOperation)
 arrival_is site n rows other e h =
     elim (three_cases (nat_le last_serial n || nat_le slots (length rows)) (nat_le site.limits.rows (length rows)) other Worn OverLimit UnsupportedOperation e h) [ inl worn ↦ inl (inr (inr worn)) | inr rest ↦ inr (inr rest) ]
 
 shared_is : (site : Site) (home : Home) (l : Ledger) (m : ℕ) (what : SharedAct) (e : Refusal) → shared_refusal site home l m what ≡ Some e → IsOfAnyStep e ⊎ (e ≡ QueueDoesNotExist) ⊎ IsOfMove what e
 unfolding shared_refusal
 shared_is site Unopened l m what e h = inr (inl cc)
-shared_is site (Serving s v n rows) l m move.LeaveDead e h = elim (dead_cases l (list_any (is_dead s m) (unexpired s m rows)) e h) [ inl any ↦ inl any | inr over ↦ inr (inr over) ]
-shared_is site (Serving s v n rows) l m (move.LeaveTask number) e h =
-    task_cases site.home number (task_of number l) _ e (λ later. dead_cases l (not (is_throttled m (task_of number l)) && list_any (is_live s m) (unexpired s m rows)) e later) h
-shared_is site (Serving s v n rows) l m (move.Enter number) e h = arrival_is site n (unexpired s m rows) (not (is_entering site.home (item_of number l))) e h
-shared_is site (Serving s v n rows) l m (move.TurnBack number) e h = inr (inr cc)
-shared_is site (Serving s v n rows) l m (move.GiveBack number) e h = arrival_is site n (unexpired s m rows) (not (is_returning site.home (item_of number l))) e h
-shared_is site (Serving s v n rows) l m (move.GiveUp number) e h = inr (inr cc)
+shared_is site (Serving its) l m move.LeaveDead e h = elim (dead_cases l (list_any (is_dead its.settings m) (unexpired_rows its m)) e h) [ inl any ↦ inl any | inr over ↦ inr (inr over) ]
+shared_is site (Serving its) l m (move.LeaveTask number) e h =
+    task_cases site.home number (task_of number l) _ e (λ later. dead_cases l (not (is_throttled m (task_of number l)) && list_any (is_live its.settings m) (unexpired_rows its m)) e later) h
+shared_is site (Serving its) l m (move.Enter number) e h = arrival_is site its.next (unexpired_rows its m) (not (is_entering site.home (item_of number l))) e h
+shared_is site (Serving its) l m (move.TurnBack number) e h = inr (inr cc)
+shared_is site (Serving its) l m (move.GiveBack number) e h = arrival_is site its.next (unexpired_rows its m) (not (is_returning site.home (item_of number l))) e h
+shared_is site (Serving its) l m (move.Drop number) e h = inr (inr cc)
 shared_is site Closed l m move.LeaveDead e h = inr (inl cc)
 shared_is site Closed l m (move.LeaveTask number) e h = task_cases site.home number (task_of number l) None e (λ later. absurd (no_refusal e later)) h
 shared_is site Closed l m (move.Enter number) e h = inr (inl cc)
 shared_is site Closed l m (move.TurnBack number) e h = inr (inr (one_case (not (is_entering site.home (item_of number l))) UnsupportedOperation e h))
 shared_is site Closed l m (move.GiveBack number) e h = inr (inl cc)
-shared_is site Closed l m (move.GiveUp number) e h = inr (inr (one_case (not (is_returning site.home (item_of number l))) UnsupportedOperation e h))
+shared_is site Closed l m (move.Drop number) e h = inr (inr (one_case (not (is_returning site.home (item_of number l))) UnsupportedOperation e h))
 
 -- why no stamp of both is given
 given_refused : (given : Result StampValue Refusal) (seen : StampValue) (now : ℕ) (e : Refusal) → ((x : Refusal) → given ≡ Err x → IsOfAnyStep x) → after_given given seen now ≡ Err e → IsOfAnyStep e
@@ -187,7 +187,7 @@ step_may : {A C G P : Type 0} (e : Refusal) → ((e ≡ NoMemory) × A) ⊎ C �
 step_may e h clock own = elim h [ inl memory ↦ inl (inl memory.0) | inr rest ↦ elim rest [ inl c ↦ inl (clock c) | inr g ↦ own g ] ]
 
 create_cases : (d : Directory) (m : ℕ) (name : List ℕ) (given : Attributes) (found : Option Queue) (e : Refusal) → create_refusal d m name given found ≡ Some e → MayRefuseDirectory (asks.Create name given) e
-create_cases d m name given None e h = inr (three_cases (deleted_recently m name d.deleted) (not (may_have d.queues name given.redrive)) (nat_le d.places d.made) _ _ _ e h)
+create_cases d m name given None e h = inr (three_cases (deleted_recently m name d.deleted) (not (may_have d.queues name given.redrive)) (nat_le d.most d.made) _ _ _ e h)
 create_cases d m name given (Some queue) e h = inl (one_case (not (agrees given queue)) _ e h)
 
 -- a queue that is not there is told before what its own checks say
@@ -282,7 +282,7 @@ pub nowhere_may : {P : Type 0} (now : ℕ) (e : Refusal) → e ≡ (if nat_le st
 nowhere_may {P} now e is = elim (nat_le stamp_end now) as (λ v. e ≡ (if v then ClockRange else QueueDoesNotExist) → IsOfAnyStep e ⊎ (e ≡ QueueDoesNotExist) ⊎ P) [ true ↦ (λ k. inl (inr (inl k))) | false ↦ (λ k. inr (inl k)) ] is
 
 -- why a step of a home is refused, of a home that is there
-pub home_may : (h : HistoryValue) (b : Journal) (now : ℕ) (name : List ℕ) (id : HomeId) (a : HomeAct) (e : Refusal) → IsHomeRefused h b now (call_of a) e → MayRefuse (AskHome name id a) e
+pub home_may : (h : HistoryValue) (b : Journal) (now : ℕ) (name : Option (List ℕ)) (id : HomeId) (a : HomeAct) (e : Refusal) → IsHomeRefused h b now (call_of a) e → MayRefuse (AskHome name id a) e
 home_may h b now name id a e refused = elim refused [
   | inl unready ↦ inl (not_ready b now e unready)
   | inr step ↦ step_may e step.1 (λ clock. after_refused _ _ now e clock) (λ own. elim own.2 [ inl copied ↦ inl (inl copied.0) | inr not ↦ refusal_is _ _ _ a e not ])
@@ -303,8 +303,8 @@ directory_may d b now call e refused = elim refused [
   ])
 ]
 
-pub ledgered_may : (l : LedgerHistory) (b : Journal) (now : ℕ) (what : TaskAct) (e : Refusal) → IsLedgerStepRefused l b now (task_call what) e → MayRefuse (AskLedger what) e
-ledgered_may l b now what e refused = elim refused [
+pub ledger_may : (l : LedgerHistory) (b : Journal) (now : ℕ) (what : TaskAct) (e : Refusal) → IsLedgerStepRefused l b now (task_call what) e → MayRefuse (AskLedger what) e
+ledger_may l b now what e refused = elim refused [
   | inl unready ↦ inl (not_ready b now e unready)
   | inr step ↦ step_may e step.1 (λ clock. after_refused _ _ now e clock) (λ own. elim own.2 [ inl not ↦ own_cases _ _ what e not | inr out ↦ inl (inl out.0) ])
 ]

@@ -21,7 +21,7 @@ use Rattle.sq_calls.specs.declared.calls.Answer.{Answer}
 use Rattle.sq_calls.specs.declared.calls.GetQueueAttributes.{GetQueueAttributes}
 use Rattle.sq_calls.specs.declared.calls.QueueCounts.{QueueCounts}
 use Rattle.sq_model.specs.declared.ledger.LedgerReply.{LedgerReply}
-use Rattle.sq_model.specs.declared.ledger.LedgerReply.TheVariants as ledger
+use Rattle.sq_model.specs.declared.task.NamedQueue.{NamedQueue}
 use Rattle.sq_steps.specs.declared.act.TaskAct.{TaskAct}
 use Rattle.sq_steps.specs.declared.act.TaskAct.TheVariants as task
 use Rattle.sq_calls.specs.declared.calls.ReceiveMessage.{ReceiveMessage}
@@ -38,11 +38,11 @@ use Rattle.sq_actions.specs.Performs.{Path, Performs}
 use Rattle.sq_actions.proofs.PathLaws.{path_more, answered_one, answered_more}
 
 -- a call on a queue that was found
-pub answered_found : {S : Type 0} (stepped : S → Ask → Result Gave Refusal → S → Type 0) (counts : S → HomeCounts) (At : HomeCounts → ℕ → List Done → Result Answer Refusal → Type 0) (F : List Done → Result Answer Refusal → Type 0) (old mid new : S) (name : List ℕ) (queue : ℕ) (answered : Result Answer Refusal)
-    → stepped old (Resolve name) (Ok (Found queue)) mid → counts mid ≡ counts old → Performs stepped F mid answered new → ((ds : List Done) → F ds answered → At (counts mid) queue ds answered) → Performs stepped (ByName name (At (counts old))) old answered new
+pub answered_found : {S : Type 0} (stepped : S → Ask → Result Gave Refusal → S → Type 0) (counts : S → HomeCounts) (At : HomeCounts → ℕ → List Done → Result Answer Refusal → Type 0) (F : List Done → Result Answer Refusal → Type 0) (old mid new : S) (name : List ℕ) (queue : NamedQueue) (answered : Result Answer Refusal)
+    → stepped old (Resolve name) (Ok (Found queue)) mid → counts mid ≡ counts old → Performs stepped F mid answered new → ((ds : List Done) → F ds answered → At (counts mid) queue.number ds answered) → Performs stepped (ByName name (At (counts old))) old answered new
 answered_found stepped counts At F old mid new name queue answered h same rest as_at =
     answered_more stepped (ByName name (At (counts old))) F old mid new answered (named name (Ok (Found queue))) h rest
-    (λ ds fits. inr (queue, ds, refl, subst (λ (n : HomeCounts). At n queue ds answered) same (as_at ds fits)))
+    (λ ds fits. inr (queue, ds, refl, subst (λ (n : HomeCounts). At n queue.number ds answered) same (as_at ds fits)))
 
 -- and on one that was not
 pub answered_lost : {S : Type 0} (stepped : S → Ask → Result Gave Refusal → S → Type 0) (At : ℕ → List Done → Result Answer Refusal → Type 0) (old new : S) (name : List ℕ) (answered : Result Answer Refusal) (e : Refusal)
@@ -50,10 +50,10 @@ pub answered_lost : {S : Type 0} (stepped : S → Ask → Result Gave Refusal �
 answered_lost stepped At old new name answered e may h is = answered_one stepped (ByName name At) old old new answered (named name (Err e)) refl h (inl (e, may, refl, is))
 
 -- a call whose first step the directory answered
-pub answered_directed : {S : Type 0} (stepped : S → Ask → Result Gave Refusal → S → Type 0) (counts : S → HomeCounts) (call : DirectoryCall) (After : HomeCounts → DirectoryReply → List Done → Result Answer Refusal → Type 0) (F : List Done → Result Answer Refusal → Type 0) (old mid new : S) (by : DirectoryReply) (answered : Result Answer Refusal)
+pub answered_by_directory : {S : Type 0} (stepped : S → Ask → Result Gave Refusal → S → Type 0) (counts : S → HomeCounts) (call : DirectoryCall) (After : HomeCounts → DirectoryReply → List Done → Result Answer Refusal → Type 0) (F : List Done → Result Answer Refusal → Type 0) (old mid new : S) (by : DirectoryReply) (answered : Result Answer Refusal)
     → stepped old (AskDirectory call) (Ok (Answered by)) mid → counts mid ≡ counts old → IsAnswerTo call by → Performs stepped F mid answered new → ((ds : List Done) → F ds answered → After (counts mid) by ds answered)
     → Performs stepped (ByDirectory call (After (counts old))) old answered new
-answered_directed stepped counts call After F old mid new by answered h same answers rest as_after =
+answered_by_directory stepped counts call After F old mid new by answered h same answers rest as_after =
     answered_more stepped (ByDirectory call (After (counts old))) F old mid new answered (directory_step call (Ok by)) h rest
     (λ ds fits. inr (by, ds, answers, refl, subst (λ (n : HomeCounts). After n by ds answered) same (as_after ds fits)))
 
@@ -80,7 +80,7 @@ answered_copied stepped given F old new answered h = record { trace = h.trace; p
 
 -- one home more was asked, or passed over
 pub more_passed : {S : Type 0} (stepped : S → Ask → Result Gave Refusal → S → Type 0) (old mid new : S) (name : List ℕ) (queue : ℕ) (a : HomeAct) (n : ℕ) (answered : Result HomeReply Refusal)
-    → (trace : List Done) × Path stepped old trace mid × AskedAll name queue a n trace → stepped mid (AskHome name (home_numbered queue n) a) (gave_as Replied answered) new → IsPassed answered
+    → (trace : List Done) × Path stepped old trace mid × AskedAll name queue a n trace → stepped mid (AskHome (Some name) (home_numbered queue n) a) (gave_as Replied answered) new → IsPassed answered
     → (trace : List Done) × Path stepped old trace new × AskedAll name queue a (n + 1) trace
 more_passed stepped old mid new name queue a n answered asked h passed =
     let next : n + 1 ≡ suc n = omega arith in
@@ -89,7 +89,7 @@ more_passed stepped old mid new name queue a n answered asked h passed =
 
 -- a home ends the call
 pub all_ended : {S : Type 0} (stepped : S → Ask → Result Gave Refusal → S → Type 0) (old mid new : S) (homes : ℕ) (name : List ℕ) (queue : ℕ) (a : HomeAct) (answer : Answer) (n : ℕ) (e : Refusal) (answered : Result Answer Refusal)
-    → (trace : List Done) × Path stepped old trace mid × AskedAll name queue a n trace → n < homes → stepped mid (AskHome name (home_numbered queue n) a) (Err e) new → IsOfAnyStep e → answered ≡ Err e
+    → (trace : List Done) × Path stepped old trace mid × AskedAll name queue a n trace → n < homes → stepped mid (AskHome (Some name) (home_numbered queue n) a) (Err e) new → IsOfAnyStep e → answered ≡ Err e
     → Performs stepped (AtAll homes name queue a answer) old answered new
 all_ended stepped old mid new homes name queue a answer n e answered asked below h may is =
     let d : Done = home_step name queue n a (Err e) in
@@ -128,7 +128,7 @@ passed_done each answered replied passed = elim passed [
 ]
 
 -- what ends the call at one of them is what each step may have
-pub each_ends : (name : List ℕ) (queue home : ℕ) (each : AtEach) (e : Refusal) → MayRefuse (AskHome name (home_numbered queue home) (act_at_each each)) e → (e ≡ QueueDoesNotExist → ⊥) → IsOfAnyStep e
+pub each_ends : (name : List ℕ) (queue home : ℕ) (each : AtEach) (e : Refusal) → MayRefuse (AskHome (Some name) (home_numbered queue home) (act_at_each each)) e → (e ≡ QueueDoesNotExist → ⊥) → IsOfAnyStep e
 each_ends name queue home (at.Configure settings version) e may other = not_closed e may other
 each_ends name queue home at.Close e may other = not_closed e may other
 each_ends name queue home at.Purge e may other = not_closed e may other
@@ -143,7 +143,7 @@ message_done (Change timeout) receipt by h = elim h [ ]
 -- one home more is asked in vain
 pub more_asked : {S : Type 0} (stepped : S → Ask → Result Gave Refusal → S → Type 0) (old mid new : S) (c : ReceiveMessage) (queue : ℕ) (drawn : List ℕ) (n home : ℕ) (by : HomeReply) (was over : Bool)
     → (trace : List Done) × Path stepped old trace mid × InVain c queue drawn n was trace → slice_get drawn n ≡ Some home
-    → stepped mid (AskHome c.queue (home_numbered queue home) (act.Look c.max c.timeout)) (gave_as Replied (Ok by)) new → HasNoMessage by was over
+    → stepped mid (AskHome (Some c.queue) (home_numbered queue home) (act.Look c.max c.timeout)) (gave_as Replied (Ok by)) new → HasNoMessage by was over
     → (trace : List Done) × Path stepped old trace new × InVain c queue drawn (n + 1) over trace
 more_asked stepped old mid new c queue drawn n home by was over asked in_list h none =
     let next : n + 1 ≡ suc n = omega arith in
@@ -153,7 +153,7 @@ more_asked stepped old mid new c queue drawn n home by was over asked in_list h 
 -- a home ends a receive
 pub receive_ended : {S : Type 0} (stepped : S → Ask → Result Gave Refusal → S → Type 0) (old mid new : S) (counts : HomeCounts) (c : ReceiveMessage) (queue : ℕ) (drawn : List ℕ) (n home : ℕ) (by : Result HomeReply Refusal) (over : Bool) (answered : Result Answer Refusal)
     → 1 ≤ counts.sample → IsSampleOf counts.homes counts.sample drawn → (trace : List Done) × Path stepped old trace mid × InVain c queue drawn n over trace → slice_get drawn n ≡ Some home
-    → stepped mid (AskHome c.queue (home_numbered queue home) (act.Look c.max c.timeout)) (gave_as Replied by) new → EndsReceive c queue home by answered → Performs stepped (ReceiveAt counts c queue) old answered new
+    → stepped mid (AskHome (Some c.queue) (home_numbered queue home) (act.Look c.max c.timeout)) (gave_as Replied by) new → EndsReceive c queue home by answered → Performs stepped (ReceiveAt counts c queue) old answered new
 receive_ended stepped old mid new counts c queue drawn n home by over answered some sample asked in_list h ends =
     let d : Done = home_step c.queue queue home (act.Look c.max c.timeout) by in
     record {
@@ -184,7 +184,7 @@ receive_asked stepped old new counts c queue drawn n over answered some sample a
 
 -- one home more has counted
 pub more_counted : {S : Type 0} (stepped : S → Ask → Result Gave Refusal → S → Type 0) (old mid new : S) (name : List ℕ) (queue n : ℕ) (before sum : QueueCounts) (counts : Counts)
-    → (trace : List Done) × Path stepped old trace mid × CountedAll name queue n before trace → stepped mid (AskHome name (home_numbered queue n) act.Count) (gave_as Replied (Ok (reply.Counted counts))) new → sum ≡ counts_with before counts
+    → (trace : List Done) × Path stepped old trace mid × CountedAll name queue n before trace → stepped mid (AskHome (Some name) (home_numbered queue n) act.Count) (gave_as Replied (Ok (reply.Counted counts))) new → sum ≡ counts_with before counts
     → (trace : List Done) × Path stepped old trace new × CountedAll name queue (n + 1) sum trace
 more_counted stepped old mid new name queue n before sum counts asked h is =
     let next : n + 1 ≡ suc n = omega arith in
@@ -193,8 +193,8 @@ more_counted stepped old mid new name queue n before sum counts asked h is =
 
 -- a home ends the count
 pub count_ended : {S : Type 0} (stepped : S → Ask → Result Gave Refusal → S → Type 0) (old mid new : S) (homes : ℕ) (c : GetQueueAttributes) (attributes : QueueAttributes) (n : ℕ) (before : QueueCounts) (e : Refusal) (answered : Result Answer Refusal)
-    → (trace : List Done) × Path stepped old trace mid × CountedAll c.queue attributes.queue n before trace → n < counted_homes homes c.asked → stepped mid (AskHome c.queue (home_numbered attributes.queue n) act.Count) (Err e) new
-    → MayRefuse (AskHome c.queue (home_numbered attributes.queue n) act.Count) e → answered ≡ Err e → Performs stepped (CountsAt homes c attributes) old answered new
+    → (trace : List Done) × Path stepped old trace mid × CountedAll c.queue attributes.queue n before trace → n < counted_homes homes c.asked → stepped mid (AskHome (Some c.queue) (home_numbered attributes.queue n) act.Count) (Err e) new
+    → MayRefuse (AskHome (Some c.queue) (home_numbered attributes.queue n) act.Count) e → answered ≡ Err e → Performs stepped (CountsAt homes c attributes) old answered new
 count_ended stepped old mid new homes c attributes n before e answered asked below h may is =
     let d : Done = home_step c.queue attributes.queue n act.Count (Err e) in
     record {

@@ -34,7 +34,7 @@ call_is l (move.LeaveTask number) call h = h
 call_is l (move.Enter number) call h = (h.0, found_number (λ i. i.number) number l.items h.0 h.1, h.2)
 call_is l (move.TurnBack number) call h = (h.0, found_number (λ i. i.number) number l.items h.0 h.1, h.2)
 call_is l (move.GiveBack number) call h = (h.0, found_number (λ i. i.number) number l.items h.0 h.1, h.2)
-call_is l (move.GiveUp number) call h = (h.0, found_number (λ i. i.number) number l.items h.0 h.1, h.2)
+call_is l (move.Drop number) call h = (h.0, found_number (λ i. i.number) number l.items h.0 h.1, h.2)
 
 next_is : (a b : Journal) (n : RecordValue) → place_of_record n ≡ a.next → Below a.seen (record_stamp n) → b ≡ with_record a n b.room → KeepsRoom a.room b.room → IsNext a n b
 next_is a b n place above more room = (place, above, more, room)
@@ -43,8 +43,8 @@ next_is a b n place above more room = (place, above, more, room)
 next_at : (a b : Journal) (n : RecordValue) (last : StampValue) (now : ℕ) → place_of_record n ≡ a.next → after last a.seen now ≡ Ok (record_stamp n) → b ≡ with_record a n b.room → KeepsRoom a.room b.room → IsNext a n b
 next_at a b n last now place stamped more room = next_is a b n place (after_above_second last a.seen now (record_stamp n) stamped) more room
 
-pub home_leaves : (old new : HistoryValue) (a b : Journal) (now : ℕ) (name : List ℕ) (id : HomeId) (what : HomeAct) (by : HomeReply)
-    → old.site.home ≡ id → HomeMoves old new a b now (Some name) (call_of what) by → LeavesOf (AskHome name id what) (Ok (Replied by)) a b
+pub home_leaves : (old new : HistoryValue) (a b : Journal) (now : ℕ) (name : Option (List ℕ)) (id : HomeId) (what : HomeAct) (by : HomeReply)
+    → old.site.home ≡ id → HomeMoves old new a b now name (call_of what) by → LeavesOf (AskHome name id what) (Ok (Replied by)) a b
 home_leaves old new a b now name id what by at moves =
     let n = moves.its_record in
     let is = moves.does.record_is in (

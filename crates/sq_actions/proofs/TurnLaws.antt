@@ -11,6 +11,7 @@ use Rattle.sq_base.specs.declared.refusal.Refusal.TheVariants.{QueueDoesNotExist
 use Rattle.sq_calls.specs.declared.turns.Turned.{Turned}
 use Rattle.sq_calls.specs.declared.turns.Turned.TheVariants as word
 use Rattle.sq_model.specs.declared.shared.SharedAct.TheVariants.{LeaveDead, LeaveTask}
+use Rattle.sq_model.specs.declared.task.NamedQueue.{NamedQueue}
 use Rattle.sq_steps.specs.declared.act.NextItem.{NextItem}
 use Rattle.sq_actions.specs.Asks.{Ask, Resolve, AskShared, Peek, AskLedger, ReadTask, Gave, Found, Peeked, TaskFound, HomeCounts, gave_as, Told}
 use Rattle.sq_actions.specs.Calls.{home_numbered}
@@ -21,12 +22,12 @@ use Rattle.sq_actions.specs.Turns.{shared_step, peeking, task_read, WordFor, Lea
 use Rattle.sq_actions.proofs.PathLaws.{answered_one, answered_more}
 
 -- a queue was found, and one of its homes was asked for a dead letter
-pub left_from : {S : Type 0} (stepped : S → Ask → Result Gave Refusal → S → Type 0) (counts : S → HomeCounts) (old found picked new : S) (name said : List ℕ) (queue home : ℕ) (by : Result Gave Refusal) (answered : Result Turned Refusal)
-    → stepped old (Resolve name) (Ok (Found queue)) found → counts found ≡ counts old → picked ≡ found → home < (counts found).homes → said ≡ name → stepped picked (AskShared (Some said) (home_numbered queue home) LeaveDead) by new
+pub left_from : {S : Type 0} (stepped : S → Ask → Result Gave Refusal → S → Type 0) (counts : S → HomeCounts) (old found picked new : S) (name said : List ℕ) (queue : NamedQueue) (home : ℕ) (by : Result Gave Refusal) (answered : Result Turned Refusal)
+    → stepped old (Resolve name) (Ok (Found queue)) found → counts found ≡ counts old → picked ≡ found → home < (counts found).homes → said ≡ name → stepped picked (AskShared (Some said) (home_numbered queue.number home) LeaveDead) by new
     → WordFor LeaveDead by answered ⊎ ((by ≡ Err QueueDoesNotExist) × (answered ≡ Err QueueDoesNotExist)) → Performs stepped (LeaveFits (counts old).homes name) old answered new
 left_from {S} stepped counts old found picked new name said queue home by answered h same unchanged below is k words = record {
-  trace = named name (Ok (Found queue)) ∷ shared_step (Some name) (home_numbered queue home) LeaveDead by ∷ [];
-  path = (found, h, (new, subst (λ (s : S). stepped s (AskShared (Some name) (home_numbered queue home) LeaveDead) by new) unchanged (subst (λ (n : List ℕ). stepped picked (AskShared (Some n) (home_numbered queue home) LeaveDead) by new) is k), refl));
+  trace = named name (Ok (Found queue)) ∷ shared_step (Some name) (home_numbered queue.number home) LeaveDead by ∷ [];
+  path = (found, h, (new, subst (λ (s : S). stepped s (AskShared (Some name) (home_numbered queue.number home) LeaveDead) by new) unchanged (subst (λ (n : List ℕ). stepped picked (AskShared (Some n) (home_numbered queue.number home) LeaveDead) by new) is k), refl));
   fits = inr (queue, home, by, subst (λ (n : HomeCounts). home < n.homes) same below, refl, words);
 }
 
@@ -44,7 +45,7 @@ pub came : {S : Type 0} (stepped : S → Ask → Result Gave Refusal → S → T
     → stepped old (AskShared None home (comes_in next)) by new → WordFor (comes_in next) by answered → Performs stepped (Brings next home) old answered new
 came stepped old new next home by answered h words = answered_one stepped (Brings next home) old old new answered (shared_step None home (comes_in next) by) refl h (inl (by, refl, words))
 
--- a home that does not serve was asked to send it back, or to give it up
+-- a home that does not serve was asked to send it back, or to drop it
 pub went_back : {S : Type 0} (stepped : S → Ask → Result Gave Refusal → S → Type 0) (old mid new : S) (next : NextItem) (home : HomeId) (by : Result Gave Refusal) (answered : Result Turned Refusal)
     → stepped old (AskShared None home (comes_in next)) (Err QueueDoesNotExist) mid → stepped mid (AskShared None home (goes_back next)) by new
     → WordFor (goes_back next) by answered ⊎ ((by ≡ Err QueueDoesNotExist) × (answered ≡ Ok word.Full)) → Performs stepped (Brings next home) old answered new
@@ -56,11 +57,11 @@ went_back stepped old mid new next home by answered h k words = record {
 
 -- a task was read, and then served by the walk for it
 pub served : {S : Type 0} (stepped : S → Ask → Result Gave Refusal → S → Type 0) (counts : S → HomeCounts) (old mid new : S) (number : ℕ) (before after : Progress) (task : Task) (begin walk : Walk) (answered : Result Turned Refusal)
-    → stepped old (ReadTask number) (Ok (TaskFound task)) mid → counts mid ≡ counts old → begin ≡ walk_for number before.walk → Performs stepped (ServesTask (counts mid).homes number task begin walk) mid answered new
+    → stepped old (ReadTask number) (Ok (TaskFound task)) mid → counts mid ≡ counts old → begin ≡ walk_for number before.walk → begin.task ≡ number → Performs stepped (ServesTask (counts mid).homes begin.task task begin walk) mid answered new
     → after ≡ with_walk walk before → Performs stepped (TaskFits (counts old).homes (Some number) before after) old answered new
-served stepped counts old mid new number before after task begin walk answered h same begins rest kept =
-    answered_more stepped (TaskFits (counts old).homes (Some number) before after) (ServesTask (counts mid).homes number task begin walk) old mid new answered (task_read number (Ok (TaskFound task))) h rest
-    (λ ds fits. inr (task, walk, ds, refl, subst (λ (b : Walk). ServesTask (counts old).homes number task b walk ds answered) begins (subst (λ (n : HomeCounts). ServesTask n.homes number task begin walk ds answered) same fits), kept))
+served stepped counts old mid new number before after task begin walk answered h same begins own rest kept =
+    answered_more stepped (TaskFits (counts old).homes (Some number) before after) (ServesTask (counts mid).homes begin.task task begin walk) old mid new answered (task_read number (Ok (TaskFound task))) h rest
+    (λ ds fits. inr (task, walk, ds, refl, subst (λ (b : Walk). ServesTask (counts old).homes number task b walk ds answered) begins (subst (λ (n : HomeCounts). ServesTask n.homes number task begin walk ds answered) same (subst (λ (k : ℕ). ServesTask (counts mid).homes k task begin walk ds answered) own fits)), kept))
 
 -- a home was asked for a message of a task's source, and the walk went on
 pub left_for : {S : Type 0} (stepped : S → Ask → Result Gave Refusal → S → Type 0) (homes number : ℕ) (task : Task) (before after : Walk) (old new : S) (by : Result Gave Refusal) (answered : Result Turned Refusal)

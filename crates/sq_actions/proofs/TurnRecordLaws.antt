@@ -77,8 +77,8 @@ one_of_brings next home trace answered ns h are = elim h [
 one_of_leave : (homes : ℕ) (name : List ℕ) (trace : List Done) (answered : Result Turned Refusal) (ns : List RecordValue) → LeaveFits homes name trace answered → AreOf trace ns → length ns ≤ 1
 one_of_leave homes name trace answered ns h are = elim h [
   | inl refused ↦ only_read (named name (Err refused.0)) trace ns (λ front k. k) refused.2 are
-  | inr left ↦ (let rest = shared_step (Some name) (home_numbered left.0 left.1) LeaveDead left.2 ∷ [] in
-      last_moved (Some name) (home_numbered left.0 left.1) LeaveDead left.2 rest ns refl (read_then (named name (Ok (Found left.0))) rest trace ns (λ front k. k) left.4 are))
+  | inr left ↦ (let rest = shared_step (Some name) (home_numbered left.0.number left.1) LeaveDead left.2 ∷ [] in
+      last_moved (Some name) (home_numbered left.0.number left.1) LeaveDead left.2 rest ns refl (read_then (named name (Ok (Found left.0))) rest trace ns (λ front k. k) left.4 are))
 ]
 
 one_of_bring : (homes : ℕ) (before after : Progress) (trace : List Done) (answered : Result Turned Refusal) (ns : List RecordValue) → BringFits homes before after trace answered → AreOf trace ns → length ns ≤ 1

@@ -28,19 +28,20 @@ use Rattle.sq_log.specs.Rooms.{KeepsRoom}
 use Rattle.sq_steps.specs.Journals.{having_seen, with_record}
 use Rattle.sq_model.specs.declared.shared.SharedAct.{SharedAct}
 use Rattle.sq_model.specs.declared.shared.SharedAct.TheVariants as move
+use Rattle.sq_model.specs.declared.task.NamedQueue.{NamedQueue}
 use Rattle.sq_steps.specs.declared.act.NextItem.{NextItem}
 use Rattle.sq_steps.specs.declared.act.TaskAct.{TaskAct}
 use Rattle.sq_steps.specs.declared.act.TaskAct.TheVariants as task
 use Rattle.sq_steps.specs.TaskActs.{task_call}
 use Rattle.sq_calls.specs.ReceivedValue.{AreReceived}
 
--- What a step asks: the number of the queue of a name, which is a read; a step of the directory; a step of a home, by the queue's name that was used; a step that a home shares
--- with the ledger, by the name that was used, if any; which item in transit comes after a number, which is a read; between which queues messages may be moved, which is a read; a step of
+-- What a step asks: the queue of a name, which is a read; a step of the directory; a step of a home, and one that a home shares
+-- with the ledger, each by the queue's name that was used, if any; which item in transit comes after a number, which is a read; between which queues messages may be moved, which is a read; a step of
 -- the ledger alone; and a task, which is a read.
 pub data Ask : Type 0 where
   Resolve : (name : List ℕ) → Ask
   AskDirectory : (call : DirectoryCall) → Ask
-  AskHome : (name : List ℕ) (home : HomeId) (act : HomeAct) → Ask
+  AskHome : (name : Option (List ℕ)) (home : HomeId) (act : HomeAct) → Ask
   AskShared : (name : Option (List ℕ)) (home : HomeId) (what : SharedAct) → Ask
   Peek : (after : ℕ) → Ask
   Redriven : (source : List ℕ) (destination : Option (List ℕ)) → Ask
@@ -49,7 +50,7 @@ pub data Ask : Type 0 where
 
 -- what it is answered where it is not refused
 pub data Gave : Type 0 where
-  Found : (queue : ℕ) → Gave
+  Found : (queue : NamedQueue) → Gave
   Answered : (reply : DirectoryReply) → Gave
   Replied : (reply : HomeReply) → Gave
   Nothing : Gave
@@ -145,7 +146,7 @@ IsOfMove (move.LeaveTask number) e = (e ≡ ResourceNotFoundException) ⊎ (e �
 IsOfMove (move.Enter number) e = (e ≡ OverLimit) ⊎ (e ≡ UnsupportedOperation)
 IsOfMove (move.TurnBack number) e = e ≡ UnsupportedOperation
 IsOfMove (move.GiveBack number) e = (e ≡ OverLimit) ⊎ (e ≡ UnsupportedOperation)
-IsOfMove (move.GiveUp number) e = e ≡ UnsupportedOperation
+IsOfMove (move.Drop number) e = e ≡ UnsupportedOperation
 
 -- what may refuse a step of a home and the ledger
 abbrev pub MayRefuseMove : SharedAct → Refusal → Type 0
@@ -190,7 +191,7 @@ IsCallFor (move.LeaveTask number) call = call ≡ at_home.LeaveTask number
 IsCallFor (move.Enter number) call = (item : Item) × (item.number ≡ number) × (call ≡ at_home.Enter item)
 IsCallFor (move.TurnBack number) call = (item : Item) × (item.number ≡ number) × (call ≡ at_home.TurnBack item)
 IsCallFor (move.GiveBack number) call = (item : Item) × (item.number ≡ number) × (call ≡ at_home.GiveBack item)
-IsCallFor (move.GiveUp number) call = (item : Item) × (item.number ≡ number) × (call ≡ at_home.GiveUp item)
+IsCallFor (move.Drop number) call = (item : Item) × (item.number ≡ number) × (call ≡ at_home.Drop item)
 
 -- a record of a step at a home, by the name that was used, of a call that was asked
 pub record IsStepRecord (name : Option (List ℕ)) (home : HomeId) (IsAsked : HomeCall → Type 0) (answered : HomeReply) (n : RecordValue) : Type 0 where
@@ -202,8 +203,8 @@ pub record IsStepRecord (name : Option (List ℕ)) (home : HomeId) (IsAsked : Ho
   pub by_name : its_record.name ≡ name
 
 -- a record of a step of a home alone
-abbrev pub IsHomeRecord : List ℕ → HomeId → HomeAct → HomeReply → RecordValue → Type 0
-IsHomeRecord name home what answered n = IsStepRecord (Some name) home (λ call. call ≡ call_of what) answered n
+abbrev pub IsHomeRecord : Option (List ℕ) → HomeId → HomeAct → HomeReply → RecordValue → Type 0
+IsHomeRecord name home what answered n = IsStepRecord name home (λ call. call ≡ call_of what) answered n
 
 -- a record of a step of a home and the ledger; it is the home's
 abbrev pub IsMoveRecord : Option (List ℕ) → HomeId → SharedAct → HomeReply → RecordValue → Type 0

@@ -32,7 +32,7 @@ use Rattle.sq_actions.specs.Steps.{home_step}
 abbrev pub OneStep : List ℕ → ℕ → ℕ → HomeAct → (HomeReply → EntryAnswer → Type 0) → List Done → Result EntryAnswer Refusal → Type 0
 OneStep name queue home act Makes trace told =
     ((by : HomeReply) × (one : EntryAnswer) × (trace ≡ home_step name queue home act (Ok by) ∷ []) × Makes by one × (told ≡ Ok one))
-    ⊎ ((e : Refusal) × MayRefuse (AskHome name (home_numbered queue home) act) e × (trace ≡ home_step name queue home act (Err e) ∷ []) × (told ≡ Err e))
+    ⊎ ((e : Refusal) × MayRefuse (AskHome (Some name) (home_numbered queue home) act) e × (trace ≡ home_step name queue home act (Err e) ∷ []) × (told ≡ Err e))
 
 -- what is told of a send is the message's id and its body's digest
 abbrev pub MakesSent : List ℕ → HomeReply → EntryAnswer → Type 0

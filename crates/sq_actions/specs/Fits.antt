@@ -23,6 +23,7 @@ use Rattle.sq_steps.specs.declared.act.TaskAct.TheVariants as task
 use Rattle.sq_model.specs.Policies.{has_list}
 use Rattle.sq_model.specs.declared.replies.HomeReply.{HomeReply}
 use Rattle.sq_model.specs.declared.replies.HomeReply.TheVariants as reply
+use Rattle.sq_model.specs.declared.task.NamedQueue.{NamedQueue}
 use Rattle.sq_history.specs.declared.act.HomeAct.{HomeAct}
 use Rattle.sq_history.specs.declared.act.HomeAct.TheVariants.{Configure, Close, Look, Purge, Count}
 use Rattle.sq_calls.specs.declared.calls.Answer.{Answer}
@@ -46,7 +47,7 @@ use Rattle.sq_actions.specs.Calls.{home_numbered, counted_homes, counts_with, no
 abbrev pub ByName : List ℕ → (ℕ → List Done → Result Answer Refusal → Type 0) → List Done → Result Answer Refusal → Type 0
 ByName name At trace answered =
     ((e : Refusal) × MayRefuse (Resolve name) e × (trace ≡ named name (Err e) ∷ []) × (answered ≡ Err e))
-    ⊎ ((queue : ℕ) × (rest : List Done) × (trace ≡ named name (Ok (Found queue)) ∷ rest) × At queue rest answered)
+    ⊎ ((queue : NamedQueue) × (rest : List Done) × (trace ≡ named name (Ok (Found queue)) ∷ rest) × At queue.number rest answered)
 
 -- a home that was asked did it; or it is closed, and is passed over
 abbrev pub IsPassed : Result HomeReply Refusal → Type 0
@@ -120,7 +121,7 @@ abbrev pub CountsAt : ℕ → GetQueueAttributes → QueueAttributes → List Do
 CountsAt homes c attributes trace answered =
     ((sum : QueueCounts) × CountedAll c.queue attributes.queue (counted_homes homes c.asked) sum trace × (answered ≡ Ok (shown_of c attributes sum)))
     ⊎ ((n : ℕ) × (front : List Done) × (before : QueueCounts) × (e : Refusal) × (n < counted_homes homes c.asked) × CountedAll c.queue attributes.queue n before front
-    × MayRefuse (AskHome c.queue (home_numbered attributes.queue n) Count) e × (trace ≡ front ++ home_step c.queue attributes.queue n Count (Err e) ∷ []) × (answered ≡ Err e))
+    × MayRefuse (AskHome (Some c.queue) (home_numbered attributes.queue n) Count) e × (trace ≡ front ++ home_step c.queue attributes.queue n Count (Err e) ∷ []) × (answered ≡ Err e))
 
 abbrev pub Shows : ℕ → GetQueueAttributes → DirectoryReply → List Done → Result Answer Refusal → Type 0
 Shows homes c (told.Read attributes) trace answered = CountsAt homes c attributes trace answered
@@ -141,7 +142,7 @@ InVain c queue drawn (suc n) over trace =
 abbrev pub EndsReceive : ReceiveMessage → ℕ → ℕ → Result HomeReply Refusal → Result Answer Refusal → Type 0
 EndsReceive c queue home by answered =
     ((row : Row) × (rows : List Row) × (by ≡ Ok (reply.Looked (row ∷ rows))) × (answered ≡ Ok (received_from c (home_numbered queue home) (row ∷ rows))))
-    ⊎ ((e : Refusal) × MayRefuse (AskHome c.queue (home_numbered queue home) (Look c.max c.timeout)) e × (by ≡ Err e) × (answered ≡ Err e))
+    ⊎ ((e : Refusal) × MayRefuse (AskHome (Some c.queue) (home_numbered queue home) (Look c.max c.timeout)) e × (by ≡ Err e) × (answered ≡ Err e))
 
 -- what a receive tells where no home gave a message
 abbrev pub none_answered : ReceiveMessage → ℕ → Bool → Result Answer Refusal
@@ -208,7 +209,7 @@ source_refusal e = e
 abbrev pub ListTasksFits : ListMessageMoveTasks → List Done → Result Answer Refusal → Type 0
 ListTasksFits c trace answered =
     ((e : Refusal) × MayRefuse (Resolve c.source) e × (trace ≡ named c.source (Err e) ∷ []) × (answered ≡ Err (source_refusal e)))
-    ⊎ ((queue : ℕ) × (rest : List Done) × (trace ≡ named c.source (Ok (Found queue)) ∷ rest) × ByLedger (task.List queue c.max) MakesTasks rest answered)
+    ⊎ ((queue : NamedQueue) × (rest : List Done) × (trace ≡ named c.source (Ok (Found queue)) ∷ rest) × ByLedger (task.List queue.number c.max) MakesTasks rest answered)
 
 -- These steps are the call's, and the answer is made of them.
 abbrev pub CallFits : HomeCounts → Call → List Done → Result Answer Refusal → Type 0

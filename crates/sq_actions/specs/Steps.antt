@@ -1,5 +1,5 @@
 -- Steps that calls and turns ask, each with what it was answered.
-use Rattle.std.specs.Prelude.{ℕ, List, Option, Result}
+use Rattle.std.specs.Prelude.{ℕ, List, Option, Some, Result}
 use Rattle.sq_base.specs.declared.refusal.Refusal.{Refusal}
 use Rattle.sq_model.specs.declared.directory.DirectoryCall.{DirectoryCall}
 use Rattle.sq_model.specs.declared.directory.DirectoryReply.{DirectoryReply}
@@ -18,7 +18,7 @@ abbrev pub directory_step : DirectoryCall → Result DirectoryReply Refusal → 
 directory_step call answered = record { ask = AskDirectory call; answered = gave_as Answered answered }
 
 abbrev pub home_step : List ℕ → ℕ → ℕ → HomeAct → Result HomeReply Refusal → Done
-home_step name queue home act answered = record { ask = AskHome name (home_numbered queue home) act; answered = gave_as Replied answered }
+home_step name queue home act answered = record { ask = AskHome (Some name) (home_numbered queue home) act; answered = gave_as Replied answered }
 
 -- between which queues messages may be moved is read; the ledger alone is asked
 abbrev pub redriven : List ℕ → Option (List ℕ) → Result Gave Refusal → Done

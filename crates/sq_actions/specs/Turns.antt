@@ -14,7 +14,8 @@ use Rattle.sq_calls.specs.declared.turns.Turn.TheVariants as turn
 use Rattle.sq_calls.specs.declared.turns.Turned.{Turned}
 use Rattle.sq_calls.specs.declared.turns.Turned.TheVariants as word
 use Rattle.sq_model.specs.declared.shared.SharedAct.{SharedAct}
-use Rattle.sq_model.specs.declared.shared.SharedAct.TheVariants.{LeaveDead, LeaveTask, Enter, TurnBack, GiveBack, GiveUp}
+use Rattle.sq_model.specs.declared.shared.SharedAct.TheVariants.{LeaveDead, LeaveTask, Enter, TurnBack, GiveBack, Drop}
+use Rattle.sq_model.specs.declared.task.NamedQueue.{NamedQueue}
 use Rattle.sq_steps.specs.declared.act.NextItem.{NextItem}
 use Rattle.sq_steps.specs.declared.act.TaskAct.TheVariants.{Finish}
 use Rattle.sq_actions.specs.declared.progress.Progress.{Progress}
@@ -55,7 +56,7 @@ word_of (LeaveTask number) reply = left_word reply
 word_of (Enter number) reply = word.Entered
 word_of (TurnBack number) reply = word.Turned
 word_of (GiveBack number) reply = word.Back
-word_of (GiveUp number) reply = word.Dropped
+word_of (Drop number) reply = word.Dropped
 
 -- Two words of a step: where nothing was done and nothing is wrong, since the task is at its rate, or no dead letter is there to leave; and where it cannot be done any more, since the task takes no messages now, or the item is not there for it.
 abbrev pub words_apart : SharedAct → Turned × Turned
@@ -64,7 +65,7 @@ words_apart (LeaveTask number) = (word.Throttled, word.Ended)
 words_apart (Enter number) = (word.Nothing, word.Nothing)
 words_apart (TurnBack number) = (word.Nothing, word.Nothing)
 words_apart (GiveBack number) = (word.Nothing, word.Nothing)
-words_apart (GiveUp number) = (word.Nothing, word.Nothing)
+words_apart (Drop number) = (word.Nothing, word.Nothing)
 
 abbrev pub none_word : SharedAct → Turned
 none_word what = (words_apart what).0
@@ -79,7 +80,7 @@ IsTold (LeaveTask number) e = IsOfAnyStep e ⊎ (e ≡ ResourceNotFoundException
 IsTold (Enter number) e = IsOfAnyStep e
 IsTold (TurnBack number) e = IsOfAnyStep e
 IsTold (GiveBack number) e = IsOfAnyStep e
-IsTold (GiveUp number) e = IsOfAnyStep e
+IsTold (Drop number) e = IsOfAnyStep e
 
 -- The word for a step that moves a message: its own where it was done, the one for nothing, `full` where there is no room, and the one for a step that cannot be done any more.
 abbrev pub WordFor : SharedAct → Result Gave Refusal → Result Turned Refusal → Type 0
@@ -94,8 +95,8 @@ WordFor what by answered =
 abbrev pub LeaveFits : ℕ → List ℕ → List Done → Result Turned Refusal → Type 0
 LeaveFits homes name trace answered =
     ((e : Refusal) × MayRefuse (Resolve name) e × (trace ≡ named name (Err e) ∷ []) × (answered ≡ Err e))
-    ⊎ ((queue : ℕ) × (home : ℕ) × (by : Result Gave Refusal) × (home < homes)
-    × (trace ≡ named name (Ok (Found queue)) ∷ shared_step (Some name) (home_numbered queue home) LeaveDead by ∷ [])
+    ⊎ ((queue : NamedQueue) × (home : ℕ) × (by : Result Gave Refusal) × (home < homes)
+    × (trace ≡ named name (Ok (Found queue)) ∷ shared_step (Some name) (home_numbered queue.number home) LeaveDead by ∷ [])
     × (WordFor LeaveDead by answered ⊎ ((by ≡ Err QueueDoesNotExist) × (answered ≡ Err QueueDoesNotExist))))
 
 -- a home of the queue that an item goes to
@@ -107,9 +108,9 @@ abbrev pub comes_in : NextItem → SharedAct
 comes_in next = if next.homeward then GiveBack next.number else Enter next.number
 
 abbrev pub goes_back : NextItem → SharedAct
-goes_back next = if next.homeward then GiveUp next.number else TurnBack next.number
+goes_back next = if next.homeward then Drop next.number else TurnBack next.number
 
--- An item comes in at a home. A home that refuses it as not serving is asked to send it back, or to give it up; one that refuses this so as well was never opened, or is not there.
+-- An item comes in at a home. A home that refuses it as not serving is asked to send it back, or to drop it; one that refuses this so as well was never opened, or is not there.
 abbrev pub Brings : NextItem → HomeId → List Done → Result Turned Refusal → Type 0
 Brings next home trace answered =
     ((by : Result Gave Refusal) × (trace ≡ shared_step None home (comes_in next) by ∷ []) × WordFor (comes_in next) by answered)

@@ -33,7 +33,7 @@ use sq_model::replies::{Counts, HomeReply};
 use sq_model::rows::Rows;
 use sq_model::task::NamedQueue;
 use sq_sample::sampler::HomeCount;
-use sq_steps::act::{TaskAct, TaskStart};
+use sq_steps::act::{NamedHome, TaskAct, TaskStart};
 
 /// Does a client's call, step by step; steps that were done before a refusal stand.
 pub fn call<S: LockSteps>(steps: &mut S, call: &Call) -> Result<Answer, Refusal>
@@ -156,7 +156,8 @@ fn ask_all<S: LockSteps>(
         number,
     };
     for home in 0..steps.homes().get() as u8 {
-        pass_closed(steps.home_step(&of, HomeNo::of(home), each.act()))?;
+        let at = NamedHome::found(&of, HomeNo::of(home));
+        pass_closed(steps.home_step(&at, each.act()))?;
     }
     Ok(answer)
 }
@@ -228,7 +229,7 @@ fn show<S: LockSteps>(
         delayed: 0,
     };
     for home in 0..counted_homes(steps.homes(), &call.asked) {
-        match steps.home_step(&of, HomeNo::of(home), HomeAct::Count)? {
+        match steps.home_step(&NamedHome::found(&of, HomeNo::of(home)), HomeAct::Count)? {
             HomeReply::Counted(counts) => sum = counts_with(&sum, &counts),
             _ => unreachable!(),
         }
@@ -308,7 +309,7 @@ fn look<S: LockSteps>(
     for index in 0..homes.len() {
         let home = homes[index];
         let act = HomeAct::Look(call.max, call.timeout);
-        match steps.home_step(of, home, act)? {
+        match steps.home_step(&NamedHome::found(of, home), act)? {
             HomeReply::Looked(rows) => {
                 if rows.len() > 0 {
                     return Ok(received_answer(of.number, home, call, rows));

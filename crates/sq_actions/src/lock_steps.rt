@@ -6,9 +6,8 @@ ghost use Rattle.sq_directory.specs.Makers.{name_asked, queue_answered};
 ghost use Rattle.sq_directory.specs.MoveQueues.{as_ends};
 ghost use Rattle.sq_model.specs.RecordValues.{Journal};
 ghost use Rattle.sq_actions.specs.Asks.{Ask, Resolve, AskDirectory, AskHome, AskShared, Peek, Redriven, AskLedger, ReadTask, Gave, moved_of, HomeCounts, IsAnswerTo, IsReplyTo, IsToldTo, MayRefuse, LeavesOf, gave_as, Answered, Replied, Peeked, Told, TaskFound, Found, Ends};
-ghost use Rattle.sq_actions.specs.Calls.{home_numbered};
 
-use sq_base::ids::{HomeId, HomeNo};
+use sq_base::ids::HomeNo;
 use sq_base::name::QueueName;
 use sq_base::refusal::Refusal;
 use sq_history::act::HomeAct;
@@ -18,7 +17,7 @@ use sq_model::ledger::LedgerReply;
 use sq_model::replies::HomeReply;
 use sq_model::task::{NamedQueue, Task};
 use sq_sample::sampler::HomeCount;
-use sq_steps::act::{NextItem, SharedAct, TaskAct};
+use sq_steps::act::{NamedHome, NextItem, SharedAct, TaskAct};
 use std::alloc::Global;
 
 /// Does the steps of one actor's calls. A home that the queue does not have refuses its step.
@@ -44,7 +43,7 @@ pub trait LockSteps {
 
     /// Looks the queue of this name up. Refused as QueueDoesNotExist, NoMemory.
     fn resolve(&mut self, name: &QueueName) -> Result<NamedQueue, Refusal>
-        ensures did { stepped self.old (Resolve name.now) (gave_as (λ of. Found of.number) result) self.new }
+        ensures did { stepped self.old (Resolve name.now) (gave_as Found result) self.new }
         ensures named { IfOk result (λ of. of.name ≡ name.now) }
         ensures refusal { IfErr result (MayRefuse (Resolve name.now)) }
         ensures known { IfOk result (λ of. knows self.new of.name of.number) }
@@ -58,33 +57,22 @@ pub trait LockSteps {
         ensures known { IfOk result (λ by. (name : List ℕ) (queue : ℕ) → name_asked call.now ≡ Some name → queue_answered by ≡ Some queue → knows self.new name queue) }
         ensures same_counts { counts self.new ≡ counts self.old };
 
-    /// A step of a home of a queue.
+    /// A step of a home.
     /// Refused as NoMemory, ClockRange, Worn, QueueDoesNotExist, and then as the home's call.
-    fn home_step(
-        &mut self,
-        of: &NamedQueue,
-        home: HomeNo,
-        act: HomeAct,
-    ) -> Result<HomeReply, Refusal>
-        requires known { knows self.old of.now.name of.now.number }
-        ensures did { stepped self.old (AskHome of.now.name (home_numbered of.now.number home) act) (gave_as Replied result) self.new }
+    fn home_step(&mut self, at: &NamedHome, act: HomeAct) -> Result<HomeReply, Refusal>
+        requires known { IfSome at.now.name (λ name. knows self.old name at.now.id.queue) }
+        ensures did { stepped self.old (AskHome at.now.name at.now.id act) (gave_as Replied result) self.new }
         ensures reply { IfOk result (IsReplyTo act) }
-        ensures refusal { IfErr result (MayRefuse (AskHome of.now.name (home_numbered of.now.number home) act)) }
-        ensures known { knows self.new of.now.name of.now.number }
+        ensures refusal { IfErr result (MayRefuse (AskHome at.now.name at.now.id act)) }
+        ensures known { IfSome at.now.name (λ name. knows self.new name at.now.id.queue) }
         ensures same_counts { counts self.new ≡ counts self.old };
 
-    /// A step that a home shares with the ledger, by the name of the home's queue that was used, if any. None where nothing
-    /// was there to leave, which is no step.
+    /// A step that a home shares with the ledger. None where nothing was there to leave, which is no step.
     /// Refused as NoMemory, ClockRange, Worn, QueueDoesNotExist, and then as the step: OverLimit, UnsupportedOperation.
-    fn shared_step(
-        &mut self,
-        name: Option<QueueName>,
-        home: &HomeId,
-        what: SharedAct,
-    ) -> Result<Option<HomeReply>, Refusal>
-        requires known { IfSome name (λ name. knows self.old name home.now.queue) }
-        ensures did { stepped self.old (AskShared name home.now what) (moved_of result) self.new }
-        ensures refusal { IfErr result (MayRefuse (AskShared name home.now what)) }
+    fn shared_step(&mut self, at: &NamedHome, what: SharedAct) -> Result<Option<HomeReply>, Refusal>
+        requires known { IfSome at.now.name (λ name. knows self.old name at.now.id.queue) }
+        ensures did { stepped self.old (AskShared at.now.name at.now.id what) (moved_of result) self.new }
+        ensures refusal { IfErr result (MayRefuse (AskShared at.now.name at.now.id what)) }
         ensures same_counts { counts self.new ≡ counts self.old };
 
     /// Where the item in transit goes that comes after the one of this number. Refused only where memory is out.

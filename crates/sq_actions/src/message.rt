@@ -21,6 +21,7 @@ use sq_model::calls::Receipt;
 use sq_model::replies::HomeReply;
 use sq_model::task::NamedQueue;
 use sq_sample::sampler::HomeCount;
+use sq_steps::act::NamedHome;
 
 /// Does what an entry asks.
 pub(crate) fn do_entry<S: LockSteps>(
@@ -77,7 +78,7 @@ fn put<S: LockSteps>(
     let text = body.body();
     let digest = Digest::of(text);
     let home = steps.pick();
-    match steps.home_step(of, home, HomeAct::Send(body, delay))? {
+    match steps.home_step(&NamedHome::found(of, home), HomeAct::Send(body, delay))? {
         HomeReply::Sent(sent) => Ok(EntryAnswer::Sent(sent.id, digest)),
         _ => unreachable!(),
     }
@@ -121,7 +122,7 @@ pub(crate) fn on_message<S: LockSteps>(
 {
     let handle = handle_at(steps.homes(), of.number, handle)?;
     let act = what.act(&handle);
-    steps.home_step(of, handle.home, act)?;
+    steps.home_step(&NamedHome::found(of, handle.home), act)?;
     Ok(EntryAnswer::Done)
 }
 

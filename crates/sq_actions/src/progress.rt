@@ -27,7 +27,8 @@ impl Progress {
 
     /// The walk for this task: a new one where another task was named last, or none.
     pub(crate) fn walk_for(&self, task: TaskNo) -> Walk
-        ensures { result ≡ walk_for task self.now.walk }
+        ensures walk { result ≡ walk_for task self.now.walk }
+        ensures task { result.task ≡ task }
     {
         match &self.walk {
             Some(walk) if walk.task == task => *walk,

@@ -17,7 +17,7 @@ use sq_model::ledger::LedgerReply;
 use sq_model::replies::HomeReply;
 use sq_model::task::{Task, TaskStatus};
 use sq_sample::sampler::HomeCount;
-use sq_steps::act::{NextItem, SharedAct, TaskAct};
+use sq_steps::act::{NamedHome, NextItem, SharedAct, TaskAct};
 
 /// Does a turn; what it makes of its actor's progress, which it is lent, is there after it, whatever it answers.
 pub fn turn<S: LockSteps>(
@@ -51,11 +51,8 @@ fn leave<S: LockSteps>(steps: &mut S, name: &QueueName) -> Result<Turned, Refusa
     ensures { Performs S.stepped (LeaveFits (S.counts steps.old).homes name.now) steps.old result steps.new }
 {
     let of = steps.resolve(name)?;
-    let home = HomeId {
-        queue: of.number,
-        home: steps.pick(),
-    };
-    let answered = steps.shared_step(Some(of.name), &home, SharedAct::LeaveDead);
+    let home = NamedHome::found(&of, steps.pick());
+    let answered = steps.shared_step(&home, SharedAct::LeaveDead);
     match word_for(SharedAct::LeaveDead, answered)? {
         Some(word) => Ok(word),
         None => Err(Refusal::QueueDoesNotExist),
@@ -70,22 +67,23 @@ fn bring<S: LockSteps>(steps: &mut S, progress: &mut Progress) -> Result<Turned,
         Some(next) => {
             progress.item = next.number.get();
             let home = home_ahead(&next, steps.pick());
-            bring_to(steps, &next, &home)
+            bring_to(steps, &next, home)
         }
         None => Ok(Turned::Nothing),
     }
 }
 
-// The item comes in at this home. Where the home is closed, the item goes back to its source, or is given up there.
-fn bring_to<S: LockSteps>(steps: &mut S, next: &NextItem, home: &HomeId) -> Result<Turned, Refusal>
-    ensures { Performs S.stepped (Brings next.now home.now) steps.old result steps.new }
+// The item comes in at this home. Where the home is closed, the item goes back to its source, or is dropped there.
+fn bring_to<S: LockSteps>(steps: &mut S, next: &NextItem, id: HomeId) -> Result<Turned, Refusal>
+    ensures { Performs S.stepped (Brings next.now id) steps.old result steps.new }
 {
-    let answered = steps.shared_step(None, home, move_of(next, false));
+    let home = NamedHome { name: None, id };
+    let answered = steps.shared_step(&home, move_of(next, false));
     match word_for(move_of(next, false), answered)? {
         Some(word) => return Ok(word),
         None => {}
     }
-    let answered = steps.shared_step(None, home, move_of(next, true));
+    let answered = steps.shared_step(&home, move_of(next, true));
     match word_for(move_of(next, true), answered)? {
         Some(word) => Ok(word),
         None => Ok(Turned::Full),
@@ -105,45 +103,37 @@ fn serve<S: LockSteps>(
     };
     let task = steps.read_task(*number)?;
     let mut walk = progress.walk_for(*number);
-    let word = serve_on(steps, *number, &task, &mut walk);
+    let word = serve_on(steps, &task, &mut walk);
     progress.walk = Some(walk);
     word
 }
 
 // What is done for a task, as the walk for it is.
-fn serve_on<S: LockSteps>(
-    steps: &mut S,
-    number: TaskNo,
-    task: &Task,
-    walk: &mut Walk,
-) -> Result<Turned, Refusal>
-    ensures { Performs S.stepped (ServesTask (S.counts steps.old).homes number task.now walk.old walk.new) steps.old result steps.new }
+fn serve_on<S: LockSteps>(steps: &mut S, task: &Task, walk: &mut Walk) -> Result<Turned, Refusal>
+    ensures { Performs S.stepped (ServesTask (S.counts steps.old).homes walk.old.task task.now walk.old walk.new) steps.old result steps.new }
 {
     if goes_on(steps.homes(), task, walk) {
-        leave_for(steps, number, task, walk)
+        leave_for(steps, task, walk)
     } else if is_active(task) {
-        finish(steps, number, walk)
+        finish(steps, walk)
     } else {
         Ok(Turned::Ended)
     }
 }
 
 // A message leaves the home that the walk is at.
-fn leave_for<S: LockSteps>(
-    steps: &mut S,
-    number: TaskNo,
-    task: &Task,
-    walk: &mut Walk,
-) -> Result<Turned, Refusal>
+fn leave_for<S: LockSteps>(steps: &mut S, task: &Task, walk: &mut Walk) -> Result<Turned, Refusal>
     requires few { walk.old.nothings < 4294967295 }
-    ensures { Performs S.stepped (LeavesFor (S.counts steps.old).homes number task.now walk.old walk.new) steps.old result steps.new }
+    ensures { Performs S.stepped (LeavesFor (S.counts steps.old).homes walk.old.task task.now walk.old walk.new) steps.old result steps.new }
 {
-    let home = HomeId {
+    let id = HomeId {
         queue: task.source.number,
         home: walk.home,
     };
     let homes = steps.homes();
-    let answered = steps.shared_step(None, &home, SharedAct::LeaveTask(number));
+    let number = walk.task;
+    let home = NamedHome { name: None, id };
+    let answered = steps.shared_step(&home, SharedAct::LeaveTask(number));
     *walk = walk_after(homes, *walk, &answered);
     match word_for(SharedAct::LeaveTask(number), answered)? {
         Some(word) => Ok(word),
@@ -152,10 +142,10 @@ fn leave_for<S: LockSteps>(
 }
 
 // The task is to finish.
-fn finish<S: LockSteps>(steps: &mut S, number: TaskNo, walk: &mut Walk) -> Result<Turned, Refusal>
-    ensures { Performs S.stepped (Finishes number walk.old walk.new) steps.old result steps.new }
+fn finish<S: LockSteps>(steps: &mut S, walk: &mut Walk) -> Result<Turned, Refusal>
+    ensures { Performs S.stepped (Finishes walk.old.task walk.old walk.new) steps.old result steps.new }
 {
-    let answered = steps.ledger_step(&TaskAct::Finish(number));
+    let answered = steps.ledger_step(&TaskAct::Finish(walk.task));
     *walk = walk_waiting(*walk, &answered);
     finish_word(answered)
 }
@@ -234,7 +224,7 @@ fn move_of(next: &NextItem, closed: bool) -> SharedAct
         (false, false) => SharedAct::Enter(number),
         (false, true) => SharedAct::TurnBack(number),
         (true, false) => SharedAct::GiveBack(number),
-        (true, true) => SharedAct::GiveUp(number),
+        (true, true) => SharedAct::Drop(number),
     }
 }
 
@@ -268,7 +258,7 @@ fn word_of(what: SharedAct, reply: &HomeReply) -> Turned
         SharedAct::Enter(_) => Turned::Entered,
         SharedAct::TurnBack(_) => Turned::Turned,
         SharedAct::GiveBack(_) => Turned::Back,
-        SharedAct::GiveUp(_) => Turned::Dropped,
+        SharedAct::Drop(_) => Turned::Dropped,
     }
 }
 

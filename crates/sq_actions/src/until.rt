@@ -12,7 +12,7 @@ ghost use Rattle.sq_actions.specs.inside.Stops.{LimitedStep};
 
 use crate::client;
 use crate::lock_steps::LockSteps;
-use sq_base::ids::{HomeId, HomeNo};
+use sq_base::ids::HomeNo;
 use sq_base::name::QueueName;
 use sq_base::refusal::Refusal;
 use sq_calls::calls::{Answer, Call};
@@ -23,7 +23,7 @@ use sq_model::ledger::LedgerReply;
 use sq_model::replies::HomeReply;
 use sq_model::task::{NamedQueue, Task};
 use sq_sample::sampler::HomeCount;
-use sq_steps::act::{NextItem, SharedAct, TaskAct};
+use sq_steps::act::{NamedHome, NextItem, SharedAct, TaskAct};
 use std::alloc::Global;
 
 /// Does so many steps. A step past them is not done, and refused as one that finds no memory.
@@ -82,24 +82,18 @@ impl<'a, S: LockSteps> LockSteps for Until<'a, S> {
         self.steps.directory_step(call)
     }
 
-    fn home_step(
-        &mut self,
-        of: &NamedQueue,
-        home: HomeNo,
-        act: HomeAct,
-    ) -> Result<HomeReply, Refusal> {
+    fn home_step(&mut self, at: &NamedHome, act: HomeAct) -> Result<HomeReply, Refusal> {
         self.count()?;
-        self.steps.home_step(of, home, act)
+        self.steps.home_step(at, act)
     }
 
     fn shared_step(
         &mut self,
-        name: Option<QueueName>,
-        home: &HomeId,
+        at: &NamedHome,
         what: SharedAct,
     ) -> Result<Option<HomeReply>, Refusal> {
         self.count()?;
-        self.steps.shared_step(name, home, what)
+        self.steps.shared_step(at, what)
     }
 
     fn peek(&mut self, after: u64) -> Result<Option<NextItem>, Refusal> {

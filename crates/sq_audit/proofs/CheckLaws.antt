@@ -9,7 +9,7 @@ use Rattle.std.proofs.lemmas.Option.{slice_get_within, slice_get_read}
 use Rattle.sq_base.specs.Stamps.{Below}
 use Rattle.sq_base.specs.declared.ids.HomeId.{HomeId}
 use Rattle.sq_model.specs.declared.calls.HomeCall.{HomeCall}
-use Rattle.sq_model.specs.declared.calls.HomeCall.TheVariants.{LeaveDead, LeaveTask, Enter, TurnBack, GiveBack, GiveUp}
+use Rattle.sq_model.specs.declared.calls.HomeCall.TheVariants.{LeaveDead, LeaveTask, Enter, TurnBack, GiveBack, Drop}
 use Rattle.sq_model.specs.declared.ledger.LedgerCall.{LedgerCall}
 use Rattle.sq_model.specs.declared.ledger.LedgerCall.TheVariants.{AtHome, StartTask, CancelTask, ListTasks, FinishTask}
 use Rattle.sq_model.specs.declared.ledger.LedgerReply.{LedgerReply}
@@ -27,15 +27,15 @@ use Rattle.sq_steps.specs.Journals.{AreDistinct, RecordsRiseAt, is_of_actor}
 use Rattle.sq_audit.specs.declared.check.AuditFault.{AuditFault}
 use Rattle.sq_audit.specs.declared.check.AuditFault.TheVariants.{NoMemory, RecordMissing, RecordTwice, LeaveUnmatched, EnterUnmatched}
 use Rattle.sq_audit.specs.declared.check.Part.TheVariants as part
-use Rattle.sq_audit.specs.Faults.{EventIndex, InDirectory, InLedger, InHome, IsBy, HasNoRecord, Gap, TwoEvents, IsWrong, HasPartner}
-use Rattle.sq_audit.specs.inside.Faults.{RecordFits, DirectoryFits, LedgerFits, HomeFits, LedgerHas, unmatched, IsRecordFault, IsAt, IsRecordedAt, IsEventFault, EventFits, HasEventFault, IsWithoutPartner}
+use Rattle.sq_audit.specs.Faults.{EventIndex, InDirectory, InLedger, InHome, IsBy, HasNoRecord, Gap, TwoEvents, IsWrong}
+use Rattle.sq_audit.specs.inside.Faults.{RecordFits, DirectoryFits, LedgerFits, HomeFits, LedgerHas, unmatched, IsRecordFault, IsAt, IsRecordedAt, IsEventFault, EventFits, HasEventFault, IsWithoutPartner, HasPartner}
 use Rattle.sq_history.specs.Histories.{IsKept}
 use Rattle.sq_log.specs.Events.{IsEventAt}
 use Rattle.sq_history.specs.Events.{HasHomeEvent}
 use Rattle.sq_model.proofs.ElementLaws.{some_same, get_map, get_mapped, all_get}
 use Rattle.sq_steps.proofs.JournalListLaws.{journal_own, found_is, journal_once, same_place}
 use Rattle.sq_audit.proofs.ListLaws.{all_at}
-use Rattle.sq_audit.proofs.HomeIdLaws.{place_found, place_back, place_none}
+use Rattle.sq_audit.proofs.HomeIdLaws.{index_found, place_back, index_none}
 
 differing : (j i : ℕ) → j ≢ i → (j < i) ⊎ (j ≡ i) ⊎ (i < j)
 differing j i ne = elim (leb_tells i j) as (λ _. (j < i) ⊎ (j ≡ i) ⊎ (i < j)) [ inl p ↦ inr (inr (let le : i ≤ j = p.1 in omega (arith, le, ne))) | inr p ↦ inl (omega (arith, p.1)) ]
@@ -63,7 +63,7 @@ home_id_once per_queue j i e =
     let p : j / per_queue ≡ i / per_queue = omega (arith, q) in
     sym (mod-add-div j per_queue) ∙ ap (λ (n : ℕ). j % per_queue + per_queue * n) p ∙ ap (λ (n : ℕ). n + per_queue * (i / per_queue)) r ∙ mod-add-div i per_queue
 
--- a home is known by its place
+-- a home is known by its index
 numbered_home : (per_queue : ℕ) (homes : List HistoryValue) → IsNumbered per_queue homes → (j : ℕ) (h : HomeHistory) → slice_get (histories_of homes) j ≡ Some h → h.home ≡ home_id per_queue j
 numbered_home per_queue homes numbered j h in_list =
     let t = get_mapped home_history homes j h in_list in
@@ -76,7 +76,7 @@ home_once per_queue homes numbered j i h g in_list too same =
 
 -- the place of a home, both ways
 home_at : (per_queue count : ℕ) (id : HomeId) (place : ℕ) → 1 ≤ id.queue → home_index per_queue count id ≡ Some place → id ≡ home_id per_queue place
-home_at per_queue count id place least h = sym (place_found per_queue count id place least h).1
+home_at per_queue count id place least h = sym (index_found per_queue count id place least h).1
 
 home_back : (per_queue count : ℕ) (id : HomeId) (place : ℕ) → 1 ≤ per_queue → place < count → id ≡ home_id per_queue place → home_index per_queue count id ≡ Some place
 home_back per_queue count id place some within is = rw is (place_back per_queue count place some within)
@@ -100,11 +100,11 @@ read_record journals b i journal n lt is own = record { in_journals = slice_get_
 pub no_event_found : (per_queue : ℕ) (homes : List HistoryValue) (d : List DirectoryEvent) (l : List LedgerEvent) (a : ℕ) (n : HomeRecordValue) → 1 ≤ per_queue → 1 ≤ n.home.queue → IsNumbered per_queue homes → home_index per_queue (length homes) n.home ≡ None → HasItsEvent d l (histories_of homes) a (OfHome n) → ⊥
 no_event_found per_queue homes d l a n some least numbered none h =
     let t = get_mapped home_history homes h.0 h.1 h.3.in_homes in
-    place_none per_queue homes n.home some numbered none h.0 t.0 t.1 (sym (ap (λ (m : HomeRecordValue). m.home) h.5 ∙ ap (λ (x : HomeHistory). x.home) t.2))
+    index_none per_queue homes n.home some numbered none h.0 t.0 t.1 (sym (ap (λ (m : HomeRecordValue). m.home) h.5 ∙ ap (λ (x : HomeHistory). x.home) t.2))
 
 module _ (per_queue : ℕ) (homes : List HistoryValue) (d : List DirectoryEvent) (l : List LedgerEvent) (a : ℕ) (n : HomeRecordValue) (place : ℕ) (home : HistoryValue) (numbered : IsNumbered per_queue homes) (least : 1 ≤ n.home.queue) (found : home_index per_queue (length homes) n.home ≡ Some place) (is : home ≡ slice_index_or homes place home) where
   home_there : slice_get homes place ≡ Some home
-  home_there = slice_get_read homes (length homes) place home refl (place_found per_queue (length homes) n.home place least found).0 is
+  home_there = slice_get_read homes (length homes) place home refl (index_found per_queue (length homes) n.home place least found).0 is
 
   home_own : n.home ≡ home.site.home
   home_own = home_at per_queue (length homes) n.home place least found ∙ sym (numbered place home home_there)
@@ -432,7 +432,7 @@ shares v m (AtHome home (LeaveTask number)) reply after h = refl
 shares v m (AtHome home (Enter item)) reply after h = refl
 shares v m (AtHome home (TurnBack item)) reply after h = refl
 shares v m (AtHome home (GiveBack item)) reply after h = refl
-shares v m (AtHome home (GiveUp item)) reply after h = refl
+shares v m (AtHome home (Drop item)) reply after h = refl
 shares v m (StartTask source destination rate) reply after h = refl
 shares v m (CancelTask number) reply after h = refl
 shares v m (ListTasks source most) reply after h = refl
@@ -501,11 +501,11 @@ module _ (per_queue : ℕ) (homes : List HistoryValue) (numbered : IsNumbered pe
   pub no_home_has : 1 ≤ per_queue → home_index per_queue (length homes) id ≡ None → IsInHome (histories_of homes) e → ⊥
   no_home_has some none x =
       let t = get_mapped home_history homes x.0 x.2 x.4.in_homes in
-      place_none per_queue homes id some numbered none x.0 t.0 t.1 (sym (ap (λ (y : HomeHistory). y.home) t.2) ∙ home_is x.2 x.3 x.6)
+      index_none per_queue homes id some numbered none x.0 t.0 t.1 (sym (ap (λ (y : HomeHistory). y.home) t.2) ∙ home_is x.2 x.3 x.6)
 
   module _ (place : ℕ) (home : HistoryValue) (least : 1 ≤ id.queue) (found : home_index per_queue (length homes) id ≡ Some place) (read : home ≡ slice_index_or homes place home) where
     it_stands : slice_get homes place ≡ Some home
-    it_stands = slice_get_read homes (length homes) place home refl (place_found per_queue (length homes) id place least found).0 read
+    it_stands = slice_get_read homes (length homes) place home refl (index_found per_queue (length homes) id place least found).0 read
 
     its_id : id ≡ home.site.home
     its_id = home_at per_queue (length homes) id place least found ∙ sym (numbered place home it_stands)

@@ -19,8 +19,8 @@ place_is per_queue count id least below within =
     (within, same_id (home_id per_queue ((id.queue - 1) * per_queue + id.home)) id (omega (arith, div-mul-add (id.queue - 1) per_queue id.home below, least)) (mod-mul-add (id.queue - 1) per_queue id.home below))
 
 -- a place that is found has the home
-pub place_found : (per_queue count : ℕ) (id : HomeId) (index : ℕ) → 1 ≤ id.queue → home_index per_queue count id ≡ Some index → (index < count) × (home_id per_queue index ≡ id)
-place_found per_queue count id index least h =
+pub index_found : (per_queue count : ℕ) (id : HomeId) (index : ℕ) → 1 ≤ id.queue → home_index per_queue count id ≡ Some index → (index < count) × (home_id per_queue index ≡ id)
+index_found per_queue count id index least h =
     let at = (id.queue - 1) * per_queue + id.home in
     elim (nat_lt id.home per_queue) as (λ v. nat_lt id.home per_queue ≡ v → (if v && nat_lt at count then Some at else None) ≡ Some index → (index < count) × (home_id per_queue index ≡ id)) [
       | true ↦ (λ e. elim (nat_lt at count) as (λ w. nat_lt at count ≡ w → (if w then Some at else None) ≡ Some index → (index < count) × (home_id per_queue index ≡ id)) [
@@ -44,7 +44,7 @@ within : (homes : List HistoryValue) (at : ℕ) (h : HistoryValue) → slice_get
 within homes at h in_list = slice_get_within homes at h in_list
 
 -- and no other place is
-pub place_none : (per_queue : ℕ) (homes : List HistoryValue) (id : HomeId) → 1 ≤ per_queue → IsNumbered per_queue homes → home_index per_queue (length homes) id ≡ None → (at : ℕ) (h : HistoryValue) → slice_get homes at ≡ Some h → h.site.home ≡ id → ⊥
-place_none per_queue homes id some numbered none at h in_list is =
+pub index_none : (per_queue : ℕ) (homes : List HistoryValue) (id : HomeId) → 1 ≤ per_queue → IsNumbered per_queue homes → home_index per_queue (length homes) id ≡ None → (at : ℕ) (h : HistoryValue) → slice_get homes at ≡ Some h → h.site.home ≡ id → ⊥
+index_none per_queue homes id some numbered none at h in_list is =
     let index : home_index per_queue (length homes) id ≡ Some at = subst (λ (x : HomeId). home_index per_queue (length homes) x ≡ Some at) (sym (numbered at h in_list) ∙ is) (place_back per_queue (length homes) at some (within homes at h in_list)) in
     cc

@@ -1,13 +1,11 @@
 -- What may be wrong with histories and records, and what each fault says.
-use Rattle.std.specs.Prelude.{◌≡◌, ◌≢◌, ◌⊎◌, ℕ, ◌<◌, true, false, List, slice_get, Some}
-use Rattle.sq_base.specs.declared.ids.HomeId.{HomeId}
-use Rattle.sq_model.specs.declared.place.Component.TheVariants as component
+use Rattle.std.specs.Prelude.{◌≡◌, ◌≢◌, ◌⊎◌, ℕ, ◌<◌, true, List, slice_get, Some}
 use Rattle.sq_model.specs.Ledgers.{LedgerEvent, is_own}
-use Rattle.sq_model.specs.Passages.{is_alone, is_leave}
+use Rattle.sq_model.specs.Passages.{is_leave}
 use Rattle.sq_model.specs.Replays.{HomeEvent}
 use Rattle.sq_model.specs.Systems.{DirectoryEvent}
 use Rattle.sq_model.specs.RecordValues.{place_of_record, Journal}
-use Rattle.sq_model.specs.Matches.{HomeHistory, IsHomeEvent, HasItsEvent, IsRecorded, IsOfDirectory, IsOfLedger, IsOfHome, InLedger as IsInLedger, IsUnmatched, is_of_item}
+use Rattle.sq_model.specs.Matches.{HomeHistory, IsHomeEvent, HasItsEvent, IsRecorded, IsOfDirectory, IsOfLedger, IsOfHome, IsUnmatched, is_of_item}
 use Rattle.sq_audit.specs.declared.check.AuditFault.{AuditFault}
 use Rattle.sq_audit.specs.declared.check.AuditFault.TheVariants.{NoMemory, RecordMissing, RecordTwice, LeaveUnmatched, EnterUnmatched}
 
@@ -63,7 +61,3 @@ IsWrong directory ledger homes journals (EnterUnmatched stamp) = IsUnmatched is_
 abbrev pub FaultHolds : List DirectoryEvent → List LedgerEvent → List HomeHistory → List Journal → AuditFault → Type 0
 FaultHolds directory ledger homes journals NoMemory = Unit {0}
 FaultHolds directory ledger homes journals fault = IsWrong directory ledger homes journals fault
-
--- so it is with an event of the home that it names
-abbrev pub HasPartner : List LedgerEvent → HomeEvent → Type 0
-HasPartner ledger e = is_alone e.call ≡ false → (home : HomeId) → e.component ≡ component.Home home → IsInLedger ledger home e

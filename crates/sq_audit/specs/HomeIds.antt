@@ -1,4 +1,4 @@
--- The homes of a service by their places: their ids and their histories.
+-- The homes of a service by their indices: their ids and their histories.
 use Rattle.std.specs.Prelude.{◌≡◌, ◌+◌, ◌/◌, ◌%◌, ℕ, List, map, slice_get, Some, ◌-◌, ◌*◌, ◌&&◌, nat_lt, if◌then◌else◌, Option, None}
 use Rattle.sq_base.specs.declared.ids.HomeId.{HomeId}
 use Rattle.sq_model.specs.Matches.{HomeHistory}
@@ -14,7 +14,7 @@ home_history h = record { home = h.site.home; events = all_events h }
 abbrev pub histories_of : List HistoryValue → List HomeHistory
 histories_of homes = map home_history homes
 
--- the n-th home has its queue and its number there by its place
+-- the n-th home has its queue and its number there by its index
 abbrev pub IsNumbered : ℕ → List HistoryValue → Type 0
 IsNumbered per_queue homes = (at : ℕ) (h : HistoryValue) → slice_get homes at ≡ Some h → h.site.home ≡ home_id per_queue at
 

@@ -12,7 +12,7 @@ system_now directory ledger homes = record { directory = directory.directory; le
 
 -- what that system was opened with
 abbrev pub opening_now : DirectoryHistory → LedgerHistory → List HistoryValue → Opening
-opening_now directory ledger homes = record { queues = directory.directory.places; transit = ledger.ledger.limit; sites = map (λ h. h.site) homes }
+opening_now directory ledger homes = record { queues = directory.directory.most; transit = ledger.ledger.limit; sites = map (λ h. h.site) homes }
 
 abbrev pub events_of : List HistoryValue → List (List HomeEvent)
 events_of homes = map all_events homes

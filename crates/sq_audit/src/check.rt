@@ -10,8 +10,8 @@ ghost use Rattle.sq_model.specs.Matches.{HasItsEvent, InHome, IsMatched, IsOfLed
 ghost use Rattle.sq_steps.specs.Records.{value_of_record};
 ghost use Rattle.sq_steps.specs.Journals.{RecordsRiseAt, AreDistinct};
 ghost use Rattle.sq_audit.specs.HomeIds.{histories_of, home_id};
-ghost use Rattle.sq_audit.specs.Faults.{FaultHolds, IsWrong, HasPartner};
-ghost use Rattle.sq_audit.specs.inside.Faults.{RecordFits, DirectoryFits, LedgerFits, HomeFits, LedgerHas, HomeHas, IsWithoutPartner, unmatched, IsRecordFault, IsAt, IsPartThere, IsRecordedAt, IsEventFault, EventFits, HasEventFault};
+ghost use Rattle.sq_audit.specs.Faults.{FaultHolds, IsWrong};
+ghost use Rattle.sq_audit.specs.inside.Faults.{RecordFits, DirectoryFits, LedgerFits, HomeFits, LedgerHas, HomeHas, IsWithoutPartner, unmatched, IsRecordFault, IsAt, IsPartThere, IsRecordedAt, IsEventFault, EventFits, HasEventFault, HasPartner};
 
 use crate::homes::{Homes, home_index};
 use crate::names::has_name;
@@ -49,7 +49,7 @@ pub enum AuditFault {
     /// A leave of this stamp that stands in the history of a home or of the ledger, and not in the other's.
     LeaveUnmatched(Stamp),
     /// What was done with an item at this stamp, and stands in the history of a home or of the ledger alone: it came in,
-    /// was sent back or was given up.
+    /// was sent back or was dropped.
     EnterUnmatched(Stamp),
 }
 
@@ -397,8 +397,8 @@ fn check_partners(
     ensures ok { OnOk result ((k : ℕ) (e : HomeEvent) → slice_get events.now.items k ≡ Some e → HasPartner ledger.now.history.events e) }
     ensures fault { IfErr result (λ f. (k : ℕ) × (e : HomeEvent) × (slice_get events.now.items k ≡ Some e) × IsWithoutPartner ledger.now.history.events e f) }
 {
-    for place in 0..events.len() {
-        check_partner(ledger, &events[place])?;
+    for at in 0..events.len() {
+        check_partner(ledger, &events[at])?;
     }
     Ok(())
 }

@@ -43,7 +43,7 @@ impl<'a> Run<'a> {
         self.events.len()
     }
 
-    /// The event at a place, from 0 upwards; none past the last.
+    /// The event at an index, from 0 upwards; none past the last.
     pub fn event(&self, at: usize) -> Option<Tagged<'a>>
         ensures { option_map tag_of result ≡ slice_get self.now at }
     {

@@ -26,7 +26,7 @@ pub fn put_field(out: &mut [u8], number: u64)
     }
 }
 
-/// Writes the digits of a number at a place.
+/// Writes the digits of a number at an index.
 pub fn put_at(out: &mut [u8], at: usize, width: usize, number: u64)
     requires { at + width ≤ length out.old }
     ensures written { take (at + width) out.new ≡ take at out.old ++ field width number }
@@ -35,7 +35,7 @@ pub fn put_at(out: &mut [u8], at: usize, width: usize, number: u64)
     put_field(&mut out[at..at + width], number);
 }
 
-/// Writes a `-` at a place.
+/// Writes a `-` at an index.
 pub fn put_dash(out: &mut [u8], at: usize)
     requires { at < length out.old }
     ensures written { take (at + 1) out.new ≡ take at out.old ++ 45 ∷ [] }

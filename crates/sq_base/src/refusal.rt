@@ -34,7 +34,7 @@ pub enum Refusal {
     BatchRequestTooLong = 21,
     ResourceNotFoundException = 22,
     UnsupportedOperation = 23,
-    /// No place for a further queue is left.
+    /// No further queue may be made.
     TableFull = 24,
 }
 

@@ -29,7 +29,7 @@ pub enum Turned {
     Turned,
     /// A message on its way back came in at its source.
     Back,
-    /// The source of a message on its way back is closed too: the message is given up.
+    /// The source of a message on its way back is closed too: the message is dropped.
     Dropped,
     /// There is no room for the message in transit or where it would come in, or that home is not opened; nothing moved.
     Full,

@@ -203,7 +203,7 @@ is_late m x none = elim (is_due m x) as (λ b. (if b then Some x else None) ≡ 
 is_early : (m : ℕ) (d x : Deadline) → if_due m (Some x) ≡ Some d → is_due m x ≡ true
 is_early m d x some = elim (is_due m x) as (λ b. (if b then Some x else None) ≡ Some d → b ≡ true) [ true ↦ (λ is. refl) | false ↦ (λ is. absurd cc) ] some
 
--- where one is due at a place, it is the one that stands there
+-- where one is due at an index, it is the one that stands there
 pub due_at : (m : ℕ) (d : Deadline) (ds : List Deadline) (index : ℕ) → if_due m (slice_get ds index) ≡ Some d → (slice_get ds index ≡ Some d) × (is_due m d ≡ true)
 due_at m d [] index h = absurd cc
 due_at m d (x ∷ ds) zero h =

@@ -67,7 +67,7 @@ counts_before key low (x ∷ left) d right h rises =
     let rest = counts_before key (key_of x + 1) left d right h rises.2 in
     omega (arith, rest, counts_more (is_below key) x left, counts_more (is_below key) x (left ++ d ∷ right))
 
--- ---- one comes in or goes out at a place to the right
+-- ---- one comes in or goes out at an index to the right
 
 next_right : (a b : ℕ) → a < b → b - a ≡ suc (b - a - 1)
 next_right a b lt = omega (arith, lt)

@@ -1,5 +1,5 @@
 -- Deadlines in a tree, from left to right. Own.
-use Rattle.std.specs.Prelude.{◌≡◌, ℕ, ◌+◌, ◌*◌, ◌<◌, Bool, true, ◌&&◌, ◌==◌, nat_le, List, [], ◌∷◌, ◌++◌, length}
+use Rattle.std.specs.Prelude.{ℕ, ◌+◌, ◌*◌, Bool, true, ◌&&◌, ◌==◌, nat_le, List, [], ◌∷◌, ◌++◌, length}
 use Rattle.sq_deadline.specs.declared.deadline.Deadline.{Deadline}
 use Rattle.sq_deadline.specs.declared.tree.Tree.{Tree}
 use Rattle.sq_deadline.specs.declared.tree.Tree.TheVariants.{Empty, Full'}
@@ -20,9 +20,3 @@ is_level left right = nat_le (weight left) (3 * weight right) && nat_le (weight 
 abbrev pub is_kept : Tree → Bool
 is_kept Empty = true
 is_kept (Full' p left deadline count right) = count == length (listed left) + 1 + length (listed right) && is_level left right && is_kept left && is_kept right
-
--- two trees may stand to either side of one node: each is kept, and they can be counted with it
-pub record AreSides (left right : Tree) : Type 0 where
-  pub left_kept : is_kept left ≡ true
-  pub right_kept : is_kept right ≡ true
-  pub fits : length (listed left) + length (listed right) < 18446744073709551615

@@ -71,10 +71,10 @@ impl DeadlineIndex {
             return Ok(());
         }
         let missing = more - self.spare.len();
-        let Some(places) = missing.checked_add(self.tree.len()) else {
+        let Some(needed) = missing.checked_add(self.tree.len()) else {
             return Err(Refusal::NoMemory);
         };
-        self.spare.try_reserve(places)?;
+        self.spare.try_reserve(needed)?;
         for _ in 0..missing {
             let _ = self.spare.push(Box::new(self.alloc, Node::blank())?);
         }
@@ -136,7 +136,7 @@ impl DeadlineIndex {
         self.nth_due(0, moment)
     }
 
-    /// The one at a place, the least first.
+    /// The one at an index, the least first.
     pub fn nth(&self, index: usize) -> Option<&Deadline>
         ensures nth { option_map (λ deadline. deadline.now) result ≡ slice_get self.now.deadlines index }
         ensures order { DeadlinesRise 0 self.now.deadlines }
@@ -144,7 +144,7 @@ impl DeadlineIndex {
         self.tree.get(index)
     }
 
-    /// The one at a place, the least first, where it is due at a moment or before it. What is due stands first, so the places
+    /// The one at an index, the least first, where it is due at a moment or before it. What is due stands first, so the indices
     /// from 0 on give all of it, up to the first that gives none.
     pub fn nth_due(&self, index: usize, moment: u64) -> Option<&Deadline>
         ensures due { option_map (λ deadline. deadline.now) result ≡ if_due moment (slice_get self.now.deadlines index) }
@@ -166,7 +166,7 @@ impl DeadlineIndex {
         self.nth_due(self.tree.count_below(deadline.key() + 1), moment)
     }
 
-    // Whether this deadline stands at a place.
+    // Whether this deadline stands at an index.
     fn is_there(&self, index: usize, deadline: &Deadline) -> bool
         ensures { result ≡ is_this deadline.now (slice_get self.now.deadlines index) }
     {

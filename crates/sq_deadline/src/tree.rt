@@ -1,10 +1,10 @@
-//! Deadlines in a tree, found by their places.
+//! Deadlines in a tree, found by their index.
 ghost use Rattle.std.specs.Prelude.{◌≡◌, ◌+◌, ◌*◌, ◌^◌, ◌++◌, ◌∷◌, ◌<◌, ◌≤◌, [], true, count_by, length, option_map, slice_get};
 ghost use Rattle.std.specs.List.{insert, remove};
 ghost use Rattle.std.specs.Vec.{vec_capacity, vec_len};
 ghost use Rattle.sq_deadline.specs.Deadlines.{DeadlinesRise};
-ghost use Rattle.sq_deadline.specs.Trees.{AreSides, is_kept, listed, weight};
-ghost use Rattle.sq_deadline.specs.inside.Trees.{IsLevel, IsNearlyLevel, IsTwiceOrMore, depth, is_below};
+ghost use Rattle.sq_deadline.specs.Trees.{is_kept, listed, weight};
+ghost use Rattle.sq_deadline.specs.inside.Trees.{IsLevel, IsNearlyLevel, IsTwiceOrMore, depth, is_below, AreSides};
 
 use crate::deadline::Deadline;
 use std::mem;
@@ -155,7 +155,7 @@ impl Tree {
         }
     }
 
-    /// The one at a place, the leftmost first.
+    /// The one at an index, the leftmost first.
     pub(crate) fn get(&self, index: usize) -> Option<&Deadline>
         requires { is_kept self.now ≡ true }
         ensures { option_map (λ deadline. deadline.now) result ≡ slice_get (listed self.now) index }
@@ -194,7 +194,7 @@ impl Tree {
         }
     }
 
-    /// Puts one in at a place, in the memory of a node.
+    /// Puts one in at an index, in the memory of a node.
     pub(crate) fn insert(&mut self, index: usize, deadline: Deadline, node: Box<Node>)
         requires kept { is_kept self.old ≡ true }
         requires within { index ≤ length (listed self.old) }
@@ -205,7 +205,7 @@ impl Tree {
         *self = mem::replace(self, Tree::Empty).with(index, deadline, node);
     }
 
-    /// Takes out the one at a place, and keeps the memory of a node.
+    /// Takes out the one at an index, and keeps the memory of a node.
     pub(crate) fn remove(&mut self, index: usize, spare: &mut Vec<Box<Node>>)
         requires kept { is_kept self.old ≡ true }
         requires within { index < length (listed self.old) }
@@ -257,7 +257,7 @@ impl Tree {
         }
     }
 
-    // These and one more at a place, in the memory of a node.
+    // These and one more at an index, in the memory of a node.
     #[tactic(auto, using(crate::proofs::TreeLaws::comes_in_right))]
     fn with(self, index: usize, deadline: Deadline, node: Box<Node>) -> Tree
         requires kept { is_kept self ≡ true }
@@ -280,7 +280,7 @@ impl Tree {
         }
     }
 
-    // These without the one at a place. The memory of a node is kept.
+    // These without the one at an index. The memory of a node is kept.
     #[tactic(auto, using(crate::proofs::TreeLaws::goes_out))]
     fn without(self, index: usize, spare: &mut Vec<Box<Node>>) -> Tree
         requires kept { is_kept self ≡ true }

@@ -18,22 +18,22 @@ use Rattle.sq_directory.specs.DirectoryHistory.{DirectoryHistory}
 use Rattle.sq_model.specs.RecordValues.{DirectoryRecordValue}
 use Rattle.sq_directory.specs.DirectoryHistories.{DirectoryRecords, IsDirectoryKept, IsListing, directory_event}
 
-creates_places : (d : Directory) (m : ℕ) (name : List ℕ) (given : Attributes) (found : Option Queue) (made : QueueSettings) (after : Directory) → Creates d m name given found made after → after.places ≡ d.places
-creates_places d m name given None made after h = ap (λ (x : Directory). x.places) h.2
-creates_places d m name given (Some queue) made after h = ap (λ (x : Directory). x.places) h.2
+creates_most : (d : Directory) (m : ℕ) (name : List ℕ) (given : Attributes) (found : Option Queue) (made : QueueSettings) (after : Directory) → Creates d m name given found made after → after.most ≡ d.most
+creates_most d m name given None made after h = ap (λ (x : Directory). x.most) h.2
+creates_most d m name given (Some queue) made after h = ap (λ (x : Directory). x.most) h.2
 
 -- a step makes no place
-step_places : (d : Directory) (m : ℕ) (call : DirectoryCall) (reply : DirectoryReply) (after : Directory) → DirectoryStep d m call reply after → after.places ≡ d.places
+step_most : (d : Directory) (m : ℕ) (call : DirectoryCall) (reply : DirectoryReply) (after : Directory) → DirectoryStep d m call reply after → after.most ≡ d.most
 unfolding DirectoryStep
-step_places d m (asks.Create name given) (answers.Made made) after h = creates_places d m name given (queue_of name d.queues) made after h
-step_places d m (asks.Set name given) (answers.Changed changed) after h = ap (λ (x : Directory). x.places) h.5
-step_places d m (asks.Remove name) (answers.Removed number) after h = ap (λ (x : Directory). x.places) h.3
-step_places d m (asks.PurgeTicket name) (answers.Ticket number) after h = ap (λ (x : Directory). x.places) h.4
-step_places d m (asks.Url name) (answers.Found number) after h = ap (λ (x : Directory). x.places) h.1
-step_places d m (asks.List prefix) (answers.Listed names) after h = ap (λ (x : Directory). x.places) h.1
-step_places d m (asks.Sources name) (answers.Sources names) after h = ap (λ (x : Directory). x.places) h.1
-step_places d m (asks.Read name) (answers.Read attributes) after h = ap (λ (x : Directory). x.places) h.1
-step_places d m call reply after h = elim h [ ]
+step_most d m (asks.Create name given) (answers.Made made) after h = creates_most d m name given (queue_of name d.queues) made after h
+step_most d m (asks.Set name given) (answers.Changed changed) after h = ap (λ (x : Directory). x.most) h.5
+step_most d m (asks.Remove name) (answers.Removed number) after h = ap (λ (x : Directory). x.most) h.3
+step_most d m (asks.PurgeTicket name) (answers.Ticket number) after h = ap (λ (x : Directory). x.most) h.4
+step_most d m (asks.Url name) (answers.Found number) after h = ap (λ (x : Directory). x.most) h.1
+step_most d m (asks.List prefix) (answers.Listed names) after h = ap (λ (x : Directory). x.most) h.1
+step_most d m (asks.Sources name) (answers.Sources names) after h = ap (λ (x : Directory). x.most) h.1
+step_most d m (asks.Read name) (answers.Read attributes) after h = ap (λ (x : Directory). x.most) h.1
+step_most d m call reply after h = elim h [ ]
 
 own_push : (es : List DirectoryEvent) (e : DirectoryEvent) → AreDirectory es → e.component ≡ part.Directory → AreDirectory (es ++ e ∷ [])
 own_push [] e own is = (is, tt)
@@ -43,11 +43,11 @@ pub directory_kept_more : (old new : DirectoryHistory) (by : Actor) (now : ℕ) 
     → IsDirectoryKept old → StampsRise start new.events new.last → DirectoryRecords old new by now call its_record → IsDirectoryKept new
 directory_kept_more old new by now call its_record kept rising more =
     let event = directory_event its_record.stamp by call its_record.reply in
-    let first : Directory = opening_directory old.directory.places in
+    let first : Directory = opening_directory old.directory.most in
     let goes : Replays DirectoryStep first (old.events ++ event ∷ []) new.directory = replays_push DirectoryStep first old.events old.directory event new.directory kept.replays more.step in
     record {
-      replays = rw more.events (subst (λ (places : ℕ). Replays DirectoryStep (opening_directory places) (old.events ++ event ∷ []) new.directory)
-          (sym (step_places old.directory its_record.stamp.moment call its_record.reply new.directory more.step)) goes);
+      replays = rw more.events (subst (λ (most : ℕ). Replays DirectoryStep (opening_directory most) (old.events ++ event ∷ []) new.directory)
+          (sym (step_most old.directory its_record.stamp.moment call its_record.reply new.directory more.step)) goes);
       rising = rising;
       own = rw more.events (own_push old.events event kept.own refl);
     }

@@ -155,7 +155,7 @@ found_made d name number kept h =
     let found = number_found name d.directory.queues number h in
     let stands = find_in (has_name name) d.directory.queues found.0 found.1 in
     let named : found.0.name ≡ name = (bytes_eq-Decides found.0.name name).0 stands.2 in
-    elim (queues_made (opening_directory d.directory.places) d.events d.directory stands.0 found.0 kept.replays stands.1) [
+    elim (queues_made (opening_directory d.directory.most) d.events d.directory stands.0 found.0 kept.replays stands.1) [
       | inl none ↦ absurd cc
       | inr made ↦ (
         made.0,

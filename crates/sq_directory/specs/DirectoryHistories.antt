@@ -70,6 +70,6 @@ IsDirectoryRefused old by now call e =
 
 -- True at all times: the directory is the replay of its events, whose stamps rise, and each event is its own.
 pub record IsDirectoryKept (h : DirectoryHistory) : Type 0 where
-  pub replays : Replays DirectoryStep (opening_directory h.directory.places) h.events h.directory
+  pub replays : Replays DirectoryStep (opening_directory h.directory.most) h.events h.directory
   pub rising : StampsRise start h.events h.last
   pub own : AreDirectory h.events

@@ -45,11 +45,11 @@ impl Directory {
     ghost use Rattle.sq_directory.specs.DirectoryHistories.{DirectoryRecords, IsDirectoryRefused, IsDirectoryKept};
 
     /// No queue, no event, and memory for so many queues. Refused where that is not found.
-    pub fn new(alloc: Global, places: u32) -> Result<Directory, AllocError>
-        ensures { IfOk result (λ directory. directory ≡ record { directory = opening_directory places; last = start; events = []; room = 0 }) }
+    pub fn new(alloc: Global, most: u32) -> Result<Directory, AllocError>
+        ensures { IfOk result (λ directory. directory ≡ record { directory = opening_directory most; last = start; events = []; room = 0 }) }
     {
         Ok(Directory {
-            queues: Queues::new(alloc, places)?,
+            queues: Queues::new(alloc, most)?,
             log: Log::new(alloc),
         })
     }

@@ -32,7 +32,7 @@ pub struct Queues {
     queues: NamedQueues,
     deleted: Vec<DeletedName>,
     made: u32,
-    places: u32,
+    most: u32,
 }
 
 impl Model for Queues {
@@ -41,29 +41,29 @@ impl Model for Queues {
 
     ghost Value = { Directory };
 
-    ghost view = { λ q. record { queues = q.queues.queues; deleted = q.deleted.items; made = q.made; places = q.places } };
+    ghost view = { λ q. record { queues = q.queues.queues; deleted = q.deleted.items; made = q.made; most = q.most } };
 
     ghost invariant = { λ q. record {
       counted : length q.queues.queues + length q.deleted.items ≡ q.made;
-      within : q.made ≤ q.places;
-      room : q.places ≤ q.made + q.queues.room;
-      room_deleted : q.places ≤ vec_capacity q.deleted;
+      within : q.made ≤ q.most;
+      room : q.most ≤ q.made + q.queues.room;
+      room_deleted : q.most ≤ vec_capacity q.deleted;
     } };
 }
 
 impl Queues {
     /// No queue, and memory for so many. Refused where that is not found.
-    pub fn new(alloc: Global, places: u32) -> Result<Queues, AllocError>
-        ensures { IfOk result (λ queues. queues ≡ opening_directory places) }
+    pub fn new(alloc: Global, most: u32) -> Result<Queues, AllocError>
+        ensures { IfOk result (λ queues. queues ≡ opening_directory most) }
     {
-        let queues = NamedQueues::new(alloc, places)?;
+        let queues = NamedQueues::new(alloc, most)?;
         let mut deleted = Vec::new(alloc);
-        deleted.try_reserve(places as usize)?;
+        deleted.try_reserve(most as usize)?;
         Ok(Queues {
             queues,
             deleted,
             made: 0,
-            places,
+            most,
         })
     }
 
@@ -192,7 +192,7 @@ impl Queues {
         if !may_have(&self.queues, name, &given.redrive) {
             return Err(Refusal::InvalidAttributeValue);
         }
-        if self.made >= self.places {
+        if self.made >= self.most {
             return Err(Refusal::TableFull);
         }
         let given = given.copy(alloc)?;

@@ -32,11 +32,11 @@ impl Model for NamedQueues {
 
 impl NamedQueues {
     /// No queue, and memory for so many.
-    pub fn new(alloc: Global, places: u32) -> Result<NamedQueues, AllocError>
+    pub fn new(alloc: Global, most: u32) -> Result<NamedQueues, AllocError>
         ensures empty { IfOk result (λ named. named.queues ≡ []) }
-        ensures room { IfOk result (λ named. places ≤ named.room) }
+        ensures room { IfOk result (λ named. most ≤ named.room) }
     {
-        let queues = IndexMap::with_capacity(alloc, places as usize)?;
+        let queues = IndexMap::with_capacity(alloc, most as usize)?;
         Ok(NamedQueues { queues })
     }
 

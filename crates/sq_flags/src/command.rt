@@ -2,7 +2,7 @@
 ghost use Rattle.std.specs.Prelude.{◌≡◌, IfOk, codes, false};
 ghost use Rattle.clap.specs.Words.{app_of, new_app, rule_of, with_rule, with_subcommand};
 ghost use Rattle.clap.specs.declared.Command.TheViews.{out-Command as fields_of};
-ghost use Rattle.sq_flags.specs.CommandLine.{number_rule, needed, with_number, with_needed, with_movers, with_options, script_app, serve_app, race_app, with_required, program_app};
+ghost use Rattle.sq_flags.specs.CommandLine.{number_rule, with_number, with_movers, with_options, script_app, serve_app, race_app, with_required, program_app};
 
 use crate::texts::{AUDIT, FLAGS, LISTEN, OptionTexts, RACE, SCRIPT, SEED, SERVE, Texts};
 use crate::values::{MOST_CALLS, MOST_CLIENTS, MOST_CONNECTIONS, MOST_MOVERS};
@@ -58,39 +58,6 @@ fn with_flag<'a>(command: Command<'a>, flag: Arg<'a>) -> Result<Command<'a>, All
     command.arg(flag)
 }
 
-// Adds a flag that takes a number to a command.
-fn with_number<'a>(
-    alloc: Global,
-    command: Command<'a>,
-    name: &'a str,
-    least: u64,
-    greatest: u64,
-    help: &'a str,
-) -> Result<Command<'a>, AllocError>
-    requires { (fields_of command).has_globals ≡ false }
-    ensures app { IfOk result (λ c. app_of c ≡ with_number name.entry.now least greatest (app_of command.entry)) }
-    ensures local { IfOk result (λ c. (fields_of c).has_globals ≡ false) }
-{
-    with_flag(command, number_flag(alloc, name, least, greatest, help))
-}
-
-// Adds a flag that takes a number, and must be given, to a command.
-fn with_needed<'a>(
-    alloc: Global,
-    command: Command<'a>,
-    name: &'a str,
-    least: u64,
-    greatest: u32,
-    help: &'a String,
-) -> Result<Command<'a>, AllocError>
-    requires { (fields_of command).has_globals ≡ false }
-    ensures app { IfOk result (λ c. app_of c ≡ with_needed name.entry.now least greatest (app_of command.entry)) }
-    ensures local { IfOk result (λ c. (fields_of c).has_globals ≡ false) }
-{
-    let flag = number_flag(alloc, name, least, greatest as u64, help.as_str()).required(true);
-    with_flag(command, flag)
-}
-
 // Adds a flag that takes a whole number from 1 to a bound of the options.
 fn with_bounded<'a>(
     alloc: Global,
@@ -103,27 +70,8 @@ fn with_bounded<'a>(
     ensures app { IfOk result (λ c. app_of c ≡ with_number name.entry.now 1 greatest (app_of command.entry)) }
     ensures local { IfOk result (λ c. (fields_of c).has_globals ≡ false) }
 {
-    with_number(alloc, command, name, 1, greatest as u64, help.as_str())
-}
-
-// Adds the flag of the threads that move messages.
-fn with_movers<'a>(
-    alloc: Global,
-    command: Command<'a>,
-    help: &'a String,
-) -> Result<Command<'a>, AllocError>
-    requires { (fields_of command).has_globals ≡ false }
-    ensures app { IfOk result (λ c. app_of c ≡ with_movers (app_of command.entry)) }
-    ensures local { IfOk result (λ c. (fields_of c).has_globals ≡ false) }
-{
-    with_number(
-        alloc,
-        command,
-        "movers",
-        0,
-        MOST_MOVERS as u64,
-        help.as_str(),
-    )
+    let flag = number_flag(alloc, name, 1, greatest as u64, help.as_str());
+    with_flag(command, flag)
 }
 
 // Adds the flags of the options.
@@ -142,7 +90,22 @@ fn with_options<'a>(
     let command = with_bounded(alloc, command, "rows", MOST_ROWS, &texts.rows)?;
     let command = with_bounded(alloc, command, "flights", MOST_FLIGHTS, &texts.flights)?;
     let command = with_bounded(alloc, command, "transit", MOST_TRANSIT, &texts.transit)?;
-    with_number(alloc, command, "seed", 0, u64::MAX, SEED)
+    with_flag(command, number_flag(alloc, "seed", 0, u64::MAX, SEED))
+}
+
+// Adds the flag of the threads that move messages, and those of the options.
+fn with_movers_and_options<'a>(
+    alloc: Global,
+    command: Command<'a>,
+    movers: &'a String,
+    options: &'a OptionTexts,
+) -> Result<Command<'a>, AllocError>
+    requires { (fields_of command).has_globals ≡ false }
+    ensures app { IfOk result (λ c. app_of c ≡ with_options (with_movers (app_of command.entry))) }
+    ensures local { IfOk result (λ c. (fields_of c).has_globals ≡ false) }
+{
+    let flag = number_flag(alloc, "movers", 0, MOST_MOVERS as u64, movers.as_str());
+    with_options(alloc, with_flag(command, flag)?, options)
 }
 
 fn script_command<'a>(alloc: Global, texts: &'a Texts) -> Result<Command<'a>, AllocError>
@@ -167,10 +130,10 @@ fn serve_command<'a>(alloc: Global, texts: &'a Texts) -> Result<Command<'a>, All
         .required(true)
         .help(LISTEN);
     let command = with_flag(named(alloc, "serve", SERVE), address)?;
-    let help = &texts.connections;
-    let command = with_needed(alloc, command, "connections", 1, MOST_CONNECTIONS, help)?;
-    let command = with_movers(alloc, command, &texts.movers)?;
-    with_options(alloc, command, &texts.options)
+    let most = MOST_CONNECTIONS as u64;
+    let connections = number_flag(alloc, "connections", 1, most, texts.connections.as_str());
+    let command = with_flag(command, connections.required(true))?;
+    with_movers_and_options(alloc, command, &texts.movers, &texts.options)
 }
 
 fn race_command<'a>(alloc: Global, texts: &'a Texts) -> Result<Command<'a>, AllocError>
@@ -178,10 +141,17 @@ fn race_command<'a>(alloc: Global, texts: &'a Texts) -> Result<Command<'a>, Allo
     ensures local { IfOk result (λ c. (fields_of c).has_globals ≡ false) }
 {
     let command = named(alloc, "race", RACE);
-    let command = with_needed(alloc, command, "clients", 1, MOST_CLIENTS, &texts.clients)?;
-    let command = with_needed(alloc, command, "calls", 0, MOST_CALLS, &texts.calls)?;
-    let command = with_movers(alloc, command, &texts.movers)?;
-    with_options(alloc, command, &texts.options)
+    let clients = number_flag(
+        alloc,
+        "clients",
+        1,
+        MOST_CLIENTS as u64,
+        texts.clients.as_str(),
+    );
+    let command = with_flag(command, clients.required(true))?;
+    let calls = number_flag(alloc, "calls", 0, MOST_CALLS as u64, texts.calls.as_str());
+    let command = with_flag(command, calls.required(true))?;
+    with_movers_and_options(alloc, command, &texts.movers, &texts.options)
 }
 
 // The program, before it has subcommands.

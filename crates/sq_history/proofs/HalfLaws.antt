@@ -8,8 +8,8 @@ use Rattle.sq_model.specs.declared.item.Item.{Item}
 use Rattle.sq_model.specs.declared.item.Reason.TheVariants.{DeadLetter}
 use Rattle.sq_model.specs.declared.place.Site.{Site}
 use Rattle.sq_model.specs.declared.replies.HomeReply.TheVariants.{Left}
-use Rattle.sq_model.specs.Homes.{Home, Unopened, Serving, Closed, HomeStep, IsFrom}
-use Rattle.sq_model.specs.Rows.{unexpired, is_dead}
+use Rattle.sq_model.specs.Homes.{Home, Unopened, Serving, Closed, HomeStep, IsFrom, unexpired_rows}
+use Rattle.sq_model.specs.Rows.{is_dead}
 use Rattle.sq_shard.specs.Moves.{IsDeadAt, GoesWithout, HasRow, target_at}
 use Rattle.sq_history.specs.Halves.{HasDead, IsLeaveRefused}
 use Rattle.sq_history.specs.inside.Halves.{IsDeadRefused}
@@ -19,13 +19,13 @@ use Rattle.sq_history.specs.HistoryValue.{HistoryValue}
 pub has_dead : (home : Home) (m : ℕ) (row : Row) → IsDeadAt home m row → HasDead home m
 has_dead Unopened m row dead = absurd dead
 has_dead Closed m row dead = absurd dead
-has_dead (Serving s v n rows) m row dead = list_any_at (is_dead s m) (unexpired s m rows) dead.there.0 row dead.there.1 (rw dead.there.2 dead.passes)
+has_dead (Serving its) m row dead = list_any_at (is_dead its.settings m) (unexpired_rows its m) dead.there.0 row dead.there.1 (rw dead.there.2 dead.passes)
 
 -- it is a row of the home
 pub has_row : (home : Home) (m : ℕ) (row : Row) → IsDeadAt home m row → HasRow home m row
 has_row Unopened m row dead = absurd dead
 has_row Closed m row dead = absurd dead
-has_row (Serving s v n rows) m row dead = dead.there
+has_row (Serving its) m row dead = dead.there
 
 -- why none leaves, with a history
 pub leave_refused : (old : HistoryValue) (m : ℕ) (number : Result ℕ Refusal) (e : Refusal) → IsDeadRefused old.site old.home m number e → IsLeaveRefused old m number e
@@ -38,4 +38,4 @@ pub left_at : (site : Site) (home : Home) (m : ℕ) (item : Item) (after : Home)
 unfolding HomeStep
 left_at site Unopened m item after from dead target going = absurd dead
 left_at site Closed m item after from dead target going = absurd dead
-left_at site (Serving s v n rows) m item after from dead target going = (from, sym target, dead.passes, going)
+left_at site (Serving its) m item after from dead target going = (from, sym target, dead.passes, going)

@@ -11,8 +11,8 @@ use Rattle.sq_model.specs.declared.place.Site.{Site}
 use Rattle.sq_model.specs.declared.replies.HomeReply.TheVariants.{Left, NoLiveRow, NoOrigin, SourceClosed}
 use Rattle.sq_model.specs.declared.task.NamedQueue.{NamedQueue}
 use Rattle.sq_model.specs.declared.task.Task.{Task}
-use Rattle.sq_model.specs.Homes.{Home, Unopened, Serving, Closed, HomeStep, IsFrom, home_refusal}
-use Rattle.sq_model.specs.Rows.{Takes, unexpired, is_live}
+use Rattle.sq_model.specs.Homes.{Home, Unopened, Serving, Closed, HomeStep, IsFrom, home_refusal, unexpired_rows}
+use Rattle.sq_model.specs.Rows.{Takes, is_live}
 use Rattle.sq_model.specs.Tasks.{destination_or, target_of}
 use Rattle.sq_shard.specs.Moves.{GoesWithout, HasRow, IsLiveAt, has_live_row, is_opened, unexpired_home}
 use Rattle.sq_history.specs.Halves.{IsServing}
@@ -21,37 +21,37 @@ pub never_opened : (site : Site) (home : Home) (m number : ℕ) → is_opened ho
 unfolding home_refusal
 never_opened site Unopened m number h = refl
 never_opened site Closed m number h = absurd cc
-never_opened site (Serving s v n rows) m number h = absurd cc
+never_opened site (Serving its) m number h = absurd cc
 
 pub opened : (site : Site) (home : Home) (m number : ℕ) → is_opened home ≡ true → home_refusal site home m (LeaveTask number) ≡ None
 unfolding home_refusal
 opened site Unopened m number h = absurd cc
 opened site Closed m number h = refl
-opened site (Serving s v n rows) m number h = refl
+opened site (Serving its) m number h = refl
 
 -- one that was opened and is not closed serves
 pub serves : (home : Home) → is_opened home ≡ true → (home ≡ Closed → ⊥) → IsServing home
 serves Unopened h other = absurd cc
 serves Closed h other = absurd (other refl)
-serves (Serving s v n rows) h other = tt
+serves (Serving its) h other = tt
 
 pub serving : (site : Site) (home : Home) (m number : ℕ) → IsServing home → home_refusal site home m (LeaveTask number) ≡ None
 unfolding home_refusal
 serving site Unopened m number h = absurd h
 serving site Closed m number h = absurd h
-serving site (Serving s v n rows) m number h = refl
+serving site (Serving its) m number h = refl
 
 -- ---- a message that is live
 
 pub is_there : (home : Home) (m : ℕ) (row : Row) → IsLiveAt home m row → HasRow home m row
 is_there Unopened m row live = absurd live
 is_there Closed m row live = absurd live
-is_there (Serving s v n rows) m row live = live.there
+is_there (Serving its) m row live = live.there
 
 pub one_live : (home : Home) (m : ℕ) (row : Row) → IsLiveAt home m row → has_live_row home m ≡ true
 one_live Unopened m row live = absurd live
 one_live Closed m row live = absurd live
-one_live (Serving s v n rows) m row live = list_any_at (is_live s m) (unexpired s m rows) live.there.0 row live.there.1 (rw live.there.2 live.passes)
+one_live (Serving its) m row live = list_any_at (is_live its.settings m) (unexpired_rows its m) live.there.0 row live.there.1 (rw live.there.2 live.passes)
 
 -- a row that is there could be taken out
 record Taken (row : Row) (rows : List Row) : Type 0 where
@@ -80,15 +80,15 @@ pub none_at : (site : Site) (home : Home) (m number : ℕ) (after : Home) → Is
 unfolding HomeStep
 none_at site Unopened m number after h none left = absurd h
 none_at site Closed m number after h none left = absurd h
-none_at site (Serving s v n rows) m number after h none left = (none, left)
+none_at site (Serving its) m number after h none left = (none, left)
 
 pub no_origin_at : (site : Site) (home : Home) (m number : ℕ) (task : Task) (row : Row) (after : Home) → IsLiveAt home m row → target_of task row ≡ None → after ≡ unexpired_home home m
     → HomeStep site home m (LeaveTask number) (NoOrigin row.serial) after
 unfolding HomeStep
 no_origin_at site Unopened m number task row after live none left = absurd live
 no_origin_at site Closed m number task row after live none left = absurd live
-no_origin_at site (Serving s v n rows) m number task row after live none left =
-    let taken = taken_at (unexpired s m rows) row live.there.0 live.there.1 live.there.2 in
+no_origin_at site (Serving its) m number task row after live none left =
+    let taken = taken_at (unexpired_rows its m) row live.there.0 live.there.1 live.there.2 in
     ((row, taken.rest, taken.takes, live.passes, refl, no_queue task.destination row.origin none), left)
 
 -- the same of a serial that is its
@@ -101,4 +101,4 @@ pub left_for : (site : Site) (home : Home) (m number : ℕ) (item : Item) (after
 unfolding HomeStep
 left_for site Unopened m number item after from live going = absurd live
 left_for site Closed m number item after from live going = absurd live
-left_for site (Serving s v n rows) m number item after from live going = (from, live.passes, going)
+left_for site (Serving its) m number item after from live going = (from, live.passes, going)

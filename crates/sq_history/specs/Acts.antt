@@ -2,14 +2,10 @@
 use Rattle.std.specs.Prelude.{◌≡◌, ℕ, None}
 use Rattle.sq_model.specs.declared.calls.HomeCall.{HomeCall}
 use Rattle.sq_model.specs.declared.place.Site.{Site}
-use Rattle.sq_model.specs.declared.replies.HomeReply.{HomeReply}
-use Rattle.sq_model.specs.declared.replies.HomeReply.TheVariants as reply
 use Rattle.sq_model.specs.declared.calls.HomeCall.TheVariants as call
 use Rattle.sq_model.specs.Homes.{Home, home_refusal}
 use Rattle.sq_shard.specs.Looks.{GivesAny}
 use Rattle.sq_history.specs.declared.act.HomeAct.{HomeAct}
-use Rattle.sq_history.specs.declared.act.SmallReply.{SmallReply}
-use Rattle.sq_history.specs.declared.act.SmallReply.TheVariants as small
 use Rattle.sq_history.specs.declared.act.HomeAct.TheVariants.{Configure, Close, Send, Look, Delete, Change, Purge, Count}
 
 abbrev pub call_of : HomeAct → HomeCall
@@ -21,16 +17,6 @@ call_of (Delete receipt) = call.Delete receipt
 call_of (Change receipt timeout) = call.Change receipt timeout
 call_of Purge = call.Purge
 call_of Count = call.Count
-
--- what is told by a reply that holds little
-abbrev pub small_reply : SmallReply → HomeReply
-small_reply small.Done = reply.Done
-small_reply (small.Sent sent) = reply.Sent sent
-small_reply (small.Counted counts) = reply.Counted counts
-small_reply small.NoLiveRow = reply.NoLiveRow
-small_reply (small.NoOrigin serial) = reply.NoOrigin serial
-small_reply small.SourceClosed = reply.SourceClosed
-small_reply (small.Entered entered) = reply.Entered entered
 
 -- a copy of the act takes memory
 abbrev pub HasBytes : HomeAct → Type 0

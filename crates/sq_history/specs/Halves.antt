@@ -13,14 +13,13 @@ use Rattle.sq_model.specs.declared.place.Site.{Site}
 use Rattle.sq_model.specs.declared.replies.HomeReply.{HomeReply}
 use Rattle.sq_model.specs.declared.replies.HomeReply.TheVariants.{Left, NoLiveRow, NoOrigin, SourceClosed}
 use Rattle.sq_model.specs.declared.task.Task.{Task}
-use Rattle.sq_model.specs.Homes.{Home, Unopened, Serving, Closed, home_refusal}
-use Rattle.sq_model.specs.Rows.{unexpired, is_dead}
+use Rattle.sq_model.specs.Homes.{Home, Unopened, Serving, Closed, home_refusal, unexpired_rows}
+use Rattle.sq_model.specs.Rows.{is_dead}
 use Rattle.sq_model.specs.Tasks.{target_of}
 pub use Rattle.sq_shard.specs.Moves.{IsLiveAt, has_live_row, item_refusal}
 use Rattle.sq_history.specs.HistoryValue.{HistoryValue}
 use Rattle.sq_history.specs.Histories.{RecordsShared}
 use Rattle.sq_history.specs.declared.shared.HomeHalf.{HomeHalf}
-use Rattle.sq_history.specs.declared.task_leave.Found.TheVariants as found
 use Rattle.sq_task.specs.declared.leave.TaskLeave.{TaskLeave}
 
 -- One event was added, of this call. What is answered, and what the ledger is told, is what the record says.
@@ -32,7 +31,7 @@ pub record DoesHalf (old new : HistoryValue) (by : Actor) (stamp : StampValue) (
 
 -- a dead message is there
 abbrev pub HasDead : Home → ℕ → Type 0
-HasDead (Serving s v n rows) m = list_any (is_dead s m) (unexpired s m rows) ≡ true
+HasDead (Serving its) m = list_any (is_dead its.settings m) (unexpired_rows its m) ≡ true
 HasDead Unopened m = ⊥
 HasDead Closed m = ⊥
 
@@ -65,7 +64,7 @@ IsTaskAnswer asked task SourceClosed left = left ≡ None
 IsTaskAnswer asked task reply left = ⊥
 
 abbrev pub IsServing : Home → Type 0
-IsServing (Serving s v n rows) = Unit {0}
+IsServing (Serving its) = Unit {0}
 IsServing Unopened = ⊥
 IsServing Closed = ⊥
 

@@ -1,3 +1,4 @@
 -- What only the bodies of this crate need: no contract that others see rests on it.
+pub mod Acts
 pub mod Halves
 pub mod Histories

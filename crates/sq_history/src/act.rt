@@ -6,7 +6,8 @@ ghost use Rattle.sq_model.specs.declared.calls.HomeCall.TheVariants.{Configure a
 ghost use Rattle.sq_model.specs.Passages.{is_alone};
 ghost use Rattle.sq_shard.specs.Looks.{look_reply, GivesAny, GivesRows};
 ghost use Rattle.sq_shard.specs.Moves.{KeepsRowRoom};
-ghost use Rattle.sq_history.specs.Acts.{call_of, small_reply, CopiesBytes, HasBytes, HoldsAny};
+ghost use Rattle.sq_history.specs.Acts.{call_of, CopiesBytes, HasBytes, HoldsAny};
+ghost use Rattle.sq_history.specs.inside.Acts.{small_reply};
 
 use crate::sent_body::SentBody;
 use sq_base::ids::Serial;

@@ -35,6 +35,15 @@ use sq_store::store::Store;
 use sq_task::leave::TaskLeave;
 use std::alloc::Global;
 
+/// A step that has its stamp: who does it, by which name of the home's queue, if any, and where its memory comes from.
+#[derive(Clone, Copy)]
+pub struct StampedStep {
+    pub alloc: Global,
+    pub by: Actor,
+    pub stamp: Stamp,
+    pub name: Option<QueueName>,
+}
+
 /// What a home's half of a step gives.
 #[derive(Drop)]
 pub struct HomeHalf {
@@ -65,27 +74,31 @@ pub(crate) fn answer_left(alloc: Global, item: &Item) -> Result<(Answer, HomeRep
 // Adds the event of a half that was done, and gives what that half gives.
 fn note(
     log: &mut Log<HomeCall, HomeReply>,
-    by: &Actor,
-    stamp: Stamp,
+    step: &StampedStep,
     home: &HomeId,
-    name: Option<QueueName>,
     calls: (HomeCall, HomeCall, HomeCall),
     answers: (Answer, HomeReply),
 ) -> HomeHalf
     requires ready { IsReady log.old.room log.old.reserved }
-    requires above { Below log.old.last stamp }
-    ensures last { log.new.last ≡ stamp }
-    ensures events { log.new.events ≡ log.old.events ++ new_event stamp by.now home.now calls.0 answers.0 ∷ [] }
+    requires above { Below log.old.last step.now.stamp }
+    ensures last { log.new.last ≡ step.now.stamp }
+    ensures events { log.new.events ≡ log.old.events ++ new_event step.now.stamp step.now.by home.now calls.0 answers.0 ∷ [] }
     ensures rising { StampsRise start log.new.events log.new.last }
     ensures room { KeepsRoom log.old.room log.new.room }
-    ensures its_record { result.its_record ≡ new_record stamp by.now home.now (length log.old.events) calls.1 answers.0 name }
+    ensures its_record { result.its_record ≡ new_record step.now.stamp step.now.by home.now (length log.old.events) calls.1 answers.0 step.now.name }
     ensures answered { result.answered ≡ answers.0 }
     ensures for_ledger { result.for_ledger ≡ (calls.2, answers.1) }
 {
     let (kept_call, recorded_call, ledger_call) = calls;
     let (answer, ledger_reply) = answers;
+    let StampedStep {
+        by,
+        stamp,
+        name,
+        ..
+    } = *step;
     let calls = (kept_call, recorded_call);
-    let (answered, its_record) = add_step(log, by, stamp, home, name, calls, answer);
+    let (answered, its_record) = add_step(log, &by, stamp, home, name, calls, answer);
     HomeHalf {
         answered,
         for_ledger: (ledger_call, ledger_reply),
@@ -109,24 +122,22 @@ impl<S: Store> Recorded<S> {
     #[tactic(auto, using(crate::proofs::HalfLaws::leave_refused))]
     pub fn leave_dead(
         &mut self,
-        alloc: Global,
-        by: &Actor,
-        stamp: Stamp,
-        name: Option<QueueName>,
+        step: &StampedStep,
         number: Result<ItemNo, Refusal>,
     ) -> Result<Option<(HomeHalf, Item)>, Refusal>
-        requires above_last { Below self.old.last stamp }
-        requires above_seen { Below by.now.seen stamp }
-        ensures leaves { IfOk result (λ left. IfSome left (λ l. DoesHalf self.old self.new by.now stamp name LeaveDead l.0)) }
+        requires above_last { Below self.old.last step.now.stamp }
+        requires above_seen { Below step.now.by.seen step.now.stamp }
+        ensures leaves { IfOk result (λ left. IfSome left (λ l. DoesHalf self.old self.new step.now.by step.now.stamp step.now.name LeaveDead l.0)) }
         ensures item { IfOk result (λ left. IfSome left (λ l. l.0.its_record.reply ≡ Left l.1)) }
         ensures from { IfOk result (λ left. IfSome left (λ l. IsFrom self.old.site.home DeadLetter l.1)) }
         ensures number { IfOk result (λ left. IfSome left (λ l. number ≡ Ok l.1.number)) }
-        ensures none { IfOk result (λ left. IfNone left (IsIdle self.old.home stamp.moment LeaveDead × (self.new ≡ self.old))) }
-        ensures refusal { IfErr result (IsLeaveRefused self.old stamp.moment number) }
+        ensures none { IfOk result (λ left. IfNone left (IsIdle self.old.home step.now.stamp.moment LeaveDead × (self.new ≡ self.old))) }
+        ensures refusal { IfErr result (IsLeaveRefused self.old step.now.stamp.moment number) }
         ensures err { OnErr result (self.new ≡ self.old) }
     {
         self.log.reserve()?;
-        let Some((item, answers)) = leave_dead(alloc, &mut self.shard, stamp.moment, number)? else {
+        let moment = step.stamp.moment;
+        let Some((item, answers)) = leave_dead(step.alloc, &mut self.shard, moment, number)? else {
             return Ok(None);
         };
         let home = self.shard.site().home;
@@ -135,8 +146,7 @@ impl<S: Store> Recorded<S> {
             HomeCall::LeaveDead,
             HomeCall::LeaveDead,
         );
-        let half = note(&mut self.log, by, stamp, &home, name, calls, answers);
-        Ok(Some((half, item)))
+        Ok(Some((note(&mut self.log, step, &home, calls, answers), item)))
     }
 
     /// A live message, any of them, leaves for a move task, at a stamp that was drawn: it is told with the item that it
@@ -147,22 +157,20 @@ impl<S: Store> Recorded<S> {
     /// (never opened), then as the ledger says of the task, and where a message is live as it says of the next item.
     pub fn leave_task(
         &mut self,
-        alloc: Global,
-        by: &Actor,
-        stamp: Stamp,
-        name: Option<QueueName>,
+        step: &StampedStep,
         asked: &TaskLeave,
     ) -> Result<Option<(HomeHalf, Option<Item>)>, Refusal>
-        requires above_last { Below self.old.last stamp }
-        requires above_seen { Below by.now.seen stamp }
-        ensures recorded { IfOk result (λ told. IfSome told (λ t. DoesHalf self.old self.new by.now stamp name (LeaveTask asked.now.number) t.0)) }
+        requires above_last { Below self.old.last step.now.stamp }
+        requires above_seen { Below step.now.by.seen step.now.stamp }
+        ensures recorded { IfOk result (λ told. IfSome told (λ t. DoesHalf self.old self.new step.now.by step.now.stamp step.now.name (LeaveTask asked.now.number) t.0)) }
         ensures answer { IfOk result (λ told. IfSome told (λ t. (task : Taking) × IsTaker asked.now task × IsTaskAnswer asked.now task t.0.its_record.reply t.1)) }
         ensures throttled { IfOk result (λ told. IfNone told (IsThrottled self.old.home asked.now × (self.new ≡ self.old))) }
-        ensures refusal { IfErr result (λ e. ((e ≡ Refusal.NoMemory) × (self.old.room ≡ 0)) ⊎ IsTaskRefused self.old.site self.old.home stamp.moment asked.now e) }
+        ensures refusal { IfErr result (λ e. ((e ≡ Refusal.NoMemory) × (self.old.room ≡ 0)) ⊎ IsTaskRefused self.old.site self.old.home step.now.stamp.moment asked.now e) }
         ensures err { OnErr result (self.new ≡ self.old) }
     {
         self.log.reserve()?;
-        let Some(told) = leave_for_task(alloc, &mut self.shard, stamp.moment, asked)? else {
+        let moment = step.stamp.moment;
+        let Some(told) = leave_for_task(step.alloc, &mut self.shard, moment, asked)? else {
             return Ok(None);
         };
         let TaskAnswer {
@@ -177,34 +185,36 @@ impl<S: Store> Recorded<S> {
             HomeCall::LeaveTask(asked.number),
         );
         let answers = (answer, for_ledger);
-        let done = note(&mut self.log, by, stamp, &home, name, calls, answers);
-        Ok(Some((done, left)))
+        Ok(Some((note(&mut self.log, step, &home, calls, answers), left)))
     }
 
     /// This is done with the item here, at a stamp that was drawn.
     /// Refused as NoMemory (the history has room for none, or the message is copied). Where its row comes in, as
-    /// QueueDoesNotExist (not serving), Worn (no serial is left), OverLimit (full). Where it is sent back or given up, as
+    /// QueueDoesNotExist (not serving), Worn (no serial is left), OverLimit (full). Where it is sent back or dropped, as
     /// QueueDoesNotExist (never opened), UnsupportedOperation (serving). Then as UnsupportedOperation (no item, or not one
     /// for this home).
     pub fn item_step(
         &mut self,
-        alloc: Global,
-        by: &Actor,
-        stamp: Stamp,
-        name: Option<QueueName>,
+        step: &StampedStep,
         act: ItemAct,
         item: Option<&Item>,
     ) -> Result<HomeHalf, Refusal>
-        requires above_last { Below self.old.last stamp }
-        requires above_seen { Below by.now.seen stamp }
-        ensures does { IfOk result (λ half. (it : Moved) × (option_map (λ i. i.now) item.entry ≡ Some it) × DoesHalf self.old self.new by.now stamp name (call_with act it) half) }
-        ensures refusal { IfErr result (IsItemRefused self.old (item_refusal act self.old.site self.old.home stamp.moment (option_map (λ i. i.now) item.entry))) }
+        requires above_last { Below self.old.last step.now.stamp }
+        requires above_seen { Below step.now.by.seen step.now.stamp }
+        ensures does { IfOk result (λ half. (it : Moved) × (option_map (λ i. i.now) item.entry ≡ Some it) × DoesHalf self.old self.new step.now.by step.now.stamp step.now.name (call_with act it) half) }
+        ensures refusal { IfErr result (IsItemRefused self.old (item_refusal act self.old.site self.old.home step.now.stamp.moment (option_map (λ i. i.now) item.entry))) }
         ensures err { OnErr result (self.new ≡ self.old) }
     {
         self.log.reserve()?;
-        let (_, calls, answers) = act_on(alloc, &mut self.shard, act, stamp.moment, item)?;
+        let (_, calls, answers) = act_on(
+            step.alloc,
+            &mut self.shard,
+            act,
+            step.stamp.moment,
+            item,
+        )?;
         let home = self.shard.site().home;
-        Ok(note(&mut self.log, by, stamp, &home, name, calls, answers))
+        Ok(note(&mut self.log, step, &home, calls, answers))
     }
 }
 
@@ -270,7 +280,7 @@ fn call_with(act: ItemAct, item: HeldItem) -> HomeCall
         ItemAct::Enter => HomeCall::Enter(item),
         ItemAct::TurnBack => HomeCall::TurnBack(item),
         ItemAct::GiveBack => HomeCall::GiveBack(item),
-        ItemAct::GiveUp => HomeCall::GiveUp(item),
+        ItemAct::Drop => HomeCall::Drop(item),
     }
 }
 

@@ -7,7 +7,7 @@ ghost use Rattle.sq_model.specs.declared.task.Task.{Task as Taking};
 ghost use Rattle.sq_model.specs.Homes.{HomeStep, IsFrom};
 ghost use Rattle.sq_model.specs.Tasks.{target_of};
 ghost use Rattle.sq_shard.specs.Moves.{IsLiveAt, is_opened};
-ghost use Rattle.sq_history.specs.Acts.{small_reply};
+ghost use Rattle.sq_history.specs.inside.Acts.{small_reply};
 ghost use Rattle.sq_history.specs.Halves.{IsServing, IsTaker, IsTaskAnswer, IsTaskRefused, IsThrottled};
 ghost use Rattle.sq_history.specs.inside.Halves.{IsFound};
 

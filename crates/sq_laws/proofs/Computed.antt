@@ -4,7 +4,6 @@ use Rattle.std.specs.Prelude.{◌&&◌, nat_le, nat_lt, count_by, filter, find, 
 use Rattle.std.specs.List.{list_any}
 use Rattle.std.proofs.lemmas.Grind.{common_steps}
 use Rattle.sq_base.specs.declared.row.Row.{Row}
-use Rattle.sq_base.specs.declared.settings.Settings.{Settings}
 use Rattle.sq_model.specs.declared.calls.HomeCall.{HomeCall}
 use Rattle.sq_model.specs.declared.calls.HomeCall.TheVariants as asks
 use Rattle.sq_model.specs.declared.directory.Attributes.{Attributes}
@@ -29,12 +28,12 @@ use Rattle.sq_model.specs.declared.task.FailureReason.TheVariants as because
 use Rattle.sq_model.specs.declared.task.NamedQueue.{NamedQueue}
 use Rattle.sq_model.specs.declared.task.Task.{Task}
 use Rattle.sq_model.specs.Directories.{Directory, DirectoryStep, agrees, attributes_at, changed_queue, deleted_recently, may_have, new_queue, purged_recently, queue_of, queues_without, settings_at}
-use Rattle.sq_model.specs.Homes.{Closed, HasPlace, Home, HomeStep, IsFrom, Serving, Unopened, counts_of, dead_target, entered_row, fresh_id, last_serial, may_enter, may_return, returned_row, sent_row, slots}
+use Rattle.sq_model.specs.Homes.{Closed, Contents, MayHoldOneMore, Home, HomeStep, IsFrom, Serving, Unopened, counts_of, dead_target, entered_row, fresh_id, last_serial, may_enter, may_return, returned_row, sent_row, slots}
 use Rattle.sq_model.specs.Ledgers.{HasRoom, Ledger, LedgerStep, MayTake, changed_for, changed_task, in_transit, is_active_at, is_of_source, is_own, item_of, items_without, last_number, most_active, task_of, tasks_of, turned_if}
 use Rattle.sq_model.specs.Replays.{HomeEvent}
 use Rattle.sq_model.specs.Rows.{RisesFrom, Takes, is_dead, is_free, is_live, ms, received, received_if, room, serials_of, unexpired, without}
 use Rattle.sq_model.specs.Systems.{HomeAt, IsRun, IsStep, LedgerGoes, MomentsRise, OfDirectory, OfHome, OfLedger, RunFrom, System, Tag, is_alone, opening, stamp_of, Opening}
-use Rattle.sq_model.specs.Tasks.{cancelled_as, destination_or, failed_as, finished_as, is_active, is_running, may_leave, new_task, target_of, with_back, with_given_up, with_left, with_moved, with_status}
+use Rattle.sq_model.specs.Tasks.{cancelled_as, destination_or, failed_as, finished_as, is_active, is_running, may_leave, new_task, target_of, with_back, with_dropped, with_left, with_moved, with_status}
 use Rattle.sq_model.proofs.RowLaws.{first_is_look, rises_unexpired}
 use Rattle.sq_laws.proofs.LedgerLists.{some_same}
 use Rattle.sq_laws.proofs.SharedLaws.{and_both, by_its_number, is_false}
@@ -44,11 +43,11 @@ use Rattle.sq_laws.proofs.SharedLaws.{and_both, by_its_number, is_false}
 under : (a b : ℕ) → nat_lt a b ≡ true → a < b
 under a b h = grind (arith, common_steps)
 
-abbrev pub is_placed : Limits → ℕ → ℕ → List Row → Bool
-is_placed l next slot rows = nat_lt next last_serial && (nat_lt (length rows) slots && (nat_lt (length rows) l.rows && is_free slot rows))
+abbrev pub can_hold : Limits → ℕ → ℕ → List Row → Bool
+can_hold l next slot rows = nat_lt next last_serial && (nat_lt (length rows) slots && (nat_lt (length rows) l.rows && is_free slot rows))
 
-placed : (l : Limits) (next slot : ℕ) (rows : List Row) → is_placed l next slot rows ≡ true → HasPlace l next slot rows
-placed l next slot rows h =
+held_more : (l : Limits) (next slot : ℕ) (rows : List Row) → can_hold l next slot rows ≡ true → MayHoldOneMore l next slot rows
+held_more l next slot rows h =
     let worn = and_both _ _ h in
     let left = and_both _ _ worn.1 in
     let within = and_both _ _ left.1 in
@@ -115,39 +114,39 @@ abbrev pub without_item : Ledger → Item → (Task → Task) → Ledger
 without_item l item change = record l { items = items_without item.number l.items; tasks = changed_for item.reason change l.tasks }
 
 -- at a home that serves
-module _ (site : Site) (s : Settings) (v n : ℕ) (rows : List Row) (l : Ledger) (e : HomeEvent) where
+module _ (site : Site) (its : Contents) (l : Ledger) (e : HomeEvent) where
   abbrev pub kept : List Row
-  kept = unexpired s e.stamp.moment rows
+  kept = unexpired its.settings e.stamp.moment its.rows
 
   abbrev pub slot : ℕ
   slot = slot_in e.reply
 
   -- the home's alone
   abbrev pub alone : Bool → HomeCall → HomeReply → List Row → Outcome
-  alone done call reply left = record { done = done; call = call; reply = reply; home = Serving s v n left; ledger = l }
+  alone done call reply left = record { done = done; call = call; reply = reply; home = Serving (record its { rows = left }); ledger = l }
 
   abbrev pub sends : List ℕ → Option ℕ → Outcome
   sends body delay = record {
-    done = is_placed site.limits n slot kept;
+    done = can_hold site.limits its.next slot kept;
     call = asks.Send body delay;
-    reply = Sent (record { id = fresh_id site.home n; slot = slot });
-    home = Serving s v (n + 1) (kept ++ sent_row site.home n slot e.stamp.moment (e.stamp.moment + ms (unwrap_or delay s.delay)) body ∷ []);
+    reply = Sent (record { id = fresh_id site.home its.next; slot = slot });
+    home = Serving (record its { next = its.next + 1; rows = kept ++ sent_row site.home its.next slot e.stamp.moment (e.stamp.moment + ms (unwrap_or delay its.settings.delay)) body ∷ [] });
     ledger = l;
   }
 
   abbrev pub looks : ℕ → Option ℕ → Outcome
   looks max timeout =
-      let until = e.stamp.moment + ms (unwrap_or timeout s.timeout) in
-      let picked = take (min max (room site.limits.flights e.stamp.moment kept)) (map (received e.stamp.moment until) (filter (is_live s e.stamp.moment) kept)) in
-      alone (is_risen 0 rows n && nat_lt 0 (room site.limits.flights e.stamp.moment kept)) (asks.Look max timeout) (Looked picked) (map (received_if s (serials_of picked) e.stamp.moment until) kept)
+      let until = e.stamp.moment + ms (unwrap_or timeout its.settings.timeout) in
+      let picked = take (min max (room site.limits.flights e.stamp.moment kept)) (map (received e.stamp.moment until) (filter (is_live its.settings e.stamp.moment) kept)) in
+      alone (is_risen 0 its.rows its.next && nat_lt 0 (room site.limits.flights e.stamp.moment kept)) (asks.Look max timeout) (Looked picked) (map (received_if its.settings (serials_of picked) e.stamp.moment until) kept)
 
-  looked : (max : ℕ) (timeout : Option ℕ) → (looks max timeout).done ≡ true → IsDone site (Serving s v n rows) l e (looks max timeout)
+  looked : (max : ℕ) (timeout : Option ℕ) → (looks max timeout).done ≡ true → IsDone site (Serving its) l e (looks max timeout)
   unfolding HomeStep
   looked max timeout h =
       let both = and_both _ _ h in
-      let until = e.stamp.moment + ms (unwrap_or timeout s.timeout) in
+      let until = e.stamp.moment + ms (unwrap_or timeout its.settings.timeout) in
       let most = min max (room site.limits.flights e.stamp.moment kept) in
-      record { step = (λ live. under _ _ both.1, first_is_look s e.stamp.moment until most kept n (rises_unexpired s e.stamp.moment 0 rows n (risen 0 rows n both.0)), refl); in_ledger = refl }
+      record { step = (λ live. under _ _ both.1, first_is_look its.settings e.stamp.moment until most kept its.next (rises_unexpired its.settings e.stamp.moment 0 its.rows its.next (risen 0 its.rows its.next both.0)), refl); in_ledger = refl }
 
   abbrev pub leaving : Row → ℕ → Reason → Item
   leaving row target reason = record { number = l.next_item; row = row; source = site.home.queue; target = target; reason = reason; homeward = false }
@@ -160,15 +159,15 @@ module _ (site : Site) (s : Settings) (v n : ℕ) (rows : List Row) (l : Ledger)
     done = has_room l;
     call = asks.LeaveDead;
     reply = Left (leaving row target DeadLetter);
-    home = Serving s v n (rest_of (is_dead s e.stamp.moment) kept);
+    home = Serving (record its { rows = rest_of (is_dead its.settings e.stamp.moment) kept });
     ledger = with_item (leaving row target DeadLetter) l.tasks;
   }
-  dead_leaves target found = not_done asks.LeaveDead (Serving s v n rows) l
+  dead_leaves target found = not_done asks.LeaveDead (Serving its) l
 
-  dead_left : (target : Option ℕ) (found : Option Row) → dead_target s.redrive ≡ target → find (is_dead s e.stamp.moment) kept ≡ found → (dead_leaves target found).done ≡ true → IsDone site (Serving s v n rows) l e (dead_leaves target found)
+  dead_left : (target : Option ℕ) (found : Option Row) → dead_target its.settings.redrive ≡ target → find (is_dead its.settings e.stamp.moment) kept ≡ found → (dead_leaves target found).done ≡ true → IsDone site (Serving its) l e (dead_leaves target found)
   unfolding HomeStep LedgerStep
   dead_left (Some target) (Some row) to is h =
-      let t = first_taken (is_dead s e.stamp.moment) kept row is in
+      let t = first_taken (is_dead its.settings e.stamp.moment) kept row is in
       let from : IsFrom site.home DeadLetter (leaving row target DeadLetter) = record { from = refl; because = refl; forward = refl } in
       record { step = (from, sym to, t.1, (_, t.0, refl)); in_ledger = (from, (room_there l h, refl, refl)) }
   dead_left (Some target) None to is h = absurd cc
@@ -190,17 +189,17 @@ module _ (site : Site) (s : Settings) (v n : ℕ) (rows : List Row) (l : Ledger)
     done = takes task && has_room l;
     call = asks.LeaveTask number;
     reply = Left (leaving row target (ForTask number));
-    home = Serving s v n (rest_of (is_live s e.stamp.moment) kept);
+    home = Serving (record its { rows = rest_of (is_live its.settings e.stamp.moment) kept });
     ledger = with_item (leaving row target (ForTask number)) (changed_task number (with_left e.stamp.moment) l.tasks);
   }
 
-  left_to : (number : ℕ) (task : Task) (row : Row) (target : ℕ) → task_of number l ≡ Some task → find (is_live s e.stamp.moment) kept ≡ Some row → Some target ≡ target_of task row → (leaves_to number task row target).done ≡ true
-      → IsDone site (Serving s v n rows) l e (leaves_to number task row target)
+  left_to : (number : ℕ) (task : Task) (row : Row) (target : ℕ) → task_of number l ≡ Some task → find (is_live its.settings e.stamp.moment) kept ≡ Some row → Some target ≡ target_of task row → (leaves_to number task row target).done ≡ true
+      → IsDone site (Serving its) l e (leaves_to number task row target)
   unfolding HomeStep LedgerStep
   left_to number task row target there is to h =
       let both = and_both _ _ h in
       let may = may_take number task there both.0 in
-      let t = first_taken (is_live s e.stamp.moment) kept row is in
+      let t = first_taken (is_live its.settings e.stamp.moment) kept row is in
       let from : IsFrom site.home (ForTask number) (leaving row target (ForTask number)) = record { from = refl; because = refl; forward = refl } in
       record { step = (from, t.1, (_, t.0, refl)); in_ledger = (from, (task, may.0, may.1, to), (room_there l both.1, refl, refl)) }
 
@@ -211,27 +210,27 @@ module _ (site : Site) (s : Settings) (v n : ℕ) (rows : List Row) (l : Ledger)
     done = takes task && has_room l;
     call = asks.LeaveTask number;
     reply = NoOrigin row.serial;
-    home = Serving s v n kept;
+    home = Serving (record its { rows = kept });
     ledger = record l { tasks = changed_task number (with_status (failed_as because.NoOrigin)) l.tasks };
   }
 
-  row_left : (number : ℕ) (task : Task) (row : Row) (destination : Option NamedQueue) (origin : Option ℕ) → task_of number l ≡ Some task → find (is_live s e.stamp.moment) kept ≡ Some row → task.destination ≡ destination → row.origin ≡ origin
-      → (row_leaves number task row destination origin).done ≡ true → IsDone site (Serving s v n rows) l e (row_leaves number task row destination origin)
+  row_left : (number : ℕ) (task : Task) (row : Row) (destination : Option NamedQueue) (origin : Option ℕ) → task_of number l ≡ Some task → find (is_live its.settings e.stamp.moment) kept ≡ Some row → task.destination ≡ destination → row.origin ≡ origin
+      → (row_leaves number task row destination origin).done ≡ true → IsDone site (Serving its) l e (row_leaves number task row destination origin)
   unfolding HomeStep LedgerStep
   row_left number task row (Some queue) origin there is d o h = left_to number task row queue.number there is (sym (ap (λ (x : Option NamedQueue). destination_or x row.origin) d)) h
   row_left number task row None (Some queue) there is d o h = left_to number task row queue there is (sym (ap (λ (x : Option NamedQueue). destination_or x row.origin) d ∙ o)) h
   row_left number task row None None there is d o h =
       let both = and_both _ _ h in
       let may = may_take number task there both.0 in
-      let t = first_taken (is_live s e.stamp.moment) kept row is in
+      let t = first_taken (is_live its.settings e.stamp.moment) kept row is in
       record { step = ((row, _, t.0, t.1, refl, o), refl); in_ledger = ((task, may.0, may.1, d), room_there l both.1, refl) }
 
   abbrev pub task_leaves : ℕ → Option Task → Option Row → Outcome
-  task_leaves number None found = not_done (asks.LeaveTask number) (Serving s v n rows) l
-  task_leaves number (Some task) None = alone (takes task && not (list_any (is_live s e.stamp.moment) kept)) (asks.LeaveTask number) NoLiveRow kept
+  task_leaves number None found = not_done (asks.LeaveTask number) (Serving its) l
+  task_leaves number (Some task) None = alone (takes task && not (list_any (is_live its.settings e.stamp.moment) kept)) (asks.LeaveTask number) NoLiveRow kept
   task_leaves number (Some task) (Some row) = row_leaves number task row task.destination row.origin
 
-  task_left : (number : ℕ) (there : Option Task) (found : Option Row) → task_of number l ≡ there → find (is_live s e.stamp.moment) kept ≡ found → (task_leaves number there found).done ≡ true → IsDone site (Serving s v n rows) l e (task_leaves number there found)
+  task_left : (number : ℕ) (there : Option Task) (found : Option Row) → task_of number l ≡ there → find (is_live its.settings e.stamp.moment) kept ≡ found → (task_leaves number there found).done ≡ true → IsDone site (Serving its) l e (task_leaves number there found)
   unfolding HomeStep LedgerStep
   task_left number None found there is h = absurd cc
   task_left number (Some task) None there is h =
@@ -243,17 +242,17 @@ module _ (site : Site) (s : Settings) (v n : ℕ) (rows : List Row) (l : Ledger)
   -- ---- of an item
 
   abbrev pub comes_in : Bool → HomeCall → Row → Ledger → Outcome
-  comes_in may call row after = record { done = may && is_placed site.limits n slot kept; call = call; reply = Entered (record { serial = n; slot = slot }); home = Serving s v (n + 1) (kept ++ row ∷ []); ledger = after }
+  comes_in may call row after = record { done = may && can_hold site.limits its.next slot kept; call = call; reply = Entered (record { serial = its.next; slot = slot }); home = Serving (record its { next = its.next + 1; rows = kept ++ row ∷ [] }); ledger = after }
 
   abbrev pub item_comes : HomeCall → Option Item → Outcome
-  item_comes (asks.Enter asked) (Some item) = comes_in (may_enter site.home item) (asks.Enter item) (entered_row site.home n slot e.stamp.moment item) (without_item l item with_moved)
-  item_comes (asks.GiveBack asked) (Some item) = comes_in (may_return site.home item) (asks.GiveBack item) (returned_row n slot e.stamp.moment item) (without_item l item with_back)
-  item_comes call found = not_done call (Serving s v n rows) l
+  item_comes (asks.Enter asked) (Some item) = comes_in (may_enter site.home item) (asks.Enter item) (entered_row site.home its.next slot e.stamp.moment item) (without_item l item with_moved)
+  item_comes (asks.GiveBack asked) (Some item) = comes_in (may_return site.home item) (asks.GiveBack item) (returned_row its.next slot e.stamp.moment item) (without_item l item with_back)
+  item_comes call found = not_done call (Serving its) l
 
-  item_came : (call : HomeCall) (number : ℕ) (found : Option Item) → item_of number l ≡ found → (item_comes call found).done ≡ true → IsDone site (Serving s v n rows) l e (item_comes call found)
+  item_came : (call : HomeCall) (number : ℕ) (found : Option Item) → item_of number l ≡ found → (item_comes call found).done ≡ true → IsDone site (Serving its) l e (item_comes call found)
   unfolding HomeStep LedgerStep
-  item_came (asks.Enter asked) number (Some item) is h = let both = and_both _ _ h in record { step = (both.0, placed _ _ _ _ both.1, refl, refl); in_ledger = (both.0, (by_its_number number l item is, refl)) }
-  item_came (asks.GiveBack asked) number (Some item) is h = let both = and_both _ _ h in record { step = (both.0, placed _ _ _ _ both.1, refl, refl); in_ledger = (both.0, (by_its_number number l item is, refl)) }
+  item_came (asks.Enter asked) number (Some item) is h = let both = and_both _ _ h in record { step = (both.0, held_more _ _ _ _ both.1, refl, refl); in_ledger = (both.0, (by_its_number number l item is, refl)) }
+  item_came (asks.GiveBack asked) number (Some item) is h = let both = and_both _ _ h in record { step = (both.0, held_more _ _ _ _ both.1, refl, refl); in_ledger = (both.0, (by_its_number number l item is, refl)) }
   item_came call number found is h = absurd cc
 
 -- at a home that is closed
@@ -264,46 +263,46 @@ module _ (site : Site) (l : Ledger) (e : HomeEvent) where
   abbrev pub item_goes_on : HomeCall → Option Item → Outcome
   item_goes_on (asks.TurnBack asked) (Some item) =
       goes_on (may_enter site.home item) (asks.TurnBack item) (record l { items = map (turned_if item.number) l.items; tasks = changed_for item.reason (with_status (failed_as because.DestinationClosed)) l.tasks })
-  item_goes_on (asks.GiveUp asked) (Some item) = goes_on (may_return site.home item) (asks.GiveUp item) (without_item l item with_given_up)
+  item_goes_on (asks.Drop asked) (Some item) = goes_on (may_return site.home item) (asks.Drop item) (without_item l item with_dropped)
   item_goes_on call found = not_done call Closed l
 
   item_went_on : (call : HomeCall) (number : ℕ) (found : Option Item) → item_of number l ≡ found → (item_goes_on call found).done ≡ true → IsDone site Closed l e (item_goes_on call found)
   unfolding HomeStep LedgerStep
   item_went_on (asks.TurnBack asked) number (Some item) is h = record { step = (h, refl); in_ledger = (h, by_its_number number l item is, refl) }
-  item_went_on (asks.GiveUp asked) number (Some item) is h = record { step = (h, refl); in_ledger = (h, (by_its_number number l item is, refl)) }
+  item_went_on (asks.Drop asked) number (Some item) is h = record { step = (h, refl); in_ledger = (h, (by_its_number number l item is, refl)) }
   item_went_on call number found is h = absurd cc
 
 abbrev pub at_home : Site → Home → Ledger → HomeEvent → HomeCall → Outcome
-at_home site Unopened l e (asks.Configure t w) = record { done = true; call = asks.Configure t w; reply = Done; home = Serving t w 0 []; ledger = l }
-at_home site (Serving s v n rows) l e asks.Close = record { done = true; call = asks.Close; reply = Done; home = Closed; ledger = l }
-at_home site (Serving s v n rows) l e (asks.Send body delay) = sends site s v n rows l e body delay
-at_home site (Serving s v n rows) l e (asks.Look max timeout) = looks site s v n rows l e max timeout
-at_home site (Serving s v n rows) l e (asks.Delete receipt) = alone site s v n rows l e (nat_lt receipt.serial n) (asks.Delete receipt) Done (without receipt (kept site s v n rows l e))
-at_home site (Serving s v n rows) l e asks.Purge = alone site s v n rows l e true asks.Purge Done []
-at_home site (Serving s v n rows) l e asks.Count = alone site s v n rows l e true asks.Count (Counted (counts_of e.stamp.moment (kept site s v n rows l e))) (kept site s v n rows l e)
-at_home site (Serving s v n rows) l e asks.LeaveDead = dead_leaves site s v n rows l e (dead_target s.redrive) (find (is_dead s e.stamp.moment) (kept site s v n rows l e))
-at_home site (Serving s v n rows) l e (asks.LeaveTask number) = task_leaves site s v n rows l e number (task_of number l) (find (is_live s e.stamp.moment) (kept site s v n rows l e))
-at_home site (Serving s v n rows) l e (asks.Enter item) = item_comes site s v n rows l e (asks.Enter item) (item_of item.number l)
-at_home site (Serving s v n rows) l e (asks.GiveBack item) = item_comes site s v n rows l e (asks.GiveBack item) (item_of item.number l)
+at_home site Unopened l e (asks.Configure t w) = record { done = true; call = asks.Configure t w; reply = Done; home = Serving (record { settings = t; version = w; next = 0; rows = [] }); ledger = l }
+at_home site (Serving its) l e asks.Close = record { done = true; call = asks.Close; reply = Done; home = Closed; ledger = l }
+at_home site (Serving its) l e (asks.Send body delay) = sends site its l e body delay
+at_home site (Serving its) l e (asks.Look max timeout) = looks site its l e max timeout
+at_home site (Serving its) l e (asks.Delete receipt) = alone site its l e (nat_lt receipt.serial its.next) (asks.Delete receipt) Done (without receipt (kept site its l e))
+at_home site (Serving its) l e asks.Purge = alone site its l e true asks.Purge Done []
+at_home site (Serving its) l e asks.Count = alone site its l e true asks.Count (Counted (counts_of e.stamp.moment (kept site its l e))) (kept site its l e)
+at_home site (Serving its) l e asks.LeaveDead = dead_leaves site its l e (dead_target its.settings.redrive) (find (is_dead its.settings e.stamp.moment) (kept site its l e))
+at_home site (Serving its) l e (asks.LeaveTask number) = task_leaves site its l e number (task_of number l) (find (is_live its.settings e.stamp.moment) (kept site its l e))
+at_home site (Serving its) l e (asks.Enter item) = item_comes site its l e (asks.Enter item) (item_of item.number l)
+at_home site (Serving its) l e (asks.GiveBack item) = item_comes site its l e (asks.GiveBack item) (item_of item.number l)
 at_home site Closed l e (asks.TurnBack item) = item_goes_on site l e (asks.TurnBack item) (item_of item.number l)
-at_home site Closed l e (asks.GiveUp item) = item_goes_on site l e (asks.GiveUp item) (item_of item.number l)
+at_home site Closed l e (asks.Drop item) = item_goes_on site l e (asks.Drop item) (item_of item.number l)
 at_home site home l e call = not_done call home l
 
 pub home_done : (site : Site) (home : Home) (l : Ledger) (e : HomeEvent) (call : HomeCall) → (at_home site home l e call).done ≡ true → IsDone site home l e (at_home site home l e call)
 unfolding HomeStep
 home_done site Unopened l e (asks.Configure t w) h = record { step = refl; in_ledger = refl }
-home_done site (Serving s v n rows) l e asks.Close h = record { step = refl; in_ledger = refl }
-home_done site (Serving s v n rows) l e (asks.Send body delay) h = record { step = (placed _ _ _ _ h, refl, refl); in_ledger = refl }
-home_done site (Serving s v n rows) l e (asks.Look max timeout) h = looked site s v n rows l e max timeout h
-home_done site (Serving s v n rows) l e (asks.Delete receipt) h = record { step = (under _ _ h, refl); in_ledger = refl }
-home_done site (Serving s v n rows) l e asks.Purge h = record { step = refl; in_ledger = refl }
-home_done site (Serving s v n rows) l e asks.Count h = record { step = (refl, refl); in_ledger = refl }
-home_done site (Serving s v n rows) l e asks.LeaveDead h = dead_left site s v n rows l e (dead_target s.redrive) _ refl refl h
-home_done site (Serving s v n rows) l e (asks.LeaveTask number) h = task_left site s v n rows l e number (task_of number l) _ refl refl h
-home_done site (Serving s v n rows) l e (asks.Enter item) h = item_came site s v n rows l e (asks.Enter item) item.number (item_of item.number l) refl h
-home_done site (Serving s v n rows) l e (asks.GiveBack item) h = item_came site s v n rows l e (asks.GiveBack item) item.number (item_of item.number l) refl h
+home_done site (Serving its) l e asks.Close h = record { step = refl; in_ledger = refl }
+home_done site (Serving its) l e (asks.Send body delay) h = record { step = (held_more _ _ _ _ h, refl, refl); in_ledger = refl }
+home_done site (Serving its) l e (asks.Look max timeout) h = looked site its l e max timeout h
+home_done site (Serving its) l e (asks.Delete receipt) h = record { step = (under _ _ h, refl); in_ledger = refl }
+home_done site (Serving its) l e asks.Purge h = record { step = refl; in_ledger = refl }
+home_done site (Serving its) l e asks.Count h = record { step = (refl, refl); in_ledger = refl }
+home_done site (Serving its) l e asks.LeaveDead h = dead_left site its l e (dead_target its.settings.redrive) _ refl refl h
+home_done site (Serving its) l e (asks.LeaveTask number) h = task_left site its l e number (task_of number l) _ refl refl h
+home_done site (Serving its) l e (asks.Enter item) h = item_came site its l e (asks.Enter item) item.number (item_of item.number l) refl h
+home_done site (Serving its) l e (asks.GiveBack item) h = item_came site its l e (asks.GiveBack item) item.number (item_of item.number l) refl h
 home_done site Closed l e (asks.TurnBack item) h = item_went_on site l e (asks.TurnBack item) item.number (item_of item.number l) refl h
-home_done site Closed l e (asks.GiveUp item) h = item_went_on site l e (asks.GiveUp item) item.number (item_of item.number l) refl h
+home_done site Closed l e (asks.Drop item) h = item_went_on site l e (asks.Drop item) item.number (item_of item.number l) refl h
 home_done site home l e call h = absurd cc
 
 -- ---- a step of the directory
@@ -321,7 +320,7 @@ abbrev pub creates : Directory → ℕ → List ℕ → Attributes → Option Qu
 creates d m name given (Some queue) = record { done = agrees given queue; reply = answers.Made (settings_at queue); after = d }
 creates d m name given None =
     let queue = new_queue d name given in record {
-      done = not (deleted_recently m name d.deleted) && (may_have d.queues name given.redrive && nat_lt d.made d.places);
+      done = not (deleted_recently m name d.deleted) && (may_have d.queues name given.redrive && nat_lt d.made d.most);
       reply = answers.Made (settings_at queue);
       after = record d { queues = d.queues ++ queue ∷ []; made = suc d.made };
     }
@@ -349,7 +348,7 @@ created d m name given (Some queue) is h = rw is (h, refl, refl)
 created d m name given None is h =
     let fresh = and_both _ _ h in
     let both = and_both _ _ fresh.1 in
-    rw is (record { name_free = is_false _ fresh.0; policy = both.0; place = under _ _ both.1 }, refl, refl)
+    rw is (record { name_free = is_false _ fresh.0; policy = both.0; not_full = under _ _ both.1 }, refl, refl)
 
 removed : (d : Directory) (m : ℕ) (name : List ℕ) (found : Option Queue) → queue_of name d.queues ≡ found → (of_found d m (directory_asks.Remove name) found).done ≡ true → IsDirectoryDone d m (directory_asks.Remove name) (of_found d m (directory_asks.Remove name) found)
 unfolding DirectoryStep
@@ -434,9 +433,9 @@ pub record StepOutcome : Type 0 where
   pub tag : Tag
   pub after : System
 
-abbrev pub at_place : System → ℕ → HomeEvent → Option HomeAt → StepOutcome
-at_place s i e None = record { done = false; tag = OfHome i e; after = s }
-at_place s i e (Some old) =
+abbrev pub at_index : System → ℕ → HomeEvent → Option HomeAt → StepOutcome
+at_index s i e None = record { done = false; tag = OfHome i e; after = s }
+at_index s i e (Some old) =
     let o = at_home old.site old.home s.ledger e e.call in
     record { done = o.done; tag = OfHome i (record e { component = part.Home old.site.home; call = o.call; reply = o.reply }); after = record s { ledger = o.ledger; homes = slice_set s.homes i (record { site = old.site; home = o.home }) } }
 
@@ -444,7 +443,7 @@ at_place s i e (Some old) =
 abbrev pub step_of : System → Tag → StepOutcome
 step_of s (OfDirectory e) = let o = in_directory s.directory e.stamp.moment e.call in record { done = o.done; tag = OfDirectory (record e { component = part.Directory; reply = o.reply }); after = record s { directory = o.after } }
 step_of s (OfLedger e) = let o = in_ledger s.ledger e.stamp.moment e.call in record { done = o.done; tag = OfLedger (record e { component = part.Ledger; reply = o.reply }); after = record s { ledger = o.after } }
-step_of s (OfHome i e) = at_place s i e (slice_get s.homes i)
+step_of s (OfHome i e) = at_index s i e (slice_get s.homes i)
 
 pub record RunOutcome : Type 0 where
   pub done : Bool
@@ -458,16 +457,16 @@ run_of s (t ∷ ts) = let o = step_of s t in let more = run_of o.after ts in rec
 pub never : false ≡ true → ⊥
 never h = absurd cc
 
-abbrev pub place_done : (s : System) (i : ℕ) (e : HomeEvent) (found : Option HomeAt) → slice_get s.homes i ≡ found → (at_place s i e found).done ≡ true → IsStep s (at_place s i e found).tag (at_place s i e found).after
-place_done s i e None at h = absurd (never h)
-place_done s i e (Some old) at h =
+abbrev pub index_done : (s : System) (i : ℕ) (e : HomeEvent) (found : Option HomeAt) → slice_get s.homes i ≡ found → (at_index s i e found).done ≡ true → IsStep s (at_index s i e found).tag (at_index s i e found).after
+index_done s i e None at h = absurd (never h)
+index_done s i e (Some old) at h =
     let d = home_done old.site old.home s.ledger e e.call h in
     record { old = old; new = (at_home old.site old.home s.ledger e e.call).home; in_list = at; component = refl; step = d.step; ledger = d.in_ledger; homes = refl; directory = refl }
 
 abbrev pub step_done : (s : System) (t : Tag) → (step_of s t).done ≡ true → IsStep s (step_of s t).tag (step_of s t).after
 step_done s (OfDirectory e) h = record { component = refl; step = directory_done s.directory e.stamp.moment e.call h; ledger = refl; homes = refl }
 step_done s (OfLedger e) h = let d = ledger_done s.ledger e.stamp.moment e.call h in record { component = refl; own = d.own; step = d.step; directory = refl; homes = refl }
-step_done s (OfHome i e) h = place_done s i e (slice_get s.homes i) refl h
+step_done s (OfHome i e) h = index_done s i e (slice_get s.homes i) refl h
 
 abbrev pub run_done : (s : System) (ts : List Tag) → (run_of s ts).done ≡ true → RunFrom s (run_of s ts).run (run_of s ts).after
 run_done s [] h = refl

@@ -120,12 +120,12 @@ all_made made d (e ∷ es) after h r =
     subst (λ (names : List (List ℕ)). AreMade names after) (append_assoc made (made_by d e.call) (made_in r.0 es after r.2))
     (all_made (made ++ made_by d e.call) r.0 es after (step_made made d e.stamp.moment e.call e.reply r.0 r.1 h) r.2)
 
-from_opening : (places : ℕ) (events : List DirectoryEvent) (d : Directory) (r : Replays DirectoryStep (opening_directory places) events d) → AreMade (made_in (opening_directory places) events d r) d
-from_opening places events d r = all_made [] (opening_directory places) events d (record { counted = refl; each = tt; targets = tt }) r
+from_opening : (most : ℕ) (events : List DirectoryEvent) (d : Directory) (r : Replays DirectoryStep (opening_directory most) events d) → AreMade (made_in (opening_directory most) events d r) d
+from_opening most events d r = all_made [] (opening_directory most) events d (record { counted = refl; each = tt; targets = tt }) r
 
-pub numbered : (places : ℕ) (events : List DirectoryEvent) (d : Directory) (r : Replays DirectoryStep (opening_directory places) events d) (name : List ℕ) (queue : Queue) → IsThere d name queue
-    → slice_get (made_in (opening_directory places) events d r) (queue.number - 1) ≡ Some name
-numbered places events d r name queue there = found_all (IsNth (made_in (opening_directory places) events d r)) name d.queues queue (from_opening places events d r).each there ∙ ap Some (found_named name d.queues queue there)
+pub numbered : (most : ℕ) (events : List DirectoryEvent) (d : Directory) (r : Replays DirectoryStep (opening_directory most) events d) (name : List ℕ) (queue : Queue) → IsThere d name queue
+    → slice_get (made_in (opening_directory most) events d r) (queue.number - 1) ≡ Some name
+numbered most events d r name queue there = found_all (IsNth (made_in (opening_directory most) events d r)) name d.queues queue (from_opening most events d r).each there ∙ ap Some (found_named name d.queues queue there)
 
 -- ---- names of the queues of a kind
 
@@ -213,10 +213,10 @@ filtered_names prefix (x ∷ xs) = elim (begins prefix x.name) as (λ b. cond b 
   | false ↦ filtered_names prefix xs
 ]
 
-pub listed_rise : (places : ℕ) (events : List DirectoryEvent) (d : Directory) → Replays DirectoryStep (opening_directory places) events d → (m : ℕ) (prefix : NamePrefix) (names : List (List ℕ)) (after : Directory)
+pub listed_rise : (most : ℕ) (events : List DirectoryEvent) (d : Directory) → Replays DirectoryStep (opening_directory most) events d → (m : ℕ) (prefix : NamePrefix) (names : List (List ℕ)) (after : Directory)
     → DirectoryStep d m (asks.List prefix) (answers.Listed names) after → AreInOrder d.queues 1 names
 unfolding DirectoryStep
-listed_rise places events d r m prefix names after s = rw (s.0, filtered_names prefix d.queues) (kept_rise (λ queue. begins prefix queue.name) d (directory_holds places events d r))
+listed_rise most events d r m prefix names after s = rw (s.0, filtered_names prefix d.queues) (kept_rise (λ queue. begins prefix queue.name) d (directory_holds most events d r))
 
 begun : (prefix : NamePrefix) (d : Directory) (name : List ℕ) → IsKept (λ queue. begins prefix queue.name) d.queues name ↔ IsBegunBy prefix d name
 begun prefix d name = (
@@ -227,11 +227,11 @@ begun prefix d name = (
 through : {A B C : Type 0} → A ↔ B → B ↔ C → A ↔ C
 through {A} {B} {C} f g = (λ a. g.0 (f.0 a), λ c. f.1 (g.1 c))
 
-pub listed_exactly : (places : ℕ) (events : List DirectoryEvent) (d : Directory) → Replays DirectoryStep (opening_directory places) events d → (m : ℕ) (prefix : NamePrefix) (names : List (List ℕ)) (after : Directory)
+pub listed_exactly : (most : ℕ) (events : List DirectoryEvent) (d : Directory) → Replays DirectoryStep (opening_directory most) events d → (m : ℕ) (prefix : NamePrefix) (names : List (List ℕ)) (after : Directory)
     → DirectoryStep d m (asks.List prefix) (answers.Listed names) after → (name : List ℕ) → Contains names name ↔ IsBegunBy prefix d name
 unfolding DirectoryStep
-listed_exactly places events d r m prefix names after s name =
-    rw (s.0, filtered_names prefix d.queues) (through (kept_exactly (λ queue. begins prefix queue.name) d name (directory_holds places events d r)) (begun prefix d name))
+listed_exactly most events d r m prefix names after s name =
+    rw (s.0, filtered_names prefix d.queues) (through (kept_exactly (λ queue. begins prefix queue.name) d name (directory_holds most events d r)) (begun prefix d name))
 
 -- ---- what ListDeadLetterSourceQueues answers
 
@@ -251,33 +251,33 @@ is_source number d name = (
   λ h. (h.0, h.1, (to_number number h.0.settings.redrive).1 h.2),
 )
 
-pub sources_rise : (places : ℕ) (events : List DirectoryEvent) (d : Directory) → Replays DirectoryStep (opening_directory places) events d → (m : ℕ) (asked : List ℕ) (names : List (List ℕ)) (after : Directory)
+pub sources_rise : (most : ℕ) (events : List DirectoryEvent) (d : Directory) → Replays DirectoryStep (opening_directory most) events d → (m : ℕ) (asked : List ℕ) (names : List (List ℕ)) (after : Directory)
     → DirectoryStep d m (asks.Sources asked) (answers.Sources names) after → AreInOrder d.queues 1 names
 unfolding DirectoryStep
-sources_rise places events d r m asked names after s = rw s.0.2 (kept_rise (is_source_of s.0.0.number) d (directory_holds places events d r))
+sources_rise most events d r m asked names after s = rw s.0.2 (kept_rise (is_source_of s.0.0.number) d (directory_holds most events d r))
 
-pub sources_exactly : (places : ℕ) (events : List DirectoryEvent) (d : Directory) → Replays DirectoryStep (opening_directory places) events d → (m : ℕ) (asked : List ℕ) (queue : Queue) (names : List (List ℕ)) (after : Directory)
+pub sources_exactly : (most : ℕ) (events : List DirectoryEvent) (d : Directory) → Replays DirectoryStep (opening_directory most) events d → (m : ℕ) (asked : List ℕ) (queue : Queue) (names : List (List ℕ)) (after : Directory)
     → IsThere d asked queue → DirectoryStep d m (asks.Sources asked) (answers.Sources names) after → (name : List ℕ) → Contains names name ↔ IsSource queue.number d name
 unfolding DirectoryStep
-sources_exactly places events d r m asked queue names after there s name =
+sources_exactly most events d r m asked queue names after there s name =
     let same : s.0.0 ≡ queue = some_same s.0.0 queue (sym s.0.1 ∙ there) in
-    rw (s.0.2, same) (through (kept_exactly (is_source_of queue.number) d name (directory_holds places events d r)) (is_source queue.number d name))
+    rw (s.0.2, same) (through (kept_exactly (is_source_of queue.number) d name (directory_holds most events d r)) (is_source queue.number d name))
 
 named_target : (made : List (List ℕ)) (count number : ℕ) (asked : List ℕ) (policy : Option RedrivePolicy) (redrive : Redrive) → IsPolicy count number policy (Some redrive) → PointsTo made policy (Some redrive) → slice_get made (redrive.target - 1) ≡ Some asked
     → (given : RedrivePolicy) × (policy ≡ Some given) × (given.target ≡ asked)
 named_target made count number asked None redrive is to at = absurd is
 named_target made count number asked (Some given) redrive is to at = (given, refl, some_same given.target asked (sym to ∙ at))
 
-pub sources_name_it : (places : ℕ) (events : List DirectoryEvent) (d : Directory) → Replays DirectoryStep (opening_directory places) events d → (m : ℕ) (asked : List ℕ) (names : List (List ℕ)) (after : Directory)
+pub sources_name_it : (most : ℕ) (events : List DirectoryEvent) (d : Directory) → Replays DirectoryStep (opening_directory most) events d → (m : ℕ) (asked : List ℕ) (names : List (List ℕ)) (after : Directory)
     → DirectoryStep d m (asks.Sources asked) (answers.Sources names) after → (name : List ℕ) → Contains names name → NamedByPolicy asked d name
 unfolding DirectoryStep
-sources_name_it places events d r m asked names after s name c =
-    let made = made_in (opening_directory places) events d r in
-    let source = (sources_exactly places events d r m asked s.0.0 names after s.0.1 s name).0 c in
-    let h = directory_holds places events d r in
-    let at = numbered places events d r asked s.0.0 s.0.1 in
+sources_name_it most events d r m asked names after s name c =
+    let made = made_in (opening_directory most) events d r in
+    let source = (sources_exactly most events d r m asked s.0.0 names after s.0.1 s name).0 c in
+    let h = directory_holds most events d r in
+    let at = numbered most events d r asked s.0.0 s.0.1 in
     let policy : IsPolicy d.made source.0.number source.0.redrive source.0.settings.redrive = found_all (HasPolicy d.made) name d.queues source.0 h.policies source.1 in
-    let to : PointsTo made source.0.redrive source.0.settings.redrive = found_all (HasNamed made) name d.queues source.0 (from_opening places events d r).targets source.1 in (
+    let to : PointsTo made source.0.redrive source.0.settings.redrive = found_all (HasNamed made) name d.queues source.0 (from_opening most events d r).targets source.1 in (
       source.0,
       source.1,
       named_target made d.made source.0.number asked source.0.redrive source.2.0

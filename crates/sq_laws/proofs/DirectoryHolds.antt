@@ -15,8 +15,8 @@ use Rattle.sq_laws.proofs.DirectoryPolicies.{AreTargets, given_policy, later_pol
 use Rattle.sq_laws.proofs.LedgerLists.{all_append, all_filtered, all_mapped, all_with, mapped_length, one_longer}
 use Rattle.sq_laws.proofs.RiseLaws.{rise_filtered, rise_last, rise_mapped}
 
-opens : (places : ℕ) → IsDirectory (opening_directory places)
-opens places = record { numbers_rise = omega arith; names_once = λ name. omega arith; policies = tt; counted = refl; within = omega arith }
+opens : (most : ℕ) → IsDirectory (opening_directory most)
+opens most = record { numbers_rise = omega arith; names_once = λ name. omega arith; policies = tt; counted = refl; within = omega arith }
 
 changed_keeps : (d : Directory) (name : List ℕ) (change : Queue → Queue) (queue : Queue) → IsChange change → queue_of name d.queues ≡ Some queue → HasPolicy d.made (change queue) → IsDirectory d → IsDirectory (record d { queues = changed_queue name change d.queues })
 changed_keeps d name change queue c e p h = record {
@@ -53,7 +53,7 @@ creates_keeps d m name given None made after e s h = rw s.2 (record {
       (all_with (HasPolicy d.made) (HasPolicy (suc d.made)) d.queues (λ queue p. later_policy d.made (suc d.made) queue.number queue.redrive queue.settings.redrive (omega arith) p) h.policies)
       (given_policy (suc d.made) (suc d.made) d.queues name given.redrive None None s.0.policy (new_targets d name h) tt);
   counted = rw (one_longer d.queues (new_queue d name given)) (omega (arith, h.counted));
-  within = s.0.place;
+  within = s.0.not_full;
 })
 creates_keeps d m name given (Some queue) made after e s h = rw s.2 h
 
@@ -80,8 +80,8 @@ goes_on : (d : Directory) (events : List DirectoryEvent) (after : Directory) →
 goes_on d [] after h r = rw r h
 goes_on d (e ∷ es) after h r = goes_on r.0 es after (step_keeps d e.stamp.moment e.call e.reply r.0 r.1 h) r.2
 
-pub directory_holds : (places : ℕ) (events : List DirectoryEvent) (d : Directory) → Replays DirectoryStep (opening_directory places) events d → IsDirectory d
-directory_holds places events d r = goes_on (opening_directory places) events d (opens places) r
+pub directory_holds : (most : ℕ) (events : List DirectoryEvent) (d : Directory) → Replays DirectoryStep (opening_directory most) events d → IsDirectory d
+directory_holds most events d r = goes_on (opening_directory most) events d (opens most) r
 
 -- ---- a number that is gone stays so
 

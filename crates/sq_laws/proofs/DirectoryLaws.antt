@@ -20,7 +20,7 @@ refused_none : (found : Option Queue) (later : Queue → Option Refusal) (queue 
 refused_none found later queue e h = rw e h
 
 creates_allowed : (d : Directory) (m : ℕ) (name : List ℕ) (given : Attributes) (found : Option Queue) (made : QueueSettings) (after : Directory) → Creates d m name given found made after → create_refusal d m name given found ≡ None
-creates_allowed d m name given None made after h = rw (h.0.name_free, h.0.policy, below _ _ h.0.place) refl
+creates_allowed d m name given None made after h = rw (h.0.name_free, h.0.policy, below _ _ h.0.not_full) refl
 creates_allowed d m name given (Some queue) made after h = rw h.0 refl
 
 pub directory_allowed : (d : Directory) (m : ℕ) (call : DirectoryCall) (reply : DirectoryReply) (after : Directory) → DirectoryStep d m call reply after → directory_refusal d m call ≡ None
@@ -48,8 +48,8 @@ can_create : (d : Directory) (m : ℕ) (name : List ℕ) (given : Attributes) (f
 can_create d m name given None h =
     let name_free = passed (deleted_recently m name d.deleted) _ _ h in
     let policy = passed (not (may_have d.queues name given.redrive)) _ _ name_free.1 in
-    let place = passed (nat_le d.places d.made) _ _ policy.1 in
-    (_, _, (record { name_free = name_free.0; policy = not_false _ policy.0; place = above _ _ place.0 }, refl, refl))
+    let not_full = passed (nat_le d.most d.made) _ _ policy.1 in
+    (_, _, (record { name_free = name_free.0; policy = not_false _ policy.0; not_full = above _ _ not_full.0 }, refl, refl))
 can_create d m name given (Some queue) h = (_, _, (not_false _ (passed (not (agrees given queue)) _ _ h).0, refl, refl))
 
 pub directory_possible : (d : Directory) (m : ℕ) (call : DirectoryCall) → directory_refusal d m call ≡ None → Possible d m call

@@ -8,7 +8,7 @@ use Rattle.std.proofs.lemmas.Bool.{eqb-true}
 use Rattle.std.proofs.lemmas.List.{reverse-append}
 use Rattle.std.proofs.lemmas.List.Elements.{Contains-append_right}
 use Rattle.std.proofs.lemmas.Grind.{common_steps}
-use Rattle.sq_model.specs.declared.calls.HomeCall.TheVariants.{LeaveDead, LeaveTask, Enter, TurnBack, GiveBack, GiveUp}
+use Rattle.sq_model.specs.declared.calls.HomeCall.TheVariants.{LeaveDead, LeaveTask, Enter, TurnBack, GiveBack, Drop}
 use Rattle.sq_model.specs.declared.item.Item.{Item}
 use Rattle.sq_model.specs.declared.ledger.LedgerCall.{LedgerCall}
 use Rattle.sq_model.specs.declared.ledger.LedgerCall.TheVariants as asks
@@ -112,7 +112,7 @@ gives l m (asks.AtHome home (LeaveTask number)) (answers.AtHome SourceClosed) af
 gives l m (asks.AtHome home (Enter item)) (answers.AtHome (Entered entered)) after s = record { item = gives_none _ _ (ap (λ (x : Ledger). x.next_item) s.1.1); task = gives_none _ _ (ap (λ (x : Ledger). x.next_task) s.1.1) }
 gives l m (asks.AtHome home (TurnBack item)) (answers.AtHome Done) after s = record { item = gives_none _ _ (ap (λ (x : Ledger). x.next_item) s.2); task = gives_none _ _ (ap (λ (x : Ledger). x.next_task) s.2) }
 gives l m (asks.AtHome home (GiveBack item)) (answers.AtHome (Entered entered)) after s = record { item = gives_none _ _ (ap (λ (x : Ledger). x.next_item) s.1.1); task = gives_none _ _ (ap (λ (x : Ledger). x.next_task) s.1.1) }
-gives l m (asks.AtHome home (GiveUp item)) (answers.AtHome Done) after s = record { item = gives_none _ _ (ap (λ (x : Ledger). x.next_item) s.1.1); task = gives_none _ _ (ap (λ (x : Ledger). x.next_task) s.1.1) }
+gives l m (asks.AtHome home (Drop item)) (answers.AtHome Done) after s = record { item = gives_none _ _ (ap (λ (x : Ledger). x.next_item) s.1.1); task = gives_none _ _ (ap (λ (x : Ledger). x.next_task) s.1.1) }
 gives l m (asks.StartTask source destination rate) (answers.Started number) after s = record { item = gives_none _ _ (ap (λ (x : Ledger). x.next_item) s.4); task = gives_one _ _ _ s.3 (ap (λ (x : Ledger). x.next_task) s.4) }
 gives l m (asks.CancelTask number) (answers.Cancelled moved) after s = record { item = gives_none _ _ (ap (λ (x : Ledger). x.next_item) s.1); task = gives_none _ _ (ap (λ (x : Ledger). x.next_task) s.1) }
 gives l m (asks.ListTasks source most) (answers.Listed listed) after s = record { item = gives_none _ _ (ap (λ (x : Ledger). x.next_item) s.1); task = gives_none _ _ (ap (λ (x : Ledger). x.next_task) s.1) }

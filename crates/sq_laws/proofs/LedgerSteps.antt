@@ -5,7 +5,7 @@ use Rattle.std.specs.List.{AllByRecursion, list_any}
 use Rattle.std.proofs.lemmas.Grind.{common_steps}
 use Rattle.std.proofs.lemmas.Bool.{eqb-true}
 use Rattle.std.proofs.lemmas.List.Sums.{sum_by-cons}
-use Rattle.sq_model.specs.declared.calls.HomeCall.TheVariants.{LeaveDead, LeaveTask, Enter, TurnBack, GiveBack, GiveUp}
+use Rattle.sq_model.specs.declared.calls.HomeCall.TheVariants.{LeaveDead, LeaveTask, Enter, TurnBack, GiveBack, Drop}
 use Rattle.sq_model.specs.declared.item.Item.{Item}
 use Rattle.sq_model.specs.declared.item.Reason.{Reason}
 use Rattle.sq_model.specs.declared.item.Reason.TheVariants.{DeadLetter, Task as ForTask}
@@ -20,7 +20,7 @@ use Rattle.sq_model.specs.declared.task.NamedQueue.{NamedQueue}
 use Rattle.sq_model.specs.declared.task.Task.{Task}
 use Rattle.sq_model.specs.declared.task.TaskStatus.{TaskStatus}
 use Rattle.sq_model.specs.declared.task.TaskStatus.TheVariants.{Running, Completed, Cancelling, Cancelled, Failed}
-use Rattle.sq_model.specs.Tasks.{is_active, is_running, is_ended, may_leave, new_task, rate_of, left_in, second_of, with_left, with_moved, with_back, with_given_up, with_status, failed_as, cancelled_as, finished_as}
+use Rattle.sq_model.specs.Tasks.{is_active, is_running, is_ended, may_leave, new_task, rate_of, left_in, second_of, with_left, with_moved, with_back, with_dropped, with_status, failed_as, cancelled_as, finished_as}
 use Rattle.sq_model.specs.Ledgers.{Ledger, LedgerStep, TakesIn, GivesOut, items_without, is_task, is_of_source, is_active_at, is_for, in_transit, changed_task, changed_for, turned_if, last_number, most_active, TasksCount, HasTask, LeftBelow, OnlyLastActive, IsTask, IsLedger}
 use Rattle.sq_laws.proofs.LedgerLists.{all_append, all_with, all_filtered, all_mapped, filtered_length, mapped_length, one_longer, count_append, rise_append, items_low, rise_without, rise_turned, turned_reason, count_without, count_turned, HasStarted, none_started, tasks_append, KeepsNumber, tasks_changed, found_below, is_there, all_changed, only_found, count_changed}
 
@@ -28,7 +28,7 @@ use Rattle.sq_laws.proofs.LedgerLists.{all_append, all_with, all_filtered, all_m
 
 -- as many of it are in transit
 same_transit : (items other : List Item) (t : Task) → in_transit t.number other ≡ in_transit t.number items → IsTask items t → IsTask other t
-same_transit items other t e h = record { counted = h.counted ∙ ap (λ (k : ℕ). t.moved + t.back + t.given_up + k) (sym e); ended = λ x. e ∙ h.ended x; rate = h.rate }
+same_transit items other t e h = record { counted = h.counted ∙ ap (λ (k : ℕ). t.moved + t.back + t.dropped + k) (sym e); ended = λ x. e ∙ h.ended x; rate = h.rate }
 
 -- its status alone is another
 other_status : (items : List Item) (change : TaskStatus → TaskStatus) (t : Task) → (is_ended (change t.status) ≡ true → in_transit t.number items ≡ 0) → IsTask items t → IsTask items (with_status change t)
@@ -262,7 +262,7 @@ taken_in l item tasks after h taken started left t = rw taken.2 (record {
 record CountsOne (f : Task → Task) : Type 0 where
   pub change : IsChange f
   pub left : (t : Task) → (f t).left ≡ t.left
-  pub more : (t : Task) → (f t).moved + (f t).back + (f t).given_up ≡ t.moved + t.back + t.given_up + 1
+  pub more : (t : Task) → (f t).moved + (f t).back + (f t).dropped ≡ t.moved + t.back + t.dropped + 1
   pub status : (t : Task) → (f t).status ≡ t.status
   pub rate : (t : Task) → t.in_second ≤ rate_of t → (f t).in_second ≤ rate_of (f t)
 
@@ -272,8 +272,8 @@ moved_counts = record { change = record { number = λ t. refl; source = λ t. re
 back_counts : CountsOne with_back
 back_counts = record { change = record { number = λ t. refl; source = λ t. refl; wakes_none = λ t e. e }; left = λ t. refl; more = λ t. omega arith; status = λ t. refl; rate = λ t h. h }
 
-given_up_counts : CountsOne with_given_up
-given_up_counts = record { change = record { number = λ t. refl; source = λ t. refl; wakes_none = λ t e. e }; left = λ t. refl; more = λ t. omega arith; status = λ t. refl; rate = λ t h. h }
+dropped_counts : CountsOne with_dropped
+dropped_counts = record { change = record { number = λ t. refl; source = λ t. refl; wakes_none = λ t e. e }; left = λ t. refl; more = λ t. omega arith; status = λ t. refl; rate = λ t h. h }
 
 -- how many of a task are left in transit
 one_out : (l : Ledger) (item : Item) (task : ℕ) (b : Bool) → IsLedger l → find (λ x. x.number == item.number) l.items ≡ Some item → is_for task item.reason ≡ b
@@ -446,7 +446,7 @@ step_keeps l m (asks.AtHome home (LeaveTask number)) (answers.AtHome SourceClose
 step_keeps l m (asks.AtHome home (Enter item)) (answers.AtHome (Entered entered)) after s h = given_out l item with_moved after h s.1 moved_counts
 step_keeps l m (asks.AtHome home (TurnBack item)) (answers.AtHome Done) after s h = turned_back l item because.DestinationClosed after h s.2
 step_keeps l m (asks.AtHome home (GiveBack item)) (answers.AtHome (Entered entered)) after s h = given_out l item with_back after h s.1 back_counts
-step_keeps l m (asks.AtHome home (GiveUp item)) (answers.AtHome Done) after s h = given_out l item with_given_up after h s.1 given_up_counts
+step_keeps l m (asks.AtHome home (Drop item)) (answers.AtHome Done) after s h = given_out l item with_dropped after h s.1 dropped_counts
 step_keeps l m (asks.StartTask source destination rate) (answers.Started number) after s h =
     started_task l source destination rate m after h s.0 s.1 s.2 (s.4 ∙ ap (λ (n : ℕ). record l { tasks = l.tasks ++ new_task n source destination rate m ∷ []; next_task = l.next_task + 1 }) s.3)
 step_keeps l m (asks.CancelTask number) (answers.Cancelled moved) after s h =

@@ -1,23 +1,20 @@
 -- In a step of a home no message is lost and none is made twice.
-use Rattle.std.proofs.Common.{◌≡◌, ℕ, ◌+◌, Bool, true, false, not, cond, List, [], ◌∷◌, ◌++◌, map, refl, arith, ap, ◌∙◌, unwrap_or}
+use Rattle.std.proofs.Common.{◌≡◌, ℕ, ◌+◌, Bool, true, false, not, cond, List, [], ◌∷◌, ◌++◌, map, refl, arith, unwrap_or}
 use Rattle.std.specs.Prelude.{nat_lt, ◌&&◌, ◌==◌, filter, if◌then◌else◌}
 use Rattle.std.specs.List.{list_any}
 use Rattle.std.proofs.lemmas.List.Sums.{sum_by-append, sum_by-cons, sum_by_push}
 use Rattle.std.proofs.lemmas.List.Filters.{sum_by-filter_both}
-use Rattle.sq_base.specs.declared.ids.HomeId.{HomeId}
 use Rattle.sq_base.specs.declared.message_id.MessageId.{MessageId}
 use Rattle.sq_base.specs.declared.row.Row.{Row}
 use Rattle.sq_base.specs.declared.settings.Settings.{Settings}
 use Rattle.sq_model.specs.declared.place.Site.{Site}
-use Rattle.sq_model.specs.declared.item.Reason.{Reason}
-use Rattle.sq_model.specs.declared.item.Reason.TheVariants.{DeadLetter, Task}
 use Rattle.sq_model.specs.declared.calls.Receipt.{Receipt}
 use Rattle.sq_model.specs.declared.calls.HomeCall.{HomeCall}
-use Rattle.sq_model.specs.declared.calls.HomeCall.TheVariants.{Configure, Close, Send, Look, Delete, Change, Purge, Count, LeaveDead, LeaveTask, Enter, TurnBack, GiveBack, GiveUp}
+use Rattle.sq_model.specs.declared.calls.HomeCall.TheVariants.{Configure, Close, Send, Look, Delete, Change, Purge, Count, LeaveDead, LeaveTask, Enter, TurnBack, GiveBack, Drop}
 use Rattle.sq_model.specs.declared.replies.HomeReply.{HomeReply}
 use Rattle.sq_model.specs.declared.replies.HomeReply.TheVariants.{Done, Sent, Looked, Over, Counted, Left, NoLiveRow, NoOrigin, SourceClosed, Entered}
 use Rattle.sq_model.specs.Rows.{ms, is_expired, unexpired, is_live, is_named, is_held, serials_of, received, received_if, changed_if, Takes}
-use Rattle.sq_model.specs.Homes.{Home, Unopened, Serving, Closed, HomeStep, sent_row, returned_as, entered_as}
+use Rattle.sq_model.specs.Homes.{Contents, Home, Unopened, Serving, Closed, HomeStep, sent_row, entered_row, returned_row, unexpired_rows}
 use Rattle.sq_model.specs.Lineages.{Cause, Expired, Deleted, Purged, ClosedAway, Ending, ended, expired, home_ends, home_sends, home_outs, home_ins, rows_of, same_id, rows_with, ends_with, sends_with}
 
 abbrev one : MessageId → Row → ℕ
@@ -52,22 +49,6 @@ pub changed_line : (m : ℕ) (receipt : Receipt) (until : ℕ) (row : Row) → (
 changed_line m receipt until row =
     elim (is_held m receipt row) as (λ b. (if b then record row { visible_from = until } else row).lineage ≡ row.lineage) [ true ↦ refl | false ↦ refl ]
 
-entered_line : (reason : Reason) (home : HomeId) (source serial slot m : ℕ) (row : Row) → (entered_as reason home source serial slot m row).lineage ≡ row.lineage
-entered_line DeadLetter home source serial slot m row = refl
-entered_line (Task task) home source serial slot m row = refl
-
-returned_line : (reason : Reason) (serial slot m : ℕ) (row : Row) → (returned_as reason serial slot m row).lineage ≡ row.lineage
-returned_line DeadLetter serial slot m row = refl
-returned_line (Task task) serial slot m row = refl
-
-returned_push : (x : MessageId) (rows : List Row) (reason : Reason) (serial slot m : ℕ) (row : Row) → rows_with x (rows ++ returned_as reason serial slot m row ∷ []) ≡ rows_with x rows + one x row
-returned_push x rows reason serial slot m row =
-    rows_push x rows (returned_as reason serial slot m row) ∙ ap (λ y. rows_with x rows + cond (same_id x y) 1 0) (returned_line reason serial slot m row)
-
-entered_push : (x : MessageId) (rows : List Row) (reason : Reason) (home : HomeId) (source serial slot m : ℕ) (row : Row) → rows_with x (rows ++ entered_as reason home source serial slot m row ∷ []) ≡ rows_with x rows + one x row
-entered_push x rows reason home source serial slot m row =
-    rows_push x rows (entered_as reason home source serial slot m row) ∙ ap (λ y. rows_with x rows + cond (same_id x y) 1 0) (entered_line reason home source serial slot m row)
-
 -- what has expired goes, and nothing else
 pub expire_law : (x : MessageId) (s : Settings) (m : ℕ) (rows : List Row) → rows_with x (unexpired s m rows) + ends_with x (ended Expired (expired s m rows)) ≡ rows_with x rows
 expire_law x s m rows = omega (arith, rows_part x (is_expired s m) rows, ends_ended x Expired (expired s m rows))
@@ -89,9 +70,9 @@ pub takes_law : (x : MessageId) (row : Row) (rows rest : List Row) → Takes row
 takes_law x row rows rest t =
     rw (t.at, t.left) (omega (arith, sum_by-append (one x) t.before (row ∷ t.after), sum_by-append (one x) t.before t.after, sum_by-cons (one x) row t.after))
 
-configure_law : (x : MessageId) (b : Bool) (s t : Settings) (v w n : ℕ) (rows : List Row) → rows_with x (rows_of (if b then Serving t w n rows else Serving s v n rows)) ≡ rows_with x rows
-configure_law x true s t v w n rows = refl
-configure_law x false s t v w n rows = refl
+configure_law : (x : MessageId) (b : Bool) (its : Contents) (t : Settings) (w : ℕ) → rows_with x (rows_of (if b then Serving (record its { settings = t; version = w }) else Serving its)) ≡ rows_with x its.rows
+configure_law x true its t w = refl
+configure_law x false its t w = refl
 
 -- What is in the home after a step, left the system in it or went into transit, is what was there, was sent or came in.
 pub home_law : (x : MessageId) (site : Site) (home : Home) (m : ℕ) (call : HomeCall) (reply : HomeReply) (after : Home) → HomeStep site home m call reply after
@@ -99,32 +80,32 @@ pub home_law : (x : MessageId) (site : Site) (home : Home) (m : ℕ) (call : Hom
     ≡ rows_with x (rows_of home) + sends_with x (home_sends reply) + rows_with x (home_ins call)
 unfolding HomeStep
 home_law x site Unopened m (Configure t w) Done after h = rw h refl
-home_law x site (Serving s v n rows) m (Configure t w) Done after h =
-    rw h (omega (arith, expire_law x s m rows, configure_law x (nat_lt v w) s t v w n (unexpired s m rows)))
+home_law x site (Serving its) m (Configure t w) Done after h =
+    rw h (omega (arith, expire_law x its.settings m its.rows, configure_law x (nat_lt its.version w) (record its { rows = unexpired_rows its m }) t w))
 home_law x site Unopened m Close Done after h = rw h refl
-home_law x site (Serving s v n rows) m Close Done after h = rw h (omega (arith, all_law x s m rows ClosedAway))
-home_law x site (Serving s v n rows) m (Send body delay) (Sent sent) after h =
-    rw (h.2, h.1) (omega (arith, expire_law x s m rows, rows_push x (unexpired s m rows) (sent_row site.home n sent.slot m (m + ms (unwrap_or delay s.delay)) body)))
-home_law x site (Serving s v n rows) m (Look max timeout) (Looked picked) after h =
-    let until = m + ms (unwrap_or timeout s.timeout) in
-    rw h.2 (omega (arith, expire_law x s m rows, rows_map x (received_if s (serials_of picked) m until) (unexpired s m rows) (received_line s (serials_of picked) m until)))
-home_law x site (Serving s v n rows) m (Look max timeout) Over after h = rw h.2 (omega (arith, expire_law x s m rows))
-home_law x site (Serving s v n rows) m (Delete receipt) Done after h = rw h.1 (omega (arith, take_law x s m rows (is_named receipt) Deleted))
-home_law x site (Serving s v n rows) m (Change receipt timeout) Done after h =
-    rw h.3 (omega (arith, expire_law x s m rows, rows_map x (changed_if m receipt (m + ms timeout)) (unexpired s m rows) (changed_line m receipt (m + ms timeout))))
-home_law x site (Serving s v n rows) m Purge Done after h = rw h (omega (arith, all_law x s m rows Purged))
-home_law x site (Serving s v n rows) m Count (Counted counts) after h = rw h.1 (omega (arith, expire_law x s m rows))
-home_law x site (Serving s v n rows) m LeaveDead (Left item) after h =
-    rw h.3.2 (omega (arith, expire_law x s m rows, takes_law x item.row (unexpired s m rows) h.3.0 h.3.1))
-home_law x site (Serving s v n rows) m (LeaveTask task) (Left item) after h =
-    rw h.2.2 (omega (arith, expire_law x s m rows, takes_law x item.row (unexpired s m rows) h.2.0 h.2.1))
-home_law x site (Serving s v n rows) m (LeaveTask task) NoLiveRow after h = rw h.1 (omega (arith, expire_law x s m rows))
-home_law x site (Serving s v n rows) m (LeaveTask task) (NoOrigin serial) after h = rw h.1 (omega (arith, expire_law x s m rows))
+home_law x site (Serving its) m Close Done after h = rw h (omega (arith, all_law x its.settings m its.rows ClosedAway))
+home_law x site (Serving its) m (Send body delay) (Sent sent) after h =
+    rw (h.2, h.1) (omega (arith, expire_law x its.settings m its.rows, rows_push x (unexpired_rows its m) (sent_row site.home its.next sent.slot m (m + ms (unwrap_or delay its.settings.delay)) body)))
+home_law x site (Serving its) m (Look max timeout) (Looked picked) after h =
+    let until = m + ms (unwrap_or timeout its.settings.timeout) in
+    rw h.2 (omega (arith, expire_law x its.settings m its.rows, rows_map x (received_if its.settings (serials_of picked) m until) (unexpired_rows its m) (received_line its.settings (serials_of picked) m until)))
+home_law x site (Serving its) m (Look max timeout) Over after h = rw h.2 (omega (arith, expire_law x its.settings m its.rows))
+home_law x site (Serving its) m (Delete receipt) Done after h = rw h.1 (omega (arith, take_law x its.settings m its.rows (is_named receipt) Deleted))
+home_law x site (Serving its) m (Change receipt timeout) Done after h =
+    rw h.3 (omega (arith, expire_law x its.settings m its.rows, rows_map x (changed_if m receipt (m + ms timeout)) (unexpired_rows its m) (changed_line m receipt (m + ms timeout))))
+home_law x site (Serving its) m Purge Done after h = rw h (omega (arith, all_law x its.settings m its.rows Purged))
+home_law x site (Serving its) m Count (Counted counts) after h = rw h.1 (omega (arith, expire_law x its.settings m its.rows))
+home_law x site (Serving its) m LeaveDead (Left item) after h =
+    rw h.3.2 (omega (arith, expire_law x its.settings m its.rows, takes_law x item.row (unexpired_rows its m) h.3.0 h.3.1))
+home_law x site (Serving its) m (LeaveTask task) (Left item) after h =
+    rw h.2.2 (omega (arith, expire_law x its.settings m its.rows, takes_law x item.row (unexpired_rows its m) h.2.0 h.2.1))
+home_law x site (Serving its) m (LeaveTask task) NoLiveRow after h = rw h.1 (omega (arith, expire_law x its.settings m its.rows))
+home_law x site (Serving its) m (LeaveTask task) (NoOrigin serial) after h = rw h.1 (omega (arith, expire_law x its.settings m its.rows))
 home_law x site Closed m (LeaveTask task) SourceClosed after h = rw h refl
-home_law x site (Serving s v n rows) m (Enter item) (Entered entered) after h =
-    rw h.3 (omega (arith, expire_law x s m rows, entered_push x (unexpired s m rows) item.reason site.home item.source n entered.slot m item.row))
+home_law x site (Serving its) m (Enter item) (Entered entered) after h =
+    rw h.3 (omega (arith, expire_law x its.settings m its.rows, rows_push x (unexpired_rows its m) (entered_row site.home its.next entered.slot m item)))
 home_law x site Closed m (TurnBack item) Done after h = rw h.1 refl
-home_law x site (Serving s v n rows) m (GiveBack item) (Entered entered) after h =
-    rw h.3 (omega (arith, expire_law x s m rows, returned_push x (unexpired s m rows) item.reason n entered.slot m item.row))
-home_law x site Closed m (GiveUp item) Done after h = rw h.1 refl
+home_law x site (Serving its) m (GiveBack item) (Entered entered) after h =
+    rw h.3 (omega (arith, expire_law x its.settings m its.rows, rows_push x (unexpired_rows its m) (returned_row its.next entered.slot m item)))
+home_law x site Closed m (Drop item) Done after h = rw h.1 refl
 home_law x site home m call reply after h = elim h [ ]

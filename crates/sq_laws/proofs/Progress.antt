@@ -5,17 +5,16 @@ use Rattle.std.specs.List.{list_any}
 use Rattle.std.proofs.lemmas.Grind.{common_steps}
 use Rattle.sq_base.specs.declared.refusal.Refusal.{Refusal}
 use Rattle.sq_base.specs.declared.row.Row.{Row}
-use Rattle.sq_base.specs.declared.settings.Settings.{Settings}
 use Rattle.sq_base.specs.declared.settings.Redrive.{Redrive}
 use Rattle.sq_model.specs.declared.place.Limits.{Limits}
 use Rattle.sq_model.specs.declared.place.Site.{Site}
 use Rattle.sq_model.specs.declared.item.Reason.TheVariants.{DeadLetter, Task}
 use Rattle.sq_model.specs.declared.calls.HomeCall.{HomeCall}
-use Rattle.sq_model.specs.declared.calls.HomeCall.TheVariants.{Configure, Close, Send, Look, Delete, Change, Purge, Count, LeaveDead, LeaveTask, Enter, TurnBack, GiveBack, GiveUp}
+use Rattle.sq_model.specs.declared.calls.HomeCall.TheVariants.{Configure, Close, Send, Look, Delete, Change, Purge, Count, LeaveDead, LeaveTask, Enter, TurnBack, GiveBack, Drop}
 use Rattle.sq_model.specs.declared.replies.HomeReply.{HomeReply}
 use Rattle.sq_model.specs.declared.replies.HomeReply.TheVariants.{Done, Sent, Looked, Over, Counted, Left, NoLiveRow, SourceClosed, Entered}
-use Rattle.sq_model.specs.Rows.{ms, unexpired, RisesFrom, is_dead, is_live, is_spent, room, received, Takes}
-use Rattle.sq_model.specs.Homes.{Home, Unopened, Serving, Closed, HomeStep, home_refusal, place_refusal, refused_if, HasPlace, HasSlot, IsRising, IsIdle, last_serial, slots, fresh_id, counts_of, dead_target}
+use Rattle.sq_model.specs.Rows.{ms, RisesFrom, is_dead, is_live, is_spent, room, received, Takes}
+use Rattle.sq_model.specs.Homes.{Contents, Home, Unopened, Serving, Closed, HomeStep, home_refusal, full_refusal, refused_if, MayHoldOneMore, HasSlot, IsRising, IsIdle, last_serial, slots, fresh_id, counts_of, dead_target, unexpired_rows}
 use Rattle.sq_model.proofs.RowLaws.{first_is_look, rises_unexpired}
 use Rattle.sq_model.proofs.SlotLaws.{free_slot, not_false}
 
@@ -33,10 +32,10 @@ neither false b h = (refl, h)
 pub above : (a b : ℕ) → nat_le b a ≡ false → a < b
 above a b h = grind (arith, common_steps)
 
--- a place for a row more, and that no later check fails
-pub place_left : (l : Limits) (next : ℕ) (rows : List Row) (later : Option Refusal) → place_refusal l next rows later ≡ None
-    → ((slot : ℕ) × (slot < slots) × HasPlace l next slot rows) × (later ≡ None)
-place_left l next rows later h =
+-- one row more may be held, and that no later check fails
+pub one_more_left : (l : Limits) (next : ℕ) (rows : List Row) (later : Option Refusal) → full_refusal l next rows later ≡ None
+    → ((slot : ℕ) × (slot < slots) × MayHoldOneMore l next slot rows) × (later ≡ None)
+one_more_left l next rows later h =
     let worn = passed (nat_le last_serial next || nat_le slots (length rows)) _ _ h in
     let counts = neither _ _ worn.0 in
     let full = passed (nat_le l.rows (length rows)) _ _ worn.1 in
@@ -59,32 +58,32 @@ has_target None true row h = absurd cc
 has_target None false row h = absurd cc
 has_target (Some redrive) visible row h = (redrive.target, refl)
 
-looked : (site : Site) (s : Settings) (v n : ℕ) (rows : List Row) (m max : ℕ) (timeout : Option ℕ) → RisesFrom 0 rows n
-    → (list_any (is_live s m) (unexpired s m rows) ≡ true → 0 < room site.limits.flights m (unexpired s m rows)) → Possible site (Serving s v n rows) m (Look max timeout)
+looked : (site : Site) (its : Contents) (m max : ℕ) (timeout : Option ℕ) → RisesFrom 0 its.rows its.next
+    → (list_any (is_live its.settings m) (unexpired_rows its m) ≡ true → 0 < room site.limits.flights m (unexpired_rows its m)) → Possible site (Serving its) m (Look max timeout)
 unfolding HomeStep
-looked site s v n rows m max timeout r some =
-    let until = m + ms (unwrap_or timeout s.timeout) in
-    let most = min max (room site.limits.flights m (unexpired s m rows)) in
-    (Looked (take most (map (received m until) (filter (is_live s m) (unexpired s m rows)))), _, tt, (some, first_is_look s m until most (unexpired s m rows) n (rises_unexpired s m 0 rows n r), refl))
+looked site its m max timeout r some =
+    let until = m + ms (unwrap_or timeout its.settings.timeout) in
+    let most = min max (room site.limits.flights m (unexpired_rows its m)) in
+    (Looked (take most (map (received m until) (filter (is_live its.settings m) (unexpired_rows its m)))), _, tt, (some, first_is_look its.settings m until most (unexpired_rows its m) its.next (rises_unexpired its.settings m 0 its.rows its.next r), refl))
 
-look_possible : (site : Site) (s : Settings) (v n : ℕ) (rows : List Row) (m max : ℕ) (timeout : Option ℕ) → RisesFrom 0 rows n → Possible site (Serving s v n rows) m (Look max timeout)
+look_possible : (site : Site) (its : Contents) (m max : ℕ) (timeout : Option ℕ) → RisesFrom 0 its.rows its.next → Possible site (Serving its) m (Look max timeout)
 unfolding HomeStep
-look_possible site s v n rows m max timeout r =
-    let left = room site.limits.flights m (unexpired s m rows) in
-    let live = list_any (is_live s m) (unexpired s m rows) in
-    elim left as (λ k. left ≡ k → Possible site (Serving s v n rows) m (Look max timeout)) [
-      | zero ↦ (λ e. elim live as (λ b. live ≡ b → Possible site (Serving s v n rows) m (Look max timeout))
-          [ true ↦ (λ l. (Over, _, tt, (l, e, refl))) | false ↦ (λ l. looked site s v n rows m max timeout r (λ t. absurd cc)) ] refl)
-      | suc k ↦ (λ e. looked site s v n rows m max timeout r (λ t. rw e (omega arith)))
+look_possible site its m max timeout r =
+    let left = room site.limits.flights m (unexpired_rows its m) in
+    let live = list_any (is_live its.settings m) (unexpired_rows its m) in
+    elim left as (λ k. left ≡ k → Possible site (Serving its) m (Look max timeout)) [
+      | zero ↦ (λ e. elim live as (λ b. live ≡ b → Possible site (Serving its) m (Look max timeout))
+          [ true ↦ (λ l. (Over, _, tt, (l, e, refl))) | false ↦ (λ l. looked site its m max timeout r (λ t. absurd cc)) ] refl)
+      | suc k ↦ (λ e. looked site its m max timeout r (λ t. rw e (omega arith)))
     ] refl
 
-leave_dead_possible : (site : Site) (s : Settings) (v n : ℕ) (rows : List Row) (m : ℕ) → IsIdle (Serving s v n rows) m LeaveDead ⊎ Possible site (Serving s v n rows) m LeaveDead
+leave_dead_possible : (site : Site) (its : Contents) (m : ℕ) → IsIdle (Serving its) m LeaveDead ⊎ Possible site (Serving its) m LeaveDead
 unfolding HomeStep
-leave_dead_possible site s v n rows m =
-    let dead = list_any (is_dead s m) (unexpired s m rows) in
-    elim dead as (λ b. dead ≡ b → IsIdle (Serving s v n rows) m LeaveDead ⊎ Possible site (Serving s v n rows) m LeaveDead) [
-      | true ↦ (λ e. let t = takes_one (is_dead s m) (unexpired s m rows) e in
-          let target = has_target s.redrive _ t.0 t.3 in
+leave_dead_possible site its m =
+    let dead = list_any (is_dead its.settings m) (unexpired_rows its m) in
+    elim dead as (λ b. dead ≡ b → IsIdle (Serving its) m LeaveDead ⊎ Possible site (Serving its) m LeaveDead) [
+      | true ↦ (λ e. let t = takes_one (is_dead its.settings m) (unexpired_rows its m) e in
+          let target = has_target its.settings.redrive _ t.0 t.3 in
           inr (
             Left (record { number = 1; row = t.0; source = site.home.queue; target = target.0; reason = DeadLetter; homeward = false }),
             _,
@@ -94,12 +93,12 @@ leave_dead_possible site s v n rows m =
       | false ↦ (λ e. inl e)
     ] refl
 
-leave_task_possible : (site : Site) (s : Settings) (v n : ℕ) (rows : List Row) (m task : ℕ) → Possible site (Serving s v n rows) m (LeaveTask task)
+leave_task_possible : (site : Site) (its : Contents) (m task : ℕ) → Possible site (Serving its) m (LeaveTask task)
 unfolding HomeStep
-leave_task_possible site s v n rows m task =
-    let live = list_any (is_live s m) (unexpired s m rows) in
-    elim live as (λ b. live ≡ b → Possible site (Serving s v n rows) m (LeaveTask task)) [
-      | true ↦ (λ e. let t = takes_one (is_live s m) (unexpired s m rows) e in (
+leave_task_possible site its m task =
+    let live = list_any (is_live its.settings m) (unexpired_rows its m) in
+    elim live as (λ b. live ≡ b → Possible site (Serving its) m (LeaveTask task)) [
+      | true ↦ (λ e. let t = takes_one (is_live its.settings m) (unexpired_rows its m) e in (
         Left (record { number = 1; row = t.0; source = site.home.queue; target = 1; reason = Task task; homeward = false }),
         _,
         tt,
@@ -111,30 +110,30 @@ leave_task_possible site s v n rows m task =
 pub step_possible : (site : Site) (home : Home) (m : ℕ) (call : HomeCall) → IsRising home → home_refusal site home m call ≡ None → IsIdle home m call ⊎ Possible site home m call
 unfolding HomeStep home_refusal
 step_possible site Unopened m (Configure t w) r h = inr (Done, _, tt, refl)
-step_possible site (Serving s v n rows) m (Configure t w) r h = inr (Done, _, tt, refl)
+step_possible site (Serving its) m (Configure t w) r h = inr (Done, _, tt, refl)
 step_possible site Unopened m Close r h = inr (Done, _, tt, refl)
-step_possible site (Serving s v n rows) m Close r h = inr (Done, _, tt, refl)
-step_possible site (Serving s v n rows) m (Send body delay) r h =
-    let p = place_left _ _ _ _ h in
-    inr (Sent (record { id = fresh_id site.home n; slot = p.0.0 }), _, p.0.1, (p.0.2, refl, refl))
-step_possible site (Serving s v n rows) m (Look max timeout) r h = inr (look_possible site s v n rows m max timeout r)
-step_possible site (Serving s v n rows) m (Delete receipt) r h = inr (Done, _, tt, (above _ _ (passed _ _ _ h).0, refl))
-step_possible site (Serving s v n rows) m (Change receipt timeout) r h =
+step_possible site (Serving its) m Close r h = inr (Done, _, tt, refl)
+step_possible site (Serving its) m (Send body delay) r h =
+    let p = one_more_left _ _ _ _ h in
+    inr (Sent (record { id = fresh_id site.home its.next; slot = p.0.0 }), _, p.0.1, (p.0.2, refl, refl))
+step_possible site (Serving its) m (Look max timeout) r h = inr (look_possible site its m max timeout r)
+step_possible site (Serving its) m (Delete receipt) r h = inr (Done, _, tt, (above _ _ (passed _ _ _ h).0, refl))
+step_possible site (Serving its) m (Change receipt timeout) r h =
     let picked = passed _ _ _ h in
     let held = passed _ _ _ picked.1 in
     let late = passed _ _ _ held.1 in
     inr (Done, _, tt, (above _ _ picked.0, not_false _ held.0, late.0, refl))
-step_possible site (Serving s v n rows) m Purge r h = inr (Done, _, tt, refl)
-step_possible site (Serving s v n rows) m Count r h = inr (Counted (counts_of m (unexpired s m rows)), _, tt, (refl, refl))
-step_possible site (Serving s v n rows) m LeaveDead r h = leave_dead_possible site s v n rows m
-step_possible site (Serving s v n rows) m (LeaveTask task) r h = inr (leave_task_possible site s v n rows m task)
+step_possible site (Serving its) m Purge r h = inr (Done, _, tt, refl)
+step_possible site (Serving its) m Count r h = inr (Counted (counts_of m (unexpired_rows its m)), _, tt, (refl, refl))
+step_possible site (Serving its) m LeaveDead r h = leave_dead_possible site its m
+step_possible site (Serving its) m (LeaveTask task) r h = inr (leave_task_possible site its m task)
 step_possible site Closed m (LeaveTask task) r h = inr (SourceClosed, _, tt, refl)
-step_possible site (Serving s v n rows) m (Enter item) r h =
-    let p = place_left _ _ _ _ h in
-    inr (Entered (record { serial = n; slot = p.0.0 }), _, p.0.1, (not_false _ (passed _ _ _ p.1).0, p.0.2, refl, refl))
+step_possible site (Serving its) m (Enter item) r h =
+    let p = one_more_left _ _ _ _ h in
+    inr (Entered (record { serial = its.next; slot = p.0.0 }), _, p.0.1, (not_false _ (passed _ _ _ p.1).0, p.0.2, refl, refl))
 step_possible site Closed m (TurnBack item) r h = inr (Done, _, tt, (not_false _ (passed _ _ _ h).0, refl))
-step_possible site (Serving s v n rows) m (GiveBack item) r h =
-    let p = place_left _ _ _ _ h in
-    inr (Entered (record { serial = n; slot = p.0.0 }), _, p.0.1, (not_false _ (passed _ _ _ p.1).0, p.0.2, refl, refl))
-step_possible site Closed m (GiveUp item) r h = inr (Done, _, tt, (not_false _ (passed _ _ _ h).0, refl))
+step_possible site (Serving its) m (GiveBack item) r h =
+    let p = one_more_left _ _ _ _ h in
+    inr (Entered (record { serial = its.next; slot = p.0.0 }), _, p.0.1, (not_false _ (passed _ _ _ p.1).0, p.0.2, refl, refl))
+step_possible site Closed m (Drop item) r h = inr (Done, _, tt, (not_false _ (passed _ _ _ h).0, refl))
 step_possible site home m call r h = absurd cc

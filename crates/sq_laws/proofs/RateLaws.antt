@@ -7,7 +7,7 @@ use Rattle.std.proofs.lemmas.List.Sums.{sum_by-cons}
 use Rattle.sq_base.specs.StampValue.{StampValue}
 use Rattle.sq_base.specs.Stamps.{start}
 use Rattle.sq_model.specs.declared.event.Event.{Event}
-use Rattle.sq_model.specs.declared.calls.HomeCall.TheVariants.{LeaveDead, LeaveTask, Enter, TurnBack, GiveBack, GiveUp}
+use Rattle.sq_model.specs.declared.calls.HomeCall.TheVariants.{LeaveDead, LeaveTask, Enter, TurnBack, GiveBack, Drop}
 use Rattle.sq_model.specs.declared.item.Item.{Item}
 use Rattle.sq_model.specs.declared.item.Reason.{Reason}
 use Rattle.sq_model.specs.declared.item.Reason.TheVariants.{DeadLetter, Task as ForTask}
@@ -20,7 +20,7 @@ use Rattle.sq_model.specs.declared.task.FailureReason.TheVariants as because
 use Rattle.sq_model.specs.declared.task.Task.{Task}
 use Rattle.sq_model.specs.declared.task.TaskStatus.{TaskStatus}
 use Rattle.sq_model.specs.Replays.{Replays, NoMomentFalls, StampsRise}
-use Rattle.sq_model.specs.Tasks.{left_in, may_leave, new_task, rate_of, second_of, with_left, with_moved, with_back, with_given_up, with_status, failed_as, cancelled_as, finished_as}
+use Rattle.sq_model.specs.Tasks.{left_in, may_leave, new_task, rate_of, second_of, with_left, with_moved, with_back, with_dropped, with_status, failed_as, cancelled_as, finished_as}
 use Rattle.sq_model.specs.Ledgers.{Ledger, LedgerEvent, LedgerStep, IsLedger, IsTask, changed_for, changed_task, is_for, is_task, leaves_for, leaves_in, opening_ledger, task_of}
 use Rattle.sq_laws.proofs.LedgerLists.{KeepsNumber, found_number, found_of_all, some_same}
 use Rattle.sq_laws.proofs.LedgerLaws.{ledger_holds}
@@ -99,8 +99,8 @@ moved_pace = record { number = λ t. refl; pace = λ t. record { rate = refl; se
 back_pace : KeepsPace with_back
 back_pace = record { number = λ t. refl; pace = λ t. record { rate = refl; second = refl; in_second = refl } }
 
-given_up_pace : KeepsPace with_given_up
-given_up_pace = record { number = λ t. refl; pace = λ t. record { rate = refl; second = refl; in_second = refl } }
+dropped_pace : KeepsPace with_dropped
+dropped_pace = record { number = λ t. refl; pace = λ t. record { rate = refl; second = refl; in_second = refl } }
 
 -- the tasks are as they were
 paced_still : (number m : ℕ) (task : Task) (reply : LedgerReply) (l after : Ledger) → task_of number l ≡ Some task → leaves_for number reply ≡ false → after.tasks ≡ l.tasks → Paced number m task reply after
@@ -168,8 +168,8 @@ step_paced number task l m (asks.AtHome home (TurnBack item)) (answers.AtHome Do
     paced_for number m item.reason (with_status (failed_as because.DestinationClosed)) task _ l after (status_pace _) e refl (ap (λ (x : Ledger). x.tasks) s.2)
 step_paced number task l m (asks.AtHome home (GiveBack item)) (answers.AtHome (Entered entered)) after e s =
     paced_for number m item.reason with_back task _ l after back_pace e refl (ap (λ (x : Ledger). x.tasks) s.1.1)
-step_paced number task l m (asks.AtHome home (GiveUp item)) (answers.AtHome Done) after e s =
-    paced_for number m item.reason with_given_up task _ l after given_up_pace e refl (ap (λ (x : Ledger). x.tasks) s.1.1)
+step_paced number task l m (asks.AtHome home (Drop item)) (answers.AtHome Done) after e s =
+    paced_for number m item.reason with_dropped task _ l after dropped_pace e refl (ap (λ (x : Ledger). x.tasks) s.1.1)
 step_paced number task l m (asks.StartTask source destination rate) (answers.Started k) after e s =
     record { later = task; found = rw s.4 (find_append number l.tasks (new_task k source destination rate m) task e); pace = inr (refl, same_pace task) }
 step_paced number task l m (asks.CancelTask k) (answers.Cancelled moved) after e s =
@@ -301,7 +301,7 @@ step_new number l m (asks.AtHome home (LeaveTask k)) (answers.AtHome SourceClose
 step_new number l m (asks.AtHome home (Enter item)) (answers.AtHome (Entered entered)) after e s = new_for number item.reason with_moved _ l after (λ t. refl) e refl (ap (λ (x : Ledger). x.tasks) s.1.1)
 step_new number l m (asks.AtHome home (TurnBack item)) (answers.AtHome Done) after e s = new_for number item.reason (with_status (failed_as because.DestinationClosed)) _ l after (λ t. refl) e refl (ap (λ (x : Ledger). x.tasks) s.2)
 step_new number l m (asks.AtHome home (GiveBack item)) (answers.AtHome (Entered entered)) after e s = new_for number item.reason with_back _ l after (λ t. refl) e refl (ap (λ (x : Ledger). x.tasks) s.1.1)
-step_new number l m (asks.AtHome home (GiveUp item)) (answers.AtHome Done) after e s = new_for number item.reason with_given_up _ l after (λ t. refl) e refl (ap (λ (x : Ledger). x.tasks) s.1.1)
+step_new number l m (asks.AtHome home (Drop item)) (answers.AtHome Done) after e s = new_for number item.reason with_dropped _ l after (λ t. refl) e refl (ap (λ (x : Ledger). x.tasks) s.1.1)
 step_new number l m (asks.StartTask source destination rate) (answers.Started k) after e s =
     let new = new_task k source destination rate m in
     record { none_leaves = refl; later = new_started number new after refl refl (is_task number new) (ap (task_of number) s.4 ∙ none_append number l.tasks new e) }

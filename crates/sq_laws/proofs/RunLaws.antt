@@ -35,7 +35,7 @@ get_other (x ∷ xs) (suc i) (suc j) new ne = get_other xs i j new (λ e. ne (ap
 same_at : (a b : HomeAt) → a.site ≡ b.site → a.home ≡ b.home → a ≡ b
 same_at a b s h = ap (λ (x : Site). record { site = x; home = a.home }) s ∙ ap (λ (x : Home). record { site = b.site; home = x }) h
 
--- what does nothing at a place leaves what is there
+-- what does nothing at an index leaves what is there
 stays : (old new : Option HomeAt) → HomeGoes old [] new → new ≡ old
 stays (Some old) (Some new) h = ap Some (same_at new old h.0 h.2)
 stays None None h = refl

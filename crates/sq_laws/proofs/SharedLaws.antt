@@ -17,17 +17,17 @@ use Rattle.sq_model.specs.declared.place.Site.{Site}
 use Rattle.sq_model.specs.declared.replies.HomeReply.{HomeReply}
 use Rattle.sq_model.specs.declared.replies.HomeReply.TheVariants.{Done, Left, NoLiveRow, NoOrigin, SourceClosed, Entered}
 use Rattle.sq_model.specs.declared.shared.SharedAct.{SharedAct}
-use Rattle.sq_model.specs.declared.shared.SharedAct.TheVariants.{LeaveDead, LeaveTask, Enter, TurnBack, GiveBack, GiveUp}
+use Rattle.sq_model.specs.declared.shared.SharedAct.TheVariants.{LeaveDead, LeaveTask, Enter, TurnBack, GiveBack, Drop}
 use Rattle.sq_model.specs.declared.task.NamedQueue.{NamedQueue}
 use Rattle.sq_model.specs.declared.task.Task.{Task}
-use Rattle.sq_model.specs.Rows.{Takes, unexpired, is_dead, is_live}
-use Rattle.sq_model.specs.Homes.{Home, Unopened, Serving, Closed, HasSlot, HomeStep, IsFrom, home_refusal, may_enter, may_return}
+use Rattle.sq_model.specs.Rows.{Takes, is_dead, is_live}
+use Rattle.sq_model.specs.Homes.{Contents, Home, Unopened, Serving, Closed, HasSlot, HomeStep, IsFrom, home_refusal, may_enter, may_return, unexpired_rows}
 use Rattle.sq_model.specs.Tasks.{destination_or, is_running, may_leave, target_of}
 use Rattle.sq_model.specs.Ledgers.{HasRoom, Ledger, LedgerStep, MayTake, is_of_source, item_of, room_refusal, task_of}
 use Rattle.sq_model.specs.Shared.{IsCallOf, HasSharedStep, IsUnrecorded, SharedStep, after_given, is_entering, is_returning, is_throttled, shared_refusal, shared_stamp, task_refusal}
 use Rattle.sq_base.proofs.StampLaws.{after_above, after_moment, below_trans}
 use Rattle.sq_laws.proofs.LedgerLists.{found_number, some_same}
-use Rattle.sq_laws.proofs.Progress.{above, has_target, passed, place_left, takes_one}
+use Rattle.sq_laws.proofs.Progress.{above, has_target, passed, one_more_left, takes_one}
 use Rattle.sq_laws.proofs.Refusals.{below, step_allowed}
 use Rattle.sq_model.proofs.SlotLaws.{not_false}
 
@@ -54,15 +54,15 @@ takes_from site l number task later h e = rw (h.found, h.running, h.of_source, e
 allowed_leave_dead : (site : Site) (home : Home) (l : Ledger) (m : ℕ) (reply : HomeReply) (after : Home) (later : Ledger) → HomeStep site home m asks.LeaveDead reply after
     → LedgerStep l m (CallAtHome site.home asks.LeaveDead) (ReplyAtHome reply) later → shared_refusal site home l m LeaveDead ≡ None
 unfolding HomeStep LedgerStep shared_refusal
-allowed_leave_dead site (Serving s v n rows) l m (Left item) after later h k = either _ _ (room_left l k.1.0)
+allowed_leave_dead site (Serving its) l m (Left item) after later h k = either _ _ (room_left l k.1.0)
 allowed_leave_dead site home l m reply after later h k = elim h [ ]
 
 allowed_leave_task : (site : Site) (home : Home) (l : Ledger) (m number : ℕ) (reply : HomeReply) (after : Home) (later : Ledger) → HomeStep site home m (asks.LeaveTask number) reply after
     → LedgerStep l m (CallAtHome site.home (asks.LeaveTask number)) (ReplyAtHome reply) later → shared_refusal site home l m (LeaveTask number) ≡ None
 unfolding HomeStep LedgerStep shared_refusal
-allowed_leave_task site (Serving s v n rows) l m number (Left item) after later h k = takes_from site l number k.1.0 _ k.1.1 (either _ _ (room_left l k.2.0))
-allowed_leave_task site (Serving s v n rows) l m number NoLiveRow after later h k = takes_from site l number k.0.0 _ k.0.1 (not_asked _ _ (and_not _ _ h.0))
-allowed_leave_task site (Serving s v n rows) l m number (NoOrigin serial) after later h k = takes_from site l number k.0.0 _ k.0.1 (either _ _ (room_left l k.1))
+allowed_leave_task site (Serving its) l m number (Left item) after later h k = takes_from site l number k.1.0 _ k.1.1 (either _ _ (room_left l k.2.0))
+allowed_leave_task site (Serving its) l m number NoLiveRow after later h k = takes_from site l number k.0.0 _ k.0.1 (not_asked _ _ (and_not _ _ h.0))
+allowed_leave_task site (Serving its) l m number (NoOrigin serial) after later h k = takes_from site l number k.0.0 _ k.0.1 (either _ _ (room_left l k.1))
 allowed_leave_task site Closed l m number SourceClosed after later h k = takes_from site l number k.0.0 _ k.0.1 refl
 allowed_leave_task site home l m number reply after later h k = elim h [ ]
 
@@ -80,15 +80,15 @@ item_alike site home l m (LeaveTask number) call is of = absurd of
 item_alike site Unopened l m (Enter number) call is of = rw is.2 refl
 item_alike site Unopened l m (TurnBack number) call is of = rw is.2 refl
 item_alike site Unopened l m (GiveBack number) call is of = rw is.2 refl
-item_alike site Unopened l m (GiveUp number) call is of = rw is.2 refl
-item_alike site (Serving s v n rows) l m (Enter number) call is of = rw (is.2, is.1) refl
-item_alike site (Serving s v n rows) l m (TurnBack number) call is of = rw is.2 refl
-item_alike site (Serving s v n rows) l m (GiveBack number) call is of = rw (is.2, is.1) refl
-item_alike site (Serving s v n rows) l m (GiveUp number) call is of = rw is.2 refl
+item_alike site Unopened l m (Drop number) call is of = rw is.2 refl
+item_alike site (Serving its) l m (Enter number) call is of = rw (is.2, is.1) refl
+item_alike site (Serving its) l m (TurnBack number) call is of = rw is.2 refl
+item_alike site (Serving its) l m (GiveBack number) call is of = rw (is.2, is.1) refl
+item_alike site (Serving its) l m (Drop number) call is of = rw is.2 refl
 item_alike site Closed l m (Enter number) call is of = rw is.2 refl
 item_alike site Closed l m (TurnBack number) call is of = rw (is.2, is.1) refl
 item_alike site Closed l m (GiveBack number) call is of = rw is.2 refl
-item_alike site Closed l m (GiveUp number) call is of = rw (is.2, is.1) refl
+item_alike site Closed l m (Drop number) call is of = rw (is.2, is.1) refl
 
 -- the home's half, of the call that is asked
 half : (site : Site) (home : Home) (m : ℕ) (call asked : HomeCall) (reply : HomeReply) (after : Home) → call ≡ asked → HomeStep site home m call reply after → HomeStep site home m asked reply after
@@ -107,7 +107,7 @@ shared_allowed site home l m (LeaveTask number) call reply after later is s =
 shared_allowed site home l m (Enter number) call reply after later is s = item_alike site home l m (Enter number) call is tt ∙ step_allowed site home m call reply after s.at_home
 shared_allowed site home l m (TurnBack number) call reply after later is s = item_alike site home l m (TurnBack number) call is tt ∙ step_allowed site home m call reply after s.at_home
 shared_allowed site home l m (GiveBack number) call reply after later is s = item_alike site home l m (GiveBack number) call is tt ∙ step_allowed site home m call reply after s.at_home
-shared_allowed site home l m (GiveUp number) call reply after later is s = item_alike site home l m (GiveUp number) call is tt ∙ step_allowed site home m call reply after s.at_home
+shared_allowed site home l m (Drop number) call reply after later is s = item_alike site home l m (Drop number) call is tt ∙ step_allowed site home m call reply after s.at_home
 
 -- ---- and where none does it can be done
 
@@ -124,22 +124,22 @@ goes_on : (site : Site) (home : Home) (l : Ledger) (m : ℕ) (act : SharedAct) (
 goes_on site home l m act call reply after l_after is slot at_home in_ledger =
     inr (record { call = call; reply = reply; after = after; l_after = l_after; is_asked = is; slot = slot; step = record { at_home = at_home; in_ledger = in_ledger } })
 
-dead_goes : (site : Site) (s : Settings) (v n : ℕ) (rows : List Row) (l : Ledger) (m : ℕ) (b : Bool) → list_any (is_dead s m) (unexpired s m rows) ≡ b → (if b then room_refusal l else None) ≡ None
-    → IsUnrecorded site (Serving s v n rows) l m LeaveDead ⊎ HasSharedStep site (Serving s v n rows) l m LeaveDead
+dead_goes : (site : Site) (its : Contents) (l : Ledger) (m : ℕ) (b : Bool) → list_any (is_dead its.settings m) (unexpired_rows its m) ≡ b → (if b then room_refusal l else None) ≡ None
+    → IsUnrecorded site (Serving its) l m LeaveDead ⊎ HasSharedStep site (Serving its) l m LeaveDead
 unfolding HomeStep LedgerStep
-dead_goes site s v n rows l m false e h = inl e
-dead_goes site s v n rows l m true e h =
-    let t = takes_one (is_dead s m) (unexpired s m rows) e in
-    let target = has_target s.redrive _ t.0 t.3 in
+dead_goes site its l m false e h = inl e
+dead_goes site its l m true e h =
+    let t = takes_one (is_dead its.settings m) (unexpired_rows its m) e in
+    let target = has_target its.settings.redrive _ t.0 t.3 in
     let item : Item = record { number = l.next_item; row = t.0; source = site.home.queue; target = target.0; reason = DeadLetter; homeward = false } in
     let from : IsFrom site.home DeadLetter item = record { from = refl; because = refl; forward = refl } in
-    goes_on site (Serving s v n rows) l m LeaveDead asks.LeaveDead (Left item) _ _ refl tt (from, target.1, t.3, (t.1, t.2, refl)) (from, (room_for l h, refl, refl))
+    goes_on site (Serving its) l m LeaveDead asks.LeaveDead (Left item) _ _ refl tt (from, target.1, t.3, (t.1, t.2, refl)) (from, (room_for l h, refl, refl))
 
 -- a live row leaves for a task, where it has somewhere to go, and else the task fails
-leaves_to : (site : Site) (s : Settings) (v n : ℕ) (rows : List Row) (l : Ledger) (m number : ℕ) (task : Task) → MayTake l site.home.queue number task → may_leave m task ≡ true → HasRoom l
-    → (row : Row) (rest : List Row) → Takes row (unexpired s m rows) rest → is_live s m row ≡ true → (target : ℕ) → Some target ≡ target_of task row → HasSharedStep site (Serving s v n rows) l m (LeaveTask number)
+leaves_to : (site : Site) (its : Contents) (l : Ledger) (m number : ℕ) (task : Task) → MayTake l site.home.queue number task → may_leave m task ≡ true → HasRoom l
+    → (row : Row) (rest : List Row) → Takes row (unexpired_rows its m) rest → is_live its.settings m row ≡ true → (target : ℕ) → Some target ≡ target_of task row → HasSharedStep site (Serving its) l m (LeaveTask number)
 unfolding HomeStep LedgerStep
-leaves_to site s v n rows l m number task may pace room row rest t live target e =
+leaves_to site its l m number task may pace room row rest t live target e =
     let item : Item = record { number = l.next_item; row = row; source = site.home.queue; target = target; reason = ForTask number; homeward = false } in
     record {
       call = asks.LeaveTask number;
@@ -154,11 +154,11 @@ leaves_to site s v n rows l m number task may pace room row rest t live target e
       };
     }
 
-row_goes : (site : Site) (s : Settings) (v n : ℕ) (rows : List Row) (l : Ledger) (m number : ℕ) (task : Task) → MayTake l site.home.queue number task → may_leave m task ≡ true → HasRoom l
-    → (row : Row) (rest : List Row) → Takes row (unexpired s m rows) rest → is_live s m row ≡ true → (destination : Option NamedQueue) (origin : Option ℕ) → task.destination ≡ destination → row.origin ≡ origin
-    → HasSharedStep site (Serving s v n rows) l m (LeaveTask number)
+row_goes : (site : Site) (its : Contents) (l : Ledger) (m number : ℕ) (task : Task) → MayTake l site.home.queue number task → may_leave m task ≡ true → HasRoom l
+    → (row : Row) (rest : List Row) → Takes row (unexpired_rows its m) rest → is_live its.settings m row ≡ true → (destination : Option NamedQueue) (origin : Option ℕ) → task.destination ≡ destination → row.origin ≡ origin
+    → HasSharedStep site (Serving its) l m (LeaveTask number)
 unfolding HomeStep LedgerStep
-row_goes site s v n rows l m number task may pace room row rest t live None None d o = record {
+row_goes site its l m number task may pace room row rest t live None None d o = record {
   call = asks.LeaveTask number;
   reply = NoOrigin row.serial;
   after = _;
@@ -167,8 +167,8 @@ row_goes site s v n rows l m number task may pace room row rest t live None None
   slot = tt;
   step = record { at_home = ((row, rest, t, live, refl, o), refl); in_ledger = ((task, may, pace, d), room, refl) };
 }
-row_goes site s v n rows l m number task may pace room row rest t live None (Some queue) d o = leaves_to site s v n rows l m number task may pace room row rest t live queue (sym (ap (λ (x : Option NamedQueue). destination_or x row.origin) d ∙ o))
-row_goes site s v n rows l m number task may pace room row rest t live (Some queue) origin d o = leaves_to site s v n rows l m number task may pace room row rest t live queue.number (sym (ap (λ (x : Option NamedQueue). destination_or x row.origin) d))
+row_goes site its l m number task may pace room row rest t live None (Some queue) d o = leaves_to site its l m number task may pace room row rest t live queue (sym (ap (λ (x : Option NamedQueue). destination_or x row.origin) d ∙ o))
+row_goes site its l m number task may pace room row rest t live (Some queue) origin d o = leaves_to site its l m number task may pace room row rest t live queue.number (sym (ap (λ (x : Option NamedQueue). destination_or x row.origin) d))
 
 pub and_both : (a b : Bool) → (a && b) ≡ true → (a ≡ true) × (b ≡ true)
 and_both true b h = (refl, h)
@@ -187,17 +187,17 @@ pub is_false : (b : Bool) → not b ≡ true → b ≡ false
 is_false true e = absurd cc
 is_false false e = refl
 
-task_goes : (site : Site) (s : Settings) (v n : ℕ) (rows : List Row) (l : Ledger) (m number : ℕ) (task : Task) → MayTake l site.home.queue number task → (throttled live : Bool) → is_throttled m (task_of number l) ≡ throttled
-    → list_any (is_live s m) (unexpired s m rows) ≡ live → (if not throttled && live then room_refusal l else None) ≡ None → IsUnrecorded site (Serving s v n rows) l m (LeaveTask number) ⊎ HasSharedStep site (Serving s v n rows) l m (LeaveTask number)
+task_goes : (site : Site) (its : Contents) (l : Ledger) (m number : ℕ) (task : Task) → MayTake l site.home.queue number task → (throttled live : Bool) → is_throttled m (task_of number l) ≡ throttled
+    → list_any (is_live its.settings m) (unexpired_rows its m) ≡ live → (if not throttled && live then room_refusal l else None) ≡ None → IsUnrecorded site (Serving its) l m (LeaveTask number) ⊎ HasSharedStep site (Serving its) l m (LeaveTask number)
 unfolding HomeStep LedgerStep
-task_goes site s v n rows l m number task may true live e f h = inl (task, may, is_false (may_leave m task) (ap (is_throttled m) (sym may.found) ∙ e))
-task_goes site s v n rows l m number task may false false e f h =
+task_goes site its l m number task may true live e f h = inl (task, may, is_false (may_leave m task) (ap (is_throttled m) (sym may.found) ∙ e))
+task_goes site its l m number task may false false e f h =
     let pace : may_leave m task ≡ true = not_false _ (ap (is_throttled m) (sym may.found) ∙ e) in
-    goes_on site (Serving s v n rows) l m (LeaveTask number) (asks.LeaveTask number) NoLiveRow _ _ refl tt (f, refl) ((task, may, pace), refl)
-task_goes site s v n rows l m number task may false true e f h =
+    goes_on site (Serving its) l m (LeaveTask number) (asks.LeaveTask number) NoLiveRow _ _ refl tt (f, refl) ((task, may, pace), refl)
+task_goes site its l m number task may false true e f h =
     let pace : may_leave m task ≡ true = not_false _ (ap (is_throttled m) (sym may.found) ∙ e) in
-    let t = takes_one (is_live s m) (unexpired s m rows) f in
-    inr (row_goes site s v n rows l m number task may pace (room_for l h) t.0 t.1 t.2 t.3 task.destination t.0.origin refl refl)
+    let t = takes_one (is_live its.settings m) (unexpired_rows its m) f in
+    inr (row_goes site its l m number task may pace (room_for l h) t.0 t.1 t.2 t.3 task.destination t.0.origin refl refl)
 
 -- an item that may enter is there
 entering_item : (site : Site) (l : Ledger) (number : ℕ) (found : Option Item) → item_of number l ≡ found → is_entering site.home found ≡ true → (item : Item) × (item_of number l ≡ Some item) × (may_enter site.home item ≡ true)
@@ -211,20 +211,20 @@ returning_item site l number (Some item) e h = (item, e, h)
 pub shared_possible : (site : Site) (home : Home) (l : Ledger) (m : ℕ) (act : SharedAct) → shared_refusal site home l m act ≡ None → IsUnrecorded site home l m act ⊎ HasSharedStep site home l m act
 unfolding HomeStep LedgerStep shared_refusal
 shared_possible site Unopened l m act h = absurd cc
-shared_possible site (Serving s v n rows) l m LeaveDead h = dead_goes site s v n rows l m (list_any (is_dead s m) (unexpired s m rows)) refl h
-shared_possible site (Serving s v n rows) l m (LeaveTask number) h =
+shared_possible site (Serving its) l m LeaveDead h = dead_goes site its l m (list_any (is_dead its.settings m) (unexpired_rows its m)) refl h
+shared_possible site (Serving its) l m (LeaveTask number) h =
     let f = found_task site l number (task_of number l) _ refl h in
-    task_goes site s v n rows l m number f.0.0 f.0.2 (is_throttled m (task_of number l)) (list_any (is_live s m) (unexpired s m rows)) refl refl f.1
-shared_possible site (Serving s v n rows) l m (Enter number) h =
-    let p = place_left _ _ _ _ h in
+    task_goes site its l m number f.0.0 f.0.2 (is_throttled m (task_of number l)) (list_any (is_live its.settings m) (unexpired_rows its m)) refl refl f.1
+shared_possible site (Serving its) l m (Enter number) h =
+    let p = one_more_left _ _ _ _ h in
     let i = entering_item site l number (item_of number l) refl (not_false _ (passed _ _ _ p.1).0) in
-    goes_on site (Serving s v n rows) l m (Enter number) (asks.Enter i.0) (Entered (record { serial = n; slot = p.0.0 })) _ _ (i.0, i.1, refl) p.0.1 (i.2, p.0.2, refl, refl) (i.2, (by_its_number number l i.0 i.1, refl))
-shared_possible site (Serving s v n rows) l m (TurnBack number) h = absurd cc
-shared_possible site (Serving s v n rows) l m (GiveBack number) h =
-    let p = place_left _ _ _ _ h in
+    goes_on site (Serving its) l m (Enter number) (asks.Enter i.0) (Entered (record { serial = its.next; slot = p.0.0 })) _ _ (i.0, i.1, refl) p.0.1 (i.2, p.0.2, refl, refl) (i.2, (by_its_number number l i.0 i.1, refl))
+shared_possible site (Serving its) l m (TurnBack number) h = absurd cc
+shared_possible site (Serving its) l m (GiveBack number) h =
+    let p = one_more_left _ _ _ _ h in
     let i = returning_item site l number (item_of number l) refl (not_false _ (passed _ _ _ p.1).0) in
-    goes_on site (Serving s v n rows) l m (GiveBack number) (asks.GiveBack i.0) (Entered (record { serial = n; slot = p.0.0 })) _ _ (i.0, i.1, refl) p.0.1 (i.2, p.0.2, refl, refl) (i.2, (by_its_number number l i.0 i.1, refl))
-shared_possible site (Serving s v n rows) l m (GiveUp number) h = absurd cc
+    goes_on site (Serving its) l m (GiveBack number) (asks.GiveBack i.0) (Entered (record { serial = its.next; slot = p.0.0 })) _ _ (i.0, i.1, refl) p.0.1 (i.2, p.0.2, refl, refl) (i.2, (by_its_number number l i.0 i.1, refl))
+shared_possible site (Serving its) l m (Drop number) h = absurd cc
 shared_possible site Closed l m LeaveDead h = absurd cc
 shared_possible site Closed l m (LeaveTask number) h =
     let f = found_task site l number (task_of number l) None refl h in
@@ -234,9 +234,9 @@ shared_possible site Closed l m (TurnBack number) h =
     let i = entering_item site l number (item_of number l) refl (not_false _ (passed _ _ _ h).0) in
     goes_on site Closed l m (TurnBack number) (asks.TurnBack i.0) Done _ _ (i.0, i.1, refl) tt (i.2, refl) (i.2, by_its_number number l i.0 i.1, refl)
 shared_possible site Closed l m (GiveBack number) h = absurd cc
-shared_possible site Closed l m (GiveUp number) h =
+shared_possible site Closed l m (Drop number) h =
     let i = returning_item site l number (item_of number l) refl (not_false _ (passed _ _ _ h).0) in
-    goes_on site Closed l m (GiveUp number) (asks.GiveUp i.0) Done _ _ (i.0, i.1, refl) tt (i.2, refl) (i.2, (by_its_number number l i.0 i.1, refl))
+    goes_on site Closed l m (Drop number) (asks.Drop i.0) Done _ _ (i.0, i.1, refl) tt (i.2, refl) (i.2, (by_its_number number l i.0 i.1, refl))
 
 -- ---- what is no step is none
 
@@ -252,30 +252,30 @@ dead_there : (s : Settings) (m : ℕ) (row : Row) (before after : List Row) → 
 dead_there s m row [] after e = rw e refl
 dead_there s m row (x ∷ before) after e = or_right (is_dead s m x) _ (dead_there s m row before after e)
 
-no_dead_leave : (site : Site) (s : Settings) (v n : ℕ) (rows : List Row) (m : ℕ) (reply : HomeReply) (after : Home) → HomeStep site (Serving s v n rows) m asks.LeaveDead reply after → list_any (is_dead s m) (unexpired s m rows) ≡ false → ⊥
+no_dead_leave : (site : Site) (its : Contents) (m : ℕ) (reply : HomeReply) (after : Home) → HomeStep site (Serving its) m asks.LeaveDead reply after → list_any (is_dead its.settings m) (unexpired_rows its m) ≡ false → ⊥
 unfolding HomeStep
-no_dead_leave site s v n rows m (Left item) after h none =
+no_dead_leave site its m (Left item) after h none =
     let t = h.3.1 in
-    not_both (list_any (is_dead s m) (unexpired s m rows)) (list_any (is_dead s m) (unexpired s m rows)) refl (ap (list_any (is_dead s m)) t.at ∙ dead_there s m item.row t.before t.after h.2) none
-no_dead_leave site s v n rows m reply after h none = elim h [ ]
+    not_both (list_any (is_dead its.settings m) (unexpired_rows its m)) (list_any (is_dead its.settings m) (unexpired_rows its m)) refl (ap (list_any (is_dead its.settings m)) t.at ∙ dead_there its.settings m item.row t.before t.after h.2) none
+no_dead_leave site its m reply after h none = elim h [ ]
 
 one_pace : (l : Ledger) (number m : ℕ) (task other : Task) → task_of number l ≡ Some task → task_of number l ≡ Some other → may_leave m task ≡ true → may_leave m other ≡ false → ⊥
 one_pace l number m task other e f may none = not_both (may_leave m task) (may_leave m other) (ap (may_leave m) (some_same task other (sym e ∙ f))) may none
 
-no_late_leave : (site : Site) (s : Settings) (v n : ℕ) (rows : List Row) (l : Ledger) (m number : ℕ) (reply : HomeReply) (after : Home) (later : Ledger) (task : Task) → HomeStep site (Serving s v n rows) m (asks.LeaveTask number) reply after
+no_late_leave : (site : Site) (its : Contents) (l : Ledger) (m number : ℕ) (reply : HomeReply) (after : Home) (later : Ledger) (task : Task) → HomeStep site (Serving its) m (asks.LeaveTask number) reply after
     → LedgerStep l m (CallAtHome site.home (asks.LeaveTask number)) (ReplyAtHome reply) later → task_of number l ≡ Some task → may_leave m task ≡ false → ⊥
 unfolding HomeStep LedgerStep
-no_late_leave site s v n rows l m number (Left item) after later task h k e none = one_pace l number m k.1.0 task k.1.1.found e k.1.2 none
-no_late_leave site s v n rows l m number NoLiveRow after later task h k e none = one_pace l number m k.0.0 task k.0.1.found e k.0.2 none
-no_late_leave site s v n rows l m number (NoOrigin serial) after later task h k e none = one_pace l number m k.0.0 task k.0.1.found e k.0.2 none
-no_late_leave site s v n rows l m number reply after later task h k e none = elim h [ ]
+no_late_leave site its l m number (Left item) after later task h k e none = one_pace l number m k.1.0 task k.1.1.found e k.1.2 none
+no_late_leave site its l m number NoLiveRow after later task h k e none = one_pace l number m k.0.0 task k.0.1.found e k.0.2 none
+no_late_leave site its l m number (NoOrigin serial) after later task h k e none = one_pace l number m k.0.0 task k.0.1.found e k.0.2 none
+no_late_leave site its l m number reply after later task h k e none = elim h [ ]
 
 pub unrecorded_is_none : (site : Site) (home : Home) (l : Ledger) (m : ℕ) (act : SharedAct) (call : HomeCall) (reply : HomeReply) (after : Home) (later : Ledger) → IsCallOf l act call → SharedStep site home l m call reply after later
     → IsUnrecorded site home l m act → ⊥
-unrecorded_is_none site (Serving s v n rows) l m LeaveDead call reply after later is step none =
-    no_dead_leave site s v n rows m reply after (half site (Serving s v n rows) m call _ reply after is step.at_home) none
-unrecorded_is_none site (Serving s v n rows) l m (LeaveTask number) call reply after later is step none =
-    no_late_leave site s v n rows l m number reply after later none.0 (half site (Serving s v n rows) m call _ reply after is step.at_home) (other_half site l m call _ reply later is step.in_ledger) none.1.found none.2
+unrecorded_is_none site (Serving its) l m LeaveDead call reply after later is step none =
+    no_dead_leave site its m reply after (half site (Serving its) m call _ reply after is step.at_home) none
+unrecorded_is_none site (Serving its) l m (LeaveTask number) call reply after later is step none =
+    no_late_leave site its l m number reply after later none.0 (half site (Serving its) m call _ reply after is step.at_home) (other_half site l m call _ reply later is step.in_ledger) none.1.found none.2
 unrecorded_is_none site home l m act call reply after later is step none = elim none [ ]
 
 -- ---- the stamp of both

@@ -5,11 +5,11 @@ use Rattle.std.specs.List.{sum_by}
 use Rattle.std.proofs.lemmas.Grind.{common_steps}
 use Rattle.std.proofs.lemmas.List.Sums.{sum_by-append, sum_by-cons}
 use Rattle.sq_base.specs.declared.message_id.MessageId.{MessageId}
-use Rattle.sq_base.specs.declared.settings.Settings.{Settings}
 use Rattle.sq_base.specs.declared.row.Row.{Row}
+use Rattle.sq_base.specs.declared.settings.Settings.{Settings}
 use Rattle.sq_model.specs.declared.place.Site.{Site}
 use Rattle.sq_model.specs.declared.calls.HomeCall.{HomeCall}
-use Rattle.sq_model.specs.declared.calls.HomeCall.TheVariants.{Configure, Close, Send, Look, Delete, Change, Purge, Count, LeaveDead, LeaveTask, Enter, TurnBack, GiveBack, GiveUp}
+use Rattle.sq_model.specs.declared.calls.HomeCall.TheVariants.{Configure, Close, Send, Look, Delete, Change, Purge, Count, LeaveDead, LeaveTask, Enter, TurnBack, GiveBack, Drop}
 use Rattle.sq_base.specs.declared.ids.HomeId.{HomeId}
 use Rattle.sq_model.specs.declared.item.Item.{Item}
 use Rattle.sq_model.specs.declared.ledger.LedgerCall.{LedgerCall}
@@ -18,9 +18,8 @@ use Rattle.sq_model.specs.declared.ledger.LedgerReply.{LedgerReply}
 use Rattle.sq_model.specs.declared.ledger.LedgerReply.TheVariants as answers
 use Rattle.sq_model.specs.declared.replies.HomeReply.{HomeReply}
 use Rattle.sq_model.specs.declared.replies.HomeReply.TheVariants.{Done, Sent, Looked, Over, Counted, Left, NoLiveRow, NoOrigin, SourceClosed, Entered}
-use Rattle.sq_model.specs.Rows.{unexpired}
-use Rattle.sq_model.specs.Homes.{Home, Unopened, Serving, Closed, HomeStep, fresh_id}
-use Rattle.sq_model.specs.Lineages.{Ending, GivenUp, given_up, home_ends, items_with, home_sends, home_outs, home_ins, rows_of, same_id, rows_with, ends_with, sends_with}
+use Rattle.sq_model.specs.Homes.{Contents, Home, Unopened, Serving, Closed, HomeStep, fresh_id, unexpired_rows}
+use Rattle.sq_model.specs.Lineages.{Ending, Dropped, home_drops, home_ends, items_with, home_sends, home_outs, home_ins, rows_of, same_id, rows_with, ends_with, sends_with}
 use Rattle.sq_model.specs.Ledgers.{Ledger, LedgerStep, IsLedger, item_of, items_without, turned_if, is_own}
 use Rattle.sq_model.specs.Replays.{HomeEvent}
 use Rattle.sq_model.specs.Systems.{HomeAt, System, Tag, OfDirectory, OfLedger, OfHome, IsStep, LedgerGoes, RunFrom, opening, is_alone, same_home, IsOnePlace, Opening}
@@ -52,9 +51,9 @@ none_in Close a = refl
 none_in call a = cc
 
 -- and gives none up
-pub none_given_up : (call : HomeCall) → is_alone call ≡ true → given_up call ≡ []
-none_given_up (GiveUp item) a = absurd cc
-none_given_up call a = cc
+pub none_dropped : (call : HomeCall) → is_alone call ≡ true → home_drops call ≡ []
+none_dropped (Drop item) a = absurd cc
+none_dropped call a = cc
 
 -- how often a message comes into transit by a step of the ledger, and how often it leaves it
 abbrev ins : MessageId → LedgerReply → ℕ
@@ -62,7 +61,7 @@ ins x (answers.AtHome reply) = rows_with x (home_outs reply)
 ins x reply = 0
 
 abbrev outs : MessageId → LedgerCall → ℕ
-outs x (asks.AtHome home call) = rows_with x (home_ins call) + ends_with x (given_up call)
+outs x (asks.AtHome home call) = rows_with x (home_ins call) + ends_with x (home_drops call)
 outs x call = 0
 
 row_one : (x : MessageId) (row : Row) → rows_with x (row ∷ []) ≡ cond (same_id x row.lineage) 1 0
@@ -95,8 +94,8 @@ transit_law x l m (asks.AtHome home (LeaveTask number)) (answers.AtHome SourceCl
 transit_law x l m (asks.AtHome home (Enter item)) (answers.AtHome (Entered entered)) after s h = rw s.1.1 (omega (arith, items_less x l item h s.1.0, row_one x item.row))
 transit_law x l m (asks.AtHome home (TurnBack item)) (answers.AtHome Done) after s h = rw s.2 (omega (arith, items_turned x l.items item.number))
 transit_law x l m (asks.AtHome home (GiveBack item)) (answers.AtHome (Entered entered)) after s h = rw s.1.1 (omega (arith, items_less x l item h s.1.0, row_one x item.row))
-transit_law x l m (asks.AtHome home (GiveUp item)) (answers.AtHome Done) after s h =
-    rw s.1.1 (omega (arith, items_less x l item h s.1.0, end_one x (record { line = item.row.lineage; cause = GivenUp })))
+transit_law x l m (asks.AtHome home (Drop item)) (answers.AtHome Done) after s h =
+    rw s.1.1 (omega (arith, items_less x l item h s.1.0, end_one x (record { line = item.row.lineage; cause = Dropped })))
 transit_law x l m (asks.StartTask source destination rate) (answers.Started number) after s h = rw s.4 (omega arith)
 transit_law x l m (asks.CancelTask number) (answers.Cancelled moved) after s h = rw s.1 (omega arith)
 transit_law x l m (asks.ListTasks source most) (answers.Listed listed) after s h = rw s.1 (omega arith)
@@ -122,10 +121,10 @@ own_brings_none x l m call reply after s own = elim s [ ]
 
 -- what a step of a home does to the messages in transit
 goes_law : (x : MessageId) (alone : Bool) (l : Ledger) (site : Site) (home new : Home) (e : HomeEvent) (after : Ledger) → is_alone e.call ≡ alone → HomeStep site home e.stamp.moment e.call e.reply new → LedgerGoes alone l site.home e after → IsLedger l
-    → items_with x after.items + rows_with x (home_ins e.call) + ends_with x (given_up e.call) ≡ items_with x l.items + rows_with x (home_outs e.reply)
+    → items_with x after.items + rows_with x (home_ins e.call) + ends_with x (home_drops e.call) ≡ items_with x l.items + rows_with x (home_outs e.reply)
 goes_law x true l site home new e after is s goes h =
     let out = none_out site home e.stamp.moment e.call e.reply new s is in
-    rw (goes, none_in e.call is, none_given_up e.call is, out) (omega arith)
+    rw (goes, none_in e.call is, none_dropped e.call is, out) (omega arith)
 goes_law x false l site home new e after is s goes h = omega (arith, transit_law x l e.stamp.moment (asks.AtHome site.home e.call) (answers.AtHome e.reply) after goes h)
 
 -- the ledger of a system stays one
@@ -149,7 +148,7 @@ step_law x before (OfHome i e) after s h =
     let law = home_law x s.old.site s.old.home e.stamp.moment e.call e.reply s.new s.step in
     let transit = goes_law x (is_alone e.call) before.ledger s.old.site s.old.home s.new e after.ledger refl s.step s.ledger h in
     let moved = sum_set (λ at. rows_with x (rows_of at.home)) before.homes i s.old (record { site = s.old.site; home = s.new }) s.in_list in
-    rw s.homes (omega (arith, law, transit, moved, ends_append x (home_ends s.old.home e.stamp.moment e.call) (given_up e.call)))
+    rw s.homes (omega (arith, law, transit, moved, ends_append x (home_ends s.old.home e.stamp.moment e.call) (home_drops e.call)))
 
 -- and of a run
 pub run_law : (x : MessageId) (before : System) (ts : List Tag) (after : System) (r : RunFrom before ts after) → IsLedger before.ledger
@@ -167,7 +166,7 @@ run_law x before (t ∷ ts) after r h =
 -- 1 where a home may still give this serial
 abbrev pub left_in : ℕ → Home → ℕ
 left_in serial Unopened = 1
-left_in serial (Serving s v n rows) = cond (nat_le n serial) 1 0
+left_in serial (Serving its) = cond (nat_le its.next serial) 1 0
 left_in serial Closed = 0
 
 -- 1 where it may still give this id
@@ -200,37 +199,37 @@ next_le : (here : Bool) (n serial : ℕ) → cond here (cond (nat_le (n + 1) ser
 next_le true n serial = omega (arith, give_law serial n)
 next_le false n serial = omega arith
 
-configured : (here newer : Bool) (serial v w n : ℕ) (s t : Settings) (rows : List Row)
-    → cond here (left_in serial (cond newer (Serving t w n rows) (Serving s v n rows))) 0 ≤ cond here (cond (nat_le n serial) 1 0) 0
-configured here true serial v w n s t rows = omega arith
-configured here false serial v w n s t rows = omega arith
+configured : (here newer : Bool) (serial : ℕ) (its : Contents) (t : Settings) (w : ℕ)
+    → cond here (left_in serial (cond newer (Serving (record its { settings = t; version = w })) (Serving its))) 0 ≤ cond here (cond (nat_le its.next serial) 1 0) 0
+configured here true serial its t w = omega arith
+configured here false serial its t w = omega arith
 
 -- a home gives no serial twice
 serial_law : (x : MessageId) (site : Site) (home : Home) (m : ℕ) (call : HomeCall) (reply : HomeReply) (after : Home) → HomeStep site home m call reply after
     → sends_with x (home_sends reply) + unspent x (record { site = site; home = after }) ≤ unspent x (record { site = site; home = home })
 unfolding HomeStep
 serial_law x site Unopened m (Configure t w) Done after h = rw h (omega (arith, opened (same_home (record { queue = x.queue; home = x.home }) site.home) x.serial))
-serial_law x site (Serving s v n rows) m (Configure t w) Done after h =
-    rw h (omega (arith, configured (same_home (record { queue = x.queue; home = x.home }) site.home) (nat_lt v w) x.serial v w n s t (unexpired s m rows)))
+serial_law x site (Serving its) m (Configure t w) Done after h =
+    rw h (omega (arith, configured (same_home (record { queue = x.queue; home = x.home }) site.home) (nat_lt its.version w) x.serial (record its { rows = unexpired_rows its m }) t w))
 serial_law x site Unopened m Close Done after h = rw h (omega (arith, closed (same_home (record { queue = x.queue; home = x.home }) site.home) 0))
-serial_law x site (Serving s v n rows) m Close Done after h = rw h (omega (arith, closed (same_home (record { queue = x.queue; home = x.home }) site.home) 0))
-serial_law x site (Serving s v n rows) m (Send body delay) (Sent sent) after h =
-    rw (h.2, h.1, sends_one x (fresh_id site.home n)) (spent (site.home.queue == x.queue) (site.home.home == x.home) n x.serial)
-serial_law x site (Serving s v n rows) m (Look max timeout) (Looked picked) after h = rw h.2 (omega arith)
-serial_law x site (Serving s v n rows) m (Look max timeout) Over after h = rw h.2 (omega arith)
-serial_law x site (Serving s v n rows) m (Delete receipt) Done after h = rw h.1 (omega arith)
-serial_law x site (Serving s v n rows) m (Change receipt timeout) Done after h = rw h.3 (omega arith)
-serial_law x site (Serving s v n rows) m Purge Done after h = rw h (omega arith)
-serial_law x site (Serving s v n rows) m Count (Counted counts) after h = rw h.1 (omega arith)
-serial_law x site (Serving s v n rows) m LeaveDead (Left item) after h = rw h.3.2 (omega arith)
-serial_law x site (Serving s v n rows) m (LeaveTask task) (Left item) after h = rw h.2.2 (omega arith)
-serial_law x site (Serving s v n rows) m (LeaveTask task) NoLiveRow after h = rw h.1 (omega arith)
-serial_law x site (Serving s v n rows) m (LeaveTask task) (NoOrigin serial) after h = rw h.1 (omega arith)
+serial_law x site (Serving its) m Close Done after h = rw h (omega (arith, closed (same_home (record { queue = x.queue; home = x.home }) site.home) 0))
+serial_law x site (Serving its) m (Send body delay) (Sent sent) after h =
+    rw (h.2, h.1, sends_one x (fresh_id site.home its.next)) (spent (site.home.queue == x.queue) (site.home.home == x.home) its.next x.serial)
+serial_law x site (Serving its) m (Look max timeout) (Looked picked) after h = rw h.2 (omega arith)
+serial_law x site (Serving its) m (Look max timeout) Over after h = rw h.2 (omega arith)
+serial_law x site (Serving its) m (Delete receipt) Done after h = rw h.1 (omega arith)
+serial_law x site (Serving its) m (Change receipt timeout) Done after h = rw h.3 (omega arith)
+serial_law x site (Serving its) m Purge Done after h = rw h (omega arith)
+serial_law x site (Serving its) m Count (Counted counts) after h = rw h.1 (omega arith)
+serial_law x site (Serving its) m LeaveDead (Left item) after h = rw h.3.2 (omega arith)
+serial_law x site (Serving its) m (LeaveTask task) (Left item) after h = rw h.2.2 (omega arith)
+serial_law x site (Serving its) m (LeaveTask task) NoLiveRow after h = rw h.1 (omega arith)
+serial_law x site (Serving its) m (LeaveTask task) (NoOrigin serial) after h = rw h.1 (omega arith)
 serial_law x site Closed m (LeaveTask task) SourceClosed after h = rw h (omega arith)
-serial_law x site (Serving s v n rows) m (Enter item) (Entered entered) after h = rw h.3 (omega (arith, next_le (same_home (record { queue = x.queue; home = x.home }) site.home) n x.serial))
+serial_law x site (Serving its) m (Enter item) (Entered entered) after h = rw h.3 (omega (arith, next_le (same_home (record { queue = x.queue; home = x.home }) site.home) its.next x.serial))
 serial_law x site Closed m (TurnBack item) Done after h = rw h.1 (omega arith)
-serial_law x site (Serving s v n rows) m (GiveBack item) (Entered entered) after h = rw h.3 (omega (arith, next_le (same_home (record { queue = x.queue; home = x.home }) site.home) n x.serial))
-serial_law x site Closed m (GiveUp item) Done after h = rw h.1 (omega arith)
+serial_law x site (Serving its) m (GiveBack item) (Entered entered) after h = rw h.3 (omega (arith, next_le (same_home (record { queue = x.queue; home = x.home }) site.home) its.next x.serial))
+serial_law x site Closed m (Drop item) Done after h = rw h.1 (omega arith)
 serial_law x site home m call reply after h = elim h [ ]
 
 -- no id is given twice

@@ -77,7 +77,7 @@ worked_receipt receive = record { slot = 0; serial = 0; receive = receive }
 
 -- a home that gave serials below next
 abbrev pub with_rows : Settings → ℕ → List Row → Home
-with_rows s next rows = Serving s 1 next rows
+with_rows s next rows = Serving (record { settings = s; version = 1; next = next; rows = rows })
 
 -- on its way to queue 1
 abbrev pub dead_hello : Item

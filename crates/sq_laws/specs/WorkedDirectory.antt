@@ -48,7 +48,7 @@ unset_source = record plain_source { version = 2 }
 
 -- these queues, of two that were ever made, and two more may be
 abbrev pub directory_with : List Queue → List DeletedName → Directory
-directory_with queues deleted = record { queues = queues; deleted = deleted; made = 2; places = 4 }
+directory_with queues deleted = record { queues = queues; deleted = deleted; made = 2; most = 4 }
 
 -- both queues, the second with its policy
 abbrev pub both : Directory
@@ -72,7 +72,7 @@ letters_again = record letters_gone { queues = source_queue ∷ made_queue 3 (co
 
 -- the first queue alone
 abbrev pub one_queue : Directory
-one_queue = record { queues = letters_queue ∷ []; deleted = []; made = 1; places = 4 }
+one_queue = record { queues = letters_queue ∷ []; deleted = []; made = 1; most = 4 }
 
 -- and it was purged at a moment
 abbrev pub purged_at : ℕ → Directory

@@ -48,7 +48,7 @@ letter = record hello { serial = 0; slot = 0; visible_from = 31000; origin = Som
 -- task 1 moves the messages of queue 1 to where they came from, at a rate of 2: so many left, so many came in, and in the second of that number so many left
 abbrev pub task_at : TaskStatus → ℕ → ℕ → ℕ → ℕ → Task
 task_at status left moved second in_second =
-    record { number = 1; source = letters; destination = None; rate = Some 2; started = 1000; status = status; left = left; moved = moved; back = 0; given_up = 0; second = second; in_second = in_second }
+    record { number = 1; source = letters; destination = None; rate = Some 2; started = 1000; status = status; left = left; moved = moved; back = 0; dropped = 0; second = second; in_second = in_second }
 
 abbrev pub new_task_1 : Task
 new_task_1 = task_at Running 0 0 0 0
@@ -58,7 +58,7 @@ abbrev pub task_item : Item
 task_item = record { number = 1; row = letter; source = 1; target = 2; reason = ForTask 1; homeward = false }
 
 abbrev pub letters_with : List Row → Home
-letters_with rows = Serving plain 1 1 rows
+letters_with rows = Serving (record { settings = plain; version = 1; next = 1; rows = rows })
 
 abbrev pub with_task : ℕ → Task → Ledger
 with_task next_item task = worked_ledger [] next_item (task ∷ []) 2

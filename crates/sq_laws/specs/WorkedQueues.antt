@@ -42,10 +42,10 @@ again_queue = made_queue 2 (codes "q")
 
 -- the queue, of so many that may be made, after its last purge
 abbrev pub once_made : ℕ → ℕ → Directory
-once_made places purge = record (opening_directory places) { queues = record once_queue { last_purge = Some purge } ∷ []; made = 1 }
+once_made most purge = record (opening_directory most) { queues = record once_queue { last_purge = Some purge } ∷ []; made = 1 }
 
 abbrev pub once_deleted : ℕ → Directory
-once_deleted places = record (once_made places 0) { queues = []; deleted = record { name = codes "q"; moment = 61000 } ∷ [] }
+once_deleted most = record (once_made most 0) { queues = []; deleted = record { name = codes "q"; moment = 61000 } ∷ [] }
 
 abbrev pub until_purged : List Tag
 until_purged =
@@ -74,7 +74,7 @@ abbrev pub after_purge : System
 after_purge = system (once_made 64 1000) nothing_moves (with_rows plain 0 []) Unopened
 
 abbrev pub after_deletion : ℕ → System
-after_deletion places = system (once_deleted places) nothing_moves Closed Unopened
+after_deletion most = system (once_deleted most) nothing_moves Closed Unopened
 
 abbrev pub after_again : System
 after_again = system (record (once_deleted 64) { queues = again_queue ∷ []; made = 2 }) nothing_moves Closed (with_rows plain 1 (record hello { enqueued = 121000; visible_from = 121000 } ∷ []))

@@ -3,7 +3,7 @@ use Rattle.std.specs.Prelude.{ℕ, suc, ◌+◌, true, false, List, [], ◌∷�
 use Rattle.sq_base.specs.StampValue.{StampValue}
 use Rattle.sq_base.specs.declared.row.Row.{Row}
 use Rattle.sq_model.specs.declared.calls.HomeCall.{HomeCall}
-use Rattle.sq_model.specs.declared.calls.HomeCall.TheVariants.{Close, Configure, Delete, Enter, GiveBack, GiveUp, LeaveDead, Look, Send, TurnBack}
+use Rattle.sq_model.specs.declared.calls.HomeCall.TheVariants.{Close, Configure, Delete, Enter, GiveBack, Drop, LeaveDead, Look, Send, TurnBack}
 use Rattle.sq_model.specs.declared.directory.DirectoryCall.{DirectoryCall}
 use Rattle.sq_model.specs.declared.directory.DirectoryCall.TheVariants.{Create, Remove}
 use Rattle.sq_model.specs.declared.directory.DirectoryReply.{DirectoryReply}
@@ -165,7 +165,7 @@ dropped_run = letters_deleted
     ++ of_queues 31000 3 0 9 (Remove (codes "q")) (Removed 2)
     ∷ of_second 31000 4 0 10 Close Done
     ∷ turned_back
-    ∷ of_second 31000 6 1 2 (GiveUp (dead_item true)) Done
+    ∷ of_second 31000 6 1 2 (Drop (dead_item true)) Done
     ∷ []
 
 abbrev pub after_drop : System

@@ -215,7 +215,7 @@ chain_run = chain_made (range_with_len 0 102) ++ map (λ n. of_tasks 0 (205 + n)
 
 abbrev pub after_chain : System
 after_chain = record {
-  directory = record { queues = map chain_queue (range_with_len 0 102); deleted = []; made = 102; places = 102 };
+  directory = record { queues = map chain_queue (range_with_len 0 102); deleted = []; made = 102; most = 102 };
   ledger = record nothing_moves { tasks = map chain_task (range_with_len 0 100); next_task = 101 };
   homes = map (λ n. record { site = chain_site n; home = with_rows (chain_queue n).settings 0 [] }) (range_with_len 0 102);
 }

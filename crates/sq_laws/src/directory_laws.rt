@@ -31,7 +31,7 @@ pub fn a_directory_has_one_answer()
 /// In each directory that is the replay of its history no two queues have one number, and no two one name. A queue's policy names
 /// another queue that was made once. All that were made are there or deleted, and no more were made than may be.
 pub fn queues_differ()
-    ensures { (places : ℕ) (events : List DirectoryEvent) (d : Directory) → Replays DirectoryStep (opening_directory places) events d → IsDirectory d }
+    ensures { (most : ℕ) (events : List DirectoryEvent) (d : Directory) → Replays DirectoryStep (opening_directory most) events d → IsDirectory d }
 {}
 
 /// The number of a queue that is deleted is no queue's after it, and is never given again.
@@ -42,25 +42,25 @@ pub fn numbers_of_queues_are_given_once()
 
 /// The queue of number n is the n-th that was made: the numbers of queues are their order of creation.
 pub fn numbers_are_the_order_of_creation()
-    ensures { (places : ℕ) (events : List DirectoryEvent) (d : Directory) (history : Replays DirectoryStep (opening_directory places) events d) (name : List ℕ) (queue : Queue) → IsThere d name queue
-        → slice_get (made_in (opening_directory places) events d history) (queue.number - 1) ≡ Some name }
+    ensures { (most : ℕ) (events : List DirectoryEvent) (d : Directory) (history : Replays DirectoryStep (opening_directory most) events d) (name : List ℕ) (queue : Queue) → IsThere d name queue
+        → slice_get (made_in (opening_directory most) events d history) (queue.number - 1) ≡ Some name }
 {}
 
 /// ListQueues names the queues that are there and whose names begin as asked, each of them and no other, in order of creation.
 pub fn queues_are_listed_in_order_of_creation()
-    ensures in_order { (places : ℕ) (events : List DirectoryEvent) (d : Directory) → Replays DirectoryStep (opening_directory places) events d → (m : ℕ) (prefix : NamePrefix) (names : List (List ℕ)) (after : Directory)
+    ensures in_order { (most : ℕ) (events : List DirectoryEvent) (d : Directory) → Replays DirectoryStep (opening_directory most) events d → (m : ℕ) (prefix : NamePrefix) (names : List (List ℕ)) (after : Directory)
         → DirectoryStep d m (ListNames prefix) (Listed names) after → AreInOrder d.queues 1 names }
-    ensures exactly { (places : ℕ) (events : List DirectoryEvent) (d : Directory) → Replays DirectoryStep (opening_directory places) events d → (m : ℕ) (prefix : NamePrefix) (names : List (List ℕ)) (after : Directory)
+    ensures exactly { (most : ℕ) (events : List DirectoryEvent) (d : Directory) → Replays DirectoryStep (opening_directory most) events d → (m : ℕ) (prefix : NamePrefix) (names : List (List ℕ)) (after : Directory)
         → DirectoryStep d m (ListNames prefix) (Listed names) after → (name : List ℕ) → Contains names name ↔ IsBegunBy prefix d name }
 {}
 
 /// ListDeadLetterSourceQueues names the queues that are there and have a policy whose target is this queue's number, each of them and
 /// no other, in order of creation. Each has a policy that names this queue, as it is printed.
 pub fn sources_are_listed_in_order_of_creation()
-    ensures in_order { (places : ℕ) (events : List DirectoryEvent) (d : Directory) → Replays DirectoryStep (opening_directory places) events d → (m : ℕ) (asked : List ℕ) (names : List (List ℕ)) (after : Directory)
+    ensures in_order { (most : ℕ) (events : List DirectoryEvent) (d : Directory) → Replays DirectoryStep (opening_directory most) events d → (m : ℕ) (asked : List ℕ) (names : List (List ℕ)) (after : Directory)
         → DirectoryStep d m (Sources asked) (SourcesAre names) after → AreInOrder d.queues 1 names }
-    ensures exactly { (places : ℕ) (events : List DirectoryEvent) (d : Directory) → Replays DirectoryStep (opening_directory places) events d → (m : ℕ) (asked : List ℕ) (queue : Queue) (names : List (List ℕ)) (after : Directory)
+    ensures exactly { (most : ℕ) (events : List DirectoryEvent) (d : Directory) → Replays DirectoryStep (opening_directory most) events d → (m : ℕ) (asked : List ℕ) (queue : Queue) (names : List (List ℕ)) (after : Directory)
         → IsThere d asked queue → DirectoryStep d m (Sources asked) (SourcesAre names) after → (name : List ℕ) → Contains names name ↔ IsSource queue.number d name }
-    ensures by_name { (places : ℕ) (events : List DirectoryEvent) (d : Directory) → Replays DirectoryStep (opening_directory places) events d → (m : ℕ) (asked : List ℕ) (names : List (List ℕ)) (after : Directory)
+    ensures by_name { (most : ℕ) (events : List DirectoryEvent) (d : Directory) → Replays DirectoryStep (opening_directory most) events d → (m : ℕ) (asked : List ℕ) (names : List (List ℕ)) (after : Directory)
         → DirectoryStep d m (Sources asked) (SourcesAre names) after → (name : List ℕ) → Contains names name → NamedByPolicy asked d name }
 {}

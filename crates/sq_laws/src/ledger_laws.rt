@@ -1,10 +1,9 @@
 //! Theorems of the ledger and of its tasks, each the contract of a function without code.
-ghost use Rattle.std.specs.Prelude.{◌≡◌, ◌≤◌, ◌⊎◌, ℕ, List, [], true, false, None, Some, Ok};
-ghost use Rattle.std.specs.List.{AllByRecursion, list_any};
+ghost use Rattle.std.specs.Prelude.{◌≡◌, ◌≤◌, ◌⊎◌, ℕ, List, [], true, None, Some, Ok};
+ghost use Rattle.std.specs.List.{list_any};
 ghost use Rattle.sq_base.specs.StampValue.{StampValue};
 ghost use Rattle.sq_base.specs.Stamps.{Below, start};
 ghost use Rattle.sq_model.specs.declared.calls.HomeCall.{HomeCall};
-ghost use Rattle.sq_model.specs.declared.item.Item.{Item as ItemValue};
 ghost use Rattle.sq_model.specs.declared.ledger.LedgerCall.{LedgerCall};
 ghost use Rattle.sq_model.specs.declared.ledger.LedgerReply.{LedgerReply};
 ghost use Rattle.sq_model.specs.declared.place.Site.{Site};
@@ -14,7 +13,7 @@ ghost use Rattle.sq_model.specs.declared.task.Task.{Task as TaskValue};
 ghost use Rattle.sq_model.specs.Homes.{Home};
 ghost use Rattle.sq_model.specs.Replays.{Replays, NoMomentFalls, StampsRise};
 ghost use Rattle.sq_model.specs.Tasks.{rate_of};
-ghost use Rattle.sq_model.specs.Ledgers.{Ledger, LedgerEvent, LedgerStep, IsLastTask, IsLedger, IsAfter, NumbersRise, all_given, is_active_at, is_of_source, is_own, is_still_active, item_given, last_task, leaves_in, ledger_refusal, opening_ledger, peek, task_given, task_of};
+ghost use Rattle.sq_model.specs.Ledgers.{Ledger, LedgerEvent, LedgerStep, IsLastTask, IsLedger, IsAfter, NumbersRise, all_given, is_active_at, is_own, is_still_active, item_given, last_task, leaves_in, ledger_refusal, opening_ledger, peek, task_given, task_of};
 ghost use Rattle.sq_model.specs.Shared.{HasSharedStep, IsCallOf, IsUnrecorded, SharedStep, shared_refusal, shared_stamp};
 
 /// A step that is the ledger's own is given only where no check of it fails; `shared_steps_are_allowed` says so of the others.
@@ -46,7 +45,7 @@ pub fn unrecorded_leaves_are_no_steps()
         → IsCallOf l act call → SharedStep site home l m call reply after l_after → IsUnrecorded site home l m act → ⊥ }
 {}
 
-/// In each ledger that is the replay of its history: what left for a task came in, came back, was given up or is in transit; a task
+/// In each ledger that is the replay of its history: what left for a task came in, came back, was dropped or is in transit; a task
 /// that is completed or cancelled has none in transit; one task is active at most for a source, and 100 in all. Tasks are numbered
 /// without a gap, the task of each item is there, each leave took a number, and no number passes the last one.
 pub fn ledgers_add_up()

@@ -8,7 +8,7 @@ ghost use Rattle.sq_base.specs.declared.row.Row.{Row};
 ghost use Rattle.sq_model.specs.declared.calls.HomeCall.TheVariants.{Configure, Send, Look, Delete, Change, Purge};
 ghost use Rattle.sq_model.specs.declared.replies.HomeReply.TheVariants.{Done, Sent, Looked, Over};
 ghost use Rattle.sq_model.specs.Rows.{is_delayed, is_in_flight, is_dead, is_live, is_expired};
-ghost use Rattle.sq_model.specs.Homes.{Home, Serving, HomeStep, home_refusal, entered_row, moved};
+ghost use Rattle.sq_model.specs.Homes.{Home, Serving, HomeStep, home_refusal, entered_row, returned_row};
 ghost use Rattle.sq_laws.specs.Worked.{plain, kept_for, strict, worked_home, wide, narrow, careful, hello_text, worked_id, sent_as, hello, delayed_hello, hello_once, hello_twice, hello_late, worked_receipt, with_rows, dead_hello, moved_hello};
 
 /// The first message of a home has serial 0, and may be received at its moment.
@@ -55,15 +55,15 @@ pub fn a_delayed_message_is_live_at_the_end_of_its_delay()
 pub fn a_longer_retention_brings_no_message_back()
     ensures kept { is_expired (kept_for 60) 60999 hello ≡ false }
     ensures expired { is_expired (kept_for 60) 61000 hello ≡ true }
-    ensures in_time { HomeStep wide (Serving (kept_for 60) 1 1 (hello ∷ [])) 60999 (Configure (kept_for 120) 2) Done (Serving (kept_for 120) 2 1 (hello ∷ [])) }
-    ensures too_late { (after : Home) → HomeStep wide (Serving (kept_for 60) 1 1 (hello ∷ [])) 61000 (Configure (kept_for 120) 2) Done after → after ≡ Serving (kept_for 120) 2 1 [] }
+    ensures in_time { HomeStep wide (Serving (record { settings = kept_for 60; version = 1; next = 1; rows = hello ∷ [] })) 60999 (Configure (kept_for 120) 2) Done (Serving (record { settings = kept_for 120; version = 2; next = 1; rows = hello ∷ [] })) }
+    ensures too_late { (after : Home) → HomeStep wide (Serving (record { settings = kept_for 60; version = 1; next = 1; rows = hello ∷ [] })) 61000 (Configure (kept_for 120) 2) Done after → after ≡ Serving (record { settings = kept_for 120; version = 2; next = 1; rows = [] }) }
 {}
 
 /// Settings whose version is not above the home's set nothing, and what has expired goes.
 pub fn an_older_version_sets_nothing()
-    ensures older { (after : Home) → HomeStep wide (Serving plain 2 1 (hello ∷ [])) 2000 (Configure strict 1) Done after → after ≡ Serving plain 2 1 (hello ∷ []) }
-    ensures unchanged { (after : Home) → HomeStep wide (Serving plain 2 1 (hello ∷ [])) 2000 (Configure strict 2) Done after → after ≡ Serving plain 2 1 (hello ∷ []) }
-    ensures expires { (after : Home) → HomeStep wide (Serving (kept_for 60) 2 1 (hello ∷ [])) 61000 (Configure strict 2) Done after → after ≡ Serving (kept_for 60) 2 1 [] }
+    ensures older { (after : Home) → HomeStep wide (Serving (record { settings = plain; version = 2; next = 1; rows = hello ∷ [] })) 2000 (Configure strict 1) Done after → after ≡ Serving (record { settings = plain; version = 2; next = 1; rows = hello ∷ [] }) }
+    ensures unchanged { (after : Home) → HomeStep wide (Serving (record { settings = plain; version = 2; next = 1; rows = hello ∷ [] })) 2000 (Configure strict 2) Done after → after ≡ Serving (record { settings = plain; version = 2; next = 1; rows = hello ∷ [] }) }
+    ensures expires { (after : Home) → HomeStep wide (Serving (record { settings = kept_for 60; version = 2; next = 1; rows = hello ∷ [] })) 61000 (Configure strict 2) Done after → after ≡ Serving (record { settings = kept_for 60; version = 2; next = 1; rows = [] }) }
 {}
 
 /// With one message in flight, where no more may be, and another one live, a look answers `Over` and nothing else.
@@ -74,7 +74,7 @@ pub fn too_many_in_flight_are_refused()
     ensures one_of_two { HomeStep careful (with_rows plain 2 (hello ∷ sent_as 1 ∷ [])) 1000 (Look 10 None) (Looked (hello_once ∷ [])) (with_rows plain 2 (hello_once ∷ sent_as 1 ∷ [])) }
 {}
 
-/// A home that may hold one message refuses the second; one that is past its retention takes no place.
+/// A home that may hold one message refuses the second; one that is past its retention does not count.
 pub fn a_full_home_refuses_a_send()
     ensures full { home_refusal narrow (with_rows plain 1 (hello ∷ [])) 2000 (Send hello_text None) ≡ Some OverLimit }
     ensures no_step { (id : MessageId) (slot : ℕ) (after : Home) → HomeStep narrow (with_rows plain 1 (hello ∷ [])) 2000 (Send hello_text None) (Sent (record { id = id; slot = slot })) after → ⊥ }
@@ -114,5 +114,5 @@ pub fn a_purge_leaves_nothing()
 pub fn a_moved_message_starts_anew()
     ensures dead_letter { entered_row (worked_home 1) 7 3 40000 dead_hello ≡ record hello { serial = 7; slot = 3; visible_from = 40000; origin = Some 2 } }
     ensures of_a_task { entered_row (worked_home 1) 7 3 40000 moved_hello ≡ record hello { id = record { queue = 1; home = 0; serial = 7 }; serial = 7; slot = 3; enqueued = 40000; visible_from = 40000 } }
-    ensures returned { moved 1 0 40000 hello_once ≡ record hello { serial = 1; visible_from = 40000 } }
+    ensures returned { returned_row 1 0 40000 dead_hello ≡ record hello { serial = 1; visible_from = 40000 } }
 {}

@@ -1,7 +1,7 @@
 //! Worked cases of queues that are made, changed and deleted, each the contract of a function without code.
 #![tactic(auto, unfolding(sq_model::specs::Directories::DirectoryStep, sq_model::specs::Directories::directory_refusal))]
 
-ghost use Rattle.std.specs.Prelude.{◌≡◌, ℕ, true, false, [], ◌∷◌, Some, None, Ok, Err, codes};
+ghost use Rattle.std.specs.Prelude.{◌≡◌, [], ◌∷◌, Some, None, Ok, Err, codes};
 ghost use Rattle.sq_base.specs.declared.refusal.Refusal.TheVariants.{InvalidAttributeValue, PurgeQueueInProgress, QueueDeletedRecently, QueueDoesNotExist, QueueNameExists, ResourceNotFoundException, TableFull, UnsupportedOperation, Worn};
 ghost use Rattle.sq_model.specs.declared.directory.DirectoryCall.TheVariants as asks;
 ghost use Rattle.sq_model.specs.declared.directory.DirectoryReply.TheVariants as answers;
@@ -9,7 +9,7 @@ ghost use Rattle.sq_model.specs.declared.directory.NamePrefix.TheVariants.{Any, 
 ghost use Rattle.sq_model.specs.declared.policy.AllowPolicy.TheVariants.{AllowAll, ByQueue, DenyAll};
 ghost use Rattle.sq_model.specs.Directories.{DirectoryStep, all_named, can_redrive, directory_refusal, opening_directory, resolved, settings_at, attributes_at, with_attributes};
 ghost use Rattle.sq_model.specs.Policies.{nothing_given};
-ghost use Rattle.sq_laws.specs.WorkedDirectory.{allow_given, both, dead_to, delay_given, deleted_twice, denying, directory_with, letters_again, letters_for, letters_gone, letters_queue, made_queue, numbered, numbers_given, one_queue, only_x, plain_source, purged_at, redrawn, redrive_given, source_queue, unset_source};
+ghost use Rattle.sq_laws.specs.WorkedDirectory.{allow_given, both, dead_to, delay_given, deleted_twice, denying, directory_with, letters_again, letters_for, letters_gone, letters_queue, made_queue, numbered, numbers_given, one_queue, only_x, purged_at, redrawn, redrive_given, source_queue, unset_source};
 
 /// The first queue has number 1 and version 1. It is found again where what is given is its own, a policy as it is printed, and
 /// is refused else; the fifth queue is too many.
@@ -24,8 +24,8 @@ pub fn a_queue_is_made_once()
     ensures other_order { directory_refusal (letters_for (Some (ByQueue (codes "x" ∷ codes "q" ∷ [])))) 0 (asks.Create (codes "d") (allow_given (ByQueue (codes "q" ∷ codes "x" ∷ [])))) ≡ Some QueueNameExists }
     ensures said_and_unsaid { directory_refusal (letters_for None) 0 (asks.Create (codes "d") (allow_given AllowAll)) ≡ Some QueueNameExists }
     ensures differs_before_policy { directory_refusal both 0 (asks.Create (codes "q") (record (redrive_given (Some (dead_to (codes "x")))) { delay = Some 1 })) ≡ Some QueueNameExists }
-    ensures last_place { directory_refusal (record both { places = 3 }) 0 (asks.Create (codes "x") nothing_given) ≡ None }
-    ensures full { directory_refusal (record both { places = 2 }) 0 (asks.Create (codes "x") nothing_given) ≡ Some TableFull }
+    ensures last_one { directory_refusal (record both { most = 3 }) 0 (asks.Create (codes "x") nothing_given) ≡ None }
+    ensures full { directory_refusal (record both { most = 2 }) 0 (asks.Create (codes "x") nothing_given) ≡ Some TableFull }
 {}
 
 /// A queue that was purged at 1000 is purged again from 61,000 on.
@@ -37,7 +37,7 @@ pub fn a_purge_comes_once_in_a_minute()
 {}
 
 /// The name of a queue that was deleted at 61,000 is free from 121,000 on, for a queue with another number. Of two causes the name
-/// comes first, then the policy, then the place.
+/// comes first, then the policy, then whether the table is full.
 pub fn a_deleted_name_is_not_free_at_once()
     ensures gone { DirectoryStep both 61000 (asks.Remove (codes "d")) (answers.Removed 1) letters_gone }
     ensures unknown { resolved (codes "d") letters_gone ≡ Err QueueDoesNotExist }
@@ -46,9 +46,9 @@ pub fn a_deleted_name_is_not_free_at_once()
         (record letters_gone { queues = source_queue ∷ made_queue 3 (codes "d") ∷ []; made = 3 }) }
     ensures early_the_second_time { directory_refusal (deleted_twice 61000) 120999 (asks.Create (codes "d") nothing_given) ≡ Some QueueDeletedRecently }
     ensures in_time_the_second_time { directory_refusal (deleted_twice 61000) 121000 (asks.Create (codes "d") nothing_given) ≡ None }
-    ensures name_before_policy { directory_refusal (record letters_gone { places = 2 }) 120999 (asks.Create (codes "d") (redrive_given (Some (dead_to (codes "x"))))) ≡ Some QueueDeletedRecently }
-    ensures policy_before_place { directory_refusal (record letters_gone { places = 2 }) 121000 (asks.Create (codes "d") (redrive_given (Some (dead_to (codes "x"))))) ≡ Some InvalidAttributeValue }
-    ensures place { directory_refusal (record letters_gone { places = 2 }) 121000 (asks.Create (codes "d") nothing_given) ≡ Some TableFull }
+    ensures name_before_policy { directory_refusal (record letters_gone { most = 2 }) 120999 (asks.Create (codes "d") (redrive_given (Some (dead_to (codes "x"))))) ≡ Some QueueDeletedRecently }
+    ensures policy_before_full { directory_refusal (record letters_gone { most = 2 }) 121000 (asks.Create (codes "d") (redrive_given (Some (dead_to (codes "x"))))) ≡ Some InvalidAttributeValue }
+    ensures full_last { directory_refusal (record letters_gone { most = 2 }) 121000 (asks.Create (codes "d") nothing_given) ≡ Some TableFull }
 {}
 
 /// A queue is chosen for dead letters by another one that it permits, and only while it is there. The number that its name has then

@@ -1,7 +1,7 @@
 //! Worked cases of messages that move between queues, each the contract of a function without code.
 #![tactic(auto, unfolding(sq_model::specs::Homes::HomeStep, sq_model::specs::Ledgers::LedgerStep, sq_model::specs::Ledgers::ledger_refusal, sq_model::specs::Shared::shared_refusal))]
 
-ghost use Rattle.std.specs.Prelude.{◌≡◌, ℕ, true, false, List, [], ◌∷◌, Option, Some, None, codes};
+ghost use Rattle.std.specs.Prelude.{◌≡◌, true, false, [], ◌∷◌, Some, None, codes};
 ghost use Rattle.sq_base.specs.declared.refusal.Refusal.TheVariants.{OverLimit, QueueDoesNotExist, ResourceNotFoundException, UnsupportedOperation};
 ghost use Rattle.sq_model.specs.declared.calls.HomeCall.TheVariants as asks;
 ghost use Rattle.sq_model.specs.declared.ledger.LedgerCall.TheVariants.{StartTask, CancelTask, FinishTask};
@@ -18,13 +18,13 @@ ghost use Rattle.sq_laws.specs.Worked.{hello, hello_once, worked_id, narrow, pla
 ghost use Rattle.sq_laws.specs.WorkedMoves.{dead_item, full_ledger, worked_ledger, letter, letters, letters_site, letters_with, new_task_1, no_moves, source, task_at, task_item, turned_task_item, with_dead_item, with_running, with_task, with_task_item, with_turned_item};
 
 /// A dead letter leaves at 31,000 and comes in with its id, its age and its source. Where its target is closed it goes back as it
-/// was, and comes in at its source anew; where that is closed too, it is given up.
+/// was, and comes in at its source anew; where that is closed too, it is dropped.
 pub fn a_dead_letter_goes_there_or_back()
     ensures leaves { SharedStep wide (with_rows strict 1 (hello_once ∷ [])) no_moves 31000 asks.LeaveDead (Left (dead_item false)) (with_rows strict 1 []) (with_dead_item false) }
     ensures enters { SharedStep letters_site (with_rows plain 0 []) (with_dead_item false) 31000 (asks.Enter (dead_item false)) (Entered (record { serial = 0; slot = 0 })) (letters_with (letter ∷ [])) (worked_ledger [] 2 [] 1) }
     ensures turned { SharedStep letters_site Closed (with_dead_item false) 31000 (asks.TurnBack (dead_item false)) Done Closed (with_dead_item true) }
     ensures returned { SharedStep wide (with_rows strict 1 []) (with_dead_item true) 40000 (asks.GiveBack (dead_item true)) (Entered (record { serial = 1; slot = 0 })) (with_rows strict 2 (record hello { serial = 1; visible_from = 40000 } ∷ [])) (worked_ledger [] 2 [] 1) }
-    ensures given_up { SharedStep wide Closed (with_dead_item true) 40000 (asks.GiveUp (dead_item true)) Done Closed (worked_ledger [] 2 [] 1) }
+    ensures dropped { SharedStep wide Closed (with_dead_item true) 40000 (asks.Drop (dead_item true)) Done Closed (worked_ledger [] 2 [] 1) }
 {}
 
 /// A full ledger refuses a dead row, and not a home without one, which is no event then. An item is asked for after what the home refuses.

@@ -29,5 +29,5 @@ pub fn a_queue_is_made_again_in_one_run()
     ensures early_purge { directory_refusal after_purge.directory 60999 (PurgeTicket (codes "q")) ≡ Some PurgeQueueInProgress }
     ensures no_queue { resolved (codes "q") (after_deletion 64).directory ≡ Err QueueDoesNotExist }
     ensures early_name { directory_refusal (after_deletion 64).directory 120999 (Create (codes "q") nothing_given) ≡ Some QueueDeletedRecently }
-    ensures no_place { directory_refusal (after_deletion 1).directory 121000 (Create (codes "q") nothing_given) ≡ Some TableFull }
+    ensures full { directory_refusal (after_deletion 1).directory 121000 (Create (codes "q") nothing_given) ≡ Some TableFull }
 {}

@@ -16,11 +16,11 @@ abbrev pub number_of : Item → ℕ
 number_of item = item.number
 
 -- where the first item stands that is not below a number
-abbrev pub place_of : ℕ → List Item → ℕ
-place_of number items = position_or_len (λ item. nat_le number item.number) items
+abbrev pub index_of : ℕ → List Item → ℕ
+index_of number items = position_or_len (λ item. nat_le number item.number) items
 
-next_place : (number : ℕ) (items : List Item) → 1 + place_of number items ≡ suc (place_of number items)
-next_place number items = omega arith
+next_index : (number : ℕ) (items : List Item) → 1 + index_of number items ≡ suc (index_of number items)
+next_index number items = omega arith
 
 -- ---- numbers do not fall
 
@@ -36,7 +36,7 @@ do_not_fall low (x ∷ items) next h zero (suc j) d le lt = let rest = none_belo
 do_not_fall low (x ∷ items) next h (suc i) zero d le lt = absurd (omega (arith, le))
 do_not_fall low (x ∷ items) next h (suc i) (suc j) d le lt = do_not_fall (x.number + 1) items next h.1 i j d (omega (arith, le)) (omega (arith, lt))
 
--- ---- the place that a binary search finds
+-- ---- the index that a binary search finds
 
 is_below : (a b : ℕ) → nat_lt a b ≡ true → nat_le b a ≡ false
 is_below a b h = grind (arith, common_steps, h)
@@ -50,19 +50,19 @@ is_within a b h = grind (arith, common_steps, h)
 is_above : (a b : ℕ) → nat_le a b ≡ false → nat_lt b a ≡ true
 is_above a b h = grind (arith, common_steps, h)
 
-pub place_is : (number : ℕ) (items : List Item) (place : ℕ) → place ≤ length items
-    → IsPartitionPoint (λ item. nat_lt item.number number ≡ true) (λ item. nat_lt item.number number ≡ false) items place → place ≡ place_of number items
-place_is number [] place le point = omega (arith, le)
-place_is number (x ∷ items) place le point = sym (position_or_len_is (λ item. nat_le number item.number) (x ∷ items) place x le
+pub index_is : (number : ℕ) (items : List Item) (index : ℕ) → index ≤ length items
+    → IsPartitionPoint (λ item. nat_lt item.number number ≡ true) (λ item. nat_lt item.number number ≡ false) items index → index ≡ index_of number items
+index_is number [] index le point = omega (arith, le)
+index_is number (x ∷ items) index le point = sym (position_or_len_is (λ item. nat_le number item.number) (x ∷ items) index x le
     (λ k lt. is_below _ number (point.0 k x (omega arith) lt))
-    (λ lt. is_from _ number (point.1 place x (omega arith) lt)))
+    (λ lt. is_from _ number (point.1 index x (omega arith) lt)))
 
-pub above_is : (number : ℕ) (items : List Item) (place : ℕ) → place ≤ length items
-    → IsPartitionPoint (λ item. nat_le item.number number ≡ true) (λ item. nat_le item.number number ≡ false) items place → place ≡ position_or_len (λ item. nat_lt number item.number) items
-above_is number [] place le point = omega (arith, le)
-above_is number (x ∷ items) place le point = sym (position_or_len_is (λ item. nat_lt number item.number) (x ∷ items) place x le
+pub above_is : (number : ℕ) (items : List Item) (index : ℕ) → index ≤ length items
+    → IsPartitionPoint (λ item. nat_le item.number number ≡ true) (λ item. nat_le item.number number ≡ false) items index → index ≡ position_or_len (λ item. nat_lt number item.number) items
+above_is number [] index le point = omega (arith, le)
+above_is number (x ∷ items) index le point = sym (position_or_len_is (λ item. nat_lt number item.number) (x ∷ items) index x le
     (λ k lt. is_within _ number (point.0 k x (omega arith) lt))
-    (λ lt. is_above _ number (point.1 place x (omega arith) lt)))
+    (λ lt. is_above _ number (point.1 index x (omega arith) lt)))
 
 -- ---- what stands there
 
@@ -85,16 +85,16 @@ none_of : (number low : ℕ) (items : List Item) (next : ℕ) → number < low �
 none_of number low [] next lt h = refl
 none_of number low (x ∷ items) next lt h = rw (not_same number x.number (omega (arith, lt, h.0))) (none_of number (x.number + 1) items next (omega (arith, lt, h.0)) h.1)
 
--- the item of a number is the one that stands at its place, or none
-pub found_at_place : (number low : ℕ) (items : List Item) (next : ℕ) → ItemsRise low items next → find (has_number number) items ≡ kept_if (has_number number) (slice_get items (place_of number items))
-found_at_place number low [] next h = refl
-found_at_place number low (x ∷ items) next h =
-    elim (nat_le number x.number) as (λ b. nat_le number x.number ≡ b → find (has_number number) (x ∷ items) ≡ kept_if (has_number number) (slice_get (x ∷ items) (cond (not b) (1 + place_of number items) 0))) [
+-- the item of a number is the one that stands at its index, or none
+pub found_at_index : (number low : ℕ) (items : List Item) (next : ℕ) → ItemsRise low items next → find (has_number number) items ≡ kept_if (has_number number) (slice_get items (index_of number items))
+found_at_index number low [] next h = refl
+found_at_index number low (x ∷ items) next h =
+    elim (nat_le number x.number) as (λ b. nat_le number x.number ≡ b → find (has_number number) (x ∷ items) ≡ kept_if (has_number number) (slice_get (x ∷ items) (cond (not b) (1 + index_of number items) 0))) [
       | true ↦ (λ e. elim (has_number number x) as (λ b. has_number number x ≡ b → cond b (Some x) (find (has_number number) items) ≡ (if b then Some x else None)) [
         | true ↦ (λ f. refl)
         | false ↦ (λ f. none_of number (x.number + 1) items next (not_above number x.number e) h.1)
       ] refl)
-      | false ↦ (λ e. rw (other number x.number e, next_place number items) (found_at_place number (x.number + 1) items next h.1))
+      | false ↦ (λ e. rw (other number x.number e, next_index number items) (found_at_index number (x.number + 1) items next h.1))
     ] refl
 
 -- ---- what is left
@@ -117,97 +117,97 @@ none_turns number (x ∷ items) h =
       | false ↦ (λ e. ap (λ (rest : List Item). x ∷ rest) (none_turns number items e))
     ] h
 
--- where one is found at a place, none is of its number after it
+-- where one is found at a index, none is of its number after it
 none_after : (number : ℕ) (x : Item) (items : List Item) (next : ℕ) → nat_le number x.number ≡ true → ItemsRise (x.number + 1) items next → find (has_number number) items ≡ None
 none_after number x items next e h = none_of number (x.number + 1) items next (not_above number x.number e) h
 
--- one that is found goes out of its place
-pub goes_out : (number low : ℕ) (items : List Item) (next : ℕ) (item : Item) → ItemsRise low items next → find (has_number number) items ≡ Some item → items_without number items ≡ remove items (place_of number items)
+-- one that is found goes out of its index
+pub goes_out : (number low : ℕ) (items : List Item) (next : ℕ) (item : Item) → ItemsRise low items next → find (has_number number) items ≡ Some item → items_without number items ≡ remove items (index_of number items)
 goes_out number low [] next item h found = absurd cc
 goes_out number low (x ∷ items) next item h found =
-    elim (nat_le number x.number) as (λ b. nat_le number x.number ≡ b → items_without number (x ∷ items) ≡ remove (x ∷ items) (cond (not b) (1 + place_of number items) 0)) [
+    elim (nat_le number x.number) as (λ b. nat_le number x.number ≡ b → items_without number (x ∷ items) ≡ remove (x ∷ items) (cond (not b) (1 + index_of number items) 0)) [
       | true ↦ (λ e. let none = none_after number x items next e h.1 in
           elim (has_number number x) as (λ b. cond b (Some x) (find (has_number number) items) ≡ Some item → cond (not b) (x ∷ items_without number items) (items_without number items) ≡ items) [
             | true ↦ (λ g. none_goes number items none)
             | false ↦ (λ g. absurd cc)
           ] found)
-      | false ↦ (λ e. rw (other number x.number e, next_place number items) (ap (λ (rest : List Item). x ∷ rest) (goes_out number (x.number + 1) items next item h.1 (rw (other number x.number e) at found))))
+      | false ↦ (λ e. rw (other number x.number e, next_index number items) (ap (λ (rest : List Item). x ∷ rest) (goes_out number (x.number + 1) items next item h.1 (rw (other number x.number e) at found))))
     ] refl
 
 -- and turns there
-pub turns : (number low : ℕ) (items : List Item) (next : ℕ) (item : Item) → ItemsRise low items next → find (has_number number) items ≡ Some item → map (turned_if number) items ≡ slice_set items (place_of number items) (turned item)
+pub turns : (number low : ℕ) (items : List Item) (next : ℕ) (item : Item) → ItemsRise low items next → find (has_number number) items ≡ Some item → map (turned_if number) items ≡ slice_set items (index_of number items) (turned item)
 turns number low [] next item h found = absurd cc
 turns number low (x ∷ items) next item h found =
-    elim (nat_le number x.number) as (λ b. nat_le number x.number ≡ b → map (turned_if number) (x ∷ items) ≡ slice_set (x ∷ items) (cond (not b) (1 + place_of number items) 0) (turned item)) [
+    elim (nat_le number x.number) as (λ b. nat_le number x.number ≡ b → map (turned_if number) (x ∷ items) ≡ slice_set (x ∷ items) (cond (not b) (1 + index_of number items) 0) (turned item)) [
       | true ↦ (λ e. let none = none_after number x items next e h.1 in
           elim (has_number number x) as (λ b. cond b (Some x) (find (has_number number) items) ≡ Some item → (if b then turned x else x) ∷ map (turned_if number) items ≡ turned item ∷ items) [
             | true ↦ (λ g. rw (none_turns number items none) (ap (λ (y : Item). turned y ∷ items) (some_same x item g)))
             | false ↦ (λ g. absurd cc)
           ] found)
-      | false ↦ (λ e. rw (other number x.number e, next_place number items) (ap (λ (rest : List Item). x ∷ rest) (turns number (x.number + 1) items next item h.1 (rw (other number x.number e) at found))))
+      | false ↦ (λ e. rw (other number x.number e, next_index number items) (ap (λ (rest : List Item). x ∷ rest) (turns number (x.number + 1) items next item h.1 (rw (other number x.number e) at found))))
     ] refl
 
 -- ---- what is read
 
--- what a list lends at a place
-pub read_is : {R : Type 0} (now : R → Item) (items : List Item) (place : ℕ) (lent : Option R) → ItemBy now items place place lent → option_map now lent ≡ slice_get items place
-read_is {R} now items place None h = sym (slice_get_past items place h.3)
-read_is {R} now items place (Some x) h = sym (slice_get_read items (length items) place (now x) refl h.3.0 h.1)
+-- what a list lends at a index
+pub read_is : {R : Type 0} (now : R → Item) (items : List Item) (index : ℕ) (lent : Option R) → ItemBy now items index index lent → option_map now lent ≡ slice_get items index
+read_is {R} now items index None h = sym (slice_get_past items index h.3)
+read_is {R} now items index (Some x) h = sym (slice_get_read items (length items) index (now x) refl h.3.0 h.1)
 
 -- and so the item of a number
-pub found_by : {R : Type 0} (now : R → Item) (number : ℕ) (items : List Item) (next place : ℕ) (lent : Option R) → ItemsRise 1 items next → place ≡ place_of number items → ItemBy now items place place lent
+pub found_by : {R : Type 0} (now : R → Item) (number : ℕ) (items : List Item) (next index : ℕ) (lent : Option R) → ItemsRise 1 items next → index ≡ index_of number items → ItemBy now items index index lent
     → find (has_number number) items ≡ kept_if (has_number number) (option_map now lent)
-found_by {R} now number items next place lent rises is h =
-    rw (read_is now items place lent h, is) (found_at_place number 1 items next rises)
+found_by {R} now number items next index lent rises is h =
+    rw (read_is now items index lent h, is) (found_at_index number 1 items next rises)
 
 kept_is : (p : Item → Bool) (o : Option Item) (item : Item) → kept_if p o ≡ Some item → o ≡ Some item
 kept_is p None item h = absurd cc
 kept_is p (Some x) item h = elim (p x) as (λ b. (if b then Some x else None) ≡ Some item → Some x ≡ Some item) [ true ↦ (λ e. e) | false ↦ (λ e. absurd cc) ] h
 
--- one that is found stands at its place
-stands : (number : ℕ) (items : List Item) (next place : ℕ) (item : Item) → ItemsRise 1 items next → place ≡ place_of number items → find (has_number number) items ≡ Some item → slice_get items place ≡ Some item
-stands number items next place item rises is found =
-    ap (slice_get items) is ∙ kept_is (has_number number) (slice_get items (place_of number items)) item (sym (found_at_place number 1 items next rises) ∙ found)
+-- one that is found stands at its index
+stands : (number : ℕ) (items : List Item) (next index : ℕ) (item : Item) → ItemsRise 1 items next → index ≡ index_of number items → find (has_number number) items ≡ Some item → slice_get items index ≡ Some item
+stands number items next index item rises is found =
+    ap (slice_get items) is ∙ kept_is (has_number number) (slice_get items (index_of number items)) item (sym (found_at_index number 1 items next rises) ∙ found)
 
--- what is taken out of that place is the item, and the others are left
-pub taken_out : (number : ℕ) (items left : List Item) (next place : ℕ) (out : Option Item) (item : Item) → ItemsRise 1 items next → place ≡ place_of number items → find (has_number number) items ≡ Some item
-    → ((d : Item) → place < length items → out ≡ Some (slice_index_or items place d)) → OnSome out (left ≡ remove items place)
+-- what is taken out of that index is the item, and the others are left
+pub taken_out : (number : ℕ) (items left : List Item) (next index : ℕ) (out : Option Item) (item : Item) → ItemsRise 1 items next → index ≡ index_of number items → find (has_number number) items ≡ Some item
+    → ((d : Item) → index < length items → out ≡ Some (slice_index_or items index d)) → OnSome out (left ≡ remove items index)
     → (out ≡ find (has_number number) items) × (left ≡ items_without number items)
-taken_out number items left next place out item rises is found value rest =
-    let there = stands number items next place item rises is found in
-    let taken : out ≡ Some item = value item (slice_get_within items place item there) ∙ ap (λ (x : Item). Some x) (get_or_from_slice_get items place item item there) in (
+taken_out number items left next index out item rises is found value rest =
+    let there = stands number items next index item rises is found in
+    let taken : out ≡ Some item = value item (slice_get_within items index item there) ∙ ap (λ (x : Item). Some x) (get_or_from_slice_get items index item item there) in (
       taken ∙ sym found,
-      (subst (λ (o : Option Item). OnSome o (left ≡ remove items place)) taken rest) ∙ ap (remove items) is ∙ sym (goes_out number 1 items next item rises found),
+      (subst (λ (o : Option Item). OnSome o (left ≡ remove items index)) taken rest) ∙ ap (remove items) is ∙ sym (goes_out number 1 items next item rises found),
     )
 
 -- the item that stands there turns, where it is of the number
-pub turned_at : (number : ℕ) (items : List Item) (next place : ℕ) (item : Item) → ItemsRise 1 items next → place ≡ place_of number items → find (has_number number) items ≡ Some item
-    → map (turned_if number) items ≡ slice_set items place (turned item)
-turned_at number items next place item rises is found =
+pub turned_at : (number : ℕ) (items : List Item) (next index : ℕ) (item : Item) → ItemsRise 1 items next → index ≡ index_of number items → find (has_number number) items ≡ Some item
+    → map (turned_if number) items ≡ slice_set items index (turned item)
+turned_at number items next index item rises is found =
     turns number 1 items next item rises found ∙ ap (λ (k : ℕ). slice_set items k (turned item)) (sym is)
 
 -- written again as it is, an item leaves the list as it is
-pub set_same : (items : List Item) (place : ℕ) (item : Item) → slice_get items place ≡ Some item → slice_set items place item ≡ items
-set_same [] place item h = refl
+pub set_same : (items : List Item) (index : ℕ) (item : Item) → slice_get items index ≡ Some item → slice_set items index item ≡ items
+set_same [] index item h = refl
 set_same (x ∷ items) zero item h = ap (λ (y : Item). y ∷ items) (sym (some_same x item h))
-set_same (x ∷ items) (suc place) item h = ap (λ (rest : List Item). x ∷ rest) (set_same items place item h)
+set_same (x ∷ items) (suc index) item h = ap (λ (rest : List Item). x ∷ rest) (set_same items index item h)
 
 -- ---- the next one in a circle
 
 -- the first above a number stands where it is found
-pub first_above : (number : ℕ) (items : List Item) (place : ℕ) → place ≡ position_or_len (λ item. nat_lt number item.number) items → place < length items
-    → slice_get items place ≡ option_or (find (λ item. nat_lt number item.number) items) (slice_get items 0)
-first_above number [] place is lt = absurd (omega (arith, lt))
-first_above number (x ∷ items) place is lt =
-    let there = slice_get-get_or (x ∷ items) place x lt in
-    let found : find (λ item. nat_lt number item.number) (x ∷ items) ≡ Some (slice_index_or (x ∷ items) place x) =
+pub first_above : (number : ℕ) (items : List Item) (index : ℕ) → index ≡ position_or_len (λ item. nat_lt number item.number) items → index < length items
+    → slice_get items index ≡ option_or (find (λ item. nat_lt number item.number) items) (slice_get items 0)
+first_above number [] index is lt = absurd (omega (arith, lt))
+first_above number (x ∷ items) index is lt =
+    let there = slice_get-get_or (x ∷ items) index x lt in
+    let found : find (λ item. nat_lt number item.number) (x ∷ items) ≡ Some (slice_index_or (x ∷ items) index x) =
     find_at (λ item. nat_lt number item.number) (x ∷ items) ∙ ap (slice_get (x ∷ items)) (sym is) ∙ there in
     there ∙ sym (ap (λ (o : Option Item). option_or o (Some x)) found)
 
 -- and where none is above it, it is the first of all
-pub first_again : (number : ℕ) (items : List Item) (place : ℕ) → place ≡ position_or_len (λ item. nat_lt number item.number) items → length items ≤ place
+pub first_again : (number : ℕ) (items : List Item) (index : ℕ) → index ≡ position_or_len (λ item. nat_lt number item.number) items → length items ≤ index
     → slice_get items 0 ≡ option_or (find (λ item. nat_lt number item.number) items) (slice_get items 0)
-first_again number items place is le =
+first_again number items index is le =
     let none : find (λ item. nat_lt number item.number) items ≡ None =
-    find_at (λ item. nat_lt number item.number) items ∙ ap (slice_get items) (sym is) ∙ slice_get_past items place le in
+    find_at (λ item. nat_lt number item.number) items ∙ ap (slice_get items) (sym is) ∙ slice_get_past items index le in
     sym (ap (λ (o : Option Item). option_or o (slice_get items 0)) none)

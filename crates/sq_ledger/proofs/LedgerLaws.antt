@@ -21,14 +21,14 @@ use Rattle.sq_model.specs.declared.place.Component.TheVariants as part
 use Rattle.sq_model.specs.declared.replies.HomeReply.{HomeReply}
 use Rattle.sq_model.specs.declared.replies.HomeReply.TheVariants.{Left, NoLiveRow, NoOrigin, SourceClosed}
 use Rattle.sq_model.specs.declared.shared.ItemAct.{ItemAct}
-use Rattle.sq_model.specs.declared.shared.ItemAct.TheVariants.{Enter, TurnBack, GiveBack, GiveUp}
+use Rattle.sq_model.specs.declared.shared.ItemAct.TheVariants.{Enter, TurnBack, GiveBack, Drop}
 use Rattle.sq_model.specs.declared.task.FailureReason.TheVariants as because
 use Rattle.sq_model.specs.declared.task.Task.{Task}
 use Rattle.sq_model.specs.Ledgers.{Ledger, LedgerEvent, LedgerStep, HasRoom, HasTask, IsLedger, IsTask, LeftBelow, changed_for, has_number, in_transit, is_for, is_own, is_task, items_without, last_number, opening_ledger, room_refusal, turned_if, ItemsRise}
 use Rattle.sq_model.specs.RecordValues.{LedgerRecordValue}
 use Rattle.sq_model.specs.Replays.{Replays, StampsRise}
 use Rattle.sq_model.specs.Systems.{AreLedger, NamesItsPart}
-use Rattle.sq_model.specs.Tasks.{failed_as, with_back, with_given_up, with_left, with_moved, with_status}
+use Rattle.sq_model.specs.Tasks.{failed_as, with_back, with_dropped, with_left, with_moved, with_status}
 use Rattle.sq_model.proofs.ReplayLaws.{replays_push}
 use Rattle.sq_laws.proofs.LedgerLists.{found_number, found_of_all, items_low, mapped_length, some_same}
 use Rattle.sq_laws.proofs.LedgerLaws.{ledger_holds}
@@ -110,8 +110,8 @@ done_there items next tasks limit m TurnBack home call reply item found does =
     rw (does.is_call, does.replies) (does.may, found, for_reason (map (turned_if item.number) items) next tasks limit item.reason (with_status (failed_as because.DestinationClosed)))
 done_there items next tasks limit m GiveBack home call reply item found does =
     rw (does.is_call, does.replies.1) (does.may, (found, for_reason (items_without item.number items) next tasks limit item.reason with_back))
-done_there items next tasks limit m GiveUp home call reply item found does =
-    rw (does.is_call, does.replies) (does.may, (found, for_reason (items_without item.number items) next tasks limit item.reason with_given_up))
+done_there items next tasks limit m Drop home call reply item found does =
+    rw (does.is_call, does.replies) (does.may, (found, for_reason (items_without item.number items) next tasks limit item.reason with_dropped))
 
 pub item_done : (items : List Item) (next : ℕ) (tasks : List Task) (limit m : ℕ) (act : ItemAct) (home : HomeId) (call : HomeCall) (reply : HomeReply) (number : ℕ) (item : Item)
     → find (has_number number) items ≡ Some item → DoesItem act home call reply item
@@ -134,7 +134,7 @@ may_be : (act : ItemAct) (task : Task) → 0 < unsettled task → MayChange (cha
 may_be Enter task more = more
 may_be TurnBack task more = tt
 may_be GiveBack task more = more
-may_be GiveUp task more = more
+may_be Drop task more = more
 
 moves_of : (l : Ledger) → IsLedger l → (number : ℕ) (item : Item) (act : ItemAct) → find (has_number number) l.items ≡ Some item → MayChangeFor (change_by act) item.reason l.tasks
 moves_of l h number item act found task reason =

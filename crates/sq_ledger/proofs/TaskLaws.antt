@@ -35,15 +35,15 @@ is_less a b h = grind (arith, common_steps, h)
 is_more : (a b : ℕ) → b < a → (a == b) ≡ false
 is_more a b h = grind (arith, common_steps, h)
 
-pub found_at : (number low : ℕ) (tasks : List Task) (place : ℕ) → TasksCount low tasks → low + place ≡ number → find (is_task number) tasks ≡ slice_get tasks place
-found_at number low [] place count is = refl
+pub found_at : (number low : ℕ) (tasks : List Task) (index : ℕ) → TasksCount low tasks → low + index ≡ number → find (is_task number) tasks ≡ slice_get tasks index
+found_at number low [] index count is = refl
 found_at number low (x ∷ tasks) zero count is = rw (is_same x.number number (omega (arith, count.0, is))) refl
-found_at number low (x ∷ tasks) (suc place) count is = rw (is_less x.number number (omega (arith, count.0, is))) (found_at number (low + 1) tasks place count.1 (omega (arith, is)))
+found_at number low (x ∷ tasks) (suc index) count is = rw (is_less x.number number (omega (arith, count.0, is))) (found_at number (low + 1) tasks index count.1 (omega (arith, is)))
 
-pub number_at : (low : ℕ) (tasks : List Task) (place : ℕ) (task : Task) → TasksCount low tasks → slice_get tasks place ≡ Some task → task.number ≡ low + place
-number_at low [] place task count there = absurd cc
+pub number_at : (low : ℕ) (tasks : List Task) (index : ℕ) (task : Task) → TasksCount low tasks → slice_get tasks index ≡ Some task → task.number ≡ low + index
+number_at low [] index task count there = absurd cc
 number_at low (x ∷ tasks) zero task count there = subst (λ (t : Task). t.number ≡ low + 0) (some_same x task there) (omega (arith, count.0))
-number_at low (x ∷ tasks) (suc place) task count there = let rest = number_at (low + 1) tasks place task count.1 there in omega (arith, rest)
+number_at low (x ∷ tasks) (suc index) task count there = let rest = number_at (low + 1) tasks index task count.1 there in omega (arith, rest)
 
 -- ---- one task is changed
 
@@ -52,28 +52,28 @@ none_changed number low f [] lt count = refl
 none_changed number low f (x ∷ tasks) lt count =
     rw (is_more x.number number (omega (arith, lt, count.0))) (ap (λ (r : List Task). x ∷ r) (none_changed number (low + 1) f tasks (omega (arith, lt)) count.1))
 
--- the row at a place, with another task
+-- the row at a index, with another task
 abbrev pub with_task : TaskRow → Task → TaskRow
 with_task row task = record { task = task; before = row.before }
 
-pub changed_at : (number low : ℕ) (f : Task → Task) (rows : List TaskRow) (place : ℕ) (row : TaskRow) → TasksCount low (tasks_in rows) → low + place ≡ number → slice_get rows place ≡ Some row
-    → tasks_in (slice_set rows place (with_task row (f row.task))) ≡ changed_task number f (tasks_in rows)
-changed_at number low f [] place row count is there = absurd cc
+pub changed_at : (number low : ℕ) (f : Task → Task) (rows : List TaskRow) (index : ℕ) (row : TaskRow) → TasksCount low (tasks_in rows) → low + index ≡ number → slice_get rows index ≡ Some row
+    → tasks_in (slice_set rows index (with_task row (f row.task))) ≡ changed_task number f (tasks_in rows)
+changed_at number low f [] index row count is there = absurd cc
 changed_at number low f (x ∷ rows) zero row count is there =
     let same : x ≡ row = some_same x row there in
     rw (is_same x.task.number number (omega (arith, count.0, is)), none_changed number (low + 1) f (tasks_in rows) (omega (arith, is)) count.1, same) refl
-changed_at number low f (x ∷ rows) (suc place) row count is there =
-    rw (is_less x.task.number number (omega (arith, count.0, is))) (ap (λ (r : List Task). x.task ∷ r) (changed_at number (low + 1) f rows place row count.1 (omega (arith, is)) there))
+changed_at number low f (x ∷ rows) (suc index) row count is there =
+    rw (is_less x.task.number number (omega (arith, count.0, is))) (ap (λ (r : List Task). x.task ∷ r) (changed_at number (low + 1) f rows index row count.1 (omega (arith, is)) there))
 
-pub active_changed : (number low : ℕ) (f : Task → Task) (tasks : List Task) (place : ℕ) (task : Task) → TasksCount low tasks → low + place ≡ number → slice_get tasks place ≡ Some task
+pub active_changed : (number low : ℕ) (f : Task → Task) (tasks : List Task) (index : ℕ) (task : Task) → TasksCount low tasks → low + index ≡ number → slice_get tasks index ≡ Some task
     → how_many_active (changed_task number f tasks) + cond (is_active task.status) 1 0 ≡ how_many_active tasks + cond (is_active (f task).status) 1 0
-active_changed number low f [] place task count is there = absurd cc
+active_changed number low f [] index task count is there = absurd cc
 active_changed number low f (x ∷ tasks) zero task count is there =
     let same : x ≡ task = some_same x task there in
     let a : Task → ℕ = λ t. cond (is_active t.status) 1 0 in
     rw (is_same x.number number (omega (arith, count.0, is)), none_changed number (low + 1) f tasks (omega (arith, is)) count.1, sum_by-cons a (f x) tasks, sum_by-cons a x tasks, same) (omega arith)
-active_changed number low f (x ∷ tasks) (suc place) task count is there =
-    let rest = active_changed number (low + 1) f tasks place task count.1 (omega (arith, is)) there in
+active_changed number low f (x ∷ tasks) (suc index) task count is there =
+    let rest = active_changed number (low + 1) f tasks index task count.1 (omega (arith, is)) there in
     let a : Task → ℕ = λ t. cond (is_active t.status) 1 0 in
     rw (is_less x.number number (omega (arith, count.0, is)), sum_by-cons a x (changed_task number f tasks), sum_by-cons a x tasks) (omega (arith, rest))
 
@@ -172,15 +172,15 @@ more k [] lt = absurd (omega (arith, lt))
 more zero (x ∷ ts) lt = (x, refl, refl)
 more (suc k) (x ∷ ts) lt = let rest = more k ts (omega (arith, lt)) in (rest.0, rest.1, ap (λ (r : List Task). x ∷ r) rest.2)
 
--- the most recent one of the first tasks stands at its place, and those before it come after it
+-- the most recent one of the first tasks stands at its index, and those before it come after it
 pub record IsFirstOf (source number : ℕ) (tasks first : List Task) : Type 0 where
-  pub place : ℕ
+  pub index : ℕ
   pub task : Task
-  pub is : place + 1 ≡ number
-  pub there : slice_get tasks place ≡ Some task
-  pub within : place < length tasks
+  pub is : index + 1 ≡ number
+  pub there : slice_get tasks index ≡ Some task
+  pub within : index < length tasks
   pub of_source : task.source.number ≡ source
-  pub rest : tasks_from source first ≡ task ∷ tasks_from source (take place tasks)
+  pub rest : tasks_from source first ≡ task ∷ tasks_from source (take index tasks)
 
 pub chain : (source : ℕ) (tasks : List Task) (k number : ℕ) → TasksCount 1 tasks → k ≤ length tasks → newest source (take k tasks) ≡ Some number → IsFirstOf source number tasks (take k tasks)
 chain source tasks zero number count le is = absurd cc
@@ -192,9 +192,9 @@ chain source tasks (suc k) number count le is =
     elim (is_of_source source t) as (λ b. is_of_source source t ≡ b → (if b then Some t.number else newest source (take k tasks)) ≡ Some number
     → tasks_from source (take (suc k) tasks) ≡ (if b then t ∷ tasks_from source (take k tasks) else tasks_from source (take k tasks)) → IsFirstOf source number tasks (take (suc k) tasks)) [
       | true ↦ (λ e n a. let at = number_at 1 tasks k t count next.1 in let same : t.number ≡ number = cc in
-          record { place = k; task = t; is = omega (arith, at, same); there = next.1; within = omega (arith, le); of_source = eqb-true t.source.number source e; rest = a })
+          record { index = k; task = t; is = omega (arith, at, same); there = next.1; within = omega (arith, le); of_source = eqb-true t.source.number source e; rest = a })
       | false ↦ (λ e n a. let r = chain source tasks k number count (omega (arith, le)) n in
-          record { place = r.place; task = r.task; is = r.is; there = r.there; within = r.within; of_source = r.of_source; rest = a ∙ r.rest })
+          record { index = r.index; task = r.task; is = r.is; there = r.there; within = r.within; of_source = r.of_source; rest = a ∙ r.rest })
     ] refl newer all
 
 -- where there is none, there are no tasks of the source
@@ -204,30 +204,30 @@ none_left (x ∷ tasks) h = absurd cc
 
 -- ---- what is kept
 
-pub get_map : (rows : List TaskRow) (place : ℕ) (row : TaskRow) → slice_get rows place ≡ Some row → slice_get (tasks_in rows) place ≡ Some row.task
-get_map [] place row h = absurd cc
+pub get_map : (rows : List TaskRow) (index : ℕ) (row : TaskRow) → slice_get rows index ≡ Some row → slice_get (tasks_in rows) index ≡ Some row.task
+get_map [] index row h = absurd cc
 get_map (x ∷ rows) zero row h = ap (λ (r : TaskRow). Some r.task) (some_same x row h)
-get_map (x ∷ rows) (suc place) row h = get_map rows place row h
+get_map (x ∷ rows) (suc index) row h = get_map rows index row h
 
-get_set : (rows : List TaskRow) (place k : ℕ) (row old z : TaskRow) → slice_get rows place ≡ Some old → slice_get (slice_set rows place row) k ≡ Some z → (slice_get rows k ≡ Some z) ⊎ ((k ≡ place) × (row ≡ z))
-get_set [] place k row old z h g = absurd cc
+get_set : (rows : List TaskRow) (index k : ℕ) (row old z : TaskRow) → slice_get rows index ≡ Some old → slice_get (slice_set rows index row) k ≡ Some z → (slice_get rows k ≡ Some z) ⊎ ((k ≡ index) × (row ≡ z))
+get_set [] index k row old z h g = absurd cc
 get_set (x ∷ rows) zero zero row old z h g = inr (refl, some_same row z g)
 get_set (x ∷ rows) zero (suc k) row old z h g = inl g
-get_set (x ∷ rows) (suc place) zero row old z h g = inl g
-get_set (x ∷ rows) (suc place) (suc k) row old z h g = elim (get_set rows place k row old z h g) [ inl p ↦ inl p | inr p ↦ inr (ap suc p.0, p.1) ]
+get_set (x ∷ rows) (suc index) zero row old z h g = inl g
+get_set (x ∷ rows) (suc index) (suc k) row old z h g = elim (get_set rows index k row old z h g) [ inl p ↦ inl p | inr p ↦ inr (ap suc p.0, p.1) ]
 
 take_map : (g : Task → Task) (n : ℕ) (xs : List Task) → take n (map g xs) ≡ map g (take n xs)
 take_map g zero xs = refl
 take_map g (suc n) [] = refl
 take_map g (suc n) (x ∷ xs) = ap (λ (r : List Task). g x ∷ r) (take_map g n xs)
 
-before_changed : (number : ℕ) (change : TaskChange) (rows : List TaskRow) (place : ℕ) (row : TaskRow) → TasksCount 1 (tasks_in rows) → 1 + place ≡ number → slice_get rows place ≡ Some row → NamesBefore rows
-    → NamesBefore (slice_set rows place (with_task row (changed_by change row.task)))
-before_changed number change rows place row count is there before k z g =
-    let all : tasks_in (slice_set rows place (with_task row (changed_by change row.task))) ≡ changed_task number (changed_by change) (tasks_in rows) = changed_at number 1 (changed_by change) rows place row count is there in
-    let same : (source : ℕ) → newest source (take k (tasks_in (slice_set rows place (with_task row (changed_by change row.task))))) ≡ newest source (take k (tasks_in rows)) =
+before_changed : (number : ℕ) (change : TaskChange) (rows : List TaskRow) (index : ℕ) (row : TaskRow) → TasksCount 1 (tasks_in rows) → 1 + index ≡ number → slice_get rows index ≡ Some row → NamesBefore rows
+    → NamesBefore (slice_set rows index (with_task row (changed_by change row.task)))
+before_changed number change rows index row count is there before k z g =
+    let all : tasks_in (slice_set rows index (with_task row (changed_by change row.task))) ≡ changed_task number (changed_by change) (tasks_in rows) = changed_at number 1 (changed_by change) rows index row count is there in
+    let same : (source : ℕ) → newest source (take k (tasks_in (slice_set rows index (with_task row (changed_by change row.task))))) ≡ newest source (take k (tasks_in rows)) =
     λ source. ap (λ (l : List Task). newest source (take k l)) all ∙ ap (λ (l : List Task). newest source l) (take_map _ k (tasks_in rows)) ∙ newest_changed source number change (take k (tasks_in rows)) in
-    elim (get_set rows place k (with_task row (changed_by change row.task)) row z there g) [
+    elim (get_set rows index k (with_task row (changed_by change row.task)) row z there g) [
       | inl p ↦ before k z p ∙ sym (same z.task.source.number)
       | inr p ↦
           let old : row.before ≡ newest row.task.source.number (take k (tasks_in rows)) = before k row (subst (λ (n : ℕ). slice_get rows n ≡ Some row) (sym p.0) there) in
@@ -241,21 +241,21 @@ falls true false o m n e = omega (arith, e)
 falls false b o m n e = let none = o refl in omega (arith, (rw none at e))
 
 -- there is one fewer that is active, where the task was and is not any more
-pub fell : (number : ℕ) (change : TaskChange) (rows : List TaskRow) (place : ℕ) (row : TaskRow) (last : BTreeMap ℕ ℕ) (old : ℕ) → AreTasks rows last old → place + 1 ≡ number → slice_get rows place ≡ Some row
+pub fell : (number : ℕ) (change : TaskChange) (rows : List TaskRow) (index : ℕ) (row : TaskRow) (last : BTreeMap ℕ ℕ) (old : ℕ) → AreTasks rows last old → index + 1 ≡ number → slice_get rows index ≡ Some row
     → how_many_active (changed_task number (changed_by change) (tasks_in rows)) + cond (is_active row.task.status && not (is_active (changed_by change row.task).status)) 1 0 ≡ old
-fell number change rows place row last old kept is there =
-    let count = active_changed number 1 (changed_by change) (tasks_in rows) place row.task kept.count (omega (arith, is)) (get_map rows place row there) in
+fell number change rows index row last old kept is there =
+    let count = active_changed number 1 (changed_by change) (tasks_in rows) index row.task kept.count (omega (arith, is)) (get_map rows index row there) in
     falls _ _ (stays_over change row.task) _ _ count ∙ sym kept.active
 
-pub tasks_kept : (number : ℕ) (change : TaskChange) (rows : List TaskRow) (place : ℕ) (row : TaskRow) (last : BTreeMap ℕ ℕ) (old new : ℕ) → AreTasks rows last old → place + 1 ≡ number → slice_get rows place ≡ Some row
+pub tasks_kept : (number : ℕ) (change : TaskChange) (rows : List TaskRow) (index : ℕ) (row : TaskRow) (last : BTreeMap ℕ ℕ) (old new : ℕ) → AreTasks rows last old → index + 1 ≡ number → slice_get rows index ≡ Some row
     → new + cond (is_active row.task.status && not (is_active (changed_by change row.task).status)) 1 0 ≡ old
-    → AreTasks (slice_set rows place (with_task row (changed_by change row.task))) last new
-tasks_kept number change rows place row last old new kept is there how =
-    let all : tasks_in (slice_set rows place (with_task row (changed_by change row.task))) ≡ changed_task number (changed_by change) (tasks_in rows) = changed_at number 1 (changed_by change) rows place row kept.count (omega (arith, is)) there in
-    let fewer = fell number change rows place row last old kept is there in
+    → AreTasks (slice_set rows index (with_task row (changed_by change row.task))) last new
+tasks_kept number change rows index row last old new kept is there how =
+    let all : tasks_in (slice_set rows index (with_task row (changed_by change row.task))) ≡ changed_task number (changed_by change) (tasks_in rows) = changed_at number 1 (changed_by change) rows index row kept.count (omega (arith, is)) there in
+    let fewer = fell number change rows index row last old kept is there in
     record {
       count = rw all (tasks_changed number 1 (changed_by change) (tasks_in rows) (λ task. (number_and_source change task).0) kept.count);
-      before = before_changed number change rows place row kept.count (omega (arith, is)) there kept.before;
+      before = before_changed number change rows index row kept.count (omega (arith, is)) there kept.before;
       last = λ source. kept.last source ∙ sym (ap (λ (l : List Task). newest source l) all ∙ newest_changed source number change (tasks_in rows));
       active = rw all (omega (arith, how, fewer));
     }
@@ -272,16 +272,16 @@ pub as_many : (n : ℕ) (b : Bool) → false ≡ b → n + cond b 1 0 ≡ n
 as_many n true e = absurd cc
 as_many n false e = omega arith
 
-pub one_active : (number : ℕ) (change : TaskChange) (rows : List TaskRow) (place : ℕ) (row : TaskRow) (last : BTreeMap ℕ ℕ) (old : ℕ) → AreTasks rows last old → place + 1 ≡ number → slice_get rows place ≡ Some row
+pub one_active : (number : ℕ) (change : TaskChange) (rows : List TaskRow) (index : ℕ) (row : TaskRow) (last : BTreeMap ℕ ℕ) (old : ℕ) → AreTasks rows last old → index + 1 ≡ number → slice_get rows index ≡ Some row
     → true ≡ (is_active row.task.status && not (is_active (changed_by change row.task).status)) → 1 ≤ old
-one_active number change rows place row last old kept is there ends =
-    let fewer = fell number change rows place row last old kept is there in
+one_active number change rows index row last old kept is there ends =
+    let fewer = fell number change rows index row last old kept is there in
     one_of _ old (is_active row.task.status && not (is_active (changed_by change row.task).status)) ends fewer
 
--- what is lent of a place is the row that stands there
-pub read_row : {R : Type 0} (now : R → TaskRow) (rows : List TaskRow) (place : ℕ) (lent : Option R) → ItemBy now rows place place lent → option_map now lent ≡ slice_get rows place
-read_row {R} now rows place None h = sym (slice_get_past rows place h.3)
-read_row {R} now rows place (Some x) h = sym (slice_get_read rows (length rows) place (now x) refl h.3.0 h.1)
+-- what is lent of a index is the row that stands there
+pub read_row : {R : Type 0} (now : R → TaskRow) (rows : List TaskRow) (index : ℕ) (lent : Option R) → ItemBy now rows index index lent → option_map now lent ≡ slice_get rows index
+read_row {R} now rows index None h = sym (slice_get_past rows index h.3)
+read_row {R} now rows index (Some x) h = sym (slice_get_read rows (length rows) index (now x) refl h.3.0 h.1)
 
 -- ---- one more
 
@@ -306,12 +306,12 @@ before_push rows row is before k z g =
 
 -- ---- the row of a number
 
-pub found_row : (number : ℕ) (rows : List TaskRow) (place : ℕ) (row : TaskRow) → TasksCount 1 (tasks_in rows) → place + 1 ≡ number → slice_get rows place ≡ Some row → find (is_task number) (tasks_in rows) ≡ Some row.task
-found_row number rows place row count is there = found_at number 1 (tasks_in rows) place count (omega (arith, is)) ∙ get_map rows place row there
+pub found_row : (number : ℕ) (rows : List TaskRow) (index : ℕ) (row : TaskRow) → TasksCount 1 (tasks_in rows) → index + 1 ≡ number → slice_get rows index ≡ Some row → find (is_task number) (tasks_in rows) ≡ Some row.task
+found_row number rows index row count is there = found_at number 1 (tasks_in rows) index count (omega (arith, is)) ∙ get_map rows index row there
 
-pub no_row : (number : ℕ) (rows : List TaskRow) (place : ℕ) → TasksCount 1 (tasks_in rows) → place + 1 ≡ number → length rows ≤ place → find (is_task number) (tasks_in rows) ≡ None
-no_row number rows place count is past =
-    found_at number 1 (tasks_in rows) place count (omega (arith, is)) ∙ slice_get-map task_in rows place ∙ ap (λ (o : Option TaskRow). option_map task_in o) (slice_get_past rows place past)
+pub no_row : (number : ℕ) (rows : List TaskRow) (index : ℕ) → TasksCount 1 (tasks_in rows) → index + 1 ≡ number → length rows ≤ index → find (is_task number) (tasks_in rows) ≡ None
+no_row number rows index count is past =
+    found_at number 1 (tasks_in rows) index count (omega (arith, is)) ∙ slice_get-map task_in rows index ∙ ap (λ (o : Option TaskRow). option_map task_in o) (slice_get_past rows index past)
 
 -- ---- a task starts
 
@@ -330,15 +330,15 @@ started rows row last new active number kept is next before starts updates =
     }
 
 -- the task of a number may be changed as it was asked
-pub may_change : (number : ℕ) (change : TaskChange) (rows : List TaskRow) (place : ℕ) (row : TaskRow) → TasksCount 1 (tasks_in rows) → place + 1 ≡ number → slice_get rows place ≡ Some row
+pub may_change : (number : ℕ) (change : TaskChange) (rows : List TaskRow) (index : ℕ) (row : TaskRow) → TasksCount 1 (tasks_in rows) → index + 1 ≡ number → slice_get rows index ≡ Some row
     → (task : Task) × (find (is_task number) (tasks_in rows) ≡ Some task) × MayChange change task → MayChange change row.task
-may_change number change rows place row count is there may =
-    let same : may.0 ≡ row.task = some_same may.0 row.task (sym may.1 ∙ found_row number rows place row count is there) in
+may_change number change rows index row count is there may =
+    let same : may.0 ≡ row.task = some_same may.0 row.task (sym may.1 ∙ found_row number rows index row count is there) in
     subst (λ (t : Task). MayChange change t) same may.2
 
-pub no_task : (number : ℕ) (rows : List TaskRow) (place : ℕ) → TasksCount 1 (tasks_in rows) → place + 1 ≡ number → slice_get rows place ≡ None → find (is_task number) (tasks_in rows) ≡ None
-no_task number rows place count is none =
-    found_at number 1 (tasks_in rows) place count (omega (arith, is)) ∙ slice_get-map task_in rows place ∙ ap (λ (o : Option TaskRow). option_map task_in o) none
+pub no_task : (number : ℕ) (rows : List TaskRow) (index : ℕ) → TasksCount 1 (tasks_in rows) → index + 1 ≡ number → slice_get rows index ≡ None → find (is_task number) (tasks_in rows) ≡ None
+no_task number rows index count is none =
+    found_at number 1 (tasks_in rows) index count (omega (arith, is)) ∙ slice_get-map task_in rows index ∙ ap (λ (o : Option TaskRow). option_map task_in o) none
 
 -- ---- the tasks of a source are listed
 
@@ -364,27 +364,27 @@ as_many_rows : (rows : List TaskRow) → length (tasks_in rows) ≡ length rows
 as_many_rows [] = refl
 as_many_rows (x ∷ rows) = ap suc (as_many_rows rows)
 
-pub is_next : (source first number place : ℕ) (rows : List TaskRow) → TasksCount 1 (tasks_in rows) → place + 1 ≡ number → first ≤ length (tasks_in rows) → newest source (take first (tasks_in rows)) ≡ Some number → place < length rows
-is_next source first number place rows count is le next =
+pub is_next : (source first number index : ℕ) (rows : List TaskRow) → TasksCount 1 (tasks_in rows) → index + 1 ≡ number → first ≤ length (tasks_in rows) → newest source (take first (tasks_in rows)) ≡ Some number → index < length rows
+is_next source first number index rows count is le next =
     let r = chain source (tasks_in rows) first number count le next in
     let a = r.is in let b = r.within in let c = as_many_rows rows in omega (arith, is, a, b, c)
 
 -- one more is listed, and the one before it is next
-pub goes_on : (source first number place : ℕ) (rows : List TaskRow) (row : TaskRow) (last : BTreeMap ℕ ℕ) (active : ℕ) (listed new : List Task) → AreTasks rows last active → place + 1 ≡ number → first ≤ length (tasks_in rows)
-    → newest source (take first (tasks_in rows)) ≡ Some number → slice_get rows place ≡ Some row → tasks_from source (tasks_in rows) ≡ listed ++ tasks_from source (take first (tasks_in rows)) → new ≡ listed ++ row.task ∷ []
-    → (place ≤ length (tasks_in rows)) × (row.before ≡ newest source (take place (tasks_in rows))) × (tasks_from source (tasks_in rows) ≡ new ++ tasks_from source (take place (tasks_in rows)))
-goes_on source first number place rows row last active listed new kept is le next there all pushed =
+pub goes_on : (source first number index : ℕ) (rows : List TaskRow) (row : TaskRow) (last : BTreeMap ℕ ℕ) (active : ℕ) (listed new : List Task) → AreTasks rows last active → index + 1 ≡ number → first ≤ length (tasks_in rows)
+    → newest source (take first (tasks_in rows)) ≡ Some number → slice_get rows index ≡ Some row → tasks_from source (tasks_in rows) ≡ listed ++ tasks_from source (take first (tasks_in rows)) → new ≡ listed ++ row.task ∷ []
+    → (index ≤ length (tasks_in rows)) × (row.before ≡ newest source (take index (tasks_in rows))) × (tasks_from source (tasks_in rows) ≡ new ++ tasks_from source (take index (tasks_in rows)))
+goes_on source first number index rows row last active listed new kept is le next there all pushed =
     let tasks = tasks_in rows in
     let r = chain source tasks first number kept.count le next in
     let a = r.is in
-    let at : r.place ≡ place = omega (arith, is, a) in
-    let same : r.task ≡ row.task = some_same r.task row.task (sym r.there ∙ ap (λ (n : ℕ). slice_get tasks n) at ∙ get_map rows place row there) in
+    let at : r.index ≡ index = omega (arith, is, a) in
+    let same : r.task ≡ row.task = some_same r.task row.task (sym r.there ∙ ap (λ (n : ℕ). slice_get tasks n) at ∙ get_map rows index row there) in
     let of_source : row.task.source.number ≡ source = ap (λ (t : Task). t.source.number) (sym same) ∙ r.of_source in
     let within = r.within in
-    let rest : tasks_from source (take first tasks) ≡ row.task ∷ tasks_from source (take place tasks) = r.rest ∙ ap (λ (t : Task). t ∷ tasks_from source (take r.place tasks)) same ∙ ap (λ (n : ℕ). row.task ∷ tasks_from source (take n tasks)) at in (
+    let rest : tasks_from source (take first tasks) ≡ row.task ∷ tasks_from source (take index tasks) = r.rest ∙ ap (λ (t : Task). t ∷ tasks_from source (take r.index tasks)) same ∙ ap (λ (n : ℕ). row.task ∷ tasks_from source (take n tasks)) at in (
       omega (arith, within, at),
-      kept.before place row there ∙ ap (λ (n : ℕ). newest n (take place tasks)) of_source,
-      all ∙ ap (λ (l : List Task). listed ++ l) rest ∙ sym (append_assoc listed (row.task ∷ []) (tasks_from source (take place tasks))) ∙ ap (λ (l : List Task). l ++ tasks_from source (take place tasks)) (sym pushed),
+      kept.before index row there ∙ ap (λ (n : ℕ). newest n (take index tasks)) of_source,
+      all ∙ ap (λ (l : List Task). listed ++ l) rest ∙ sym (append_assoc listed (row.task ∷ []) (tasks_from source (take index tasks))) ∙ ap (λ (l : List Task). l ++ tasks_from source (take index tasks)) (sym pushed),
     )
 
 pub pushed_length : (listed new : List Task) (task : Task) (n : ℕ) → length listed ≡ n → new ≡ listed ++ task ∷ [] → length new ≡ n + 1
@@ -403,6 +403,6 @@ pub last_found : (source number : ℕ) (tasks : List Task) → TasksCount 1 task
 last_found source number tasks count is =
     let whole : take (length tasks) tasks ≡ tasks = take_whole (length tasks) tasks (omega arith) in
     let r = chain source tasks (length tasks) number count (omega arith) (ap (λ (l : List Task). newest source l) whole ∙ is) in
-    let place = r.is in
-    found_at number 1 tasks r.place count (omega (arith, place)) ∙ r.there
+    let index = r.is in
+    found_at number 1 tasks r.index count (omega (arith, index)) ∙ r.there
     ∙ sym (ap (λ (l : List Task). slice_get (tasks_from source l) 0) (sym whole) ∙ ap (λ (l : List Task). slice_get l 0) r.rest)

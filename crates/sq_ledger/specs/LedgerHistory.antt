@@ -5,7 +5,7 @@ use Rattle.sq_model.specs.declared.item.Item.{Item}
 use Rattle.sq_model.specs.declared.ledger.LedgerCall.{LedgerCall}
 use Rattle.sq_model.specs.declared.ledger.LedgerReply.{LedgerReply}
 use Rattle.sq_model.specs.declared.shared.ItemAct.{ItemAct}
-use Rattle.sq_model.specs.declared.shared.ItemAct.TheVariants.{Enter, TurnBack, GiveBack, GiveUp}
+use Rattle.sq_model.specs.declared.shared.ItemAct.TheVariants.{Enter, TurnBack, GiveBack, Drop}
 use Rattle.sq_model.specs.Ledgers.{Ledger, LedgerEvent, items_without, turned_if}
 use Rattle.sq_model.specs.declared.task.Task.{Task}
 use Rattle.sq_log.specs.LogValue.{LogValue}
@@ -21,7 +21,7 @@ abbrev pub items_after : ItemAct → ℕ → List Item → List Item
 items_after Enter number items = items_without number items
 items_after TurnBack number items = map (turned_if number) items
 items_after GiveBack number items = items_without number items
-items_after GiveUp number items = items_without number items
+items_after Drop number items = items_without number items
 
 -- the ledger of these items and tasks, with the number of the next item and the limit
 abbrev pub ledger_with : List Item → ℕ → List Task → ℕ → Ledger

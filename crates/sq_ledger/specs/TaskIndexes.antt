@@ -6,7 +6,7 @@ use Rattle.sq_model.specs.declared.item.Reason.{Reason}
 use Rattle.sq_model.specs.declared.item.Reason.TheVariants.{Task as ForTask}
 use Rattle.sq_model.specs.declared.task.Task.{Task}
 use Rattle.sq_model.specs.Ledgers.{finish_refusal, is_of_source, is_task, last_number, TasksCount}
-use Rattle.sq_model.specs.Tasks.{is_active, is_running, may_leave, cancelled_as, failed_as, finished_as, with_back, with_given_up, with_left, with_moved, with_status}
+use Rattle.sq_model.specs.Tasks.{is_active, is_running, may_leave, cancelled_as, failed_as, finished_as, with_back, with_dropped, with_left, with_moved, with_status}
 use Rattle.sq_task.specs.Counts.{unsettled}
 use Rattle.sq_ledger.specs.declared.tasks.TaskChange.{TaskChange}
 use Rattle.sq_ledger.specs.declared.tasks.TaskChange.TheVariants.{Left, Entered, Back, Dropped, Cancelled, Finished, Failed}
@@ -34,7 +34,7 @@ tasks_in rows = map task_in rows
 
 -- each task names the one before it of its source
 abbrev pub NamesBefore : List TaskRow → Type 0
-NamesBefore rows = (place : ℕ) (row : TaskRow) → slice_get rows place ≡ Some row → row.before ≡ newest row.task.source.number (take place (tasks_in rows))
+NamesBefore rows = (index : ℕ) (row : TaskRow) → slice_get rows index ≡ Some row → row.before ≡ newest row.task.source.number (take index (tasks_in rows))
 
 -- Tasks are numbered from 1 on without a gap, and each names the one before it of its source; the map gives the most recent one of each source, and the number of active ones is kept.
 pub record AreTasks (rows : List TaskRow) (newest_of : BTreeMap ℕ ℕ) (how_many : ℕ) : Type 0 where
@@ -48,12 +48,12 @@ abbrev pub changed_by : TaskChange → Task → Task
 changed_by (Left m) task = with_left m task
 changed_by Entered task = with_moved task
 changed_by Back task = with_back task
-changed_by Dropped task = with_given_up task
+changed_by Dropped task = with_dropped task
 changed_by Cancelled task = with_status cancelled_as task
 changed_by Finished task = with_status finished_as task
 changed_by (Failed reason) task = with_status (failed_as reason) task
 
--- A message leaves only for a task that takes it, and its number can be counted; one of those in transit comes in, comes back or is given up; and a task finishes where none is.
+-- A message leaves only for a task that takes it, and its number can be counted; one of those in transit comes in, comes back or is dropped; and a task finishes where none is.
 abbrev pub MayChange : TaskChange → Task → Type 0
 MayChange (Left m) task = (is_running task.status ≡ true) × (may_leave m task ≡ true) × (task.left < last_number)
 MayChange Entered task = 0 < unsettled task

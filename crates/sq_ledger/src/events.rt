@@ -33,7 +33,7 @@ pub fn is_alone(call: &HomeCall) -> bool
             | HomeCall::Enter(_)
             | HomeCall::TurnBack(_)
             | HomeCall::GiveBack(_)
-            | HomeCall::GiveUp(_)
+            | HomeCall::Drop(_)
     )
 }
 

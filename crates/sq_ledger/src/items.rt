@@ -52,7 +52,7 @@ impl Items {
     pub fn get(&self, number: u64) -> Option<&Item>
         ensures { option_map (λ item. item.now) result ≡ find (has_number number) self.now.items }
     {
-        let item = self.items.get(self.place(number))?;
+        let item = self.items.get(self.index(number))?;
         if item.number.get() == number {
             Some(item)
         } else {
@@ -64,11 +64,11 @@ impl Items {
     pub fn after(&self, number: u64) -> Option<&Item>
         ensures { option_map (λ item. item.now) result ≡ option_or (find (λ item. nat_lt number item.number) self.now.items) (slice_get self.now.items 0) }
     {
-        let place = self
+        let index = self
             .items
             .partition_point(|item| item.number.get() <= number);
-        if place < self.items.len() {
-            self.items.get(place)
+        if index < self.items.len() {
+            self.items.get(index)
         } else {
             self.items.front()
         }
@@ -102,7 +102,7 @@ impl Items {
     {
         match act {
             ItemAct::TurnBack => self.turn(number),
-            ItemAct::Enter | ItemAct::GiveBack | ItemAct::GiveUp => {
+            ItemAct::Enter | ItemAct::GiveBack | ItemAct::Drop => {
                 let _gone = self.take(number);
             }
         }
@@ -115,8 +115,8 @@ impl Items {
         ensures reserved { self.old.reserved ≤ self.new.reserved }
     {
         self.get(number)?;
-        let place = self.place(number);
-        self.items.remove(place)
+        let index = self.index(number);
+        self.items.remove(index)
     }
 
     // Turns the item of a number homeward, if it is there.
@@ -124,8 +124,8 @@ impl Items {
         ensures items { self.new.items ≡ map (turned_if number) self.old.items }
         ensures reserved { self.new.reserved ≡ self.old.reserved }
     {
-        let place = self.place(number);
-        if let Some(item) = self.items.get_mut(place) {
+        let index = self.index(number);
+        if let Some(item) = self.items.get_mut(index) {
             if item.number.get() == number {
                 item.homeward = true;
             }
@@ -133,7 +133,7 @@ impl Items {
     }
 
     // Where the first item stands that is not below a number: how many are below it.
-    fn place(&self, number: u64) -> usize
+    fn index(&self, number: u64) -> usize
         ensures { result ≡ position_or_len (λ item. nat_le number item.number) self.now.items }
     {
         self.items

@@ -171,7 +171,7 @@ impl TransitLedger {
         add_event(&mut self.log, event);
     }
 
-    /// A home did this with the item of a number: it goes out, to its target, back to its source or given up there, which
+    /// A home did this with the item of a number: it goes out, to its target, back to its source or dropped there, which
     /// its task counts; or it goes back to its source from now on, and its task fails.
     pub fn item_step(&mut self, event: SharedEvent<'_>, act: ItemAct, number: ItemNo)
         requires prepared { IsPrepared self.old }
@@ -205,7 +205,7 @@ fn change_by(act: ItemAct) -> TaskChange
         ItemAct::Enter => TaskChange::Entered,
         ItemAct::TurnBack => TaskChange::Failed(FailureReason::DestinationClosed),
         ItemAct::GiveBack => TaskChange::Back,
-        ItemAct::GiveUp => TaskChange::Dropped,
+        ItemAct::Drop => TaskChange::Dropped,
     }
 }
 

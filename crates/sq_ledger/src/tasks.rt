@@ -26,7 +26,7 @@ pub enum TaskChange {
     Entered,
     /// A message came back to its source.
     Back,
-    /// A message was given up, since its source was closed too.
+    /// A message was dropped, since its source was closed too.
     Dropped,
     Cancelled,
     Finished,
@@ -40,7 +40,7 @@ struct TaskRow {
     before: Option<TaskNo>,
 }
 
-/// Tasks in order of their start. One is found by its number, which is one more than its place; those of a source are
+/// Tasks in order of their start. One is found by its number, which is one more than its index; those of a source are
 /// found from its most recent one on, each by the one after it. They show for how many more there was memory when the
 /// last one started.
 #[derive(Drop)]
@@ -97,7 +97,7 @@ impl Tasks {
     pub fn get(&self, number: TaskNo) -> Option<&MoveTask>
         ensures { option_map (λ task. task.now) result ≡ find (is_task number) self.now.items }
     {
-        let row = self.rows.get(place_of(number))?;
+        let row = self.rows.get(index_of(number))?;
         Some(&row.task)
     }
 
@@ -132,7 +132,7 @@ impl Tasks {
             let Some(number) = next else {
                 break;
             };
-            let Some(row) = self.rows.get(place_of(number)) else {
+            let Some(row) = self.rows.get(index_of(number)) else {
                 break;
             };
             listed.push(*row.task.task())?;
@@ -205,7 +205,7 @@ impl Tasks {
         ensures room { self.new.room ≡ self.old.room }
         ensures reserved { self.new.reserved ≡ self.old.reserved }
     {
-        if let Some(row) = self.rows.get_mut(place_of(number)) {
+        if let Some(row) = self.rows.get_mut(index_of(number)) {
             if apply(&mut row.task, change) {
                 self.active -= 1;
             }
@@ -214,7 +214,7 @@ impl Tasks {
 }
 
 // Where the task of a number stands.
-fn place_of(number: TaskNo) -> usize
+fn index_of(number: TaskNo) -> usize
     ensures { result + 1 ≡ number }
 {
     (number.get() - 1) as usize

@@ -53,7 +53,7 @@ get_last n (first ∷ whole) last k all =
     let index : suc (length whole) * n + k ≡ length first.items + (length whole * n + k) = let first_len = all.0 in omega (arith, first_len) in
     rw index (past_first first whole last (length whole * n + k) ∙ get_last n whole last k all.1)
 
--- there is no block at this place
+-- there is no block at this index
 pub past_whole : {X : Type 0} (xs : List X) (k : ℕ) → slice_get xs k ≡ None → length xs ≤ k
 past_whole [] k none = omega arith
 past_whole (x ∷ xs) zero none = absurd (none-some x (sym none))

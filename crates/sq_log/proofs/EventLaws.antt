@@ -83,23 +83,23 @@ parted_at es stamp low high middle x r was at true h = parted_above es stamp low
 parted_at es stamp low high middle x r was at false h = parted_below es stamp low high middle x r at h was
 
 -- and the event of the stamp is the first of the others
-pub at_point : {K R : Type 0} (es : List (Event K R)) (stamp : StampValue) (place : ℕ) → Rises es → IsParted stamp es place place → (e : Event K R) → IsEventAt es stamp e → slice_get es place ≡ Some e
-at_point es stamp place r point e h =
+pub at_point : {K R : Type 0} (es : List (Event K R)) (stamp : StampValue) (index : ℕ) → Rises es → IsParted stamp es index index → (e : Event K R) → IsEventAt es stamp e → slice_get es index ≡ Some e
+at_point es stamp index r point e h =
     let within : h.0 < length es = slice_get_within es h.0 e h.1 in
-    elim (cases_lt h.0 place) as (λ _. slice_get es place ≡ Some e) [
+    elim (cases_lt h.0 index) as (λ _. slice_get es index ≡ Some e) [
       | inl lt ↦ absurd (
           let not : is_lt (stamp_cmp e.stamp e.stamp) ≡ true = subst (λ (s : StampValue). is_lt (stamp_cmp e.stamp s) ≡ true) (sym h.2) (point.before h.0 e h.1 lt) in
           let f = not_under e.stamp in
           cc)
-      | inr ge ↦ elim (cases_lt place h.0) as (λ _. slice_get es place ≡ Some e) [
+      | inr ge ↦ elim (cases_lt index h.0) as (λ _. slice_get es index ≡ Some e) [
         | inl lt ↦ absurd (
-            let x = slice_index_or es place e in
-            let at : slice_get es place ≡ Some x = slice_get-get_or es place e (omega (arith, lt, within)) in
-            let below : Below x.stamp stamp = subst (λ (s : StampValue). Below x.stamp s) h.2 (rises_at r.low es r.last r.rising place h.0 x e lt at h.1) in
+            let x = slice_index_or es index e in
+            let at : slice_get es index ≡ Some x = slice_get-get_or es index e (omega (arith, lt, within)) in
+            let below : Below x.stamp stamp = subst (λ (s : StampValue). Below x.stamp s) h.2 (rises_at r.low es r.last r.rising index h.0 x e lt at h.1) in
             let under = below_less x.stamp stamp below in
-            let over = point.not_before place x at (omega arith) in
+            let over = point.not_before index x at (omega arith) in
             cc)
-        | inr le ↦ (let same : place ≡ h.0 = omega (arith, ge, le) in rw same h.1)
+        | inr le ↦ (let same : index ≡ h.0 = omega (arith, ge, le) in rw same h.1)
       ]
     ]
 

@@ -1,5 +1,7 @@
 -- For how many more items a list has memory, and what a step leaves of it.
-use Rattle.std.specs.Prelude.{◌≡◌, ℕ, ◌+◌, ◌<◌, ◌≤◌, List}
+use Rattle.std.specs.Prelude.{◌≡◌, ℕ, ◌+◌, ◌<◌, ◌≤◌, List, Result, IfErr, OnOk}
+use Rattle.sq_base.specs.declared.refusal.Refusal.{Refusal}
+use Rattle.sq_base.specs.declared.refusal.Refusal.TheVariants.{NoMemory}
 
 -- What contracts see of a list that gets memory before a step: its items, for how many more there was memory when the last one was put, and for how many there is now.
 pub record GrowingValue (T : Type 0) : Type 0 where
@@ -11,6 +13,14 @@ pub record GrowingValue (T : Type 0) : Type 0 where
 pub record IsReady (room reserved : ℕ) : Type 0 where
   pub there : 0 < reserved
   pub got : room ≡ 0 → 4 ≤ reserved
+
+-- memory for one item more was got, or there was none, where the list shows room for none and has memory for fewer than four
+pub record HasReserved {T : Type 0} (old new : GrowingValue T) (said : Result (Unit {0}) Refusal) : Type 0 where
+  pub items : new.items ≡ old.items
+  pub room : new.room ≡ old.room
+  pub kept : old.reserved ≤ new.reserved
+  pub ready : OnOk said (IsReady new.room new.reserved)
+  pub refused : IfErr said (λ e. (e ≡ NoMemory) × (old.room ≡ 0) × (old.reserved < 4))
 
 -- one item more uses room for one; where there was none, there is room for three more
 pub record KeepsRoom (old new : ℕ) : Type 0 where

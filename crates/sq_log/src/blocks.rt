@@ -12,7 +12,7 @@ use std::ops::Index;
 /// How many items a block has.
 const BLOCK: usize = 4096;
 
-/// Blocks that there are at most: with more, an item's place would be past any number.
+/// Blocks that there are at most: with more, an item's index would be past any number.
 const BLOCKS: usize = 1 << 50;
 
 /// Items in order, the first ones in whole blocks. The first block grows by copying, as a `Vec` does; a later one is got whole, and
@@ -65,7 +65,7 @@ impl<T> Blocks<T> {
         }
     }
 
-    /// The item at a place, from 0 upwards.
+    /// The item at an index, from 0 upwards.
     pub fn get(&self, index: usize) -> Option<&T>
         ensures { option_map (λ item. item.now) result ≡ slice_get self.now.items index }
     {
@@ -123,7 +123,7 @@ impl<T: Drop> Blocks<T> {
         self.last.push_reserved(item);
     }
 
-    /// Takes out the item at a place that there is one at, from 0 upwards, and moves up those after it by one. There may then be
+    /// Takes out the item at an index that there is one at, from 0 upwards, and moves up those after it by one. There may then be
     /// memory for fewer.
     pub fn remove(&mut self, index: usize) -> T
         requires { index < length self.old.items }
@@ -149,7 +149,7 @@ impl<T> Index<usize> for Blocks<T> {
 
     ghost index_gives = { λ blocks index item. slice_get blocks.items index ≡ Some item };
 
-    /// The item at a place that there is one at, from 0 upwards.
+    /// The item at an index that there is one at, from 0 upwards.
     fn index(&self, index: usize) -> &T {
         let found = self.get(index);
         found.unwrap()
@@ -174,7 +174,7 @@ fn reopen<T: Drop>(whole: &mut Vec<Vec<T>>, last: &mut Vec<T>)
     }
 }
 
-// Takes out the item of whole blocks at a place, moves up those after it by one, and puts another last.
+// Takes out the item of whole blocks at an index, moves up those after it by one, and puts another last.
 fn move_out<T>(blocks: &mut [Vec<T>], index: usize, item: T) -> T
     requires whole { AllByRecursion IsWhole blocks.old }
     requires there { index < length blocks.old * 4096 }
@@ -191,7 +191,7 @@ fn move_out<T>(blocks: &mut [Vec<T>], index: usize, item: T) -> T
     push_out(&mut blocks[at], index % BLOCK, carried)
 }
 
-// Takes out the item of a block at a place, and puts another last.
+// Takes out the item of a block at an index, and puts another last.
 fn push_out<T>(block: &mut Vec<T>, index: usize, item: T) -> T
     requires { index < length block.old.items }
     ensures taken { slice_get block.old.items index ≡ Some result }
@@ -203,7 +203,7 @@ fn push_out<T>(block: &mut Vec<T>, index: usize, item: T) -> T
     taken
 }
 
-// The item of a slice at a place.
+// The item of a slice at an index.
 fn at<T>(items: &[T], index: usize) -> Option<&T>
     ensures { option_map (λ item. item.now) result ≡ slice_get items.now index }
 {

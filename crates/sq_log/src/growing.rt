@@ -1,6 +1,6 @@
 //! Lists of what is never forgotten, which grow within memory that was got before.
-ghost use Rattle.std.specs.Prelude.{◌≡◌, ◌+◌, ◌<◌, ◌≤◌, ◌++◌, ◌∷◌, [], OnOk, IfErr};
-ghost use Rattle.sq_log.specs.Rooms.{IsReady, KeepsRoom};
+ghost use Rattle.std.specs.Prelude.{◌≡◌, ◌+◌, ◌≤◌, ◌++◌, ◌∷◌, []};
+ghost use Rattle.sq_log.specs.Rooms.{HasReserved, IsReady, KeepsRoom};
 
 use crate::blocks::Blocks;
 use sq_base::refusal::Refusal;
@@ -47,11 +47,7 @@ impl<T: Drop> Growing<T> {
     /// Gets memory for one item more, and for four at once where it shows room for none. Refused as NoMemory where it
     /// shows room for none and has memory for fewer than four.
     pub fn reserve(&mut self) -> Result<(), Refusal>
-        ensures items { self.new.items ≡ self.old.items }
-        ensures room { self.new.room ≡ self.old.room }
-        ensures kept { self.old.reserved ≤ self.new.reserved }
-        ensures ready { OnOk result (IsReady self.new.room self.new.reserved) }
-        ensures refused { IfErr result (λ e. (e ≡ Refusal.NoMemory) × (self.old.room ≡ 0) × (self.old.reserved < 4)) }
+        ensures { HasReserved self.old self.new result }
     {
         if self.room == 0 {
             self.items.reserve()?;

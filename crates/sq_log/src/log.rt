@@ -1,9 +1,9 @@
 //! The events of a part of the system, in order.
-ghost use Rattle.std.specs.Prelude.{◌≡◌, ◌≤◌, ◌++◌, ◌∷◌, [], OnOk, IfOk, IfErr, Ok, length};
+ghost use Rattle.std.specs.Prelude.{◌≡◌, ◌≤◌, [], OnOk, IfOk, IfErr, Ok, length};
 ghost use Rattle.sq_base.specs.Stamps.{start, after, Below};
 ghost use Rattle.sq_model.specs.Replays.{StampsRise};
-ghost use Rattle.sq_log.specs.Logs.{event_by, IsFull, IsUnready};
-ghost use Rattle.sq_log.specs.Rooms.{IsReady, KeepsRoom};
+ghost use Rattle.sq_log.specs.Logs.{HasNoted, IsFull, IsUnready};
+ghost use Rattle.sq_log.specs.Rooms.{IsReady};
 
 use crate::blocks::Blocks;
 use crate::growing::Growing;
@@ -110,11 +110,8 @@ impl<K: Drop, R: Drop> Log<K, R> {
     ) -> PartRecord<K, R>
         requires ready { IsReady self.old.room self.old.reserved }
         requires above { Below self.old.last stamp }
-        ensures last { self.new.last ≡ stamp }
-        ensures events { self.new.events ≡ self.old.events ++ event_by stamp by.now component kept.0 kept.1 ∷ [] }
+        ensures noted { HasNoted stamp by.now component kept self.old self.new }
         ensures rising { StampsRise start self.new.events self.new.last }
-        ensures shown { self.new.room ≡ self.new.reserved }
-        ensures room { KeepsRoom self.old.room self.new.room }
         ensures for_record { result ≡ record { place = by.now.place; stamp = stamp; index = length self.old.events; call = for_record.0; reply = for_record.1 } }
     {
         let index = self.events.items().len() as u64;
@@ -134,11 +131,8 @@ impl<K: Drop, R: Drop> Log<K, R> {
     pub fn note(&mut self, stamp: Stamp, by: &Actor, component: Component, kept: (K, R))
         requires ready { IsReady self.old.room self.old.reserved }
         requires above { Below self.old.last stamp }
-        ensures last { self.new.last ≡ stamp }
-        ensures events { self.new.events ≡ self.old.events ++ event_by stamp by.now component kept.0 kept.1 ∷ [] }
+        ensures noted { HasNoted stamp by.now component kept self.old self.new }
         ensures rising { StampsRise start self.new.events self.new.last }
-        ensures shown { self.new.room ≡ self.new.reserved }
-        ensures room { KeepsRoom self.old.room self.new.room }
     {
         let (call, reply) = kept;
         let event = Event {

@@ -12,7 +12,7 @@ use Rattle.sq_actions.proofs.PathLaws.{path_inside}
 
 -- no step changes how far the turns of actors are
 does_progress : (actor now : ℕ) (s t : WorldValue) (ask : Ask) (gave : Gave) → ActorDoes actor now s ask gave t → t.progress ≡ s.progress
-does_progress actor now s t (Resolve name) (Found queue) h = ap (λ (v : WorldValue). v.progress) h.1
+does_progress actor now s t (Resolve name) (Found queue) h = ap (λ (v : WorldValue). v.progress) h.2
 does_progress actor now s t (AskDirectory call) (Answered reply) h = ap (λ (v : WorldValue). v.progress) h.changed
 does_progress actor now s t (AskHome name id act) (Replied reply) h = ap (λ (v : WorldValue). v.progress) h.changed
 does_progress actor now s t (AskShared name id what) (Replied reply) h = ap (λ (v : WorldValue). v.progress) h.changed

@@ -24,9 +24,9 @@ known_read w actor name queue made =
     rw (journal_put actor mine w.journals (journal_own actor w.journals)) (made_later w.directory.events w.directory.last mine.seen name queue made (later_second (journal_of actor w.journals).seen w.directory.last))
 
 -- an actor knows the queue that a step of the directory answered by its name
-pub known_directed : (old new : WorldValue) (actor now : ℕ) (call : DirectoryCall) (reply : DirectoryReply) (name : List ℕ) (queue : ℕ) → DirectoryStepped old new actor now call reply
+pub known_by_directory : (old new : WorldValue) (actor now : ℕ) (call : DirectoryCall) (reply : DirectoryReply) (name : List ℕ) (queue : ℕ) → DirectoryStepped old new actor now call reply
     → IsMadeBy new.directory.events new.directory.last name queue → IsKnown new.directory.events (journal_of actor new.journals) (Some name) queue
-known_directed old new actor now call reply name queue s made =
+known_by_directory old new actor now call reply name queue s made =
     let own : s.recorded_in.actor ≡ actor = ap (λ (b : Journal). b.actor) s.moves.recorded_as ∙ journal_own actor old.journals in
     let seen : s.recorded_in.seen ≡ s.after.last = ap (λ (b : Journal). b.seen) s.moves.recorded_as ∙ sym s.moves.does.last in
     let after : IsMadeBy s.after.events s.after.last name queue = rw s.changed at made in

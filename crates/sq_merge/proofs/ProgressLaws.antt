@@ -17,7 +17,7 @@ use Rattle.sq_actions.specs.Progresses.{no_progress}
 use Rattle.sq_model.specs.RecordValues.{Journal}
 use Rattle.sq_merge.specs.declared.progress.ActorProgress.{ActorProgress}
 use Rattle.sq_merge.specs.Acting.{ActorStepped, TurnStepped}
-use Rattle.sq_merge.specs.Progresses.{is_progress_of, at_progress, progress_of, put_where, put_progress, placed_where, with_progress}
+use Rattle.sq_merge.specs.Progresses.{is_progress_of, at_progress, progress_of, put_where, put_progress, added_where, with_progress}
 use Rattle.sq_merge.specs.inside.Progresses.{progress_place}
 use Rattle.sq_merge.specs.WorldValue.{WorldValue}
 
@@ -39,7 +39,7 @@ stands actor o = (unwrap_or o (at_progress actor no_progress)).progress
 read_there : (actor : ℕ) (ps : List ActorProgress) (p : ActorProgress) → p ≡ slice_index_or (with_progress actor ps) (progress_place actor ps) p → p.progress ≡ progress_of actor ps
 read_there actor ps p is =
     let test = is_progress_of actor in
-    elim (position test ps) as (λ v. position test ps ≡ v → p ≡ slice_index_or (placed_where v actor ps) (unwrap_or v (length ps)) p → p.progress ≡ progress_of actor ps) [
+    elim (position test ps) as (λ v. position test ps ≡ v → p ≡ slice_index_or (added_where v actor ps) (unwrap_or v (length ps)) p → p.progress ≡ progress_of actor ps) [
       | None ↦ (λ pos k. ap (λ (q : ActorProgress). q.progress) (k ∙ get_or-append_seam ps (at_progress actor no_progress) [] p) ∙ sym (ap (stands actor) (none_found test ps pos)))
       | Some at ↦ (λ pos k.
           let f = found_at test ps at pos in
@@ -50,7 +50,7 @@ read_there actor ps p is =
 -- what is written there is put
 written_there : (actor : ℕ) (now : Progress) (ps : List ActorProgress) → slice_set (with_progress actor ps) (progress_place actor ps) (at_progress actor now) ≡ put_progress actor now ps
 written_there actor now ps =
-    elim (position (is_progress_of actor) ps) as (λ v. slice_set (placed_where v actor ps) (unwrap_or v (length ps)) (at_progress actor now) ≡ put_where v (at_progress actor now) ps)
+    elim (position (is_progress_of actor) ps) as (λ v. slice_set (added_where v actor ps) (unwrap_or v (length ps)) (at_progress actor now) ≡ put_where v (at_progress actor now) ps)
     [ None ↦ set-append_seam ps (at_progress actor no_progress) [] (at_progress actor now) | Some at ↦ refl ]
 
 -- and so far the actor is then

@@ -35,16 +35,16 @@ use Rattle.sq_merge.specs.Openings.{new_world}
 use Rattle.sq_opening.specs.Openings.{never_opened, never_opened_homes, limits_of, IsServed}
 use Rattle.sq_model.proofs.ElementLaws.{some_same, get_cases, get_mapped, get_within}
 use Rattle.sq_steps.proofs.JournalListLaws.{journal_own, lost_there, opened_put, opened_is, kept_front}
-use Rattle.sq_audit.proofs.HomeIdLaws.{place_found, place_none}
+use Rattle.sq_audit.proofs.HomeIdLaws.{index_found, index_none}
 
 -- a world as its fields are
 abbrev pub as_fields : {fields w : WorldValue} → fields ≡ w → WorldValue
 as_fields {fields} is = fields
 
--- the home at its place
+-- the home at its index
 home_is : (old : WorldValue) (id : HomeId) (place : ℕ) (before : HistoryValue) → IsNumbered old.per_queue old.homes → 1 ≤ id.queue → home_index old.per_queue (length old.homes) id ≡ Some place → before ≡ slice_index_or old.homes place before → IsHomeOf old id place before
 home_is old id place before numbered least found is =
-    let t = place_found old.per_queue (length old.homes) id place least found in
+    let t = index_found old.per_queue (length old.homes) id place least found in
     let in_list : slice_get old.homes place ≡ Some before = slice_get_read old.homes (length old.homes) place before refl t.0 is in
     record { in_list = in_list; has_id = numbered place before in_list ∙ t.1 }
 
@@ -70,14 +70,14 @@ unmade actor now journals pos = subst (λ (b : Journal). IsNotReady b now NoMemo
 pub home_there : (old : WorldValue) (id : HomeId) (place : ℕ) → IsNumbered old.per_queue old.homes → 1 ≤ id.queue → home_index old.per_queue (length old.homes) id ≡ Some place
     → (at : ℕ) × (h : HistoryValue) × IsHomeOf old id at h
 home_there old id place numbered least found =
-    let t = place_found old.per_queue (length old.homes) id place least found in
+    let t = index_found old.per_queue (length old.homes) id place least found in
     let home = get_within old.homes place t.0 in
     (place, home.0, record { in_list = home.1; has_id = numbered place home.0 home.1 ∙ t.1 })
 
 -- there is no such home
 pub refused_nowhere : (old : WorldValue) (actor now : ℕ) (id : HomeId) (e : Refusal) (Why : HistoryValue → Journal → Type 0) → IsNumbered old.per_queue old.homes → 1 ≤ old.per_queue → home_index old.per_queue (length old.homes) id ≡ None
     → e ≡ (if nat_le stamp_end now then ClockRange else QueueDoesNotExist) → IsRefusedAt old actor now id e Why
-refused_nowhere old actor now id e Why numbered some none is = inl (λ at h home. place_none old.per_queue old.homes id some numbered none at h home.in_list home.has_id, is)
+refused_nowhere old actor now id e Why numbered some none is = inl (λ at h home. index_none old.per_queue old.homes id some numbered none at h home.in_list home.has_id, is)
 
 -- no memory was found for a new actor
 pub refused_unmade : (old : WorldValue) (actor now : ℕ) (id : HomeId) (place : ℕ) (Why : HistoryValue → Journal → Type 0) → IsNumbered old.per_queue old.homes → 1 ≤ id.queue → home_index old.per_queue (length old.homes) id ≡ Some place
@@ -86,7 +86,7 @@ refused_unmade old actor now id place Why numbered least found pos unready =
     let home = home_there old id place numbered least found in
     inr (home.0, home.1, home.2, unready home.1 (journal_of actor old.journals) (unmade actor now old.journals pos))
 
--- what a step at a home found: the home at its place, and what the actor has
+-- what a step at a home found: the home at its index, and what the actor has
 pub record IsOpened (old : WorldValue) (actor : ℕ) (id : HomeId) (place : ℕ) (before : HistoryValue) (mine : Journal) : Type 0 where
   pub home : IsHomeOf old id place before
   pub own : mine ≡ journal_of actor old.journals
@@ -153,13 +153,13 @@ module _ {old : WorldValue} {actor : ℕ} {id : HomeId} {place : ℕ} {before : 
 
 -- ---- a step of the directory
 
-pub directed_unmade : (old : WorldValue) (actor now : ℕ) (call : DirectoryCall) → position (is_of_actor actor) old.journals ≡ None → DirectoryRefused old actor now call NoMemory
-directed_unmade old actor now call pos = inl (unmade actor now old.journals pos)
+pub directory_unmade : (old : WorldValue) (actor now : ℕ) (call : DirectoryCall) → position (is_of_actor actor) old.journals ≡ None → DirectoryRefused old actor now call NoMemory
+directory_unmade old actor now call pos = inl (unmade actor now old.journals pos)
 
-pub directed_opened : (old : WorldValue) (actor now : ℕ) (call : DirectoryCall) (reply : DirectoryReply) (after : DirectoryHistory) (mine recorded_in : Journal) → mine ≡ journal_of actor old.journals
+pub directory_opened : (old : WorldValue) (actor now : ℕ) (call : DirectoryCall) (reply : DirectoryReply) (after : DirectoryHistory) (mine recorded_in : Journal) → mine ≡ journal_of actor old.journals
     → DirectoryMoves old.directory after mine recorded_in now call reply
     → DirectoryStepped old (record old { directory = after; journals = slice_set (opened actor old.journals) (index_in actor old.journals) recorded_in }) actor now call reply
-directed_opened old actor now call reply after mine recorded_in is moves = record {
+directory_opened old actor now call reply after mine recorded_in is moves = record {
   after = after;
   recorded_in = recorded_in;
   moves = subst (λ (b : Journal). DirectoryMoves old.directory after b recorded_in now call reply) is moves;
@@ -168,13 +168,13 @@ directed_opened old actor now call reply after mine recorded_in is moves = recor
 
 -- ---- a step of the ledger alone
 
-pub ledgered_unmade : (old : WorldValue) (actor now : ℕ) (what : TaskAct) → position (is_of_actor actor) old.journals ≡ None → LedgerRefused old actor now what NoMemory
-ledgered_unmade old actor now what pos = inl (unmade actor now old.journals pos)
+pub ledger_unmade : (old : WorldValue) (actor now : ℕ) (what : TaskAct) → position (is_of_actor actor) old.journals ≡ None → LedgerRefused old actor now what NoMemory
+ledger_unmade old actor now what pos = inl (unmade actor now old.journals pos)
 
-pub ledgered_opened : (old : WorldValue) (actor now : ℕ) (what : TaskAct) (reply : LedgerReply) (after : LedgerHistory) (mine recorded_in : Journal) → mine ≡ journal_of actor old.journals
+pub ledger_opened : (old : WorldValue) (actor now : ℕ) (what : TaskAct) (reply : LedgerReply) (after : LedgerHistory) (mine recorded_in : Journal) → mine ≡ journal_of actor old.journals
     → LedgerMoves old.ledger after mine recorded_in now (task_call what) reply
     → LedgerStepped old (record old { ledger = after; journals = slice_set (opened actor old.journals) (index_in actor old.journals) recorded_in }) actor now what reply
-ledgered_opened old actor now what reply after mine recorded_in is moves = record {
+ledger_opened old actor now what reply after mine recorded_in is moves = record {
   after = after;
   recorded_in = recorded_in;
   moves = subst (λ (b : Journal). LedgerMoves old.ledger after b recorded_in now (task_call what) reply) is moves;

@@ -114,7 +114,7 @@ old_or_new journals actor n room b i x m h = elim (put_cases (with_record (journ
       ])
 ]
 
--- the numbers of an actor's records are those of their places
+-- the numbers of an actor's records are those of their indices
 journal_counted : (journals : List Journal) (actor : ℕ) → ((b : ℕ) (journal : Journal) → slice_get journals b ≡ Some journal → journal.next ≡ length journal.records) → (journal_of actor journals).next ≡ length (journal_of actor journals).records
 journal_counted journals actor counted = elim (journal_there actor journals) [
   | inl t ↦ counted t.0 (journal_of actor journals) t.1
@@ -369,8 +369,8 @@ as_it_was : (homes : List HomeHistory) (j : ℕ) (h : HomeHistory) → slice_get
 as_it_was homes j h there = record { new = h; in_list = there; same = refl; more = λ k e g. g }
 
 -- a step of the directory
-pub kept_directed : (old : WorldValue) (actor now : ℕ) (call : DirectoryCall) (reply : DirectoryReply) (new : WorldValue) → IsKeptWorld old → DirectoryStepped old new actor now call reply → IsKeptWorld new
-kept_directed old actor now call reply new kept s =
+pub kept_directory : (old : WorldValue) (actor now : ℕ) (call : DirectoryCall) (reply : DirectoryReply) (new : WorldValue) → IsKeptWorld old → DirectoryStepped old new actor now call reply → IsKeptWorld new
+kept_directory old actor now call reply new kept s =
     let n = s.moves.its_record in
     let is = s.moves.does.record_is in
     let grown = s.moves.does.events in
@@ -407,8 +407,8 @@ own_paired events homes event own paired = record {
 }
 
 -- a step of the ledger alone
-pub kept_ledgered : (old : WorldValue) (actor now : ℕ) (what : TaskAct) (reply : LedgerReply) (new : WorldValue) → IsKeptWorld old → LedgerStepped old new actor now what reply → IsKeptWorld new
-kept_ledgered old actor now what reply new kept s =
+pub kept_ledger : (old : WorldValue) (actor now : ℕ) (what : TaskAct) (reply : LedgerReply) (new : WorldValue) → IsKeptWorld old → LedgerStepped old new actor now what reply → IsKeptWorld new
+kept_ledger old actor now what reply new kept s =
     let n = s.moves.its_record in
     let is = s.moves.does.record_is in
     let grown = s.moves.does.events in

@@ -18,9 +18,9 @@ world_counts w = record { homes = w.per_queue; sample = w.sample }
 
 -- one step of a call by an actor at a clock reading, with this answer
 abbrev pub ActorDoes : ℕ → ℕ → WorldValue → Ask → Gave → WorldValue → Type 0
-ActorDoes actor now w (Resolve name) (Found queue) t = (number_named name w.directory.directory.queues ≡ Some queue) × (t ≡ having_read_directory w actor)
+ActorDoes actor now w (Resolve name) (Found queue) t = (number_named name w.directory.directory.queues ≡ Some queue.number) × (queue.name ≡ name) × (t ≡ having_read_directory w actor)
 ActorDoes actor now w (AskDirectory call) (Answered reply) t = DirectoryStepped w t actor now call reply
-ActorDoes actor now w (AskHome name id act) (Replied reply) t = HomeStepped w t actor now (Some name) id (call_of act) reply
+ActorDoes actor now w (AskHome name id act) (Replied reply) t = HomeStepped w t actor now name id (call_of act) reply
 ActorDoes actor now w (AskShared name id what) (Replied reply) t = SharedStepped w t actor now name id what reply
 ActorDoes actor now w (AskShared name id what) Nothing t = NothingLeaves w t actor now id what
 ActorDoes actor now w (Peek number) (Peeked next) t = ItemRead w t actor number next
@@ -45,16 +45,16 @@ abbrev pub ActorStepped : ℕ → ℕ → WorldValue → Ask → Result Gave Ref
 ActorStepped actor now w ask (Ok gave) t = ActorDoes actor now w ask gave t
 ActorStepped actor now w ask (Err e) t = ActorRefused actor now w ask e × (t ≡ w)
 
--- A turn of an actor at a clock reading. The actor has a place for its progress first; then the steps of the turn are done, which leave what stands in such places; and what the turn made of the actor's progress is put there.
+-- A turn of an actor at a clock reading. The actor has memory for its progress first; then the steps of the turn are done, which leave all progress as it is; and what the turn made of the actor's progress is put there.
 pub record TurnStepped (actor now : ℕ) (turn : Turn) (old : WorldValue) (answered : Result Turned Refusal) (new : WorldValue) : Type 0 where
   pub after : Progress
   pub mid : WorldValue
   pub steps : Performs (ActorStepped actor now) (TurnFits old.per_queue turn (progress_of actor old.progress) after) (record old { progress = with_progress actor old.progress }) answered mid
   pub put : new ≡ record mid { progress = put_progress actor after old.progress }
 
--- no memory was found for the place of an actor's first turn, and nothing was done; or else this is so
-abbrev pub UnlessNoPlace : ℕ → WorldValue → Result Turned Refusal → WorldValue → Type 0 → Type 0
-UnlessNoPlace actor old answered new P = ((position (is_progress_of actor) old.progress ≡ None) × (answered ≡ Err NoMemory) × (new ≡ old)) ⊎ P
+-- no memory was found for an actor's first turn, and nothing was done; or else this is so
+abbrev pub UnlessNoRoom : ℕ → WorldValue → Result Turned Refusal → WorldValue → Type 0 → Type 0
+UnlessNoRoom actor old answered new P = ((position (is_progress_of actor) old.progress ≡ None) × (answered ≡ Err NoMemory) × (new ≡ old)) ⊎ P
 
 abbrev pub TurnDone : ℕ → ℕ → Turn → WorldValue → Result Turned Refusal → WorldValue → Type 0
-TurnDone actor now turn old answered new = UnlessNoPlace actor old answered new (TurnStepped actor now turn old answered new)
+TurnDone actor now turn old answered new = UnlessNoRoom actor old answered new (TurnStepped actor now turn old answered new)

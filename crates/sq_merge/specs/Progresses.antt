@@ -10,7 +10,7 @@ is_progress_of actor p = p.actor == actor
 abbrev pub at_progress : ℕ → Progress → ActorProgress
 at_progress actor progress = record { actor = actor; progress = progress }
 
--- what stands at the actor's place, if it has one
+-- what stands at the actor's index, if it has one
 abbrev pub progress_of : ℕ → List ActorProgress → Progress
 progress_of actor ps = (unwrap_or (find (is_progress_of actor) ps) (at_progress actor no_progress)).progress
 
@@ -23,10 +23,10 @@ put_where (Some at) p ps = slice_set ps at p
 abbrev pub put_progress : ℕ → Progress → List ActorProgress → List ActorProgress
 put_progress actor now ps = put_where (position (is_progress_of actor) ps) (at_progress actor now) ps
 
--- the actor has a place, the last one where it had none
-abbrev pub placed_where : Option ℕ → ℕ → List ActorProgress → List ActorProgress
-placed_where None actor ps = ps ++ at_progress actor no_progress ∷ []
-placed_where (Some at) actor ps = ps
+-- the actor has an index, the last one where it had none
+abbrev pub added_where : Option ℕ → ℕ → List ActorProgress → List ActorProgress
+added_where None actor ps = ps ++ at_progress actor no_progress ∷ []
+added_where (Some at) actor ps = ps
 
 abbrev pub with_progress : ℕ → List ActorProgress → List ActorProgress
-with_progress actor ps = placed_where (position (is_progress_of actor) ps) actor ps
+with_progress actor ps = added_where (position (is_progress_of actor) ps) actor ps

@@ -11,7 +11,7 @@ use sq_actions::lock_steps::LockSteps;
 use sq_actions::progress::Progress;
 use sq_actions::until::call_until;
 use sq_actions::{client, turns};
-use sq_base::ids::{HomeId, HomeNo, QueueNo};
+use sq_base::ids::{HomeNo, QueueNo};
 use sq_base::name::QueueName;
 use sq_base::refusal::Refusal;
 use sq_calls::calls::{Answer, Call};
@@ -23,7 +23,7 @@ use sq_model::ledger::LedgerReply;
 use sq_model::replies::HomeReply;
 use sq_model::task::{NamedQueue, Task};
 use sq_sample::sampler::HomeCount;
-use sq_steps::act::{NextItem, SharedAct, TaskAct};
+use sq_steps::act::{NamedHome, NextItem, SharedAct, TaskAct};
 use std::alloc::Global;
 
 /// Does the steps of an actor's calls at a world. A clock reading is in ms.
@@ -33,6 +33,23 @@ pub(crate) struct Acting<'a> {
     pub(crate) world: &'a mut World,
     pub(crate) actor: u32,
     pub(crate) clock: u64,
+}
+
+impl<'a> Acting<'a> {
+    // An actor at a world, before the first step of a call.
+    pub(crate) fn new(alloc: Global, world: &'a mut World, actor: u32, clock: u64) -> Acting<'a>
+        ensures same_reference { result.world.ghost_name ≡ world.entry.ghost_name }
+        ensures world { result.world.now ≡ world.old }
+        ensures actor { result.actor ≡ actor }
+        ensures clock { result.clock ≡ clock }
+    {
+        Acting {
+            alloc,
+            world,
+            actor,
+            clock,
+        }
+    }
 }
 
 impl<'a> LockSteps for Acting<'a> {
@@ -66,27 +83,18 @@ impl<'a> LockSteps for Acting<'a> {
             .directory_step(self.alloc, self.actor, self.clock, call)
     }
 
-    fn home_step(
-        &mut self,
-        of: &NamedQueue,
-        home: HomeNo,
-        act: HomeAct,
-    ) -> Result<HomeReply, Refusal> {
-        let id = HomeId {
-            queue: of.number,
-            home,
-        };
-        self.world.home_step(self.alloc, self.actor, self.clock, Some(of.name), &id, act)
+    fn home_step(&mut self, at: &NamedHome, act: HomeAct) -> Result<HomeReply, Refusal> {
+        self.world
+            .home_step(self.alloc, self.actor, self.clock, at.name, &at.id, act)
     }
 
     fn shared_step(
         &mut self,
-        name: Option<QueueName>,
-        home: &HomeId,
+        at: &NamedHome,
         what: SharedAct,
     ) -> Result<Option<HomeReply>, Refusal> {
         self.world
-            .shared_step(self.alloc, self.actor, self.clock, name, home, what)
+            .shared_step(self.alloc, self.actor, self.clock, at.name, &at.id, what)
     }
 
     fn peek(&mut self, after: u64) -> Result<Option<NextItem>, Refusal> {

@@ -14,11 +14,11 @@ pub struct ActorProgress {
     pub progress: Progress,
 }
 
-/// The place of this actor's progress, which is made where it is not there. Refused as NoMemory of an actor's first turn
+/// The index of this actor's progress, which is made where it is not there. Refused as NoMemory of an actor's first turn
 /// alone.
-pub(crate) fn place_of(all: &mut Vec<ActorProgress>, actor: u32) -> Result<usize, Refusal>
+pub(crate) fn progress_index(all: &mut Vec<ActorProgress>, actor: u32) -> Result<usize, Refusal>
     ensures index { IfOk result (λ at. at ≡ progress_place actor all.old.items) }
-    ensures placed { OnOk result (all.new.items ≡ with_progress actor all.old.items) }
+    ensures added { OnOk result (all.new.items ≡ with_progress actor all.old.items) }
     ensures within { IfOk result (λ at. at < length all.new.items) }
     ensures refused { IfErr result (λ e. (e ≡ Refusal.NoMemory) × (position (is_progress_of actor) all.old.items ≡ None)) }
     ensures err { OnErr result (all.new.items ≡ all.old.items) }
@@ -32,7 +32,7 @@ pub(crate) fn place_of(all: &mut Vec<ActorProgress>, actor: u32) -> Result<usize
     Ok(all.len() - 1)
 }
 
-// The place of this actor's progress, where it has one.
+// The index of this actor's progress, where it has one.
 fn progress_at(all: &[ActorProgress], actor: u32) -> Option<usize>
     ensures index { result ≡ position (is_progress_of actor) all.now }
     ensures within { IfSome result (λ at. at < length all.now) }

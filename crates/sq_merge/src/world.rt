@@ -9,7 +9,7 @@ ghost use Rattle.sq_steps.specs.Journals.{journal_of};
 ghost use Rattle.sq_merge.specs.Worlds.{SharedStepped, NothingLeaves, SharedRefused, having_peeked, ItemRead, LedgerStepped, LedgerRefused, IsUnread, NamesUnread, TaskRead, TaskUnread, EndsRead, EndsUnread, HomeStepped, HomeRefused, DirectoryStepped, DirectoryRefused, NameRefused, having_read_directory, having_seen_at, StepDone, StepRefused, Schedule, IsKeptWorld};
 ghost use Rattle.sq_steps.specs.Reads.{next_of};
 ghost use Rattle.sq_audit.specs.HomeIds.{histories_of};
-ghost use Rattle.sq_merge.specs.Acting.{world_counts, ActorStepped, TurnDone, UnlessNoPlace};
+ghost use Rattle.sq_merge.specs.Acting.{world_counts, ActorStepped, TurnDone, UnlessNoRoom};
 ghost use Rattle.sq_merge.specs.inside.Acting.{IsKnownTo};
 ghost use Rattle.sq_merge.specs.Progresses.{progress_of};
 ghost use Rattle.sq_actions.specs.Performs.{CallFits, TurnFits, UntilFits, LeavesRecords, Performs};
@@ -20,7 +20,7 @@ ghost use Rattle.sq_model.specs.Ledgers.{last_task, peek};
 ghost use Rattle.sq_model.specs.Matches.{IsMatched, IsPaired};
 
 use crate::acting::{Acting, call_at, call_until_at, turn_at};
-use crate::progress::{ActorProgress, place_of};
+use crate::progress::{ActorProgress, progress_index};
 use sq_actions::progress::Progress;
 use sq_audit::homes::{Homes, home_index};
 use sq_audit::parts::Parts;
@@ -182,12 +182,7 @@ impl World {
         ensures answered { Performs (ActorStepped actor now) (CallFits (world_counts self.old) call.now) self.old result self.new }
         ensures leaves_records { LeavesRecords (CallFits (world_counts self.old) call.now) (journal_of actor self.old.journals) result (journal_of actor self.new.journals) }
     {
-        let mut acting = Acting {
-            alloc,
-            world: self,
-            actor,
-            clock: now,
-        };
+        let mut acting = Acting::new(alloc, self, actor, now);
         call_at(&mut acting, call)
     }
 
@@ -205,18 +200,13 @@ impl World {
         ensures answered { Performs (ActorStepped actor now) (UntilFits steps (CallFits (world_counts self.old) call.now)) self.old result self.new }
         ensures leaves_records { LeavesRecords (UntilFits steps (CallFits (world_counts self.old) call.now)) (journal_of actor self.old.journals) result (journal_of actor self.new.journals) }
     {
-        let mut acting = Acting {
-            alloc,
-            world: self,
-            actor,
-            clock: now,
-        };
+        let mut acting = Acting::new(alloc, self, actor, now);
         call_until_at(&mut acting, call, steps)
     }
 
     /// A turn of an actor at a clock reading in ms: one step of moving messages, beside reads. A dead letter leaves a home of
     /// the queue that is named; or the item in transit that comes after the one that the actor tried last comes in where it
-    /// goes to, is sent back where that home is closed, comes back, or is given up; or a message leaves for the task that is
+    /// goes to, is sent back where that home is closed, comes back, or is dropped; or a message leaves for the task that is
     /// named, or the task is to finish. The turn is lent how far the actor is, and what it makes of that is kept.
     /// Refused as NoMemory of an actor's first turn, before anything is done; QueueDoesNotExist, of a queue that is named or
     /// a home that was never opened; ResourceNotFoundException, of a task that is named; NoMemory; ClockRange; Worn. All else
@@ -229,9 +219,9 @@ impl World {
         turn: &Turn,
     ) -> Result<Turned, Refusal>
         ensures answered { TurnDone actor now turn.now self.old result self.new }
-        ensures leaves_records { UnlessNoPlace actor self.old result self.new (LeavesRecords (TurnFits (world_counts self.old).homes turn.now (progress_of actor self.old.progress) (progress_of actor self.new.progress)) (journal_of actor self.old.journals) result (journal_of actor self.new.journals)) }
+        ensures leaves_records { UnlessNoRoom actor self.old result self.new (LeavesRecords (TurnFits (world_counts self.old).homes turn.now (progress_of actor self.old.progress) (progress_of actor self.new.progress)) (journal_of actor self.old.journals) result (journal_of actor self.new.journals)) }
     {
-        let at = place_of(&mut self.progress, actor)?;
+        let at = progress_index(&mut self.progress, actor)?;
         let mut progress = self.progress[at].progress;
         let answered = self.turn_with(alloc, actor, now, &mut progress, turn);
         self.progress[at] = ActorProgress { actor, progress };
@@ -251,12 +241,7 @@ impl World {
         ensures answered { Performs (ActorStepped actor now) (TurnFits (world_counts self.old).homes turn.now progress.old progress.new) self.old result self.new }
         ensures leaves_records { LeavesRecords (TurnFits (world_counts self.old).homes turn.now progress.old progress.new) (journal_of actor self.old.journals) result (journal_of actor self.new.journals) }
     {
-        let mut acting = Acting {
-            alloc,
-            world: self,
-            actor,
-            clock: now,
-        };
+        let mut acting = Acting::new(alloc, self, actor, now);
         turn_at(&mut acting, progress, turn)
     }
 

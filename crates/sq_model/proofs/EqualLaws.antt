@@ -132,7 +132,7 @@ pub equal_status : (a b : TaskStatus) → Decides (status_eq.ghosts.eq a b) (a �
 equal_status a b = search (rules)
 
 pub equal_task : (a b : Task) → Decides (task_eq.ghosts.eq a b) (a ≡ b)
-equal_task a b = Decides-like _ (λ h i. record { number = h.0 i; source = h.1.0 i; destination = h.1.1.0 i; rate = h.1.1.1.0 i; started = h.1.1.1.1.0 i; status = h.1.1.1.1.1.0 i; left = h.1.1.1.1.1.1.0 i; moved = h.1.1.1.1.1.1.1.0 i; back = h.1.1.1.1.1.1.1.1.0 i; given_up = h.1.1.1.1.1.1.1.1.1.0 i; second = h.1.1.1.1.1.1.1.1.1.1.0 i; in_second = h.1.1.1.1.1.1.1.1.1.1.1 i }) (λ e. search) (Decides-and _ _ (Decides-eqb a.number b.number) (Decides-and _ _ (equal_queue a.source b.source) (Decides-and _ _ (equal_option equal_queue a.destination b.destination) (Decides-and _ _ (equal_option Decides-eqb a.rate b.rate) (Decides-and _ _ (Decides-eqb a.started b.started) (Decides-and _ _ (equal_status a.status b.status) (Decides-and _ _ (Decides-eqb a.left b.left) (Decides-and _ _ (Decides-eqb a.moved b.moved) (Decides-and _ _ (Decides-eqb a.back b.back) (Decides-and _ _ (Decides-eqb a.given_up b.given_up) (Decides-and _ _ (Decides-eqb a.second b.second) (Decides-eqb a.in_second b.in_second))))))))))))
+equal_task a b = Decides-like _ (λ h i. record { number = h.0 i; source = h.1.0 i; destination = h.1.1.0 i; rate = h.1.1.1.0 i; started = h.1.1.1.1.0 i; status = h.1.1.1.1.1.0 i; left = h.1.1.1.1.1.1.0 i; moved = h.1.1.1.1.1.1.1.0 i; back = h.1.1.1.1.1.1.1.1.0 i; dropped = h.1.1.1.1.1.1.1.1.1.0 i; second = h.1.1.1.1.1.1.1.1.1.1.0 i; in_second = h.1.1.1.1.1.1.1.1.1.1.1 i }) (λ e. search) (Decides-and _ _ (Decides-eqb a.number b.number) (Decides-and _ _ (equal_queue a.source b.source) (Decides-and _ _ (equal_option equal_queue a.destination b.destination) (Decides-and _ _ (equal_option Decides-eqb a.rate b.rate) (Decides-and _ _ (Decides-eqb a.started b.started) (Decides-and _ _ (equal_status a.status b.status) (Decides-and _ _ (Decides-eqb a.left b.left) (Decides-and _ _ (Decides-eqb a.moved b.moved) (Decides-and _ _ (Decides-eqb a.back b.back) (Decides-and _ _ (Decides-eqb a.dropped b.dropped) (Decides-and _ _ (Decides-eqb a.second b.second) (Decides-eqb a.in_second b.in_second))))))))))))
 
 pub equal_tasks : (xs ys : List Task) → Decides (pointwise task_eq.ghosts.eq xs ys) (xs ≡ ys)
 equal_tasks = pointwise_decides equal_task

@@ -27,11 +27,11 @@ pub record Directory : Type 0 where
   pub queues : List Queue
   pub deleted : List DeletedName
   pub made : ℕ
-  pub places : ℕ
+  pub most : ℕ
 
 -- no queue was ever made
 abbrev pub opening_directory : ℕ → Directory
-opening_directory places = record { queues = []; deleted = []; made = 0; places = places }
+opening_directory most = record { queues = []; deleted = []; made = 0; most = most }
 
 -- so long after a purge comes the next one, and after a deletion a queue of the same name, in ms (SQS API Reference, PurgeQueue and DeleteQueue)
 abbrev pub least_wait : ℕ
@@ -184,7 +184,7 @@ IsThere d name queue = queue_of name d.queues ≡ Some queue
 pub record MayMake (d : Directory) (m : ℕ) (name : List ℕ) (given : Attributes) : Type 0 where
   pub name_free : deleted_recently m name d.deleted ≡ false
   pub policy : may_have d.queues name given.redrive ≡ true
-  pub place : d.made < d.places
+  pub not_full : d.made < d.most
 
 -- a queue of this name is made, where there is none, and else found
 abbrev pub Creates : Directory → ℕ → List ℕ → Attributes → Option Queue → QueueSettings → Directory → Type 0
@@ -227,7 +227,7 @@ abbrev pub create_refusal : Directory → ℕ → List ℕ → Attributes → Op
 create_refusal d m name given None =
     refused_if (deleted_recently m name d.deleted) QueueDeletedRecently
     (refused_if (not (may_have d.queues name given.redrive)) InvalidAttributeValue
-    (refused_if (nat_le d.places d.made) TableFull None))
+    (refused_if (nat_le d.most d.made) TableFull None))
 create_refusal d m name given (Some queue) = refused_if (not (agrees given queue)) QueueNameExists None
 
 -- the first check of the directory that fails
@@ -306,7 +306,7 @@ pub record IsDirectory (d : Directory) : Type 0 where
   pub names_once : (name : List ℕ) → count_by (has_name name) d.queues ≤ 1
   pub policies : AllByRecursion (HasPolicy d.made) d.queues
   pub counted : length d.queues + length d.deleted ≡ d.made
-  pub within : d.made ≤ d.places
+  pub within : d.made ≤ d.most
 
 -- a queue of this number was made once, and is no more
 pub record IsGone (number : ℕ) (d : Directory) : Type 0 where

@@ -11,20 +11,34 @@ use Rattle.sq_base.specs.declared.settings.Redrive.{Redrive}
 use Rattle.sq_model.specs.declared.place.Limits.{Limits}
 use Rattle.sq_model.specs.declared.place.Site.{Site}
 use Rattle.sq_model.specs.declared.item.Item.{Item}
+use Rattle.sq_model.specs.declared.item.Carried.{Carried}
 use Rattle.sq_model.specs.declared.item.Reason.{Reason}
 use Rattle.sq_model.specs.declared.item.Reason.TheVariants.{DeadLetter, Task}
 use Rattle.sq_model.specs.declared.calls.HomeCall.{HomeCall}
-use Rattle.sq_model.specs.declared.calls.HomeCall.TheVariants.{Configure, Close, Send, Look, Delete, Change, Purge, Count, LeaveDead, LeaveTask, Enter, TurnBack, GiveBack, GiveUp}
+use Rattle.sq_model.specs.declared.calls.HomeCall.TheVariants.{Configure, Close, Send, Look, Delete, Change, Purge, Count, LeaveDead, LeaveTask, Enter, TurnBack, GiveBack, Drop}
 use Rattle.sq_model.specs.declared.replies.Counts.{Counts}
 use Rattle.sq_model.specs.declared.replies.HomeReply.{HomeReply}
 use Rattle.sq_model.specs.declared.replies.HomeReply.TheVariants.{Done, Sent, Looked, Over, Counted, Left, NoLiveRow, NoOrigin, SourceClosed, Entered}
 use Rattle.sq_model.specs.Rows.{ms, unexpired, RisesFrom, is_visible, is_delayed, is_in_flight, is_dead, is_live, room, serials_of, IsLook, received_if, without, is_held, is_late, changed_if, Takes, is_free}
 
+-- what a home that serves holds
+pub record Contents : Type 0 where
+  pub settings : Settings
+  -- the version of its settings
+  pub version : ℕ
+  -- the next serial
+  pub next : ℕ
+  -- in rising serial
+  pub rows : List Row
+
 pub data Home : Type 0 where
   Unopened : Home
-  -- settings, their version, the next serial, the rows in rising serial
-  Serving : Settings → ℕ → ℕ → List Row → Home
+  Serving : Contents → Home
   Closed : Home
+
+-- its rows at m: those that have expired are no longer there
+abbrev pub unexpired_rows : Contents → ℕ → List Row
+unexpired_rows its m = unexpired its.settings m its.rows
 
 -- no serial from here on is given
 abbrev pub last_serial : ℕ
@@ -42,25 +56,36 @@ abbrev pub sent_row : HomeId → ℕ → ℕ → ℕ → ℕ → List ℕ → Ro
 sent_row home serial slot m until body =
     record { id = fresh_id home serial; lineage = fresh_id home serial; body = body; serial = serial; slot = slot; enqueued = m; visible_from = until; receives = 0; last_receive = None; origin = None }
 
--- a row at a home that it is new to: visible at once, and never received there
-abbrev pub moved : ℕ → ℕ → ℕ → Row → Row
-moved serial slot m row = record row { serial = serial; slot = slot; visible_from = m; receives = 0; last_receive = None }
+-- The age and the receive count with which a message comes in at m, by why it was moved: a dead letter keeps its age, a task makes a new message.
+abbrev pub carried : Reason → ℕ → ℕ → Carried
+carried DeadLetter m enqueued = record { enqueued = enqueued; receives = 0 }
+carried (Task task) m enqueued = record { enqueued = m; receives = 0 }
 
--- a dead letter stays the same message and remembers its source; a task makes a new message of it
-abbrev pub entered_as : Reason → HomeId → ℕ → ℕ → ℕ → ℕ → Row → Row
-entered_as DeadLetter home source serial slot m row = record (moved serial slot m row) { origin = Some source }
-entered_as (Task task) home source serial slot m row = record (moved serial slot m row) { id = fresh_id home serial; enqueued = m; origin = None }
+-- and with which it comes back to its source
+abbrev pub carried_back : ℕ → Carried
+carried_back enqueued = record { enqueued = enqueued; receives = 0 }
 
+-- a row at a home that it is new to: visible at once
+abbrev pub moved : Carried → ℕ → ℕ → ℕ → Row → Row
+moved keeps serial slot m row = record row { serial = serial; slot = slot; enqueued = keeps.enqueued; visible_from = m; receives = keeps.receives; last_receive = None }
+
+-- a dead letter stays the same message; a task makes a new message of it
+abbrev pub entered_id : Reason → HomeId → ℕ → MessageId → MessageId
+entered_id DeadLetter home serial id = id
+entered_id (Task task) home serial id = fresh_id home serial
+
+-- a dead letter remembers its source
+abbrev pub entered_origin : Reason → ℕ → Option ℕ
+entered_origin DeadLetter source = Some source
+entered_origin (Task task) source = None
+
+-- a message that comes in at its target
 abbrev pub entered_row : HomeId → ℕ → ℕ → ℕ → Item → Row
-entered_row home serial slot m item = entered_as item.reason home item.source serial slot m item.row
+entered_row home serial slot m item = record (moved (carried item.reason m item.row.enqueued) serial slot m item.row) { id = entered_id item.reason home serial item.row.id; origin = entered_origin item.reason item.source }
 
 -- a message that comes back to its source
-abbrev pub returned_as : Reason → ℕ → ℕ → ℕ → Row → Row
-returned_as DeadLetter serial slot m row = moved serial slot m row
-returned_as (Task task) serial slot m row = moved serial slot m row
-
 abbrev pub returned_row : ℕ → ℕ → ℕ → Item → Row
-returned_row serial slot m item = returned_as item.reason serial slot m item.row
+returned_row serial slot m item = moved (carried_back item.row.enqueued) serial slot m item.row
 
 abbrev pub dead_target : Option Redrive → Option ℕ
 dead_target policy = option_map (λ redrive. redrive.target) policy
@@ -69,7 +94,7 @@ abbrev pub counts_of : ℕ → List Row → Counts
 counts_of m rows = record { visible = count_by (is_visible m) rows; in_flight = count_by (is_in_flight m) rows; delayed = count_by (is_delayed m) rows }
 
 -- a row has room, and a serial and a slot are left for it
-pub record HasPlace (l : Limits) (next slot : ℕ) (rows : List Row) : Type 0 where
+pub record MayHoldOneMore (l : Limits) (next slot : ℕ) (rows : List Row) : Type 0 where
   pub not_worn : next < last_serial
   pub slot_left : length rows < slots
   pub within : length rows < l.rows
@@ -87,63 +112,63 @@ may_enter home item = not item.homeward && (item.target == home.queue)
 abbrev pub may_return : HomeId → Item → Bool
 may_return home item = item.homeward && (item.source == home.queue)
 
--- From home, at m, the home may give this reply to the call and go on to after. A step first drops what has expired under the settings before it.
--- A Nothing of LeaveDead, a throttled leave and a refusal are no steps: they change nothing, and drop nothing that has expired.
+-- From home, at m, the home may give this reply to the call and go on to after. What has expired under the settings before a step goes first.
+-- A Nothing of LeaveDead, a throttled leave and a refusal are no steps: they change nothing, and what has expired stays.
 unfoldable pub HomeStep : Site → Home → ℕ → HomeCall → HomeReply → Home → Type 0
-HomeStep site Unopened m (Configure t w) Done after = after ≡ Serving t w 0 []
-HomeStep site (Serving s v n rows) m (Configure t w) Done after =
-    after ≡ (if nat_lt v w then Serving t w n (unexpired s m rows) else Serving s v n (unexpired s m rows))
+HomeStep site Unopened m (Configure t w) Done after = after ≡ Serving (record { settings = t; version = w; next = 0; rows = [] })
+HomeStep site (Serving its) m (Configure t w) Done after =
+    after ≡ (if nat_lt its.version w then Serving (record its { settings = t; version = w; rows = unexpired_rows its m }) else Serving (record its { rows = unexpired_rows its m }))
 HomeStep site Unopened m Close Done after = after ≡ Closed
-HomeStep site (Serving s v n rows) m Close Done after = after ≡ Closed
-HomeStep site (Serving s v n rows) m (Send body delay) (Sent sent) after =
-    HasPlace site.limits n sent.slot (unexpired s m rows)
-    × (sent.id ≡ fresh_id site.home n)
-    × (after ≡ Serving s v (n + 1) (unexpired s m rows ++ sent_row site.home n sent.slot m (m + ms (unwrap_or delay s.delay)) body ∷ []))
-HomeStep site (Serving s v n rows) m (Look max timeout) (Looked picked) after =
-    (list_any (is_live s m) (unexpired s m rows) ≡ true → 0 < room site.limits.flights m (unexpired s m rows))
-    × IsLook s m (m + ms (unwrap_or timeout s.timeout)) (min max (room site.limits.flights m (unexpired s m rows))) (unexpired s m rows) picked
-    × (after ≡ Serving s v n (map (received_if s (serials_of picked) m (m + ms (unwrap_or timeout s.timeout))) (unexpired s m rows)))
-HomeStep site (Serving s v n rows) m (Look max timeout) Over after =
-    (list_any (is_live s m) (unexpired s m rows) ≡ true)
-    × (room site.limits.flights m (unexpired s m rows) ≡ 0)
-    × (after ≡ Serving s v n (unexpired s m rows))
-HomeStep site (Serving s v n rows) m (Delete receipt) Done after =
-    (receipt.serial < n) × (after ≡ Serving s v n (without receipt (unexpired s m rows)))
-HomeStep site (Serving s v n rows) m (Change receipt timeout) Done after =
-    (receipt.serial < n)
-    × (list_any (is_held m receipt) (unexpired s m rows) ≡ true)
-    × (list_any (λ row. is_held m receipt row && is_late (m + ms timeout) row.last_receive) (unexpired s m rows) ≡ false)
-    × (after ≡ Serving s v n (map (changed_if m receipt (m + ms timeout)) (unexpired s m rows)))
-HomeStep site (Serving s v n rows) m Purge Done after = after ≡ Serving s v n []
-HomeStep site (Serving s v n rows) m Count (Counted counts) after =
-    (counts ≡ counts_of m (unexpired s m rows)) × (after ≡ Serving s v n (unexpired s m rows))
-HomeStep site (Serving s v n rows) m LeaveDead (Left item) after =
+HomeStep site (Serving its) m Close Done after = after ≡ Closed
+HomeStep site (Serving its) m (Send body delay) (Sent sent) after =
+    MayHoldOneMore site.limits its.next sent.slot (unexpired_rows its m)
+    × (sent.id ≡ fresh_id site.home its.next)
+    × (after ≡ Serving (record its { next = its.next + 1; rows = unexpired_rows its m ++ sent_row site.home its.next sent.slot m (m + ms (unwrap_or delay its.settings.delay)) body ∷ [] }))
+HomeStep site (Serving its) m (Look max timeout) (Looked picked) after =
+    (list_any (is_live its.settings m) (unexpired_rows its m) ≡ true → 0 < room site.limits.flights m (unexpired_rows its m))
+    × IsLook its.settings m (m + ms (unwrap_or timeout its.settings.timeout)) (min max (room site.limits.flights m (unexpired_rows its m))) (unexpired_rows its m) picked
+    × (after ≡ Serving (record its { rows = map (received_if its.settings (serials_of picked) m (m + ms (unwrap_or timeout its.settings.timeout))) (unexpired_rows its m) }))
+HomeStep site (Serving its) m (Look max timeout) Over after =
+    (list_any (is_live its.settings m) (unexpired_rows its m) ≡ true)
+    × (room site.limits.flights m (unexpired_rows its m) ≡ 0)
+    × (after ≡ Serving (record its { rows = unexpired_rows its m }))
+HomeStep site (Serving its) m (Delete receipt) Done after =
+    (receipt.serial < its.next) × (after ≡ Serving (record its { rows = without receipt (unexpired_rows its m) }))
+HomeStep site (Serving its) m (Change receipt timeout) Done after =
+    (receipt.serial < its.next)
+    × (list_any (is_held m receipt) (unexpired_rows its m) ≡ true)
+    × (list_any (λ row. is_held m receipt row && is_late (m + ms timeout) row.last_receive) (unexpired_rows its m) ≡ false)
+    × (after ≡ Serving (record its { rows = map (changed_if m receipt (m + ms timeout)) (unexpired_rows its m) }))
+HomeStep site (Serving its) m Purge Done after = after ≡ Serving (record its { rows = [] })
+HomeStep site (Serving its) m Count (Counted counts) after =
+    (counts ≡ counts_of m (unexpired_rows its m)) × (after ≡ Serving (record its { rows = unexpired_rows its m }))
+HomeStep site (Serving its) m LeaveDead (Left item) after =
     IsFrom site.home DeadLetter item
-    × (Some item.target ≡ dead_target s.redrive)
-    × (is_dead s m item.row ≡ true)
-    × ((rest : List Row) × Takes item.row (unexpired s m rows) rest × (after ≡ Serving s v n rest))
-HomeStep site (Serving s v n rows) m (LeaveTask task) (Left item) after =
+    × (Some item.target ≡ dead_target its.settings.redrive)
+    × (is_dead its.settings m item.row ≡ true)
+    × ((rest : List Row) × Takes item.row (unexpired_rows its m) rest × (after ≡ Serving (record its { rows = rest })))
+HomeStep site (Serving its) m (LeaveTask task) (Left item) after =
     IsFrom site.home (Task task) item
-    × (is_live s m item.row ≡ true)
-    × ((rest : List Row) × Takes item.row (unexpired s m rows) rest × (after ≡ Serving s v n rest))
-HomeStep site (Serving s v n rows) m (LeaveTask task) NoLiveRow after =
-    (list_any (is_live s m) (unexpired s m rows) ≡ false) × (after ≡ Serving s v n (unexpired s m rows))
-HomeStep site (Serving s v n rows) m (LeaveTask task) (NoOrigin serial) after =
-    ((row : Row) × (rest : List Row) × Takes row (unexpired s m rows) rest × (is_live s m row ≡ true) × (row.serial ≡ serial) × (row.origin ≡ None))
-    × (after ≡ Serving s v n (unexpired s m rows))
+    × (is_live its.settings m item.row ≡ true)
+    × ((rest : List Row) × Takes item.row (unexpired_rows its m) rest × (after ≡ Serving (record its { rows = rest })))
+HomeStep site (Serving its) m (LeaveTask task) NoLiveRow after =
+    (list_any (is_live its.settings m) (unexpired_rows its m) ≡ false) × (after ≡ Serving (record its { rows = unexpired_rows its m }))
+HomeStep site (Serving its) m (LeaveTask task) (NoOrigin serial) after =
+    ((row : Row) × (rest : List Row) × Takes row (unexpired_rows its m) rest × (is_live its.settings m row ≡ true) × (row.serial ≡ serial) × (row.origin ≡ None))
+    × (after ≡ Serving (record its { rows = unexpired_rows its m }))
 HomeStep site Closed m (LeaveTask task) SourceClosed after = after ≡ Closed
-HomeStep site (Serving s v n rows) m (Enter item) (Entered entered) after =
+HomeStep site (Serving its) m (Enter item) (Entered entered) after =
     (may_enter site.home item ≡ true)
-    × HasPlace site.limits n entered.slot (unexpired s m rows)
-    × (entered.serial ≡ n)
-    × (after ≡ Serving s v (n + 1) (unexpired s m rows ++ entered_row site.home n entered.slot m item ∷ []))
+    × MayHoldOneMore site.limits its.next entered.slot (unexpired_rows its m)
+    × (entered.serial ≡ its.next)
+    × (after ≡ Serving (record its { next = its.next + 1; rows = unexpired_rows its m ++ entered_row site.home its.next entered.slot m item ∷ [] }))
 HomeStep site Closed m (TurnBack item) Done after = (may_enter site.home item ≡ true) × (after ≡ Closed)
-HomeStep site (Serving s v n rows) m (GiveBack item) (Entered entered) after =
+HomeStep site (Serving its) m (GiveBack item) (Entered entered) after =
     (may_return site.home item ≡ true)
-    × HasPlace site.limits n entered.slot (unexpired s m rows)
-    × (entered.serial ≡ n)
-    × (after ≡ Serving s v (n + 1) (unexpired s m rows ++ returned_row n entered.slot m item ∷ []))
-HomeStep site Closed m (GiveUp item) Done after = (may_return site.home item ≡ true) × (after ≡ Closed)
+    × MayHoldOneMore site.limits its.next entered.slot (unexpired_rows its m)
+    × (entered.serial ≡ its.next)
+    × (after ≡ Serving (record its { next = its.next + 1; rows = unexpired_rows its m ++ returned_row its.next entered.slot m item ∷ [] }))
+HomeStep site Closed m (Drop item) Done after = (may_return site.home item ≡ true) × (after ≡ Closed)
 -- no other reply is given
 HomeStep site home m call reply after = ⊥
 
@@ -151,42 +176,42 @@ abbrev pub refused_if : Bool → Refusal → Option Refusal → Option Refusal
 refused_if test refusal later = if test then Some refusal else later
 
 -- a home that takes one row more; its serials or its slots may be used up
-abbrev pub place_refusal : Limits → ℕ → List Row → Option Refusal → Option Refusal
-place_refusal l next rows later =
+abbrev pub full_refusal : Limits → ℕ → List Row → Option Refusal → Option Refusal
+full_refusal l next rows later =
     refused_if (nat_le last_serial next || nat_le slots (length rows)) Worn (refused_if (nat_le l.rows (length rows)) OverLimit later)
 
 -- the first check of the home that fails
 unfoldable pub home_refusal : Site → Home → ℕ → HomeCall → Option Refusal
 home_refusal site Unopened m (Configure t w) = None
-home_refusal site (Serving s v n rows) m (Configure t w) = None
+home_refusal site (Serving its) m (Configure t w) = None
 home_refusal site Unopened m Close = None
-home_refusal site (Serving s v n rows) m Close = None
-home_refusal site (Serving s v n rows) m (Send body delay) = place_refusal site.limits n (unexpired s m rows) None
-home_refusal site (Serving s v n rows) m (Look max timeout) = None
-home_refusal site (Serving s v n rows) m (Delete receipt) = refused_if (nat_le n receipt.serial) ReceiptHandleIsInvalid None
-home_refusal site (Serving s v n rows) m (Change receipt timeout) =
-    refused_if (nat_le n receipt.serial) ReceiptHandleIsInvalid
-    (refused_if (not (list_any (is_held m receipt) (unexpired s m rows))) MessageNotInflight
-    (refused_if (list_any (λ row. is_held m receipt row && is_late (m + ms timeout) row.last_receive) (unexpired s m rows)) InvalidParameterValue None))
-home_refusal site (Serving s v n rows) m Purge = None
-home_refusal site (Serving s v n rows) m Count = None
-home_refusal site (Serving s v n rows) m LeaveDead = None
-home_refusal site (Serving s v n rows) m (LeaveTask task) = None
+home_refusal site (Serving its) m Close = None
+home_refusal site (Serving its) m (Send body delay) = full_refusal site.limits its.next (unexpired_rows its m) None
+home_refusal site (Serving its) m (Look max timeout) = None
+home_refusal site (Serving its) m (Delete receipt) = refused_if (nat_le its.next receipt.serial) ReceiptHandleIsInvalid None
+home_refusal site (Serving its) m (Change receipt timeout) =
+    refused_if (nat_le its.next receipt.serial) ReceiptHandleIsInvalid
+    (refused_if (not (list_any (is_held m receipt) (unexpired_rows its m))) MessageNotInflight
+    (refused_if (list_any (λ row. is_held m receipt row && is_late (m + ms timeout) row.last_receive) (unexpired_rows its m)) InvalidParameterValue None))
+home_refusal site (Serving its) m Purge = None
+home_refusal site (Serving its) m Count = None
+home_refusal site (Serving its) m LeaveDead = None
+home_refusal site (Serving its) m (LeaveTask task) = None
 home_refusal site Closed m (LeaveTask task) = None
-home_refusal site (Serving s v n rows) m (Enter item) =
-    place_refusal site.limits n (unexpired s m rows) (refused_if (not (may_enter site.home item)) UnsupportedOperation None)
-home_refusal site (Serving s v n rows) m (TurnBack item) = Some UnsupportedOperation
+home_refusal site (Serving its) m (Enter item) =
+    full_refusal site.limits its.next (unexpired_rows its m) (refused_if (not (may_enter site.home item)) UnsupportedOperation None)
+home_refusal site (Serving its) m (TurnBack item) = Some UnsupportedOperation
 home_refusal site Closed m (TurnBack item) = refused_if (not (may_enter site.home item)) UnsupportedOperation None
-home_refusal site (Serving s v n rows) m (GiveBack item) =
-    place_refusal site.limits n (unexpired s m rows) (refused_if (not (may_return site.home item)) UnsupportedOperation None)
-home_refusal site (Serving s v n rows) m (GiveUp item) = Some UnsupportedOperation
-home_refusal site Closed m (GiveUp item) = refused_if (not (may_return site.home item)) UnsupportedOperation None
+home_refusal site (Serving its) m (GiveBack item) =
+    full_refusal site.limits its.next (unexpired_rows its m) (refused_if (not (may_return site.home item)) UnsupportedOperation None)
+home_refusal site (Serving its) m (Drop item) = Some UnsupportedOperation
+home_refusal site Closed m (Drop item) = refused_if (not (may_return site.home item)) UnsupportedOperation None
 home_refusal site Unopened m call = Some QueueDoesNotExist
 home_refusal site Closed m call = Some QueueDoesNotExist
 
 -- serials rise below the next one
 abbrev pub IsRising : Home → Type 0
-IsRising (Serving s v n rows) = RisesFrom 0 rows n
+IsRising (Serving its) = RisesFrom 0 its.rows its.next
 IsRising Unopened = Unit {0}
 IsRising Closed = Unit {0}
 
@@ -205,5 +230,5 @@ HasSlot SourceClosed = Unit {0}
 
 -- no dead row is there to leave
 abbrev pub IsIdle : Home → ℕ → HomeCall → Type 0
-IsIdle (Serving s v n rows) m LeaveDead = list_any (is_dead s m) (unexpired s m rows) ≡ false
+IsIdle (Serving its) m LeaveDead = list_any (is_dead its.settings m) (unexpired_rows its m) ≡ false
 IsIdle home m call = ⊥

@@ -8,7 +8,7 @@ use Rattle.sq_model.specs.declared.replies.EnteredRow.{EnteredRow}
 use Rattle.sq_model.specs.declared.replies.HomeReply.{HomeReply}
 use Rattle.sq_model.specs.declared.replies.HomeReply.TheVariants.{Done, Entered}
 use Rattle.sq_model.specs.declared.shared.ItemAct.{ItemAct}
-use Rattle.sq_model.specs.declared.shared.ItemAct.TheVariants.{Enter, TurnBack, GiveBack, GiveUp}
+use Rattle.sq_model.specs.declared.shared.ItemAct.TheVariants.{Enter, TurnBack, GiveBack, Drop}
 use Rattle.sq_model.specs.declared.shared.SharedAct.{SharedAct}
 use Rattle.sq_model.specs.declared.shared.SharedAct.TheVariants as asks
 use Rattle.sq_model.specs.Homes.{may_enter, may_return}
@@ -19,28 +19,28 @@ abbrev pub call_with : ItemAct → Item → HomeCall
 call_with Enter item = call.Enter item
 call_with TurnBack item = call.TurnBack item
 call_with GiveBack item = call.GiveBack item
-call_with GiveUp item = call.GiveUp item
+call_with Drop item = call.Drop item
 
 -- what a home and the ledger are asked together, with the item's number
 abbrev pub asked_with : ItemAct → ℕ → SharedAct
 asked_with Enter number = asks.Enter number
 asked_with TurnBack number = asks.TurnBack number
 asked_with GiveBack number = asks.GiveBack number
-asked_with GiveUp number = asks.GiveUp number
+asked_with Drop number = asks.Drop number
 
 -- the item is one for this home
 abbrev pub may_act : ItemAct → HomeId → Item → Bool
 may_act Enter home item = may_enter home item
 may_act TurnBack home item = may_enter home item
 may_act GiveBack home item = may_return home item
-may_act GiveUp home item = may_return home item
+may_act Drop home item = may_return home item
 
 -- an item is there, and is one for this home
 abbrev pub is_its : ItemAct → HomeId → Option Item → Bool
 is_its Enter home item = is_entering home item
 is_its TurnBack home item = is_entering home item
 is_its GiveBack home item = is_returning home item
-is_its GiveUp home item = is_returning home item
+is_its Drop home item = is_returning home item
 
 -- a home answers with the row that came in, or that it is done
 abbrev pub replied_by : Option EnteredRow → HomeReply
@@ -51,4 +51,4 @@ abbrev pub IsItemReply : ItemAct → HomeReply → Type 0
 IsItemReply Enter reply = (entered : EnteredRow) × (reply ≡ Entered entered)
 IsItemReply TurnBack reply = reply ≡ Done
 IsItemReply GiveBack reply = (entered : EnteredRow) × (reply ≡ Entered entered)
-IsItemReply GiveUp reply = reply ≡ Done
+IsItemReply Drop reply = reply ≡ Done

@@ -4,7 +4,7 @@ use Rattle.std.specs.List.{AllByRecursion, Contains, list_any}
 use Rattle.std.specs.Option.{option_or}
 use Rattle.sq_base.specs.declared.refusal.Refusal.{Refusal}
 use Rattle.sq_base.specs.declared.refusal.Refusal.TheVariants.{Worn, OverLimit, ResourceNotFoundException, UnsupportedOperation}
-use Rattle.sq_model.specs.declared.calls.HomeCall.TheVariants.{LeaveDead, LeaveTask, Enter, TurnBack, GiveBack, GiveUp}
+use Rattle.sq_model.specs.declared.calls.HomeCall.TheVariants.{LeaveDead, LeaveTask, Enter, TurnBack, GiveBack, Drop}
 use Rattle.sq_model.specs.declared.item.Item.{Item}
 use Rattle.sq_model.specs.declared.item.Reason.{Reason}
 use Rattle.sq_model.specs.declared.item.Reason.TheVariants.{DeadLetter, Task as ForTask}
@@ -18,7 +18,7 @@ use Rattle.sq_model.specs.declared.task.Task.{Task}
 use Rattle.sq_model.specs.declared.event.Event.{Event}
 use Rattle.sq_model.specs.Homes.{IsFrom, may_enter, may_return, refused_if}
 use Rattle.sq_model.specs.Passages.{passed_in}
-use Rattle.sq_model.specs.Tasks.{is_active, is_running, is_ended, may_leave, new_task, rate_of, target_of, second_of, with_left, with_moved, with_back, with_given_up, with_status, failed_as, cancelled_as, finished_as}
+use Rattle.sq_model.specs.Tasks.{is_active, is_running, is_ended, may_leave, new_task, rate_of, target_of, second_of, with_left, with_moved, with_back, with_dropped, with_status, failed_as, cancelled_as, finished_as}
 
 -- the items in rising number, the number of the next one, the tasks in order of their start, the number of the next one, and how many items there may be
 pub record Ledger : Type 0 where
@@ -146,8 +146,8 @@ LedgerStep l m (asks.AtHome home (TurnBack item)) (answers.AtHome Done) after =
     × (after ≡ record l { items = map (turned_if item.number) l.items; tasks = changed_for item.reason (with_status (failed_as because.DestinationClosed)) l.tasks })
 LedgerStep l m (asks.AtHome home (GiveBack item)) (answers.AtHome (Entered entered)) after =
     (may_return home item ≡ true) × GivesOut l item with_back after
-LedgerStep l m (asks.AtHome home (GiveUp item)) (answers.AtHome Done) after =
-    (may_return home item ≡ true) × GivesOut l item with_given_up after
+LedgerStep l m (asks.AtHome home (Drop item)) (answers.AtHome Done) after =
+    (may_return home item ≡ true) × GivesOut l item with_dropped after
 LedgerStep l m (asks.StartTask source destination rate) (answers.Started number) after =
     (l.next_task < last_number)
     × (list_any (is_active_at source.number) l.tasks ≡ false)
@@ -214,9 +214,9 @@ abbrev pub OnlyLastActive : List Task → Type 0
 OnlyLastActive [] = Unit {0}
 OnlyLastActive (task ∷ later) = (is_active task.status ≡ true → AllByRecursion (λ other. is_of_source task.source.number other ≡ false) later) × OnlyLastActive later
 
--- What left came in, came back, was given up, or is in transit; nothing is in transit of a task that ended as it was asked to; and no more left in a second than its rate.
+-- What left came in, came back, was dropped, or is in transit; nothing is in transit of a task that ended as it was asked to; and no more left in a second than its rate.
 pub record IsTask (items : List Item) (task : Task) : Type 0 where
-  pub counted : task.left ≡ task.moved + task.back + task.given_up + in_transit task.number items
+  pub counted : task.left ≡ task.moved + task.back + task.dropped + in_transit task.number items
   pub ended : is_ended task.status ≡ true → in_transit task.number items ≡ 0
   pub rate : task.in_second ≤ rate_of task
 

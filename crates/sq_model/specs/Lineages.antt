@@ -4,16 +4,16 @@ use Rattle.sq_base.specs.declared.message_id.MessageId.{MessageId}
 use Rattle.sq_base.specs.declared.row.Row.{Row}
 use Rattle.sq_base.specs.declared.settings.Settings.{Settings}
 use Rattle.sq_model.specs.declared.calls.HomeCall.{HomeCall}
-use Rattle.sq_model.specs.declared.calls.HomeCall.TheVariants.{Configure, Close, Send, Look, Delete, Change, Purge, Count, LeaveDead, LeaveTask, Enter, TurnBack, GiveBack, GiveUp}
+use Rattle.sq_model.specs.declared.calls.HomeCall.TheVariants.{Configure, Close, Send, Look, Delete, Change, Purge, Count, LeaveDead, LeaveTask, Enter, TurnBack, GiveBack, Drop}
 use Rattle.sq_model.specs.declared.item.Item.{Item}
 use Rattle.sq_model.specs.declared.replies.HomeReply.{HomeReply}
-use Rattle.sq_model.specs.Rows.{is_expired, unexpired, is_named}
-use Rattle.sq_model.specs.Homes.{Home, Unopened, Serving, Closed}
-use Rattle.sq_model.specs.Passages.{Alone, ComesIn, GoesBack, IsGivenUp, Leaves, Passage, passage_of, passed_in}
+use Rattle.sq_model.specs.Rows.{is_expired, is_named}
+use Rattle.sq_model.specs.Homes.{Home, Unopened, Serving, Closed, unexpired_rows}
+use Rattle.sq_model.specs.Passages.{Alone, ComesIn, GoesBack, IsDropped, Leaves, Passage, passage_of, passed_in}
 
 -- how a message left the system
 pub data Cause : Type 0 where
-  Expired Deleted Purged ClosedAway GivenUp : Cause
+  Expired Deleted Purged ClosedAway Dropped : Cause
 
 pub record Ending : Type 0 where
   pub line : MessageId
@@ -27,20 +27,20 @@ expired s m rows = filter (is_expired s m) rows
 
 -- Who leaves the system in a step of a home. What has expired goes first, so it is not deleted, purged or closed away.
 abbrev pub home_ends : Home → ℕ → HomeCall → List Ending
-home_ends (Serving s v n rows) m (Delete receipt) = ended Expired (expired s m rows) ++ ended Deleted (filter (is_named receipt) (unexpired s m rows))
-home_ends (Serving s v n rows) m Purge = ended Expired (expired s m rows) ++ ended Purged (unexpired s m rows)
-home_ends (Serving s v n rows) m Close = ended Expired (expired s m rows) ++ ended ClosedAway (unexpired s m rows)
-home_ends (Serving s v n rows) m (Configure t w) = ended Expired (expired s m rows)
-home_ends (Serving s v n rows) m (Send body delay) = ended Expired (expired s m rows)
-home_ends (Serving s v n rows) m (Look max timeout) = ended Expired (expired s m rows)
-home_ends (Serving s v n rows) m (Change receipt timeout) = ended Expired (expired s m rows)
-home_ends (Serving s v n rows) m Count = ended Expired (expired s m rows)
-home_ends (Serving s v n rows) m LeaveDead = ended Expired (expired s m rows)
-home_ends (Serving s v n rows) m (LeaveTask task) = ended Expired (expired s m rows)
-home_ends (Serving s v n rows) m (Enter item) = ended Expired (expired s m rows)
-home_ends (Serving s v n rows) m (TurnBack item) = ended Expired (expired s m rows)
-home_ends (Serving s v n rows) m (GiveBack item) = ended Expired (expired s m rows)
-home_ends (Serving s v n rows) m (GiveUp item) = ended Expired (expired s m rows)
+home_ends (Serving its) m (Delete receipt) = ended Expired (expired its.settings m its.rows) ++ ended Deleted (filter (is_named receipt) (unexpired_rows its m))
+home_ends (Serving its) m Purge = ended Expired (expired its.settings m its.rows) ++ ended Purged (unexpired_rows its m)
+home_ends (Serving its) m Close = ended Expired (expired its.settings m its.rows) ++ ended ClosedAway (unexpired_rows its m)
+home_ends (Serving its) m (Configure t w) = ended Expired (expired its.settings m its.rows)
+home_ends (Serving its) m (Send body delay) = ended Expired (expired its.settings m its.rows)
+home_ends (Serving its) m (Look max timeout) = ended Expired (expired its.settings m its.rows)
+home_ends (Serving its) m (Change receipt timeout) = ended Expired (expired its.settings m its.rows)
+home_ends (Serving its) m Count = ended Expired (expired its.settings m its.rows)
+home_ends (Serving its) m LeaveDead = ended Expired (expired its.settings m its.rows)
+home_ends (Serving its) m (LeaveTask task) = ended Expired (expired its.settings m its.rows)
+home_ends (Serving its) m (Enter item) = ended Expired (expired its.settings m its.rows)
+home_ends (Serving its) m (TurnBack item) = ended Expired (expired its.settings m its.rows)
+home_ends (Serving its) m (GiveBack item) = ended Expired (expired its.settings m its.rows)
+home_ends (Serving its) m (Drop item) = ended Expired (expired its.settings m its.rows)
 home_ends Unopened m call = []
 home_ends Closed m call = []
 
@@ -57,25 +57,25 @@ rows_in Alone = []
 rows_in Leaves = []
 rows_in (ComesIn item) = item.row ∷ []
 rows_in (GoesBack item) = []
-rows_in (IsGivenUp item) = []
+rows_in (IsDropped item) = []
 
 -- what comes into the home from transit
 abbrev pub home_ins : HomeCall → List Row
 home_ins call = rows_in (passage_of call)
 
 abbrev pub ends_in : Passage → List Ending
-ends_in (IsGivenUp item) = record { line = item.row.lineage; cause = GivenUp } ∷ []
+ends_in (IsDropped item) = record { line = item.row.lineage; cause = Dropped } ∷ []
 ends_in Alone = []
 ends_in Leaves = []
 ends_in (ComesIn item) = []
 ends_in (GoesBack item) = []
 
--- who is given up in a step, on the way back to a closed queue
-abbrev pub given_up : HomeCall → List Ending
-given_up call = ends_in (passage_of call)
+-- who is dropped in a step, on the way back to a closed queue
+abbrev pub home_drops : HomeCall → List Ending
+home_drops call = ends_in (passage_of call)
 
 abbrev pub rows_of : Home → List Row
-rows_of (Serving s v n rows) = rows
+rows_of (Serving its) = its.rows
 rows_of Unopened = []
 rows_of Closed = []
 

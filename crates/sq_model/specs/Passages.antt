@@ -2,15 +2,15 @@
 use Rattle.std.specs.Prelude.{Bool, true, false, Option, Some, None}
 use Rattle.sq_base.specs.declared.message_id.MessageId.{MessageId}
 use Rattle.sq_model.specs.declared.calls.HomeCall.{HomeCall}
-use Rattle.sq_model.specs.declared.calls.HomeCall.TheVariants.{Configure, Close, Send, Look, Delete, Change, Purge, Count, LeaveDead, LeaveTask, Enter, TurnBack, GiveBack, GiveUp}
+use Rattle.sq_model.specs.declared.calls.HomeCall.TheVariants.{Configure, Close, Send, Look, Delete, Change, Purge, Count, LeaveDead, LeaveTask, Enter, TurnBack, GiveBack, Drop}
 use Rattle.sq_model.specs.declared.item.Item.{Item}
 use Rattle.sq_model.specs.declared.replies.HomeReply.{HomeReply}
 use Rattle.sq_model.specs.declared.replies.HomeReply.TheVariants.{Done, Sent, Looked, Over, Counted, Left, NoLiveRow, NoOrigin, SourceClosed, Entered}
 
--- A call is the home's alone, or it is shared with the ledger: a message leaves, or an item comes in, is sent back or is given up.
+-- A call is the home's alone, or it is shared with the ledger: a message leaves, or an item comes in, is sent back or is dropped.
 pub data Passage : Type 0 where
   Alone Leaves : Passage
-  ComesIn GoesBack IsGivenUp : Item → Passage
+  ComesIn GoesBack IsDropped : Item → Passage
 
 abbrev pub passage_of : HomeCall → Passage
 passage_of (Configure t w) = Alone
@@ -26,7 +26,7 @@ passage_of (LeaveTask task) = Leaves
 passage_of (Enter item) = ComesIn item
 passage_of (TurnBack item) = GoesBack item
 passage_of (GiveBack item) = ComesIn item
-passage_of (GiveUp item) = IsGivenUp item
+passage_of (Drop item) = IsDropped item
 
 -- whether it is the home's alone, and whether a message leaves
 pub record Kind : Type 0 where
@@ -38,7 +38,7 @@ kind_of Alone = record { alone = true; leaves = false }
 kind_of Leaves = record { alone = false; leaves = true }
 kind_of (ComesIn item) = record { alone = false; leaves = false }
 kind_of (GoesBack item) = record { alone = false; leaves = false }
-kind_of (IsGivenUp item) = record { alone = false; leaves = false }
+kind_of (IsDropped item) = record { alone = false; leaves = false }
 
 -- a call that is a home's alone; the others are shared with the ledger
 abbrev pub is_alone : HomeCall → Bool

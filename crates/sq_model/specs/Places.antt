@@ -5,14 +5,14 @@ use Rattle.sq_base.specs.declared.message_id.MessageId.{MessageId}
 use Rattle.sq_model.specs.declared.item.Item.{Item}
 use Rattle.sq_model.specs.declared.place.Place.{Place}
 use Rattle.sq_model.specs.declared.place.Place.TheVariants as at
-use Rattle.sq_model.specs.Lineages.{Cause, Expired, Deleted, Purged, ClosedAway, GivenUp, Ending, given_up, home_ends, home_sends, items_with, rows_of, same_id, rows_with, sends_with}
+use Rattle.sq_model.specs.Lineages.{Cause, Expired, Deleted, Purged, ClosedAway, Dropped, Ending, home_drops, home_ends, home_sends, items_with, rows_of, same_id, rows_with, sends_with}
 use Rattle.sq_model.specs.Systems.{HomeAt, System, Tag, OfDirectory, OfLedger, OfHome, IsStep, RunFrom}
 
 -- who leaves the system in a step
 abbrev pub step_ends : (before : System) (t : Tag) (after : System) → IsStep before t after → List Ending
 step_ends before (OfDirectory e) after h = []
 step_ends before (OfLedger e) after h = []
-step_ends before (OfHome i e) after h = home_ends h.old.home e.stamp.moment e.call ++ given_up e.call
+step_ends before (OfHome i e) after h = home_ends h.old.home e.stamp.moment e.call ++ home_drops e.call
 
 -- who leaves the system in a run, the first first
 abbrev pub run_ends : (before : System) (ts : List Tag) (after : System) → RunFrom before ts after → List Ending
@@ -38,7 +38,7 @@ place_after Expired = at.Expired
 place_after Deleted = at.Deleted
 place_after Purged = at.Purged
 place_after ClosedAway = at.ClosedAway
-place_after GivenUp = at.Dropped
+place_after Dropped = at.Dropped
 
 -- a message that did not leave is in transit, or else in a home
 abbrev pub place_within : MessageId → List Item → Place

@@ -16,7 +16,7 @@ use Rattle.sq_model.specs.declared.ledger.LedgerReply.{LedgerReply}
 use Rattle.sq_model.specs.Replays.{HomeEvent}
 use Rattle.sq_model.specs.Systems.{DirectoryEvent}
 
--- of a step of a home: the number of the step among the actor's, its stamp, its home, its place in the home's history, what was asked and answered, and the queue's name that the actor used
+-- of a step of a home: the number of the step among the actor's, its stamp, its home, its index in the home's history, what was asked and answered, and the queue's name that the actor used
 pub record HomeRecordValue : Type 0 where
   pub place : ℕ
   pub stamp : StampValue

@@ -14,10 +14,10 @@ use Rattle.sq_model.specs.declared.ledger.LedgerReply.TheVariants.{AtHome as Rep
 use Rattle.sq_model.specs.declared.place.Site.{Site}
 use Rattle.sq_model.specs.declared.replies.HomeReply.{HomeReply}
 use Rattle.sq_model.specs.declared.shared.SharedAct.{SharedAct}
-use Rattle.sq_model.specs.declared.shared.SharedAct.TheVariants.{LeaveDead, LeaveTask, Enter, TurnBack, GiveBack, GiveUp}
+use Rattle.sq_model.specs.declared.shared.SharedAct.TheVariants.{LeaveDead, LeaveTask, Enter, TurnBack, GiveBack, Drop}
 use Rattle.sq_model.specs.declared.task.Task.{Task}
-use Rattle.sq_model.specs.Rows.{unexpired, is_dead, is_live}
-use Rattle.sq_model.specs.Homes.{Home, Unopened, Serving, Closed, HasSlot, HomeStep, may_enter, may_return, place_refusal, refused_if}
+use Rattle.sq_model.specs.Rows.{is_dead, is_live}
+use Rattle.sq_model.specs.Homes.{Home, Unopened, Serving, Closed, HasSlot, HomeStep, may_enter, may_return, full_refusal, refused_if, unexpired_rows}
 use Rattle.sq_model.specs.Tasks.{is_running, may_leave}
 use Rattle.sq_model.specs.Ledgers.{Ledger, LedgerStep, MayTake, is_of_source, item_of, room_refusal, task_of}
 
@@ -28,7 +28,7 @@ IsCallOf l (LeaveTask number) call = call ≡ asks.LeaveTask number
 IsCallOf l (Enter number) call = (item : Item) × (item_of number l ≡ Some item) × (call ≡ asks.Enter item)
 IsCallOf l (TurnBack number) call = (item : Item) × (item_of number l ≡ Some item) × (call ≡ asks.TurnBack item)
 IsCallOf l (GiveBack number) call = (item : Item) × (item_of number l ≡ Some item) × (call ≡ asks.GiveBack item)
-IsCallOf l (GiveUp number) call = (item : Item) × (item_of number l ≡ Some item) × (call ≡ asks.GiveUp item)
+IsCallOf l (Drop number) call = (item : Item) × (item_of number l ≡ Some item) × (call ≡ asks.Drop item)
 
 -- From a home and a ledger, at m, both may give this reply to the call, and go on to these. It is one step: one event that stands in both histories.
 pub record SharedStep (site : Site) (home : Home) (l : Ledger) (m : ℕ) (call : HomeCall) (reply : HomeReply) (after : Home) (l_after : Ledger) : Type 0 where
@@ -57,27 +57,27 @@ is_throttled m (Some task) = not (may_leave m task)
 -- the first check that fails. A dead letter's leave without a dead row, and a task's leave that is throttled or finds no live row, ask for no room.
 unfoldable pub shared_refusal : Site → Home → Ledger → ℕ → SharedAct → Option Refusal
 shared_refusal site Unopened l m act = Some QueueDoesNotExist
-shared_refusal site (Serving s v n rows) l m LeaveDead = if list_any (is_dead s m) (unexpired s m rows) then room_refusal l else None
-shared_refusal site (Serving s v n rows) l m (LeaveTask number) =
-    task_refusal site.home (task_of number l) (if not (is_throttled m (task_of number l)) && list_any (is_live s m) (unexpired s m rows) then room_refusal l else None)
-shared_refusal site (Serving s v n rows) l m (Enter number) =
-    place_refusal site.limits n (unexpired s m rows) (refused_if (not (is_entering site.home (item_of number l))) UnsupportedOperation None)
-shared_refusal site (Serving s v n rows) l m (TurnBack number) = Some UnsupportedOperation
-shared_refusal site (Serving s v n rows) l m (GiveBack number) =
-    place_refusal site.limits n (unexpired s m rows) (refused_if (not (is_returning site.home (item_of number l))) UnsupportedOperation None)
-shared_refusal site (Serving s v n rows) l m (GiveUp number) = Some UnsupportedOperation
+shared_refusal site (Serving its) l m LeaveDead = if list_any (is_dead its.settings m) (unexpired_rows its m) then room_refusal l else None
+shared_refusal site (Serving its) l m (LeaveTask number) =
+    task_refusal site.home (task_of number l) (if not (is_throttled m (task_of number l)) && list_any (is_live its.settings m) (unexpired_rows its m) then room_refusal l else None)
+shared_refusal site (Serving its) l m (Enter number) =
+    full_refusal site.limits its.next (unexpired_rows its m) (refused_if (not (is_entering site.home (item_of number l))) UnsupportedOperation None)
+shared_refusal site (Serving its) l m (TurnBack number) = Some UnsupportedOperation
+shared_refusal site (Serving its) l m (GiveBack number) =
+    full_refusal site.limits its.next (unexpired_rows its m) (refused_if (not (is_returning site.home (item_of number l))) UnsupportedOperation None)
+shared_refusal site (Serving its) l m (Drop number) = Some UnsupportedOperation
 shared_refusal site Closed l m LeaveDead = Some QueueDoesNotExist
 shared_refusal site Closed l m (LeaveTask number) = task_refusal site.home (task_of number l) None
 shared_refusal site Closed l m (Enter number) = Some QueueDoesNotExist
 shared_refusal site Closed l m (TurnBack number) = refused_if (not (is_entering site.home (item_of number l))) UnsupportedOperation None
 shared_refusal site Closed l m (GiveBack number) = Some QueueDoesNotExist
-shared_refusal site Closed l m (GiveUp number) = refused_if (not (is_returning site.home (item_of number l))) UnsupportedOperation None
+shared_refusal site Closed l m (Drop number) = refused_if (not (is_returning site.home (item_of number l))) UnsupportedOperation None
 
 -- An answer that is no step and changes nothing: no dead row is there, or a task that may take messages of this home is at its rate.
 abbrev pub IsUnrecorded : Site → Home → Ledger → ℕ → SharedAct → Type 0
-IsUnrecorded site (Serving s v n rows) l m LeaveDead = list_any (is_dead s m) (unexpired s m rows) ≡ false
-IsUnrecorded site (Serving s v n rows) l m (LeaveTask number) = (task : Task) × MayTake l site.home.queue number task × (may_leave m task ≡ false)
-IsUnrecorded site (Serving s v n rows) l m act = ⊥
+IsUnrecorded site (Serving its) l m LeaveDead = list_any (is_dead its.settings m) (unexpired_rows its m) ≡ false
+IsUnrecorded site (Serving its) l m (LeaveTask number) = (task : Task) × MayTake l site.home.queue number task × (may_leave m task ≡ false)
+IsUnrecorded site (Serving its) l m act = ⊥
 IsUnrecorded site Unopened l m act = ⊥
 IsUnrecorded site Closed l m act = ⊥
 

@@ -34,7 +34,7 @@ is_ended status = (stage_of status).ended
 -- a task that is new
 abbrev pub new_task : ℕ → NamedQueue → Option NamedQueue → Option ℕ → ℕ → Task
 new_task number source destination rate m =
-    record { number = number; source = source; destination = destination; rate = rate; started = m; status = Running; left = 0; moved = 0; back = 0; given_up = 0; second = 0; in_second = 0 }
+    record { number = number; source = source; destination = destination; rate = rate; started = m; status = Running; left = 0; moved = 0; back = 0; dropped = 0; second = 0; in_second = 0 }
 
 -- how many messages it takes in a second (MaxNumberOfMessagesPerSecond; the default is own)
 abbrev pub rate_of : Task → ℕ
@@ -70,8 +70,8 @@ with_moved task = record task { moved = task.moved + 1 }
 abbrev pub with_back : Task → Task
 with_back task = record task { back = task.back + 1 }
 
-abbrev pub with_given_up : Task → Task
-with_given_up task = record task { given_up = task.given_up + 1 }
+abbrev pub with_dropped : Task → Task
+with_dropped task = record task { dropped = task.dropped + 1 }
 
 -- one that takes messages takes no more
 abbrev pub cancelled_as : TaskStatus → TaskStatus

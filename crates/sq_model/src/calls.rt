@@ -45,6 +45,6 @@ pub enum HomeCall {
     TurnBack(HeldItem),
     /// A message that was sent back comes in at its source.
     GiveBack(HeldItem),
-    /// A message that was sent back to a closed source is given up.
-    GiveUp(HeldItem),
+    /// A message that was sent back to a closed source is dropped.
+    Drop(HeldItem),
 }

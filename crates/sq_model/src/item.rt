@@ -1,5 +1,6 @@
 //! A message between two queues.
 ghost use Rattle.std.specs.Prelude.{◌≡◌, ◌+◌, ◌<◌, ◌≤◌, ◌⊎◌, IfOk, IfErr, IfSome, IfNone};
+ghost use Rattle.sq_model.specs.Homes as homes;
 
 use crate::held::Held;
 use crate::rows::copy_row;
@@ -109,6 +110,38 @@ impl TaskNo {
 pub enum Reason {
     DeadLetter,
     Task(TaskNo),
+}
+
+/// The age and the receive count with which a message comes in at a home. Own.
+#[derive(Clone, Copy)]
+pub struct Carried {
+    /// When it was enqueued, in ms.
+    pub enqueued: u64,
+    /// How often it was received at this home.
+    pub receives: u32,
+}
+
+impl Carried {
+    /// With what a message comes in at its target at a moment (ms). A dead letter keeps its age; a move task makes a new
+    /// message (SQS Developer Guide, dead-letter queues and redrive).
+    pub fn by(reason: &Reason, moment: u64, enqueued: u64) -> Carried
+        ensures { result ≡ homes.carried reason.now moment enqueued }
+    {
+        match reason {
+            Reason::DeadLetter => Carried::back(enqueued),
+            Reason::Task(_) => Carried::back(moment),
+        }
+    }
+
+    /// With what a message comes back to its source: its age. Own.
+    pub fn back(enqueued: u64) -> Carried
+        ensures { result ≡ homes.carried_back enqueued }
+    {
+        Carried {
+            enqueued,
+            receives: 0,
+        }
+    }
 }
 
 /// A message that left a home and is in no home.

@@ -14,8 +14,8 @@ pub enum SharedAct {
     TurnBack(ItemNo),
     /// A message that was sent back comes in at its source.
     GiveBack(ItemNo),
-    /// A message that was sent back to a closed source is given up.
-    GiveUp(ItemNo),
+    /// A message that was sent back to a closed source is dropped.
+    Drop(ItemNo),
 }
 
 /// What is done with a message in transit.
@@ -27,6 +27,6 @@ pub enum ItemAct {
     TurnBack,
     /// It comes back to its source.
     GiveBack,
-    /// It is given up at its closed source.
-    GiveUp,
+    /// It is dropped at its closed source.
+    Drop,
 }

@@ -54,7 +54,7 @@ pub struct Task {
     /// Messages that came back to the source.
     pub back: u64,
     /// Messages that were on their way back to a source that was closed.
-    pub given_up: u64,
+    pub dropped: u64,
     /// The last second, of the steps' moments, in which one left.
     pub second: u64,
     /// How many left in that second.

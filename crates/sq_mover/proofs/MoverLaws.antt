@@ -18,7 +18,7 @@ use Rattle.sq_queue.specs.Sections.{Surroundings}
 use Rattle.sq_queue.specs.SessionValue.{SessionValue}
 use Rattle.sq_queue.specs.Services.{HasRead}
 use Rattle.sq_mover.specs.Movers.{GainsAtMost}
-use Rattle.sq_mover.specs.MoverValue.{MoverValue, walk_kept, walked}
+use Rattle.sq_mover.specs.MoverValue.{MoverValue, walk_kept, after_walk}
 use Rattle.sq_mover.specs.MoverTurns.{IsPassedOver, MakesTurn, ServesFor, TakesTurn, TakesTurns}
 
 -- nothing was done
@@ -55,7 +55,7 @@ turns_more at made m mid n s read t told before turn passed = subst (λ (k : ℕ
 
 -- a task was served by the walk that was kept for it, which is kept as it is then
 pub served : (at : Surroundings) (task : ℕ) (m n : MoverValue) (s t : SessionValue) (told : Result Turned Refusal) (before after : Walk) (last : List Walk)
-    → before ≡ walk_kept task last → before.task ≡ task → last ≡ m.last → n ≡ walked after m
+    → before ≡ walk_kept task last → before.task ≡ task → last ≡ m.last → n ≡ after_walk after m
     → MakesTurn at (turn.TaskTurn (Some before.task)) (with_walk before no_progress) (with_walk after no_progress) s told t
     → ServesFor at (Some task) m s told n t
 served at task m n s t told before after last kept same of_last new made =

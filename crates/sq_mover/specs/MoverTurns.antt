@@ -18,7 +18,7 @@ use Rattle.sq_queue.specs.Sections.{Surroundings}
 use Rattle.sq_queue.specs.SessionValue.{SessionValue}
 use Rattle.sq_queue.specs.Services.{LastTaskRead, NamesRead}
 use Rattle.sq_mover.specs.declared.mover.Stage.TheVariants.{Leave, Serve, Bring}
-use Rattle.sq_mover.specs.MoverValue.{MoverValue, sweeping, staged, brought, walked, walk_kept}
+use Rattle.sq_mover.specs.MoverValue.{MoverValue, sweeping, staged, brought, after_walk, walk_kept}
 use Rattle.sq_mover.specs.Movers.{active_of}
 
 -- This turn was made, by an actor that was so far before it and is so far after it. What it leaves with its session fits what it told.
@@ -42,7 +42,7 @@ abbrev pub ServesFor : Surroundings → Option ℕ → MoverValue → SessionVal
 ServesFor at None m s told n t = BringsNext at m s told n t
 ServesFor at (Some task) m s told n t =
     RunsOut m s told n t
-    ⊎ ((walk : Walk) × (n ≡ walked walk m) × MakesTurn at (turn.TaskTurn (Some task)) (with_walk (walk_kept task m.last) no_progress) (with_walk walk no_progress) s told t)
+    ⊎ ((walk : Walk) × (n ≡ after_walk walk m) × MakesTurn at (turn.TaskTurn (Some task)) (with_walk (walk_kept task m.last) no_progress) (with_walk walk no_progress) s told t)
 
 -- the last task of a source is read, as the gate saw the ledger, and served where it is not over
 abbrev pub ServesSource : Surroundings → ℕ → MoverValue → SessionValue → Result Turned Refusal → MoverValue → SessionValue → Type 0

@@ -36,8 +36,8 @@ abbrev pub brought : ℕ → MoverValue → MoverValue
 brought tried m = record { queues = m.queues; at = next_place m.at; stage = Leave; tried = tried; last = m.last; this = m.this }
 
 -- with one walk more of this sweep
-abbrev pub walked : Walk → MoverValue → MoverValue
-walked walk m = record { queues = m.queues; at = m.at; stage = m.stage; tried = m.tried; last = m.last; this = m.this ++ walk ∷ [] }
+abbrev pub after_walk : Walk → MoverValue → MoverValue
+after_walk walk m = record { queues = m.queues; at = m.at; stage = m.stage; tried = m.tried; last = m.last; this = m.this ++ walk ∷ [] }
 
 -- the first of these walks that is for a task; a new one where none is
 abbrev pub walk_kept : ℕ → List Walk → Walk

@@ -3,8 +3,8 @@ ghost use Rattle.std.specs.Prelude.{◌≡◌, ◌≤◌, Err, IfErr, IfOk, OnEr
 ghost use Rattle.sq_actions.specs.Asks.{IsOfAnyStep};
 ghost use Rattle.sq_queue.specs.Sections.{around};
 ghost use Rattle.sq_mover.specs.Movers.{GainsAtMost, active_of};
-ghost use Rattle.sq_mover.specs.MoverTurns.{BringsNext, EndsEarly, IsPassedOver, ServesFor, ServesSource, SweepsOn, TakesTurn, TakesTurns, TurnsAt};
-ghost use Rattle.sq_mover.specs.MoverValue.{new_mover};
+ghost use Rattle.sq_mover.specs.MoverTurns.{EndsEarly, IsPassedOver, ServesFor, ServesSource, SweepsOn, TakesTurn, TakesTurns, TurnsAt};
+ghost use Rattle.sq_mover.specs.MoverValue.{brought, new_mover};
 
 use crate::turns::{dead_turn, enter_turn, task_turn};
 use crate::walks::Walks;
@@ -131,7 +131,10 @@ impl Mover {
                 self.stage = Stage::Bring;
                 self.serve_source(service, rt, session, queue.number)
             }
-            Stage::Bring => self.bring(service, rt, session),
+            Stage::Bring => {
+                self.go_on();
+                enter_turn(service, rt, session, &mut self.tried)
+            }
         }
     }
 
@@ -162,7 +165,8 @@ impl Mover {
         ensures serves { ServesFor (around (C.tells service.now.clock) (G.saw service.now.gate) service.now.per_queue (vec_len service.now.homes)) (active_of task) self.old session.old result self.new session.new }
     {
         let Some(task) = active(task) else {
-            return self.bring(service, rt, session);
+            self.go_on();
+            return enter_turn(service, rt, session, &mut self.tried);
         };
         self.walks.reserve()?;
         let mut walk = self.walks.of(task);
@@ -171,19 +175,12 @@ impl Mover {
         told
     }
 
-    // The next item in transit comes in where it goes to, and the sweep goes on to the next queue.
-    fn bring<C: Clock + Drop, G: Gate + Drop, D: Ledger, T: Ledger, R: Wait>(
-        &mut self,
-        service: &Service<C, G, D, T>,
-        rt: &R,
-        session: &mut Session<D, T>,
-    ) -> Result<Turned, Refusal>
-        ensures gains { GainsAtMost 1 session.old.journal session.new.journal }
-        ensures brings { BringsNext (around (C.tells service.now.clock) (G.saw service.now.gate) service.now.per_queue (vec_len service.now.homes)) self.old session.old result self.new session.new }
+    // The sweep goes on to the next queue.
+    fn go_on(&mut self)
+        ensures { self.new ≡ brought self.old.tried self.old }
     {
         self.stage = Stage::Leave;
         self.at = self.at.saturating_add(1);
-        enter_turn(service, rt, session, &mut self.tried)
     }
 }
 

@@ -50,7 +50,7 @@ pub fn dead_turn<C: Clock + Drop, G: Gate + Drop, D: Ledger, T: Ledger, R: Wait>
 }
 
 /// The item in transit that comes after the one that was tried last, which `tried` names (0 at first), comes in at a home of
-/// the queue that it goes to; where that home is closed it is turned back, or given up. It counts as tried then.
+/// the queue that it goes to; where that home is closed it is turned back, or dropped. It counts as tried then.
 pub fn enter_turn<C: Clock + Drop, G: Gate + Drop, D: Ledger, T: Ledger, R: Wait>(
     service: &Service<C, G, D, T>,
     rt: &R,

@@ -20,7 +20,7 @@ use Rattle.sq_model.specs.declared.place.Site.{Site}
 use Rattle.sq_model.specs.declared.replies.HomeReply.{HomeReply}
 use Rattle.sq_model.specs.Rows.{RisesFrom}
 use Rattle.sq_model.specs.Homes.{Home, Unopened, Serving, Closed, IsRising}
-use Rattle.sq_model.specs.Lineages.{Cause, Expired, Ending, given_up, home_ends, home_ins, home_outs, home_sends, items_with, rows_of, rows_with, same_id, ends_with, sends_with}
+use Rattle.sq_model.specs.Lineages.{Cause, Expired, Ending, home_drops, home_ends, home_ins, home_outs, home_sends, items_with, rows_of, rows_with, same_id, ends_with, sends_with}
 use Rattle.sq_model.specs.Places.{homes_with, place_after, place_within, first_end, place_in, run_ends, run_sends}
 use Rattle.sq_model.specs.Ledgers.{Ledger, IsLedger}
 use Rattle.sq_model.specs.Systems.{HomeAt, HomeSteps, IsStep, System, Tag, OfDirectory, OfLedger, OfHome, RunFrom, opening, IsOnePlace, Opening}
@@ -79,7 +79,7 @@ rising_states low (row ∷ rows) next h = (h.0, rising_states (row.serial + 1) r
 
 rising_home : (home : Home) → IsRising home → Rising 0 (states_of home)
 rising_home Unopened h = tt
-rising_home (Serving s v n rows) h = rising_states 0 rows n h
+rising_home (Serving its) h = rising_states 0 its.rows its.next h
 rising_home Closed h = tt
 
 below_last : (low : ℕ) (rows : List RowState) (row : RowState) → Rising low (rows ++ row ∷ []) → low ≤ row.serial
@@ -156,7 +156,7 @@ audit_law before (OfHome i e ∷ ts) after r a all =
     let fit : MirroredAt h.old.home v = all i h.old h.in_list in
     let mirror = mirrors h.old.site h.old.home v.policy m e.call e.reply h.new h.step fit.0 fit.1 in
     let effect = effect_of m e.call e.reply in
-    let leaving = home_ends h.old.home m e.call ++ given_up e.call in
+    let leaving = home_ends h.old.home m e.call ++ home_drops e.call in
     let kept = kept_states v.policy m (states_of h.old.home) in
     let rows : rows_after m effect (kept_states v.policy m v.rows) ≡ states_of h.new = ap (λ (rs : List RowState). rows_after m effect (kept_states v.policy m rs)) fit.2 ∙ after_same h.new m effect kept mirror.rising mirror.states in
     let gone : placed_ends e v ≡ map placed_of leaving =
@@ -265,12 +265,12 @@ moves_law x before (OfLedger e ∷ ts) after r ledger once none =
     ∙ moves_law x r.0 ts after r.2 (ledger_stays before (OfLedger e) r.0 s ledger) (omega (arith, once, homes, items)) none
 moves_law x before (OfHome i e ∷ ts) after r ledger once none =
     let s : HomeSteps before i e r.0 = r.1 in
-    let leaving = home_ends s.old.home e.stamp.moment e.call ++ given_up e.call in
+    let leaving = home_ends s.old.home e.stamp.moment e.call ++ home_drops e.call in
     let counts = step_counts x before (OfHome i e) r.0 s ledger in
     let transit = home_transit x before i e r.0 s ledger in
     let sends = sends_append x (home_sends e.reply) (run_sends ts) in
     let ends = ends_append x leaving (run_ends r.0 ts after r.2) in
-    let dropped = ends_append x (home_ends s.old.home e.stamp.moment e.call) (given_up e.call) in
+    let dropped = ends_append x (home_ends s.old.home e.stamp.moment e.call) (home_drops e.call) in
     let was = items_with x before.ledger.items in
     let is = items_with x r.0.ledger.items in
     let outs = rows_with x (home_outs e.reply) in
@@ -296,7 +296,7 @@ nowhere_law x before (OfHome i e ∷ ts) after r place ledger none =
     let counts = step_counts x before (OfHome i e) r.0 s ledger in
     let transit = home_transit x before i e r.0 s ledger in
     let sends = sends_append x (home_sends e.reply) (run_sends ts) in
-    let dropped = ends_append x (home_ends s.old.home e.stamp.moment e.call) (given_up e.call) in
+    let dropped = ends_append x (home_ends s.old.home e.stamp.moment e.call) (home_drops e.call) in
     let outs = rows_with x (home_outs e.reply) in
     let ins = rows_with x (home_ins e.call) in
     let same : ins ≡ outs = omega (arith, counts, transit, sends, dropped, none) in

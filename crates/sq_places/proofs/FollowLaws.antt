@@ -12,7 +12,7 @@ use Rattle.sq_model.specs.declared.calls.HomeCall.{HomeCall}
 use Rattle.sq_model.specs.declared.replies.HomeReply.{HomeReply}
 use Rattle.sq_model.specs.Homes.{Home, Unopened, IsRising}
 use Rattle.sq_model.specs.Ledgers.{Ledger, LedgerEvent, IsLedger}
-use Rattle.sq_model.specs.Lineages.{Ending, given_up, home_ends, home_ins, home_outs, home_sends, items_with, rows_of, same_id, rows_with, ends_with, sends_with}
+use Rattle.sq_model.specs.Lineages.{Ending, home_drops, home_ends, home_ins, home_outs, home_sends, items_with, rows_of, same_id, rows_with, ends_with, sends_with}
 use Rattle.sq_model.specs.Places.{homes_with, place_in, run_ends, run_sends, step_ends, tag_sends}
 use Rattle.sq_model.specs.Replays.{HomeEvent}
 use Rattle.sq_model.specs.Systems.{HomeAt, HomeSteps, System, Tag, OfDirectory, OfLedger, OfHome, IsStep, LedgerGoes, RunFrom, opening, IsOnePlace, is_alone, Opening}
@@ -93,22 +93,22 @@ step_counts x before t after s h = omega (arith, run_law x before (t ∷ []) aft
 
 -- what a step of a home takes out of transit, and brings in
 pub home_transit : (x : MessageId) (before : System) (i : ℕ) (e : HomeEvent) (after : System) (s : IsStep before (OfHome i e) after) → IsLedger before.ledger
-    → items_with x after.ledger.items + rows_with x (home_ins e.call) + ends_with x (given_up e.call) ≡ items_with x before.ledger.items + rows_with x (home_outs e.reply)
+    → items_with x after.ledger.items + rows_with x (home_ins e.call) + ends_with x (home_drops e.call) ≡ items_with x before.ledger.items + rows_with x (home_outs e.reply)
 home_transit x before i e after s h =
     let law = step_counts x before (OfHome i e) after s h in
     let put = ap (homes_with x) s.homes in
     let rows = home_law x s.old.site s.old.home e.stamp.moment e.call e.reply s.new s.step in
     let moved = sum_set (λ (at : HomeAt). rows_with x (rows_of at.home)) before.homes i s.old (record { site = s.old.site; home = s.new }) s.in_list in
-    omega (arith, law, put, rows, moved, ends_append x (home_ends s.old.home e.stamp.moment e.call) (given_up e.call))
+    omega (arith, law, put, rows, moved, ends_append x (home_ends s.old.home e.stamp.moment e.call) (home_drops e.call))
 
 -- and by its effect
 outs_by : (x : MessageId) (m : ℕ) (call : HomeCall) (reply : HomeReply) → Passes m call reply → sends_with x (effect_outs (effect_of m call reply)) ≡ rows_with x (home_outs reply)
 outs_by x m call reply passed = ap (sends_with x) (sym passed.outs) ∙ rows_lines x (home_outs reply)
 
-ins_by : (x : MessageId) (m : ℕ) (call : HomeCall) (reply : HomeReply) → Passes m call reply → sends_with x (effect_ins (effect_of m call reply)) ≡ rows_with x (home_ins call) + ends_with x (given_up call)
+ins_by : (x : MessageId) (m : ℕ) (call : HomeCall) (reply : HomeReply) → Passes m call reply → sends_with x (effect_ins (effect_of m call reply)) ≡ rows_with x (home_ins call) + ends_with x (home_drops call)
 ins_by x m call reply passed =
-    let both = ap (sends_with x) (sym passed.ins) ∙ sends_append x (map (λ row. row.lineage) (home_ins call)) (map (λ g. g.line) (given_up call)) in
-    omega (arith, both, rows_lines x (home_ins call), ends_lines x (given_up call))
+    let both = ap (sends_with x) (sym passed.ins) ∙ sends_append x (map (λ row. row.lineage) (home_ins call)) (map (λ g. g.line) (home_drops call)) in
+    omega (arith, both, rows_lines x (home_ins call), ends_lines x (home_drops call))
 
 home_moves : (x : MessageId) (before : System) (i : ℕ) (e : HomeEvent) (after : System) (s : IsStep before (OfHome i e) after) → IsLedger before.ledger
     → items_with x after.ledger.items + sends_with x (effect_ins (effect_of e.stamp.moment e.call e.reply)) ≡ items_with x before.ledger.items + sends_with x (effect_outs (effect_of e.stamp.moment e.call e.reply))
@@ -309,7 +309,7 @@ follow_law x before (OfHome i e ∷ rest) after r ts k fits once =
       going = omega (arith, moves, event.going, fits.going);
       ledger = ledger_stays before (OfHome i e) r.0 s fits.ledger;
     } in
-    ap (λ (zs : List MessageId). place_from x k.state (zs ++ sends) ((home_ends s.old.home m e.call ++ given_up e.call) ++ ends) items) passed.sends
+    ap (λ (zs : List MessageId). place_from x k.state (zs ++ sends) ((home_ends s.old.home m e.call ++ home_drops e.call) ++ ends) items) passed.sends
     ∙ ap (λ (es : List Ending). place_from x k.state (effect_sends effect ++ sends) (es ++ ends) items) mirror.ends
     ∙ event.place sends ends items ∙ follow_law x r.0 rest after r.2 (ts ++ OfHome i e ∷ []) next fits_next (omega (arith, split, once, known, event.sent))
 

@@ -12,7 +12,7 @@ use Rattle.sq_model.specs.declared.replies.SentMessage.{SentMessage}
 use Rattle.sq_model.specs.declared.place.Place.{Place}
 use Rattle.sq_model.specs.declared.place.Place.TheVariants as at
 use Rattle.sq_model.specs.Rows.{has_serial}
-use Rattle.sq_model.specs.Lineages.{Cause, Expired, GivenUp, Ending, items_with, same_id, sends_with}
+use Rattle.sq_model.specs.Lineages.{Cause, Expired, Dropped, Ending, items_with, same_id, sends_with}
 use Rattle.sq_model.specs.Places.{place_after, first_end, place_in}
 use Rattle.sq_steps.proofs.FilterLaws.{filter_swap}
 use Rattle.sq_places.specs.declared.state.RowState.{RowState}
@@ -361,7 +361,7 @@ drop_this : (x : MessageId) (i m : ℕ) (line : MessageId) (rows : List RowState
 drop_this x i m line rows InTransit same coming e = record {
   left = same;
   others = λ k ne. refl;
-  place = λ sends ends items. ap (λ (v : Bool). Some (if v then place_after GivenUp else first_end x ends items)) e;
+  place = λ sends ends items. ap (λ (v : Bool). Some (if v then place_after Dropped else first_end x ends items)) e;
   sent = omega arith;
   going = omega (arith, one_this x line e);
 }
@@ -369,10 +369,10 @@ drop_this x i m line rows Unsent same coming e = absurd (omega (arith, one_this 
 drop_this x i m line rows (Here j r) same coming e = absurd (omega (arith, one_this x line e, coming))
 drop_this x i m line rows (Gone place) same coming e = absurd (omega (arith, one_this x line e, coming))
 
-drop_place : (x line : MessageId) (state : MessageState) (sends : List MessageId) (ends : List Ending) (items : List Item) → same_id x line ≡ false → place_from x state sends (record { line = line; cause = GivenUp } ∷ ends) items ≡ place_from x state sends ends items
-drop_place x line Unsent sends ends items e = rw (skip_end x (record { line = line; cause = GivenUp }) ends items e) refl
-drop_place x line (Here i row) sends ends items e = ap Some (skip_end x (record { line = line; cause = GivenUp }) ends items e)
-drop_place x line InTransit sends ends items e = ap Some (skip_end x (record { line = line; cause = GivenUp }) ends items e)
+drop_place : (x line : MessageId) (state : MessageState) (sends : List MessageId) (ends : List Ending) (items : List Item) → same_id x line ≡ false → place_from x state sends (record { line = line; cause = Dropped } ∷ ends) items ≡ place_from x state sends ends items
+drop_place x line Unsent sends ends items e = rw (skip_end x (record { line = line; cause = Dropped }) ends items e) refl
+drop_place x line (Here i row) sends ends items e = ap Some (skip_end x (record { line = line; cause = Dropped }) ends items e)
+drop_place x line InTransit sends ends items e = ap Some (skip_end x (record { line = line; cause = Dropped }) ends items e)
 drop_place x line (Gone place) sends ends items e = refl
 
 drop_other : (x : MessageId) (i m : ℕ) (line : MessageId) (rows : List RowState) (state : MessageState) → mine x rows ≡ rows_at i state → same_id x line ≡ false → Follows x i m (Drops line) rows state state

@@ -10,21 +10,19 @@ use Rattle.sq_base.specs.declared.settings.Settings.{Settings}
 use Rattle.sq_model.specs.declared.place.Site.{Site}
 use Rattle.sq_model.specs.declared.calls.Receipt.{Receipt}
 use Rattle.sq_model.specs.declared.calls.HomeCall.{HomeCall}
-use Rattle.sq_model.specs.declared.calls.HomeCall.TheVariants.{Configure, Close, Send, Look, Delete, Change, Purge, Count, LeaveDead, LeaveTask, Enter, TurnBack, GiveBack, GiveUp}
+use Rattle.sq_model.specs.declared.calls.HomeCall.TheVariants.{Configure, Close, Send, Look, Delete, Change, Purge, Count, LeaveDead, LeaveTask, Enter, TurnBack, GiveBack, Drop}
 use Rattle.sq_model.specs.declared.item.Item.{Item}
-use Rattle.sq_model.specs.declared.item.Reason.{Reason}
-use Rattle.sq_model.specs.declared.item.Reason.TheVariants.{DeadLetter, Task}
 use Rattle.sq_model.specs.declared.replies.EnteredRow.{EnteredRow}
 use Rattle.sq_model.specs.declared.replies.HomeReply.{HomeReply}
 use Rattle.sq_model.specs.declared.replies.HomeReply.TheVariants.{Done, Sent, Looked, Over, Counted, Left, NoLiveRow, NoOrigin, SourceClosed, Entered}
 use Rattle.sq_base.specs.declared.ids.HomeId.{HomeId}
-use Rattle.sq_model.specs.Rows.{ms, unexpired, is_visible, is_dead, is_live, is_held, serials_of, has_serial, received, received_if, changed_if, RisesFrom, IsLook, Takes}
-use Rattle.sq_model.specs.Homes.{Home, Unopened, Serving, Closed, HomeStep, IsRising, sent_row, entered_as, entered_row, returned_as, returned_row}
-use Rattle.sq_model.specs.Lineages.{Cause, Expired, Deleted, Purged, ClosedAway, GivenUp, Ending, ended, expired, given_up, home_ends, home_ins, home_outs, home_sends}
+use Rattle.sq_model.specs.Rows.{ms, is_visible, is_dead, is_live, is_held, serials_of, has_serial, received, received_if, changed_if, RisesFrom, IsLook, Takes}
+use Rattle.sq_model.specs.Homes.{Contents, Home, Unopened, Serving, Closed, HomeStep, IsRising, carried, carried_back, sent_row, entered_row, returned_row, unexpired_rows}
+use Rattle.sq_model.specs.Lineages.{Cause, Expired, Deleted, Purged, ClosedAway, Dropped, Ending, ended, expired, home_drops, home_ends, home_ins, home_outs, home_sends}
 use Rattle.sq_model.proofs.RowLaws.{rises_filter, rises_unexpired, rises_push, rises_received, rises_changed, rises_without}
 use Rattle.sq_places.specs.declared.state.RowState.{RowState}
 use Rattle.sq_places.specs.declared.state.Policy.{Policy}
-use Rattle.sq_places.specs.inside.RowStates.{state_of, states_of, is_past, is_state_named, is_state_of, enqueued_as, entered_state, returned_state, looked, next_policy, Effect, Stays, Arrives, Looks, Leaves, Departs, Enters, Drops, effect_of, effect_sends, effect_outs, effect_ins, kept_states, past_states, states_after, ended_states, state_ends}
+use Rattle.sq_places.specs.inside.RowStates.{state_of, states_of, is_past, is_state_named, is_state_of, row_with, entered_state, returned_state, looked, next_policy, Effect, Stays, Arrives, Looks, Leaves, Departs, Enters, Drops, effect_of, effect_sends, effect_outs, effect_ins, kept_states, past_states, states_after, ended_states, state_ends}
 
 -- membership by cases on the list
 abbrev Has : List Row → Row → Type 0
@@ -155,7 +153,7 @@ filter_none (x ∷ xs) = filter_none xs
 -- the policy of a home is what its settings say
 abbrev pub GoesBy : Home → Option Policy → Type 0
 GoesBy Unopened policy = policy ≡ None
-GoesBy (Serving s v n rows) policy = policy ≡ Some (record { retention = s.retention; version = v })
+GoesBy (Serving its) policy = policy ≡ Some (record { retention = its.settings.retention; version = its.version })
 GoesBy Closed policy = Unit {0}
 
 -- one row is taken out, and the rest stays as it was
@@ -176,45 +174,45 @@ pub record Mirrors (home : Home) (policy next : Option Policy) (m : ℕ) (effect
   pub ends : leaving ≡ state_ends policy m effect (states_of home)
   pub split : Splits effect (kept_states policy m (states_of home))
 
-abbrev policy_of : Settings → ℕ → Option Policy
-policy_of s v = Some (record { retention = s.retention; version = v })
+abbrev policy_of : Contents → Option Policy
+policy_of its = Some (record { retention = its.settings.retention; version = its.version })
 
-kept_rows : (s : Settings) (v m : ℕ) (rows : List Row) → map state_of (unexpired s m rows) ≡ kept_states (policy_of s v) m (map state_of rows)
-kept_rows s v m rows = map_filter (λ row. not (is_past s.retention m row)) rows
+kept_rows : (its : Contents) (m : ℕ) → map state_of (unexpired_rows its m) ≡ kept_states (policy_of its) m (map state_of its.rows)
+kept_rows its m = map_filter (λ row. not (is_past its.settings.retention m row)) its.rows
 
-past_rows : (s : Settings) (v m : ℕ) (rows : List Row) → ended Expired (expired s m rows) ≡ ended_states Expired (past_states (policy_of s v) m (map state_of rows))
-past_rows s v m rows = sym (ended_map Expired (expired s m rows)) ∙ ap (ended_states Expired) (map_filter (is_past s.retention m) rows)
+past_rows : (its : Contents) (m : ℕ) → ended Expired (expired its.settings m its.rows) ≡ ended_states Expired (past_states (policy_of its) m (map state_of its.rows))
+past_rows its m = sym (ended_map Expired (expired its.settings m its.rows)) ∙ ap (ended_states Expired) (map_filter (is_past its.settings.retention m) its.rows)
 
 -- only those past the retention leave
-only_past : (s : Settings) (v m : ℕ) (rows : List Row) → ended Expired (expired s m rows) ++ [] ≡ ended_states Expired (past_states (policy_of s v) m (map state_of rows)) ++ []
-only_past s v m rows = ap (λ (es : List Ending). es ++ []) (past_rows s v m rows)
+only_past : (its : Contents) (m : ℕ) → ended Expired (expired its.settings m its.rows) ++ [] ≡ ended_states Expired (past_states (policy_of its) m (map state_of its.rows)) ++ []
+only_past its m = ap (λ (es : List Ending). es ++ []) (past_rows its m)
 
-left_rows : (s : Settings) (v m : ℕ) (p : RowState → Bool) (cause : Cause) (rows : List Row)
-    → ended Expired (expired s m rows) ++ ended cause (filter (λ row. p (state_of row)) (unexpired s m rows)) ≡ state_ends (policy_of s v) m (Leaves p cause) (map state_of rows)
-left_rows s v m p cause rows =
-    let gone : ended cause (filter (λ row. p (state_of row)) (unexpired s m rows)) ≡ ended_states cause (filter p (kept_states (policy_of s v) m (map state_of rows))) =
-    sym (ended_map cause (filter (λ row. p (state_of row)) (unexpired s m rows))) ∙ ap (ended_states cause) (map_filter p (unexpired s m rows) ∙ ap (filter p) (kept_rows s v m rows)) in
-    ap (λ (es : List Ending). es ++ ended cause (filter (λ row. p (state_of row)) (unexpired s m rows))) (past_rows s v m rows) ∙ ap (λ (es : List Ending). ended_states Expired (past_states (policy_of s v) m (map state_of rows)) ++ es) gone
+left_rows : (its : Contents) (m : ℕ) (p : RowState → Bool) (cause : Cause)
+    → ended Expired (expired its.settings m its.rows) ++ ended cause (filter (λ row. p (state_of row)) (unexpired_rows its m)) ≡ state_ends (policy_of its) m (Leaves p cause) (map state_of its.rows)
+left_rows its m p cause =
+    let gone : ended cause (filter (λ row. p (state_of row)) (unexpired_rows its m)) ≡ ended_states cause (filter p (kept_states (policy_of its) m (map state_of its.rows))) =
+    sym (ended_map cause (filter (λ row. p (state_of row)) (unexpired_rows its m))) ∙ ap (ended_states cause) (map_filter p (unexpired_rows its m) ∙ ap (filter p) (kept_rows its m)) in
+    ap (λ (es : List Ending). es ++ ended cause (filter (λ row. p (state_of row)) (unexpired_rows its m))) (past_rows its m) ∙ ap (λ (es : List Ending). ended_states Expired (past_states (policy_of its) m (map state_of its.rows)) ++ es) gone
 
-all_left : (s : Settings) (v m : ℕ) (cause : Cause) (rows : List Row)
-    → ended Expired (expired s m rows) ++ ended cause (unexpired s m rows) ≡ state_ends (policy_of s v) m (Leaves (λ row. true) cause) (map state_of rows)
-all_left s v m cause rows =
-    subst (λ (rs : List Row). ended Expired (expired s m rows) ++ ended cause rs ≡ state_ends (policy_of s v) m (Leaves (λ row. true) cause) (map state_of rows))
-    (filter_all (unexpired s m rows)) (left_rows s v m (λ row. true) cause rows)
+all_left : (its : Contents) (m : ℕ) (cause : Cause)
+    → ended Expired (expired its.settings m its.rows) ++ ended cause (unexpired_rows its m) ≡ state_ends (policy_of its) m (Leaves (λ row. true) cause) (map state_of its.rows)
+all_left its m cause =
+    subst (λ (rs : List Row). ended Expired (expired its.settings m its.rows) ++ ended cause rs ≡ state_ends (policy_of its) m (Leaves (λ row. true) cause) (map state_of its.rows))
+    (filter_all (unexpired_rows its m)) (left_rows its m (λ row. true) cause)
 
 -- and those that leave
-past_left : (s : Settings) (v m : ℕ) (p : RowState → Bool) (cause : Cause) (rows : List Row)
-    → (ended Expired (expired s m rows) ++ ended cause (filter (λ row. p (state_of row)) (unexpired s m rows))) ++ [] ≡ state_ends (policy_of s v) m (Leaves p cause) (map state_of rows)
-past_left s v m p cause rows = append-nil _ ∙ left_rows s v m p cause rows
+past_left : (its : Contents) (m : ℕ) (p : RowState → Bool) (cause : Cause)
+    → (ended Expired (expired its.settings m its.rows) ++ ended cause (filter (λ row. p (state_of row)) (unexpired_rows its m))) ++ [] ≡ state_ends (policy_of its) m (Leaves p cause) (map state_of its.rows)
+past_left its m p cause = append-nil _ ∙ left_rows its m p cause
 
-past_all : (s : Settings) (v m : ℕ) (cause : Cause) (rows : List Row)
-    → (ended Expired (expired s m rows) ++ ended cause (unexpired s m rows)) ++ [] ≡ state_ends (policy_of s v) m (Leaves (λ row. true) cause) (map state_of rows)
-past_all s v m cause rows = append-nil _ ∙ all_left s v m cause rows
+past_all : (its : Contents) (m : ℕ) (cause : Cause)
+    → (ended Expired (expired its.settings m its.rows) ++ ended cause (unexpired_rows its m)) ++ [] ≡ state_ends (policy_of its) m (Leaves (λ row. true) cause) (map state_of its.rows)
+past_all its m cause = append-nil _ ∙ all_left its m cause
 
 -- the rows change, their states do not
-stays : (s : Settings) (v n m : ℕ) (rows kept : List Row) → map state_of kept ≡ map state_of (unexpired s m rows) → RisesFrom 0 kept n
-    → Mirrors (Serving s v n rows) (policy_of s v) (policy_of s v) m Stays (ended Expired (expired s m rows) ++ []) (Serving s v n kept)
-stays s v n m rows kept same rising = record { rising = rising; goes_by = refl; states = same ∙ kept_rows s v m rows; ends = only_past s v m rows; split = tt }
+stays : (its : Contents) (m : ℕ) (kept : List Row) → map state_of kept ≡ map state_of (unexpired_rows its m) → RisesFrom 0 kept its.next
+    → Mirrors (Serving its) (policy_of its) (policy_of its) m Stays (ended Expired (expired its.settings m its.rows) ++ []) (Serving (record its { rows = kept }))
+stays its m kept same rising = record { rising = rising; goes_by = refl; states = same ∙ kept_rows its m; ends = only_past its m; split = tt }
 
 none_passes : (a b : Bool) → b ≡ false → (a && b) ≡ false
 none_passes true b e = e
@@ -253,124 +251,102 @@ taken_row low (r ∷ before) row after next h =
     subst (λ (v : Bool). cond (not v) (r ∷ filter (λ q. not (is_state_of row (state_of q))) (before ++ row ∷ after)) (filter (λ q. not (is_state_of row (state_of q))) (before ++ row ∷ after)) ≡ r ∷ before ++ after) (sym other) (ap (λ (rs : List Row). r ∷ rs) rest)
 
 -- a row leaves for another queue
-departs : (s : Settings) (v n m : ℕ) (rows rest : List Row) (row : Row) → RisesFrom 0 rows n → Takes row (unexpired s m rows) rest
-    → Mirrors (Serving s v n rows) (policy_of s v) (policy_of s v) m (Departs row) (ended Expired (expired s m rows) ++ []) (Serving s v n rest)
-departs s v n m rows rest row rising t =
-    let kept = unexpired s m rows in
-    let kept_rising : RisesFrom 0 kept n = rises_unexpired s m 0 rows n rising in
+departs : (its : Contents) (m : ℕ) (rest : List Row) (row : Row) → RisesFrom 0 its.rows its.next → Takes row (unexpired_rows its m) rest
+    → Mirrors (Serving its) (policy_of its) (policy_of its) m (Departs row) (ended Expired (expired its.settings m its.rows) ++ []) (Serving (record its { rows = rest }))
+departs its m rest row rising t =
+    let kept = unexpired_rows its m in
+    let kept_rising : RisesFrom 0 kept its.next = rises_unexpired its.settings m 0 its.rows its.next rising in
     let left : filter (λ r. not (is_state_of row (state_of r))) kept ≡ rest =
-    ap (filter (λ (r : Row). not (is_state_of row (state_of r)))) t.at ∙ taken_row 0 t.before row t.after n (subst (λ (rs : List Row). RisesFrom 0 rs n) t.at kept_rising) ∙ sym t.left in
-    let states : map state_of rest ≡ filter (λ state. not (is_state_of row state)) (kept_states (policy_of s v) m (map state_of rows)) =
-    ap (map state_of) (sym left) ∙ map_filter (λ state. not (is_state_of row state)) kept ∙ ap (filter (λ (state : RowState). not (is_state_of row state))) (kept_rows s v m rows) in
+    ap (filter (λ (r : Row). not (is_state_of row (state_of r)))) t.at ∙ taken_row 0 t.before row t.after its.next (subst (λ (rs : List Row). RisesFrom 0 rs its.next) t.at kept_rising) ∙ sym t.left in
+    let states : map state_of rest ≡ filter (λ state. not (is_state_of row state)) (kept_states (policy_of its) m (map state_of its.rows)) =
+    ap (map state_of) (sym left) ∙ map_filter (λ state. not (is_state_of row state)) kept ∙ ap (filter (λ (state : RowState). not (is_state_of row state))) (kept_rows its m) in
     record {
-      rising = subst (λ (rs : List Row). RisesFrom 0 rs n) left (rises_filter (λ r. not (is_state_of row (state_of r))) 0 kept n kept_rising);
+      rising = subst (λ (rs : List Row). RisesFrom 0 rs its.next) left (rises_filter (λ r. not (is_state_of row (state_of r))) 0 kept its.next kept_rising);
       goes_by = refl;
       states = states;
-      ends = only_past s v m rows;
+      ends = only_past its m;
       split = (
         map state_of t.before,
         map state_of t.after,
-        sym (kept_rows s v m rows) ∙ ap (map state_of) t.at ∙ map-append state_of t.before (row ∷ t.after),
+        sym (kept_rows its m) ∙ ap (map state_of) t.at ∙ map-append state_of t.before (row ∷ t.after),
         sym states ∙ ap (map state_of) t.left ∙ map-append state_of t.before t.after,
       );
     }
 
 -- a row comes in
-comes_in : (s : Settings) (v n m : ℕ) (rows : List Row) (row : Row) (state : RowState) → RisesFrom 0 rows n → row.serial ≡ n → state_of row ≡ state
-    → Mirrors (Serving s v n rows) (policy_of s v) (policy_of s v) m (Enters state) (ended Expired (expired s m rows) ++ []) (Serving s v (n + 1) (unexpired s m rows ++ row ∷ []))
-comes_in s v n m rows row state rising serial is = record {
-  rising = rises_push 0 (unexpired s m rows) n row (rises_unexpired s m 0 rows n rising) serial;
+comes_in : (its : Contents) (m : ℕ) (row : Row) (state : RowState) → RisesFrom 0 its.rows its.next → row.serial ≡ its.next → state_of row ≡ state
+    → Mirrors (Serving its) (policy_of its) (policy_of its) m (Enters state) (ended Expired (expired its.settings m its.rows) ++ []) (Serving (record its { next = its.next + 1; rows = unexpired_rows its m ++ row ∷ [] }))
+comes_in its m row state rising serial is = record {
+  rising = rises_push 0 (unexpired_rows its m) its.next row (rises_unexpired its.settings m 0 its.rows its.next rising) serial;
   goes_by = refl;
-  states = map_push (unexpired s m rows) row ∙ ap (λ (xs : List RowState). xs ++ state_of row ∷ []) (kept_rows s v m rows) ∙ ap (λ (x : RowState). kept_states (policy_of s v) m (map state_of rows) ++ x ∷ []) is;
-  ends = only_past s v m rows;
+  states = map_push (unexpired_rows its m) row ∙ ap (λ (xs : List RowState). xs ++ state_of row ∷ []) (kept_rows its m) ∙ ap (λ (x : RowState). kept_states (policy_of its) m (map state_of its.rows) ++ x ∷ []) is;
+  ends = only_past its m;
   split = tt;
 }
 
-entered_serial : (reason : Reason) (home : HomeId) (source serial slot m : ℕ) (row : Row) → (entered_as reason home source serial slot m row).serial ≡ serial
-entered_serial DeadLetter home source serial slot m row = refl
-entered_serial (Task task) home source serial slot m row = refl
-
-entered_is : (reason : Reason) (home : HomeId) (source serial slot m : ℕ) (row : Row)
-    → state_of (entered_as reason home source serial slot m row) ≡ record { lineage = row.lineage; serial = serial; slot = slot; enqueued = enqueued_as reason m row.enqueued; receives = 0 }
-entered_is DeadLetter home source serial slot m row = refl
-entered_is (Task task) home source serial slot m row = refl
-
-returned_serial : (reason : Reason) (serial slot m : ℕ) (row : Row) → (returned_as reason serial slot m row).serial ≡ serial
-returned_serial DeadLetter serial slot m row = refl
-returned_serial (Task task) serial slot m row = refl
-
-returned_is : (reason : Reason) (serial slot m : ℕ) (row : Row)
-    → state_of (returned_as reason serial slot m row) ≡ record { lineage = row.lineage; serial = serial; slot = slot; enqueued = row.enqueued; receives = 0 }
-returned_is DeadLetter serial slot m row = refl
-returned_is (Task task) serial slot m row = refl
-
 entered_same : (home : HomeId) (n m : ℕ) (item : Item) (entered : EnteredRow) → entered.serial ≡ n → state_of (entered_row home n entered.slot m item) ≡ entered_state m item entered
-entered_same home n m item entered e =
-    entered_is item.reason home item.source n entered.slot m item.row
-    ∙ ap (λ (k : ℕ). record { lineage = item.row.lineage; serial = k; slot = entered.slot; enqueued = enqueued_as item.reason m item.row.enqueued; receives = 0 }) (sym e)
+entered_same home n m item entered e = ap (λ (k : ℕ). row_with (carried item.reason m item.row.enqueued) item.row.lineage k entered.slot) (sym e)
 
 returned_same : (n m : ℕ) (item : Item) (entered : EnteredRow) → entered.serial ≡ n → state_of (returned_row n entered.slot m item) ≡ returned_state item entered
-returned_same n m item entered e =
-    returned_is item.reason n entered.slot m item.row
-    ∙ ap (λ (k : ℕ). record { lineage = item.row.lineage; serial = k; slot = entered.slot; enqueued = item.row.enqueued; receives = 0 }) (sym e)
+returned_same n m item entered e = ap (λ (k : ℕ). row_with (carried_back item.row.enqueued) item.row.lineage k entered.slot) (sym e)
 
-serving_mirrors : (site : Site) (s : Settings) (v n : ℕ) (rows : List Row) (m : ℕ) (call : HomeCall) (reply : HomeReply) (after : Home) → HomeStep site (Serving s v n rows) m call reply after → RisesFrom 0 rows n
-    → Mirrors (Serving s v n rows) (policy_of s v) (next_policy (policy_of s v) call) m (effect_of m call reply) (home_ends (Serving s v n rows) m call ++ given_up call) after
+serving_mirrors : (site : Site) (its : Contents) (m : ℕ) (call : HomeCall) (reply : HomeReply) (after : Home) → HomeStep site (Serving its) m call reply after → RisesFrom 0 its.rows its.next
+    → Mirrors (Serving its) (policy_of its) (next_policy (policy_of its) call) m (effect_of m call reply) (home_ends (Serving its) m call ++ home_drops call) after
 unfolding HomeStep
-serving_mirrors site s v n rows m (Configure t w) Done after h rising =
-    let unexpired_rising = rises_unexpired s m 0 rows n rising in
-    rw h (elim (nat_lt v w) as (λ b. Mirrors (Serving s v n rows) (policy_of s v) (if b then policy_of t w else policy_of s v) m Stays (ended Expired (expired s m rows) ++ []) (if b then Serving t w n (unexpired s m rows) else Serving s v n (unexpired s m rows))) [
-      | true ↦ record { rising = unexpired_rising; goes_by = refl; states = kept_rows s v m rows; ends = only_past s v m rows; split = tt }
-      | false ↦ stays s v n m rows (unexpired s m rows) refl unexpired_rising
+serving_mirrors site its m (Configure t w) Done after h rising =
+    let unexpired_rising = rises_unexpired its.settings m 0 its.rows its.next rising in
+    rw h (elim (nat_lt its.version w) as (λ b. Mirrors (Serving its) (policy_of its) (if b then policy_of (record its { settings = t; version = w }) else policy_of its) m Stays (ended Expired (expired its.settings m its.rows) ++ []) (if b then Serving (record its { settings = t; version = w; rows = unexpired_rows its m }) else Serving (record its { rows = unexpired_rows its m }))) [
+      | true ↦ record { rising = unexpired_rising; goes_by = refl; states = kept_rows its m; ends = only_past its m; split = tt }
+      | false ↦ stays its m (unexpired_rows its m) refl unexpired_rising
     ])
-serving_mirrors site s v n rows m Close Done after h rising =
-    rw h (record { rising = tt; goes_by = tt; states = sym (filter_none (kept_states (policy_of s v) m (map state_of rows))); ends = past_all s v m ClosedAway rows; split = tt })
-serving_mirrors site s v n rows m (Send body delay) (Sent sent) after h rising =
-    let kept = unexpired s m rows in
-    let row = sent_row site.home n sent.slot m (m + ms (unwrap_or delay s.delay)) body in
+serving_mirrors site its m Close Done after h rising =
+    rw h (record { rising = tt; goes_by = tt; states = sym (filter_none (kept_states (policy_of its) m (map state_of its.rows))); ends = past_all its m ClosedAway; split = tt })
+serving_mirrors site its m (Send body delay) (Sent sent) after h rising =
+    let kept = unexpired_rows its m in
+    let row = sent_row site.home its.next sent.slot m (m + ms (unwrap_or delay its.settings.delay)) body in
     rw (h.2, h.1) (record {
-      rising = rises_push 0 kept n row (rises_unexpired s m 0 rows n rising) refl;
+      rising = rises_push 0 kept its.next row (rises_unexpired its.settings m 0 its.rows its.next rising) refl;
       goes_by = refl;
-      states = map_push kept row ∙ ap (λ (xs : List RowState). xs ++ state_of row ∷ []) (kept_rows s v m rows);
-      ends = only_past s v m rows;
+      states = map_push kept row ∙ ap (λ (xs : List RowState). xs ++ state_of row ∷ []) (kept_rows its m);
+      ends = only_past its m;
       split = tt;
     })
-serving_mirrors site s v n rows m (Look max timeout) (Looked picked) after h rising =
-    let kept = unexpired s m rows in
-    let until = m + ms (unwrap_or timeout s.timeout) in
-    let kept_rising = rises_unexpired s m 0 rows n rising in
+serving_mirrors site its m (Look max timeout) (Looked picked) after h rising =
+    let kept = unexpired_rows its m in
+    let until = m + ms (unwrap_or timeout its.settings.timeout) in
+    let kept_rising = rises_unexpired its.settings m 0 its.rows its.next rising in
     rw h.2 (record {
-      rising = rises_received s (serials_of picked) m until 0 kept n kept_rising;
+      rising = rises_received its.settings (serials_of picked) m until 0 kept its.next kept_rising;
       goes_by = refl;
-      states = looked_rows s m until picked kept (λ row i e. picked_live s m until _ kept picked n row kept_rising h.1 i e) ∙ ap (map (looked picked)) (kept_rows s v m rows);
-      ends = only_past s v m rows;
+      states = looked_rows its.settings m until picked kept (λ row i e. picked_live its.settings m until _ kept picked its.next row kept_rising h.1 i e) ∙ ap (map (looked picked)) (kept_rows its m);
+      ends = only_past its m;
       split = tt;
     })
-serving_mirrors site s v n rows m (Look max timeout) Over after h rising = rw h.2 (stays s v n m rows (unexpired s m rows) refl (rises_unexpired s m 0 rows n rising))
-serving_mirrors site s v n rows m (Delete receipt) Done after h rising =
-    let kept = unexpired s m rows in
+serving_mirrors site its m (Look max timeout) Over after h rising = rw h.2 (stays its m (unexpired_rows its m) refl (rises_unexpired its.settings m 0 its.rows its.next rising))
+serving_mirrors site its m (Delete receipt) Done after h rising =
+    let kept = unexpired_rows its m in
     rw h.1 (record {
-      rising = rises_without receipt 0 kept n (rises_unexpired s m 0 rows n rising);
+      rising = rises_without receipt 0 kept its.next (rises_unexpired its.settings m 0 its.rows its.next rising);
       goes_by = refl;
-      states = map_filter (λ row. not (is_state_named receipt row)) kept ∙ ap (filter (λ (row : RowState). not (is_state_named receipt row))) (kept_rows s v m rows);
-      ends = past_left s v m (is_state_named receipt) Deleted rows;
+      states = map_filter (λ row. not (is_state_named receipt row)) kept ∙ ap (filter (λ (row : RowState). not (is_state_named receipt row))) (kept_rows its m);
+      ends = past_left its m (is_state_named receipt) Deleted;
       split = tt;
     })
-serving_mirrors site s v n rows m (Change receipt timeout) Done after h rising =
-    let kept = unexpired s m rows in
-    rw h.3 (stays s v n m rows (map (changed_if m receipt (m + ms timeout)) kept) (changed_rows m receipt (m + ms timeout) kept) (rises_changed m receipt (m + ms timeout) 0 kept n (rises_unexpired s m 0 rows n rising)))
-serving_mirrors site s v n rows m Purge Done after h rising =
-    rw h (record { rising = omega arith; goes_by = refl; states = sym (filter_none (kept_states (policy_of s v) m (map state_of rows))); ends = past_all s v m Purged rows; split = tt })
-serving_mirrors site s v n rows m Count (Counted counts) after h rising = rw h.1 (stays s v n m rows (unexpired s m rows) refl (rises_unexpired s m 0 rows n rising))
-serving_mirrors site s v n rows m LeaveDead (Left item) after h rising = rw h.3.2 (departs s v n m rows h.3.0 item.row rising h.3.1)
-serving_mirrors site s v n rows m (LeaveTask task) (Left item) after h rising = rw h.2.2 (departs s v n m rows h.2.0 item.row rising h.2.1)
-serving_mirrors site s v n rows m (LeaveTask task) NoLiveRow after h rising = rw h.1 (stays s v n m rows (unexpired s m rows) refl (rises_unexpired s m 0 rows n rising))
-serving_mirrors site s v n rows m (LeaveTask task) (NoOrigin serial) after h rising = rw h.1 (stays s v n m rows (unexpired s m rows) refl (rises_unexpired s m 0 rows n rising))
-serving_mirrors site s v n rows m (Enter item) (Entered entered) after h rising =
-    rw h.3 (comes_in s v n m rows (entered_row site.home n entered.slot m item) (entered_state m item entered) rising (entered_serial item.reason site.home item.source n entered.slot m item.row) (entered_same site.home n m item entered h.2))
-serving_mirrors site s v n rows m (GiveBack item) (Entered entered) after h rising =
-    rw h.3 (comes_in s v n m rows (returned_row n entered.slot m item) (returned_state item entered) rising (returned_serial item.reason n entered.slot m item.row) (returned_same n m item entered h.2))
-serving_mirrors site s v n rows m call reply after h rising = elim h [ ]
+serving_mirrors site its m (Change receipt timeout) Done after h rising =
+    let kept = unexpired_rows its m in
+    rw h.3 (stays its m (map (changed_if m receipt (m + ms timeout)) kept) (changed_rows m receipt (m + ms timeout) kept) (rises_changed m receipt (m + ms timeout) 0 kept its.next (rises_unexpired its.settings m 0 its.rows its.next rising)))
+serving_mirrors site its m Purge Done after h rising =
+    rw h (record { rising = omega arith; goes_by = refl; states = sym (filter_none (kept_states (policy_of its) m (map state_of its.rows))); ends = past_all its m Purged; split = tt })
+serving_mirrors site its m Count (Counted counts) after h rising = rw h.1 (stays its m (unexpired_rows its m) refl (rises_unexpired its.settings m 0 its.rows its.next rising))
+serving_mirrors site its m LeaveDead (Left item) after h rising = rw h.3.2 (departs its m h.3.0 item.row rising h.3.1)
+serving_mirrors site its m (LeaveTask task) (Left item) after h rising = rw h.2.2 (departs its m h.2.0 item.row rising h.2.1)
+serving_mirrors site its m (LeaveTask task) NoLiveRow after h rising = rw h.1 (stays its m (unexpired_rows its m) refl (rises_unexpired its.settings m 0 its.rows its.next rising))
+serving_mirrors site its m (LeaveTask task) (NoOrigin serial) after h rising = rw h.1 (stays its m (unexpired_rows its m) refl (rises_unexpired its.settings m 0 its.rows its.next rising))
+serving_mirrors site its m (Enter item) (Entered entered) after h rising =
+    rw h.3 (comes_in its m (entered_row site.home its.next entered.slot m item) (entered_state m item entered) rising refl (entered_same site.home its.next m item entered h.2))
+serving_mirrors site its m (GiveBack item) (Entered entered) after h rising =
+    rw h.3 (comes_in its m (returned_row its.next entered.slot m item) (returned_state item entered) rising refl (returned_same its.next m item entered h.2))
+serving_mirrors site its m call reply after h rising = elim h [ ]
 
 none_past : (policy : Option Policy) (m : ℕ) → past_states policy m [] ≡ []
 none_past None m = refl
@@ -385,19 +361,19 @@ closed_stays : (policy : Option Policy) (m : ℕ) → Mirrors Closed policy poli
 closed_stays policy m = record { rising = tt; goes_by = tt; states = sym (none_kept policy m); ends = ap (λ (rows : List RowState). ended_states Expired rows ++ []) (sym (none_past policy m)); split = tt }
 
 pub mirrors : (site : Site) (home : Home) (policy : Option Policy) (m : ℕ) (call : HomeCall) (reply : HomeReply) (after : Home) → HomeStep site home m call reply after → IsRising home → GoesBy home policy
-    → Mirrors home policy (next_policy policy call) m (effect_of m call reply) (home_ends home m call ++ given_up call) after
+    → Mirrors home policy (next_policy policy call) m (effect_of m call reply) (home_ends home m call ++ home_drops call) after
 unfolding HomeStep
-mirrors site (Serving s v n rows) policy m call reply after h rising by = rw by (serving_mirrors site s v n rows m call reply after h rising)
+mirrors site (Serving its) policy m call reply after h rising by = rw by (serving_mirrors site its m call reply after h rising)
 mirrors site Unopened policy m (Configure t w) Done after h rising by = rw (by, h) (record { rising = omega arith; goes_by = refl; states = refl; ends = refl; split = tt })
 mirrors site Unopened policy m Close Done after h rising by = rw (by, h) (record { rising = tt; goes_by = tt; states = refl; ends = refl; split = tt })
 mirrors site Closed policy m (LeaveTask task) SourceClosed after h rising by = rw h (closed_stays policy m)
 mirrors site Closed policy m (TurnBack item) Done after h rising by = rw h.1 (closed_stays policy m)
-mirrors site Closed policy m (GiveUp item) Done after h rising by =
+mirrors site Closed policy m (Drop item) Done after h rising by =
     rw h.1 (record {
       rising = tt;
       goes_by = tt;
       states = sym (none_kept policy m);
-      ends = ap (λ (rows : List RowState). ended_states Expired rows ++ record { line = item.row.lineage; cause = GivenUp } ∷ []) (sym (none_past policy m));
+      ends = ap (λ (rows : List RowState). ended_states Expired rows ++ record { line = item.row.lineage; cause = Dropped } ∷ []) (sym (none_past policy m));
       split = tt;
     })
 mirrors site home policy m call reply after h rising by = elim h [ ]
@@ -406,28 +382,28 @@ mirrors site home policy m call reply after h rising by = elim h [ ]
 pub record Passes (m : ℕ) (call : HomeCall) (reply : HomeReply) : Type 0 where
   pub sends : home_sends reply ≡ effect_sends (effect_of m call reply)
   pub outs : map (λ row. row.lineage) (home_outs reply) ≡ effect_outs (effect_of m call reply)
-  pub ins : map (λ row. row.lineage) (home_ins call) ++ map (λ e. e.line) (given_up call) ≡ effect_ins (effect_of m call reply)
+  pub ins : map (λ row. row.lineage) (home_ins call) ++ map (λ e. e.line) (home_drops call) ≡ effect_ins (effect_of m call reply)
 
 pub passes : (site : Site) (home : Home) (m : ℕ) (call : HomeCall) (reply : HomeReply) (after : Home) → HomeStep site home m call reply after → Passes m call reply
 unfolding HomeStep
 passes site Unopened m (Configure t w) Done after h = record { sends = refl; outs = refl; ins = refl }
-passes site (Serving s v n rows) m (Configure t w) Done after h = record { sends = refl; outs = refl; ins = refl }
+passes site (Serving its) m (Configure t w) Done after h = record { sends = refl; outs = refl; ins = refl }
 passes site Unopened m Close Done after h = record { sends = refl; outs = refl; ins = refl }
-passes site (Serving s v n rows) m Close Done after h = record { sends = refl; outs = refl; ins = refl }
-passes site (Serving s v n rows) m (Send body delay) (Sent sent) after h = record { sends = refl; outs = refl; ins = refl }
-passes site (Serving s v n rows) m (Look max timeout) (Looked picked) after h = record { sends = refl; outs = refl; ins = refl }
-passes site (Serving s v n rows) m (Look max timeout) Over after h = record { sends = refl; outs = refl; ins = refl }
-passes site (Serving s v n rows) m (Delete receipt) Done after h = record { sends = refl; outs = refl; ins = refl }
-passes site (Serving s v n rows) m (Change receipt timeout) Done after h = record { sends = refl; outs = refl; ins = refl }
-passes site (Serving s v n rows) m Purge Done after h = record { sends = refl; outs = refl; ins = refl }
-passes site (Serving s v n rows) m Count (Counted counts) after h = record { sends = refl; outs = refl; ins = refl }
-passes site (Serving s v n rows) m LeaveDead (Left item) after h = record { sends = refl; outs = refl; ins = refl }
-passes site (Serving s v n rows) m (LeaveTask task) (Left item) after h = record { sends = refl; outs = refl; ins = refl }
-passes site (Serving s v n rows) m (LeaveTask task) NoLiveRow after h = record { sends = refl; outs = refl; ins = refl }
-passes site (Serving s v n rows) m (LeaveTask task) (NoOrigin serial) after h = record { sends = refl; outs = refl; ins = refl }
+passes site (Serving its) m Close Done after h = record { sends = refl; outs = refl; ins = refl }
+passes site (Serving its) m (Send body delay) (Sent sent) after h = record { sends = refl; outs = refl; ins = refl }
+passes site (Serving its) m (Look max timeout) (Looked picked) after h = record { sends = refl; outs = refl; ins = refl }
+passes site (Serving its) m (Look max timeout) Over after h = record { sends = refl; outs = refl; ins = refl }
+passes site (Serving its) m (Delete receipt) Done after h = record { sends = refl; outs = refl; ins = refl }
+passes site (Serving its) m (Change receipt timeout) Done after h = record { sends = refl; outs = refl; ins = refl }
+passes site (Serving its) m Purge Done after h = record { sends = refl; outs = refl; ins = refl }
+passes site (Serving its) m Count (Counted counts) after h = record { sends = refl; outs = refl; ins = refl }
+passes site (Serving its) m LeaveDead (Left item) after h = record { sends = refl; outs = refl; ins = refl }
+passes site (Serving its) m (LeaveTask task) (Left item) after h = record { sends = refl; outs = refl; ins = refl }
+passes site (Serving its) m (LeaveTask task) NoLiveRow after h = record { sends = refl; outs = refl; ins = refl }
+passes site (Serving its) m (LeaveTask task) (NoOrigin serial) after h = record { sends = refl; outs = refl; ins = refl }
 passes site Closed m (LeaveTask task) SourceClosed after h = record { sends = refl; outs = refl; ins = refl }
-passes site (Serving s v n rows) m (Enter item) (Entered entered) after h = record { sends = refl; outs = refl; ins = refl }
+passes site (Serving its) m (Enter item) (Entered entered) after h = record { sends = refl; outs = refl; ins = refl }
 passes site Closed m (TurnBack item) Done after h = record { sends = refl; outs = refl; ins = refl }
-passes site (Serving s v n rows) m (GiveBack item) (Entered entered) after h = record { sends = refl; outs = refl; ins = refl }
-passes site Closed m (GiveUp item) Done after h = record { sends = refl; outs = refl; ins = refl }
+passes site (Serving its) m (GiveBack item) (Entered entered) after h = record { sends = refl; outs = refl; ins = refl }
+passes site Closed m (Drop item) Done after h = record { sends = refl; outs = refl; ins = refl }
 passes site home m call reply after h = elim h [ ]

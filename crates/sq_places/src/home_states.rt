@@ -101,7 +101,7 @@ fn change(
         HomeCall::Close => rows.clear(Place::ClosedAway, ends),
         HomeCall::Enter(item) => enter(rows, moment, item.get(), reply),
         HomeCall::GiveBack(item) => come_back(rows, item.get(), reply),
-        HomeCall::GiveUp(item) => drop_item(item.get(), ends),
+        HomeCall::Drop(item) => drop_item(item.get(), ends),
     }
 }
 
@@ -155,7 +155,7 @@ fn come_back(rows: &mut HomeRows, item: &Item, reply: &HomeReply) -> Result<(), 
     Ok(())
 }
 
-// Puts last that an item is given up.
+// Puts last that an item is dropped.
 fn drop_item(item: &Item, ends: &mut Vec<(MessageId, Place)>) -> Result<(), Refusal>
     ensures ends { OnOk result (ends.new.items ≡ ends.old.items ++ (item.now.row.lineage, at.Dropped) ∷ []) }
     ensures err { IfErr result (λ e. e ≡ Refusal.NoMemory) }

@@ -188,7 +188,7 @@ fn changed(
         HomeCall::Close => cleared(index, Place::ClosedAway, state),
         HomeCall::Enter(item) => came_in(x, index, moment, item.get(), reply, state),
         HomeCall::GiveBack(item) => came_back(x, index, item.get(), reply, state),
-        HomeCall::GiveUp(item) => given_up(x, item.get(), state),
+        HomeCall::Drop(item) => dropped(x, item.get(), state),
     }
 }
 
@@ -269,7 +269,7 @@ fn came_back(
     }
 }
 
-fn given_up(x: &MessageId, item: &Item, state: MessageState) -> MessageState
+fn dropped(x: &MessageId, item: &Item, state: MessageState) -> MessageState
     ensures { result ≡ tracks.becomes x.now item.now.row.lineage (Gone at.Dropped) state }
 {
     if item.row.lineage == *x {

@@ -7,7 +7,7 @@ use sq_base::message_id::MessageId;
 use sq_base::ranges::Retention;
 use sq_base::row::Row;
 use sq_model::calls::{HomeCall, Receipt};
-use sq_model::item::{Item, Reason};
+use sq_model::item::{Carried, Item};
 use sq_model::replies::{EnteredRow, SentMessage};
 
 /// What decides how a row leaves its home. The moment is in ms.
@@ -53,42 +53,41 @@ pub fn is_named(receipt: &Receipt, row: &RowState) -> bool
 pub fn sent(message: &SentMessage, moment: u64) -> RowState
     ensures { result ≡ states.sent_state message.now moment }
 {
-    new_row(message.id, message.id.serial, message.slot, moment)
+    RowState {
+        lineage: message.id,
+        serial: message.id.serial,
+        slot: message.slot,
+        enqueued: moment,
+        receives: 0,
+    }
 }
 
 /// The row of an item that comes in at its target at a moment. A dead letter keeps its age.
 pub fn entered(item: &Item, entered: &EnteredRow, moment: u64) -> RowState
     ensures { result ≡ states.entered_state moment item.now entered.now }
 {
-    let enqueued = match item.reason {
-        Reason::DeadLetter => item.row.enqueued,
-        Reason::Task(_) => moment,
-    };
-    new_row(item.row.lineage, entered.serial, entered.slot, enqueued)
+    let keeps = Carried::by(&item.reason, moment, item.row.enqueued);
+    row_with(keeps, item.row.lineage, entered)
 }
 
 /// The row of an item that comes back to its source.
 pub fn returned(item: &Item, entered: &EnteredRow) -> RowState
     ensures { result ≡ states.returned_state item.now entered.now }
 {
-    new_row(
-        item.row.lineage,
-        entered.serial,
-        entered.slot,
-        item.row.enqueued,
-    )
+    let keeps = Carried::back(item.row.enqueued);
+    row_with(keeps, item.row.lineage, entered)
 }
 
-// A row that was never received at its home.
-fn new_row(lineage: MessageId, serial: Serial, slot: u32, enqueued: u64) -> RowState
-    ensures { result ≡ record { lineage = lineage; serial = serial; slot = slot; enqueued = enqueued; receives = 0 } }
+// The row of a message that came in with what it keeps.
+fn row_with(keeps: Carried, lineage: MessageId, entered: &EnteredRow) -> RowState
+    ensures { result ≡ states.row_with keeps lineage entered.now.serial entered.now.slot }
 {
     RowState {
         lineage,
-        serial,
-        slot,
-        enqueued,
-        receives: 0,
+        serial: entered.serial,
+        slot: entered.slot,
+        enqueued: keeps.enqueued,
+        receives: keeps.receives,
     }
 }
 

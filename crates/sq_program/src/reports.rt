@@ -79,14 +79,15 @@ pub fn explain<E: Write>(error: &Error, errors: &mut E) -> u8
     2
 }
 
-// What standard error calls a failure.
-fn text_of(failure: Failure) -> &'static str
-    ensures { result.now ≡ failure_text failure }
+// What standard error calls a failure, and the status that goes with it.
+fn told(failure: Failure) -> (&'static str, u8)
+    ensures text { result.0.now ≡ failure_text failure }
+    ensures status { result.1 ≡ failure_status failure }
 {
     match failure {
-        Failure::BadOptions => "bad options",
-        Failure::CannotListen => "cannot listen",
-        Failure::AcceptFailed => "accept failed",
+        Failure::BadOptions => ("bad options", 2),
+        Failure::CannotListen => ("cannot listen", 1),
+        Failure::AcceptFailed => ("accept failed", 1),
     }
 }
 
@@ -94,13 +95,10 @@ fn text_of(failure: Failure) -> &'static str
 pub fn fail<E: Write>(errors: &mut E, failure: Failure) -> u8
     ensures { result ≡ failure_status failure }
 {
-    let text = text_of(failure);
+    let (text, status) = told(failure);
     let _ = writeln!(errors, "sqd: {text}");
     let _ = errors.flush();
-    match failure {
-        Failure::BadOptions => 2,
-        Failure::CannotListen | Failure::AcceptFailed => 1,
-    }
+    status
 }
 
 // What standard error calls a fault of an audit.

@@ -32,13 +32,13 @@ pub answered_home : (old new : HistoryValue) (a b : Journal) (now : ℕ) (name :
 answered_home old new a b now name what (Ok by) moves = ask.home_reply old new a b now name what by moves
 answered_home old new a b now name what (Err e) moves = tt
 
-pub refused_home : (placed : HomeId) (h : HistoryValue) (b : Journal) (now : ℕ) (name : List ℕ) (id : HomeId) (a : HomeAct) (answered : Result HomeReply Refusal) → IfErr answered (λ e. ((placed ≡ id) × IsHomeRefused h b now (call_of a) e) ⊎ ((placed ≢ id) × (e ≡ QueueDoesNotExist))) → IfErr answered (MayRefuse (AskHome name id a))
-refused_home placed h b now name id a (Ok by) refused = tt
-refused_home placed h b now name id a (Err e) refused = elim refused [ inl own ↦ ask.home_may h b now name id a e own.1 | inr other ↦ inr (inl other.1) ]
+pub refused_home : (its_id : HomeId) (h : HistoryValue) (b : Journal) (now : ℕ) (name : Option (List ℕ)) (id : HomeId) (a : HomeAct) (answered : Result HomeReply Refusal) → IfErr answered (λ e. ((its_id ≡ id) × IsHomeRefused h b now (call_of a) e) ⊎ ((its_id ≢ id) × (e ≡ QueueDoesNotExist))) → IfErr answered (MayRefuse (AskHome name id a))
+refused_home its_id h b now name id a (Ok by) refused = tt
+refused_home its_id h b now name id a (Err e) refused = elim refused [ inl own ↦ ask.home_may h b now name id a e own.1 | inr other ↦ inr (inl other.1) ]
 
-pub refused_shared : (placed : HomeId) (h : HistoryValue) (l : LedgerHistory) (b : Journal) (now : ℕ) (name : Option (List ℕ)) (id : HomeId) (what : SharedAct) (answered : Result (Option HomeReply) Refusal) → IfErr answered (λ e. ((placed ≡ id) × IsSharedRefused h l b now what e) ⊎ ((placed ≢ id) × (e ≡ QueueDoesNotExist))) → IfErr answered (MayRefuse (AskShared name id what))
-refused_shared placed h l b now name id what (Ok told) refused = tt
-refused_shared placed h l b now name id what (Err e) refused = elim refused [ inl own ↦ ask.shared_may h l b now name id what e own.1 | inr other ↦ inr (inl other.1) ]
+pub refused_shared : (its_id : HomeId) (h : HistoryValue) (l : LedgerHistory) (b : Journal) (now : ℕ) (name : Option (List ℕ)) (id : HomeId) (what : SharedAct) (answered : Result (Option HomeReply) Refusal) → IfErr answered (λ e. ((its_id ≡ id) × IsSharedRefused h l b now what e) ⊎ ((its_id ≢ id) × (e ≡ QueueDoesNotExist))) → IfErr answered (MayRefuse (AskShared name id what))
+refused_shared its_id h l b now name id what (Ok told) refused = tt
+refused_shared its_id h l b now name id what (Err e) refused = elim refused [ inl own ↦ ask.shared_may h l b now name id what e own.1 | inr other ↦ inr (inl other.1) ]
 
 pub answered_directory : (old new : DirectoryHistory) (a b : Journal) (now : ℕ) (call : DirectoryCall) (answered : Result DirectoryReply Refusal) → IfOk answered (λ by. DirectoryMoves old new a b now call by) → IfOk answered (IsAnswerTo call)
 answered_directory old new a b now call (Ok by) moves = ask.directory_told old new a b now call by moves
@@ -54,26 +54,26 @@ answered_ledger old new a b now what (Err e) moves = tt
 
 pub refused_ledger : (l : LedgerHistory) (b : Journal) (now : ℕ) (what : TaskAct) (answered : Result LedgerReply Refusal) → IfErr answered (IsLedgerStepRefused l b now (task_call what)) → IfErr answered (MayRefuse (AskLedger what))
 refused_ledger l b now what (Ok by) refused = tt
-refused_ledger l b now what (Err e) refused = ask.ledgered_may l b now what e refused
+refused_ledger l b now what (Err e) refused = ask.ledger_may l b now what e refused
 
-pub home_section : (at : Surroundings) (now : ℕ) (old new : HistoryValue) (s t : SessionValue) (name : List ℕ) (placed id : HomeId) (what : HomeAct) (index : ℕ) (answered : Result HomeReply Refusal)
-    → at.IsReading now → at.Saw (AHome old) → old.site.home ≡ placed → home_index at.per_queue at.homes id ≡ Some index
-    → IfOk answered (λ by. HomeMoves old new s.journal t.journal now (Some name) (call_of what) by) → OnOk answered (placed ≡ id)
-    → IfErr answered (λ e. ((placed ≡ id) × IsHomeRefused old s.journal now (call_of what) e) ⊎ ((placed ≢ id) × (e ≡ QueueDoesNotExist)))
+pub home_section : (at : Surroundings) (now : ℕ) (old new : HistoryValue) (s t : SessionValue) (name : Option (List ℕ)) (its_id id : HomeId) (what : HomeAct) (index : ℕ) (answered : Result HomeReply Refusal)
+    → at.IsReading now → at.Saw (AHome old) → old.site.home ≡ its_id → home_index at.per_queue at.homes id ≡ Some index
+    → IfOk answered (λ by. HomeMoves old new s.journal t.journal now name (call_of what) by) → OnOk answered (its_id ≡ id)
+    → IfErr answered (λ e. ((its_id ≡ id) × IsHomeRefused old s.journal now (call_of what) e) ⊎ ((its_id ≢ id) × (e ≡ QueueDoesNotExist)))
     → OnErr answered (t ≡ s) → IsSection at s (AskHome name id what) (gave_as Replied answered) t
-home_section at now old new s t name placed id what index (Ok by) told saw own there moves here refused err = (now, old, new, told, saw, own ∙ here, moves)
-home_section at now old new s t name placed id what index (Err e) told saw own there moves here refused err =
+home_section at now old new s t name its_id id what index (Ok by) told saw own there moves here refused err = (now, old, new, told, saw, own ∙ here, moves)
+home_section at now old new s t name its_id id what index (Err e) told saw own there moves here refused err =
     ((now, told, elim refused [ inl cause ↦ inr (inr (old, saw, own ∙ cause.0, cause.1)) | inr other ↦ inr (inl (index, old, saw, there, (λ same. other.0 (sym own ∙ same)), other.1)) ]), err)
 
-pub moving_section : (at : Surroundings) (now : ℕ) (old new : HistoryValue) (l m : LedgerHistory) (s t : SessionValue) (name : Option (List ℕ)) (placed id : HomeId) (what : SharedAct) (index : ℕ) (answered : Result (Option HomeReply) Refusal)
-    → at.IsReading now → at.Saw (AHome old) → at.Saw (TheLedger l) → old.site.home ≡ placed → home_index at.per_queue at.homes id ≡ Some index
-    → IfOk answered (λ told. IfSome told (SharedMoves old new l m s.journal t.journal now name what)) → OnOk answered (placed ≡ id)
+pub moving_section : (at : Surroundings) (now : ℕ) (old new : HistoryValue) (l m : LedgerHistory) (s t : SessionValue) (name : Option (List ℕ)) (its_id id : HomeId) (what : SharedAct) (index : ℕ) (answered : Result (Option HomeReply) Refusal)
+    → at.IsReading now → at.Saw (AHome old) → at.Saw (TheLedger l) → old.site.home ≡ its_id → home_index at.per_queue at.homes id ≡ Some index
+    → IfOk answered (λ told. IfSome told (SharedMoves old new l m s.journal t.journal now name what)) → OnOk answered (its_id ≡ id)
     → IfOk answered (λ told. IfNone told (IsUnmoved old l s.journal now what)) → IfOk answered (λ told. IfNone told (t ≡ s))
-    → IfErr answered (λ e. ((placed ≡ id) × IsSharedRefused old l s.journal now what e) ⊎ ((placed ≢ id) × (e ≡ QueueDoesNotExist)))
+    → IfErr answered (λ e. ((its_id ≡ id) × IsSharedRefused old l s.journal now what e) ⊎ ((its_id ≢ id) × (e ≡ QueueDoesNotExist)))
     → OnErr answered (t ≡ s) → IsSection at s (AskShared name id what) (moved_of answered) t
-moving_section at now old new l m s t name placed id what index (Ok (Some by)) told saw held own there moves here unmoved none refused err = (now, old, new, l, m, told, saw, held, own ∙ here, moves)
-moving_section at now old new l m s t name placed id what index (Ok None) told saw held own there moves here unmoved none refused err = (now, old, l, told, saw, held, own ∙ here, unmoved, none)
-moving_section at now old new l m s t name placed id what index (Err e) told saw held own there moves here unmoved none refused err =
+moving_section at now old new l m s t name its_id id what index (Ok (Some by)) told saw held own there moves here unmoved none refused err = (now, old, new, l, m, told, saw, held, own ∙ here, moves)
+moving_section at now old new l m s t name its_id id what index (Ok None) told saw held own there moves here unmoved none refused err = (now, old, l, told, saw, held, own ∙ here, unmoved, none)
+moving_section at now old new l m s t name its_id id what index (Err e) told saw held own there moves here unmoved none refused err =
     ((now, told, elim refused [ inl cause ↦ inr (inr (old, l, saw, held, own ∙ cause.0, cause.1)) | inr other ↦ inr (inl (index, old, saw, there, (λ same. other.0 (sym own ∙ same)), other.1)) ]), err)
 
 -- What was done at what borrows a session was done at the session: each step is a section of the service that stays the same, and the reference does.

@@ -29,12 +29,7 @@ impl<C: Clock + Drop, G: Gate + Drop, D: Ledger, T: Ledger> Serving<C, G, D, T, 
         ensures sections { Performs (IsSection (around (C.tells self.now.clock) (G.saw self.now.gate) self.now.per_queue (vec_len self.now.homes))) (CallFits (service_counts self.now.per_queue self.now.sample) call.now) session.old result session.new }
         ensures leaves_records { LeavesRecords (CallFits (service_counts self.now.per_queue self.now.sample) call.now) session.old.journal result session.new.journal }
     {
-        let mut locked = Locked {
-            rt,
-            service: self,
-            session,
-            left: None,
-        };
+        let mut locked = Locked::new(rt, self, session);
         call_in(&mut locked, call)
     }
 
@@ -50,12 +45,7 @@ impl<C: Clock + Drop, G: Gate + Drop, D: Ledger, T: Ledger> Serving<C, G, D, T, 
         ensures sections { Performs (IsSection (around (C.tells self.now.clock) (G.saw self.now.gate) self.now.per_queue (vec_len self.now.homes))) (UntilFits steps (CallFits (service_counts self.now.per_queue self.now.sample) call.now)) session.old result session.new }
         ensures leaves_records { LeavesRecords (UntilFits steps (CallFits (service_counts self.now.per_queue self.now.sample) call.now)) session.old.journal result session.new.journal }
     {
-        let mut locked = Locked {
-            rt,
-            service: self,
-            session,
-            left: None,
-        };
+        let mut locked = Locked::new(rt, self, session);
         call_until_in(&mut locked, call, steps)
     }
 
@@ -71,12 +61,7 @@ impl<C: Clock + Drop, G: Gate + Drop, D: Ledger, T: Ledger> Serving<C, G, D, T, 
         ensures sections { Performs (IsSection (around (C.tells self.now.clock) (G.saw self.now.gate) self.now.per_queue (vec_len self.now.homes))) (TurnFits self.now.per_queue turn.now progress.old progress.new) session.old result session.new }
         ensures leaves_records { LeavesRecords (TurnFits self.now.per_queue turn.now progress.old progress.new) session.old.journal result session.new.journal }
     {
-        let mut locked = Locked {
-            rt,
-            service: self,
-            session,
-            left: None,
-        };
+        let mut locked = Locked::new(rt, self, session);
         turn_in(&mut locked, progress, turn)
     }
 }

@@ -6,7 +6,7 @@ ghost use Rattle.sq_audit.specs.HomeIds.{home_id, IsNumbered};
 ghost use Rattle.sq_queue.specs.Tallies.{directory_records, ledger_records};
 
 use crate::actors::Actors;
-use crate::parts::{CountedDirectory, CountedLedger, PlacedHome};
+use crate::parts::{CountedDirectory, CountedLedger, HomeWithId};
 use crate::service::{Lock, Service, Serving, under_lock};
 use crate::session::Session;
 use sq_audit::homes::Homes;
@@ -116,12 +116,12 @@ fn evidence(alloc: Global, journals: Vec<Journal>) -> Journals
     }
 }
 
-// The homes out of their locks, each at its place. One at another's place, which never is, leaves none of its history.
+// The homes out of their locks, each at its index. One at another's index, which never is, leaves none of its history.
 fn unlocked(
     alloc: Global,
     per_queue: HomeCount,
     out: Vec<Home>,
-    locks: Vec<Lock<PlacedHome>>,
+    locks: Vec<Lock<HomeWithId>>,
 ) -> Vec<Home>
     requires room { vec_len locks ≤ vec_capacity out }
     requires none { out.items ≡ [] }
@@ -132,14 +132,14 @@ fn unlocked(
     let mut out = out;
     let mut index = 0u32;
     for lock in locks {
-        out.push_reserved(at_place(alloc, per_queue, index, lock.into_inner().into_inner()));
+        out.push_reserved(home_at(alloc, per_queue, index, lock.into_inner().into_inner()));
         index += 1;
     }
     out
 }
 
-// The home, where its place is this one; else one that was never opened.
-fn at_place(alloc: Global, per_queue: HomeCount, index: u32, found: PlacedHome) -> Home
+// The home, where its index is this one; else one that was never opened.
+fn home_at(alloc: Global, per_queue: HomeCount, index: u32, found: HomeWithId) -> Home
     requires few { index < 16384 }
     ensures at { result.site.home ≡ home_id per_queue index }
     ensures same { found.id ≡ home_id per_queue index → result ≡ found.home }
@@ -160,7 +160,7 @@ fn room_for<D: Ledger, T: Ledger>(
     alloc: Global,
     actors: &Actors<D, T>,
     sessions: &Vec<Session<D, T>>,
-    homes: &Vec<Lock<PlacedHome>>,
+    homes: &Vec<Lock<HomeWithId>>,
 ) -> Result<(Vec<Journal>, Vec<Home>), AllocError>
     ensures journals { IfOk result (λ r. (r.0.items ≡ []) × (vec_len actors.now.retired + vec_len sessions.now ≤ vec_capacity r.0)) }
     ensures homes { IfOk result (λ r. (r.1.items ≡ []) × (vec_len homes.now ≤ vec_capacity r.1)) }
@@ -187,36 +187,24 @@ impl<C: Drop, G: Drop, D: Ledger, T: Ledger> Serving<C, G, D, T, SlotStore> {
         ensures homes { IfOk result (λ p. (p.homes.per_queue ≡ self.per_queue) × (length p.homes.homes ≡ vec_len self.homes)) }
         ensures refused { IfErr result (λ u. (u.refusal ≡ Refusal.NoMemory) × (u.sessions ≡ sessions) × (vec_len u.service.homes ≡ vec_len self.homes)) }
     {
-        let Serving {
-            alloc,
-            clock,
-            gate,
-            per_queue,
-            sample,
-            homes,
-            directory,
-            ledger,
-            actors,
-        } = self;
-        let actors = actors.into_inner().into_inner();
-        let Ok((journals, out)) = room_for(alloc, &actors, &sessions, &homes) else {
-            let service = Serving {
-                alloc,
-                clock,
-                gate,
-                per_queue,
-                sample,
-                homes,
-                directory,
-                ledger,
-                actors: under_lock(actors),
-            };
+        let mut service = self;
+        let alloc = service.alloc;
+        let actors = service.actors.into_inner().into_inner();
+        let Ok((journals, out)) = room_for(alloc, &actors, &sessions, &service.homes) else {
+            service.actors = under_lock(actors);
             return Err(Unfinished {
                 refusal: Refusal::NoMemory,
                 service,
                 sessions,
             });
         };
+        let Serving {
+            per_queue,
+            homes,
+            directory,
+            ledger,
+            ..
+        } = service;
         let Gathered {
             made,
             journals,

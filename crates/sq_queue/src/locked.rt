@@ -1,5 +1,5 @@
 //! The steps of a session's calls, each under the lock of its part.
-ghost use Rattle.std.specs.Prelude.{◌≡◌, vec_len};
+ghost use Rattle.std.specs.Prelude.{◌≡◌, None, vec_len};
 ghost use Rattle.sq_actions.specs.Performs.{CallFits, TurnFits, UntilFits, LeavesRecords, Performs};
 ghost use Rattle.sq_queue.specs.Sections.{IsSection, around};
 ghost use Rattle.sq_queue.specs.Services.{service_counts};
@@ -11,7 +11,7 @@ use sq_actions::progress::Progress;
 use sq_actions::until::call_until;
 use sq_actions::{client, turns};
 use sq_audit::homes::home_index;
-use sq_base::ids::{HomeId, HomeNo};
+use sq_base::ids::HomeNo;
 use sq_base::name::QueueName;
 use sq_base::refusal::Refusal;
 use sq_calls::calls::{Answer, Call};
@@ -24,7 +24,7 @@ use sq_model::replies::HomeReply;
 use sq_model::task::{NamedQueue, Task};
 use sq_opening::homes::no_such_home;
 use sq_sample::sampler::HomeCount;
-use sq_steps::act::{NextItem, SharedAct, TaskAct};
+use sq_steps::act::{NamedHome, NextItem, SharedAct, TaskAct};
 use std::alloc::Global;
 use std::sync::Wait;
 use std::sync::ledger::Ledger;
@@ -37,6 +37,27 @@ pub(crate) struct Locked<'a, C, G, D: Ledger, T: Ledger, R> {
     pub(crate) session: &'a mut Session<D, T>,
     /// The number of the item that left, if one did.
     pub(crate) left: Option<u64>,
+}
+
+impl<'a, C, G, D: Ledger, T: Ledger, R> Locked<'a, C, G, D, T, R> {
+    // A session at its service, before the first step of a call.
+    pub(crate) fn new(
+        rt: &'a R,
+        service: &'a Service<C, G, D, T>,
+        session: &'a mut Session<D, T>,
+    ) -> Locked<'a, C, G, D, T, R>
+        ensures same_reference { result.session.ghost_name ≡ session.entry.ghost_name }
+        ensures session { result.session.now ≡ session.old }
+        ensures service { result.service.now ≡ service.now }
+        ensures left { result.left ≡ None }
+    {
+        Locked {
+            rt,
+            service,
+            session,
+            left: None,
+        }
+    }
 }
 
 // The clock is read before a lock is taken, and the lock is let go when its section ends: no reply is made while it is held. The
@@ -67,8 +88,7 @@ impl<'a, C: Clock + Drop, G: Gate + Drop, D: Ledger, T: Ledger, R: Wait> LockSte
     fn resolve(&mut self, name: &QueueName) -> Result<NamedQueue, Refusal> {
         let part = take_lock(self.rt, &self.service.directory);
         self.service.gate.at_directory(&part.directory);
-        let session = &mut *self.session;
-        let number = part.resolve(session, name)?;
+        let number = part.resolve(self.session, name)?;
         Ok(NamedQueue {
             number,
             name: *name,
@@ -79,58 +99,36 @@ impl<'a, C: Clock + Drop, G: Gate + Drop, D: Ledger, T: Ledger, R: Wait> LockSte
         let now = self.service.clock.now();
         let mut part = take_lock(self.rt, &self.service.directory);
         self.service.gate.at_directory(&part.directory);
-        let session = &mut *self.session;
-        part.step(self.service.alloc, session, now, call)
+        part.step(self.service.alloc, self.session, now, call)
     }
 
-    fn home_step(
-        &mut self,
-        of: &NamedQueue,
-        home: HomeNo,
-        act: HomeAct,
-    ) -> Result<HomeReply, Refusal> {
-        let id = HomeId {
-            queue: of.number,
-            home,
-        };
+    fn home_step(&mut self, at: &NamedHome, act: HomeAct) -> Result<HomeReply, Refusal> {
         let now = self.service.clock.now();
         let count = self.service.homes.len();
-        let Some(index) = home_index(self.service.per_queue, count, &id) else {
+        let Some(index) = home_index(self.service.per_queue, count, &at.id) else {
             return Err(no_such_home(now));
         };
         let mut was_taken = false;
         let mut part = take_lock_noting(self.rt, &self.service.homes[index], &mut was_taken);
         self.service.gate.inside(&part.home);
-        let session = &mut *self.session;
-        let name = Some(of.name);
-        part.step(self.service.alloc, session, now, name, &id, act, was_taken)
+        part.step(self.service.alloc, self.session, now, at, act, was_taken)
     }
 
     fn shared_step(
         &mut self,
-        name: Option<QueueName>,
-        home: &HomeId,
+        at: &NamedHome,
         what: SharedAct,
     ) -> Result<Option<HomeReply>, Refusal> {
         let now = self.service.clock.now();
         let count = self.service.homes.len();
-        let Some(index) = home_index(self.service.per_queue, count, home) else {
+        let Some(index) = home_index(self.service.per_queue, count, &at.id) else {
             return Err(no_such_home(now));
         };
         let mut part = take_lock(self.rt, &self.service.homes[index]);
         self.service.gate.inside(&part.home);
-        let session = &mut *self.session;
         let mut ledger = take_lock(self.rt, &self.service.ledger);
         self.service.gate.at_ledger(&ledger.ledger);
-        let told = ledger.share(
-            self.service.alloc,
-            &mut part,
-            session,
-            now,
-            name,
-            home,
-            what,
-        );
+        let told = ledger.share(self.service.alloc, &mut part, self.session, now, at, what);
         self.left = left_of(&told);
         told
     }
@@ -138,8 +136,7 @@ impl<'a, C: Clock + Drop, G: Gate + Drop, D: Ledger, T: Ledger, R: Wait> LockSte
     fn peek(&mut self, after: u64) -> Result<Option<NextItem>, Refusal> {
         let part = take_lock(self.rt, &self.service.ledger);
         self.service.gate.at_ledger(&part.ledger);
-        let session = &mut *self.session;
-        Ok(part.peek(session, after))
+        Ok(part.peek(self.session, after))
     }
 
     fn can_redrive(
@@ -149,23 +146,20 @@ impl<'a, C: Clock + Drop, G: Gate + Drop, D: Ledger, T: Ledger, R: Wait> LockSte
     ) -> Result<(NamedQueue, Option<NamedQueue>), Refusal> {
         let part = take_lock(self.rt, &self.service.directory);
         self.service.gate.at_directory(&part.directory);
-        let session = &mut *self.session;
-        part.can_redrive(session, source, destination)
+        part.can_redrive(self.session, source, destination)
     }
 
     fn ledger_step(&mut self, act: &TaskAct) -> Result<LedgerReply, Refusal> {
         let now = self.service.clock.now();
         let mut part = take_lock(self.rt, &self.service.ledger);
         self.service.gate.at_ledger(&part.ledger);
-        let session = &mut *self.session;
-        part.step(self.service.alloc, session, now, act)
+        part.step(self.service.alloc, self.session, now, act)
     }
 
     fn read_task(&mut self, number: TaskNo) -> Result<Task, Refusal> {
         let part = take_lock(self.rt, &self.service.ledger);
         self.service.gate.at_ledger(&part.ledger);
-        let session = &mut *self.session;
-        part.read_task(session, number)
+        part.read_task(self.session, number)
     }
 
     fn pick(&mut self) -> HomeNo {

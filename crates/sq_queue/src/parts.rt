@@ -25,7 +25,7 @@ use sq_model::ledger::LedgerReply;
 use sq_model::listed::Listed;
 use sq_model::replies::HomeReply;
 use sq_model::task::{NamedQueue, Task};
-use sq_steps::act::{NextItem, SharedAct, TaskAct};
+use sq_steps::act::{NamedHome, NextItem, SharedAct, TaskAct};
 use sq_steps::journal::{directory_step, home_step, ledger_step};
 use sq_steps::reads;
 use sq_steps::shared::shared_step;
@@ -36,16 +36,16 @@ use std::sync::ledger::{Book, Ledger};
 
 /// A home with its id. It is generic over its store: so the prover finds that a service may be shared by threads.
 #[derive(Drop)]
-pub struct Placed<S: Store> {
+pub struct WithId<S: Store> {
     pub(crate) id: HomeId,
     pub(crate) home: Recorded<S>,
     ghost own: { home.site.home ≡ id },
 }
 
 /// The home that lies under a lock.
-pub type PlacedHome = Placed<SlotStore>;
+pub type HomeWithId = WithId<SlotStore>;
 
-impl Placed<SlotStore> {
+impl WithId<SlotStore> {
     /// A step of the home, where it is the one that is meant; where it is not, which never is, QueueDoesNotExist. A session stays at no
     /// home whose lock was taken.
     pub(crate) fn step<D: Ledger, T: Ledger>(
@@ -53,24 +53,23 @@ impl Placed<SlotStore> {
         alloc: Global,
         session: &mut Session<D, T>,
         now: u64,
-        name: Option<QueueName>,
-        id: &HomeId,
+        at: &NamedHome,
         act: HomeAct,
         was_taken: bool,
     ) -> Result<HomeReply, Refusal>
-        ensures step { IfOk result (λ reply. HomeMoves self.old.home self.new.home session.old.journal session.new.journal now name (call_of act) reply) }
-        ensures at { OnOk result (self.old.id ≡ id.now) }
-        ensures refusal { IfErr result (λ e. ((self.old.id ≡ id.now) × IsHomeRefused self.old.home session.old.journal now (call_of act) e) ⊎ ((self.old.id ≢ id.now) × (e ≡ Refusal.QueueDoesNotExist))) }
+        ensures step { IfOk result (λ reply. HomeMoves self.old.home self.new.home session.old.journal session.new.journal now at.now.name (call_of act) reply) }
+        ensures at { OnOk result (self.old.id ≡ at.now.id) }
+        ensures refusal { IfErr result (λ e. ((self.old.id ≡ at.now.id) × IsHomeRefused self.old.home session.old.journal now (call_of act) e) ⊎ ((self.old.id ≢ at.now.id) × (e ≡ Refusal.QueueDoesNotExist))) }
         ensures id { self.new.id ≡ self.old.id }
         ensures err { OnErr result (self.new.home ≡ self.old.home) }
         ensures session_err { OnErr result (session.new ≡ session.old) }
     {
-        if self.id != *id {
+        if self.id != at.id {
             return Err(Refusal::QueueDoesNotExist);
         }
-        let Placed { home, .. } = self;
-        let told = home_step(alloc, home, &mut session.journal, now, name, act);
-        session.note(id.home, was_taken, &told);
+        let WithId { home, .. } = self;
+        let told = home_step(alloc, home, &mut session.journal, now, at.name, act);
+        session.note(at.id.home, was_taken, &told);
         told
     }
 }
@@ -194,37 +193,36 @@ impl<T: Ledger> CountedLedger<T> {
     pub(crate) fn share<D: Ledger>(
         &mut self,
         alloc: Global,
-        placed: &mut PlacedHome,
+        part: &mut HomeWithId,
         session: &mut Session<D, T>,
         now: u64,
-        name: Option<QueueName>,
-        id: &HomeId,
+        at: &NamedHome,
         act: SharedAct,
     ) -> Result<Option<HomeReply>, Refusal>
-        ensures step { IfOk result (λ told. IfSome told (SharedMoves placed.old.home placed.new.home self.old.ledger.history self.new.ledger.history session.old.journal session.new.journal now name act)) }
-        ensures at { OnOk result (placed.old.id ≡ id.now) }
+        ensures step { IfOk result (λ told. IfSome told (SharedMoves part.old.home part.new.home self.old.ledger.history self.new.ledger.history session.old.journal session.new.journal now at.now.name act)) }
+        ensures at { OnOk result (part.old.id ≡ at.now.id) }
         ensures tally { IfOk result (λ told. IfSome told (λ _. session.new.ledger_tally ≡ session.old.ledger_tally + 1)) }
-        ensures none { IfOk result (λ told. IfNone told (IsUnmoved placed.old.home self.old.ledger.history session.old.journal now act)) }
-        ensures none_home { IfOk result (λ told. IfNone told (placed.new.home ≡ placed.old.home)) }
+        ensures none { IfOk result (λ told. IfNone told (IsUnmoved part.old.home self.old.ledger.history session.old.journal now act)) }
+        ensures none_home { IfOk result (λ told. IfNone told (part.new.home ≡ part.old.home)) }
         ensures none_ledger { IfOk result (λ told. IfNone told (self.new.ledger.history ≡ self.old.ledger.history)) }
         ensures none_session { IfOk result (λ told. IfNone told (session.new ≡ session.old)) }
-        ensures refusal { IfErr result (λ e. ((placed.old.id ≡ id.now) × IsSharedRefused placed.old.home self.old.ledger.history session.old.journal now act e) ⊎ ((placed.old.id ≢ id.now) × (e ≡ Refusal.QueueDoesNotExist))) }
-        ensures id { placed.new.id ≡ placed.old.id }
-        ensures home_err { OnErr result (placed.new.home ≡ placed.old.home) }
+        ensures refusal { IfErr result (λ e. ((part.old.id ≡ at.now.id) × IsSharedRefused part.old.home self.old.ledger.history session.old.journal now act e) ⊎ ((part.old.id ≢ at.now.id) × (e ≡ Refusal.QueueDoesNotExist))) }
+        ensures id { part.new.id ≡ part.old.id }
+        ensures home_err { OnErr result (part.new.home ≡ part.old.home) }
         ensures ledger_err { OnErr result (self.new.ledger.history ≡ self.old.ledger.history) }
         ensures session_err { OnErr result (session.new ≡ session.old) }
     {
-        if placed.id != *id {
+        if part.id != at.id {
             return Err(Refusal::QueueDoesNotExist);
         }
         let CountedLedger { ledger, tallies } = self;
-        let Placed { home, .. } = placed;
+        let WithId { home, .. } = part;
         let Session {
             journal,
             of_ledger,
             ..
         } = session;
-        match shared_step(alloc, home, ledger, journal, now, name, act)? {
+        match shared_step(alloc, home, ledger, journal, now, at.name, act)? {
             Some(reply) => {
                 tallies.add(of_ledger, 1);
                 Ok(Some(reply))

@@ -6,7 +6,7 @@ ghost use Rattle.sq_queue.specs.SessionValue.{new_session};
 
 use crate::actors::Actors;
 use crate::making::{NewParts, new_parts};
-use crate::parts::{CountedDirectory, CountedLedger, Placed, PlacedHome};
+use crate::parts::{CountedDirectory, CountedLedger, HomeWithId, WithId};
 use crate::session::Session;
 use crossbeam_utils::CachePadded;
 use sq_base::refusal::Refusal;
@@ -119,7 +119,7 @@ pub struct Serving<C, G, D: Ledger, T: Ledger, S: Store> {
     pub(crate) gate: G,
     pub(crate) per_queue: HomeCount,
     pub(crate) sample: HomeCount,
-    pub(crate) homes: Vec<Lock<Placed<S>>>,
+    pub(crate) homes: Vec<Lock<WithId<S>>>,
     pub(crate) directory: Lock<CountedDirectory<D>>,
     pub(crate) ledger: Lock<CountedLedger<T>>,
     pub(crate) actors: Lock<Actors<D, T>>,
@@ -191,23 +191,23 @@ impl<C: Clock + Drop, G: Gate + Drop, D: Ledger, T: Ledger> Serving<C, G, D, T, 
 }
 
 // Homes, each with its id under a lock of its own.
-fn each_under_lock(alloc: Global, homes: Vec<Home>) -> Result<Vec<Lock<PlacedHome>>, Refusal>
+fn each_under_lock(alloc: Global, homes: Vec<Home>) -> Result<Vec<Lock<HomeWithId>>, Refusal>
     ensures many { IfOk result (λ locks. vec_len locks ≡ length homes.items) }
     ensures refused { IfErr result (λ e. e ≡ Refusal.NoMemory) }
 {
     let mut locks = Vec::with_capacity(alloc, homes.len())?;
     for home in homes {
-        locks.push_reserved(under_lock(placed(home)));
+        locks.push_reserved(under_lock(with_id(home)));
     }
     Ok(locks)
 }
 
 // A home with its id.
-fn placed(home: Home) -> PlacedHome
+fn with_id(home: Home) -> HomeWithId
     ensures id { result.id ≡ home.site.home }
     ensures home { result.home ≡ home }
 {
-    Placed {
+    WithId {
         id: home.id(),
         home,
     }

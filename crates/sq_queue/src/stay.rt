@@ -75,7 +75,7 @@ pub(crate) fn begin_with(drawn: &mut Vec<HomeNo>, home: HomeNo, homes: HomeCount
     ensures sample { IsSampleOf homes (length drawn.old.items) drawn.new.items }
 {
     match drawn.iter().position(|it| *it == home) {
-        Some(place) => drawn.swap(0, place),
+        Some(at) => drawn.swap(0, at),
         None => drawn[0] = home,
     }
 }

@@ -41,7 +41,7 @@ q_shown asked redrive = Attributes (record { queue = codes "q"; asked = asked; a
 
 -- a task that moves what queue d has back to where it came from, at no rate of its own
 abbrev pub back_from_d : ℕ → TaskStatus → Task
-back_from_d number status = record { number = number; source = record { number = 1; name = codes "d" }; destination = None; rate = None; started = 1000; status = status; left = 0; moved = 0; back = 0; given_up = 0; second = 0; in_second = 0 }
+back_from_d number status = record { number = number; source = record { number = 1; name = codes "d" }; destination = None; rate = None; started = 1000; status = status; left = 0; moved = 0; back = 0; dropped = 0; second = 0; in_second = 0 }
 
 -- one that moves it to queue q, two messages in a second, of which two came in
 abbrev pub moved_to_q : TaskStatus → Task

@@ -15,7 +15,7 @@ use Rattle.sq_policy.specs.Amounts.{within, in_range_if}
 use Rattle.sq_policy.specs.Reading.{◌>>=◌, IsUnrefused, Reads}
 use Rattle.sq_policy.specs.declared.amount.Amount.{Amount}
 use Rattle.sq_policy.specs.declared.amount.Amount.TheVariants.{Natural, Other}
-use Rattle.sq_requests.specs.Asked.{any_item, all_items}
+use Rattle.sq_requests.specs.Lists.{any_item, all_items}
 use Rattle.sq_requests.specs.Batches.{as_ask, ask_of, send_ask, batch_check, batch_of, bodies_length, change_ask, entries_of, entry_of, has_id, have_same_id, how_many, entry_id, is_entry, items_at, members_of, repeat_an_id}
 use Rattle.sq_requests.specs.inside.Batches.{has_body, behind}
 use Rattle.sq_requests.specs.Memory.{ReadsAsking}

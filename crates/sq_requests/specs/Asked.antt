@@ -1,22 +1,15 @@
 -- The names of attributes that a request lists.
-use Rattle.std.specs.Prelude.{ℕ, List, Bool, true, false, ◌&&◌, ◌||◌, if◌then◌else◌, Option, Some, None, Result, Ok, Err, codes, is_some}
+use Rattle.std.specs.Prelude.{ℕ, List, Bool, false, ◌||◌, if◌then◌else◌, Option, Some, None, Result, Ok, Err, codes, is_some}
 use Rattle.std.specs.Str.{bytes_eq}
-use Rattle.serde_json.specs.Data.{Data, Items, no_items, item}
+use Rattle.serde_json.specs.Data.{Data, Items, no_items}
 use Rattle.serde_json.specs.Find.{get, as_str, as_array}
 use Rattle.sq_base.specs.declared.refusal.Refusal.{Refusal}
 use Rattle.sq_base.specs.declared.refusal.Refusal.TheVariants.{InvalidRequest, InvalidAttributeName}
 use Rattle.sq_policy.specs.Reading.{◌>>=◌}
 use Rattle.sq_requests.specs.Attributes.{is_settable}
+use Rattle.sq_requests.specs.Lists.{any_item, all_items}
 use Rattle.sq_calls.specs.declared.calls.AskedAttributes.{AskedAttributes}
 use Rattle.sq_calls.specs.declared.calls.AskedOfQueue.{AskedOfQueue}
-
-abbrev pub any_item : (Data → Bool) → Items → Bool
-any_item test no_items = false
-any_item test (item d rest) = test d || any_item test rest
-
-abbrev pub all_items : (Data → Bool) → Items → Bool
-all_items test no_items = true
-all_items test (item d rest) = test d && all_items test rest
 
 -- a list of names, all of them texts; no name where there is no list
 abbrev pub is_text : Data → Bool

@@ -12,7 +12,6 @@ use Rattle.sq_policy.specs.Amounts.{attribute_of, some_amount, in_range_if}
 use Rattle.sq_policy.specs.PolicyTexts.{redrive_of, allow_of}
 use Rattle.sq_policy.specs.declared.amount.Amount.{Amount}
 use Rattle.sq_requests.specs.Members.{text_if_at}
-use Rattle.sq_requests.specs.declared.attributes.Amounts.{Amounts}
 use Rattle.sq_requests.specs.declared.attributes.Given.{Given}
 use Rattle.sq_model.specs.declared.directory.Attributes.{Attributes}
 
@@ -25,14 +24,6 @@ attribute_in (Some d) = some_amount (attribute_of d)
 -- the numeric attribute of a name, where it is given
 unfoldable pub attribute_at : List ℕ → Data → Result (Option Amount) Refusal
 attribute_at name d = attribute_in (get name d)
-
-unfoldable pub amounts_in : Data → Result Amounts Refusal
-amounts_in d = do
-  delay ← attribute_at (codes "DelaySeconds") d
-  retention ← attribute_at (codes "MessageRetentionPeriod") d
-  wait_time ← attribute_at (codes "ReceiveMessageWaitTimeSeconds") d
-  timeout ← attribute_at (codes "VisibilityTimeout") d
-  Ok (record { delay = delay; retention = retention; wait_time = wait_time; timeout = timeout })
 
 -- the attributes that a queue may be given
 unfoldable pub is_settable : List ℕ → Bool
@@ -51,14 +42,20 @@ has_other members = list_any is_unsettable (names_of members)
 
 -- what is given, a policy as its text
 pub record GivenTexts : Type 0 where
-  pub amounts : Amounts
+  pub delay : Option Amount
+  pub retention : Option Amount
+  pub wait_time : Option Amount
+  pub timeout : Option Amount
   pub redrive : Option (List ℕ)
   pub allow : Option (List ℕ)
   pub has_other : Bool
 
 abbrev pub given_texts : Given → GivenTexts
 given_texts given = record {
-  amounts = given.amounts;
+  delay = given.delay;
+  retention = given.retention;
+  wait_time = given.wait_time;
+  timeout = given.timeout;
   redrive = option_map (λ t. t.now) given.redrive;
   allow = option_map (λ t. t.now) given.allow;
   has_other = given.has_other;
@@ -67,10 +64,13 @@ given_texts given = record {
 unfoldable pub given_in : Data → Result GivenTexts Refusal
 given_in d = do
   members ← ok_or (as_object d) InvalidRequest
-  amounts ← amounts_in d
+  delay ← attribute_at (codes "DelaySeconds") d
+  retention ← attribute_at (codes "MessageRetentionPeriod") d
+  wait_time ← attribute_at (codes "ReceiveMessageWaitTimeSeconds") d
+  timeout ← attribute_at (codes "VisibilityTimeout") d
   redrive ← text_if_at (codes "RedrivePolicy") d
   allow ← text_if_at (codes "RedriveAllowPolicy") d
-  Ok (record { amounts = amounts; redrive = redrive; allow = allow; has_other = has_other members })
+  Ok (record { delay = delay; retention = retention; wait_time = wait_time; timeout = timeout; redrive = redrive; allow = allow; has_other = has_other members })
 
 -- where they must be there
 abbrev pub given_of : Option Data → Result GivenTexts Refusal
@@ -82,7 +82,10 @@ given_at d = given_of (get (codes "Attributes") d)
 
 abbrev pub none_given : GivenTexts
 none_given = record {
-  amounts = record { delay = None; retention = None; wait_time = None; timeout = None };
+  delay = None;
+  retention = None;
+  wait_time = None;
+  timeout = None;
   redrive = None;
   allow = None;
   has_other = false;
@@ -99,16 +102,16 @@ given_if_at d = given_if_of (get (codes "Attributes") d)
 -- ---- what they say: their names first, then the ranges of numbers and the policies
 
 -- the ranges of SQS API Reference, CreateQueue
-unfoldable pub numbers_of : Amounts → Result Attributes Refusal
-numbers_of amounts = do
-  delay ← in_range_if 0 900 InvalidAttributeValue amounts.delay
-  retention ← in_range_if 60 1209600 InvalidAttributeValue amounts.retention
-  wait_time ← in_range_if 0 20 InvalidAttributeValue amounts.wait_time
-  timeout ← in_range_if 0 43200 InvalidAttributeValue amounts.timeout
+unfoldable pub numbers_of : GivenTexts → Result Attributes Refusal
+numbers_of given = do
+  delay ← in_range_if 0 900 InvalidAttributeValue given.delay
+  retention ← in_range_if 60 1209600 InvalidAttributeValue given.retention
+  wait_time ← in_range_if 0 20 InvalidAttributeValue given.wait_time
+  timeout ← in_range_if 0 43200 InvalidAttributeValue given.timeout
   Ok (record { delay = delay; retention = retention; wait_time = wait_time; timeout = timeout; redrive = None; allow = None })
 
 unfoldable pub named_numbers : GivenTexts → Result Attributes Refusal
-named_numbers given = if given.has_other then Err InvalidAttributeName else numbers_of given.amounts
+named_numbers given = if given.has_other then Err InvalidAttributeName else numbers_of given
 
 -- what the text of an attribute means, where it is given
 abbrev pub if_given : {A : Type 0} → (List ℕ → Result A Refusal) → Option (List ℕ) → Result (Option A) Refusal

@@ -14,7 +14,7 @@ use Rattle.sq_policy.specs.Amounts.{amount_in_range, in_range_if}
 use Rattle.sq_policy.specs.declared.amount.Amount.{Amount}
 use Rattle.sq_calls.specs.BodyTexts.{body_limit}
 use Rattle.sq_requests.specs.Members.{text_at, url_at, receipt_handle_at, amount_at, amount_if_at}
-use Rattle.sq_requests.specs.Asked.{any_item, all_items}
+use Rattle.sq_requests.specs.Lists.{any_item, all_items}
 use Rattle.sq_requests.specs.Actions.{body_text, has_attributes_at}
 use Rattle.sq_requests.specs.declared.batches.BatchKind.{BatchKind}
 use Rattle.sq_requests.specs.declared.batches.BatchKind.TheVariants as kind

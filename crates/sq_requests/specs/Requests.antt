@@ -1,5 +1,5 @@
 -- What a line asks.
-use Rattle.std.specs.Prelude.{◌≡◌, ◌<◌, ℕ, List, Bool, false, length, if◌then◌else◌, Option, Some, None, Result, Ok, Err, codes, is_some, nat_lt}
+use Rattle.std.specs.Prelude.{◌≡◌, ◌<◌, ℕ, List, length, if◌then◌else◌, Option, Some, None, Result, Ok, Err, codes, is_some, nat_lt}
 use Rattle.std.specs.Str.{bytes_eq, is_utf8}
 use Rattle.serde_json.specs.Data.{Data, Num, unsigned, negative, float}
 use Rattle.serde_json.specs.Find.{get, as_number, as_object}
@@ -99,11 +99,6 @@ turn_or None call = seen_as asked.Call call
 
 unfoldable pub call_or_turn_of : List ℕ → Data → Result Asked Refusal
 call_or_turn_of action d = turn_or (turn_of action d) (call_of action d)
-
--- no memory is asked for a turn
-abbrev pub asks_or : Option (Result Turn Refusal) → Result Bool Refusal → Result Bool Refusal
-asks_or (Some turn) asks = turn >>= λ turn. Ok false
-asks_or None asks = asks
 
 abbrev pub request_in : Data → Result Request Refusal
 request_in d = do

@@ -3,8 +3,8 @@ ghost use Rattle.std.specs.Prelude.{◌≡◌, option_map, unwrap_or};
 ghost use Rattle.serde_json.specs.Data.{no_items};
 ghost use Rattle.sq_json.specs.View.{view, items_view};
 ghost use Rattle.sq_policy.specs.Reading.{seen_as};
-ghost use Rattle.sq_requests.specs.Lists.{listed_if};
-ghost use Rattle.sq_requests.specs.Asked.{any_item, all_items, is_text, names_at, asks, asked_of, either, asked_at, is_only_read, is_known, shown_of, asked_of_queue};
+ghost use Rattle.sq_requests.specs.Lists.{listed_if, any_item, all_items};
+ghost use Rattle.sq_requests.specs.Asked.{is_text, names_at, asks, asked_of, either, asked_at, is_only_read, is_known, shown_of, asked_of_queue};
 
 use crate::attributes::is_settable;
 use sq_base::refusal::Refusal;

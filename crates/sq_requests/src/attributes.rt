@@ -6,7 +6,7 @@ ghost use Rattle.sq_policy.specs.Reading.{ReadsText, seen_as};
 ghost use Rattle.sq_policy.specs.PolicyTexts.{redrive_of, allow_of};
 ghost use Rattle.sq_base.specs.declared.refusal.Refusal.{Refusal};
 ghost use Rattle.sq_requests.specs.Memory.{ReadsAsking};
-ghost use Rattle.sq_requests.specs.Attributes.{attribute_at, amounts_in, is_settable, is_unsettable, given_texts, given_in, given_at, given_if_at, numbers_of, named_numbers, if_given, has_text, attributes_of, attributes_ask};
+ghost use Rattle.sq_requests.specs.Attributes.{attribute_at, is_settable, is_unsettable, given_texts, given_in, given_at, given_if_at, numbers_of, named_numbers, if_given, has_text, attributes_of, attributes_ask};
 
 use crate::members::text_if_at;
 use sq_base::refusal::Refusal;
@@ -17,21 +17,14 @@ use sq_policy::amount::{Amount, attribute_of, in_range_if};
 use sq_policy::policy::{read_allow, read_redrive};
 use std::alloc::Global;
 
-/// The numeric attributes that a request gives (SQS API Reference, SetQueueAttributes: Attributes), their ranges not
-/// checked yet.
+/// The attributes that a request gives (SQS API Reference, SetQueueAttributes: Attributes), their names, their ranges and
+/// their policies not checked yet.
 #[derive(Drop)]
-pub struct Amounts {
+pub struct Given<'a> {
     pub delay: Option<Amount>,
     pub retention: Option<Amount>,
     pub wait_time: Option<Amount>,
     pub timeout: Option<Amount>,
-}
-
-/// The attributes that a request gives (SQS API Reference, SetQueueAttributes: Attributes), their names and values not
-/// checked yet.
-#[derive(Drop)]
-pub struct Given<'a> {
-    pub amounts: Amounts,
     pub redrive: Option<&'a str>,
     pub allow: Option<&'a str>,
     /// One is given that cannot be set.
@@ -47,18 +40,6 @@ fn attribute_at(attributes: &Value<'_, '_>, name: &str) -> Result<Option<Amount>
         Some(member) => Ok(Some(attribute_of(&member)?)),
         None => Ok(None),
     }
-}
-
-#[tactic(auto, unfolding(crate::specs::Attributes::amounts_in))]
-fn amounts_in(attributes: &Value<'_, '_>) -> Result<Amounts, Refusal>
-    ensures { result ≡ amounts_in (view attributes.now) }
-{
-    Ok(Amounts {
-        delay: attribute_at(attributes, "DelaySeconds")?,
-        retention: attribute_at(attributes, "MessageRetentionPeriod")?,
-        wait_time: attribute_at(attributes, "ReceiveMessageWaitTimeSeconds")?,
-        timeout: attribute_at(attributes, "VisibilityTimeout")?,
-    })
 }
 
 /// Whether an attribute of this name can be set (SQS API Reference, SetQueueAttributes: Attributes).
@@ -94,11 +75,17 @@ fn given_in<'a>(attributes: &Value<'_, 'a>) -> Result<Given<'a>, Refusal>
     let Some(names) = attributes.names() else {
         return Err(Refusal::InvalidRequest);
     };
-    let amounts = amounts_in(attributes)?;
+    let delay = attribute_at(attributes, "DelaySeconds")?;
+    let retention = attribute_at(attributes, "MessageRetentionPeriod")?;
+    let wait_time = attribute_at(attributes, "ReceiveMessageWaitTimeSeconds")?;
+    let timeout = attribute_at(attributes, "VisibilityTimeout")?;
     let redrive = text_if_at(attributes, "RedrivePolicy")?;
     let allow = text_if_at(attributes, "RedriveAllowPolicy")?;
     Ok(Given {
-        amounts,
+        delay,
+        retention,
+        wait_time,
+        timeout,
         redrive,
         allow,
         has_other: has_other(names),
@@ -125,12 +112,10 @@ pub fn given_if_at<'a>(value: &Value<'_, 'a>) -> Result<Given<'a>, Refusal>
     match value.get("Attributes") {
         Some(attributes) => given_in(&attributes),
         None => Ok(Given {
-            amounts: Amounts {
-                delay: None,
-                retention: None,
-                wait_time: None,
-                timeout: None,
-            },
+            delay: None,
+            retention: None,
+            wait_time: None,
+            timeout: None,
             redrive: None,
             allow: None,
             has_other: false,
@@ -139,14 +124,14 @@ pub fn given_if_at<'a>(value: &Value<'_, 'a>) -> Result<Given<'a>, Refusal>
 }
 
 #[tactic(auto, unfolding(crate::specs::Attributes::numbers_of))]
-fn numbers_of(amounts: &Amounts) -> Result<Attributes, Refusal>
-    ensures { result ≡ numbers_of amounts.now }
+fn numbers_of(given: &Given<'_>) -> Result<Attributes, Refusal>
+    ensures { result ≡ numbers_of (given_texts given.now) }
 {
     Ok(Attributes {
-        delay: in_range_if(amounts.delay, Refusal::InvalidAttributeValue)?,
-        retention: in_range_if(amounts.retention, Refusal::InvalidAttributeValue)?,
-        wait_time: in_range_if(amounts.wait_time, Refusal::InvalidAttributeValue)?,
-        timeout: in_range_if(amounts.timeout, Refusal::InvalidAttributeValue)?,
+        delay: in_range_if(given.delay, Refusal::InvalidAttributeValue)?,
+        retention: in_range_if(given.retention, Refusal::InvalidAttributeValue)?,
+        wait_time: in_range_if(given.wait_time, Refusal::InvalidAttributeValue)?,
+        timeout: in_range_if(given.timeout, Refusal::InvalidAttributeValue)?,
         redrive: None,
         allow: None,
     })
@@ -160,7 +145,7 @@ fn named_numbers(given: &Given<'_>) -> Result<Attributes, Refusal>
     if given.has_other {
         return Err(Refusal::InvalidAttributeName);
     }
-    numbers_of(&given.amounts)
+    numbers_of(given)
 }
 
 // A policy that a request may set.

@@ -1,4 +1,4 @@
-//! The movers of a service: round after round, with a rest where nothing is to move.
+//! The movers of a service: round after round, with a rest where nothing is to move; and those of a race.
 ghost use Rattle.std.specs.Prelude.{◌≡◌, ◌*◌, min};
 
 use crate::served::{Client, Served};
@@ -12,6 +12,9 @@ use std::time::{Clock, Duration};
 
 /// How many turns a round has.
 const ROUND: u64 = 100;
+
+/// How many turns a mover of a race makes.
+const TURNS: u64 = 1000;
 
 /// The longest rest after a round that moved nothing, in ms.
 const LONGEST: u64 = 50;
@@ -36,6 +39,15 @@ pub(crate) fn move_while_open<R: Clock + Wait, D: Ledger, T: Ledger>(
             rest = longer(rest);
         }
     }
+}
+
+/// Makes as many turns as a mover of a race makes.
+pub(crate) fn move_for_a_race<R: Clock + Wait, D: Ledger, T: Ledger>(
+    service: &Served<'_, R, D, T, SlotStore>,
+    client: &mut Client<D, T>,
+) {
+    let mut mover = Mover::new(service.alloc);
+    service.turns(client, &mut mover, TURNS);
 }
 
 // The rest after one of so many ms.

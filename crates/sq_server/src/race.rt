@@ -8,6 +8,7 @@ ghost use Rattle.sq_server.specs.inside.Verdicts.{HasFault, HasOneRun};
 
 use crate::clients::{make_calls, make_queues};
 use crate::crew::{Member, Role, conclude, crew};
+use crate::movers::move_for_a_race;
 use crate::served::{Blanks, Served};
 use crate::threads::threads_for;
 use crate::verdict::OneRun;
@@ -15,7 +16,6 @@ use sq_audit::check::AuditFault;
 use sq_base::refusal::Refusal;
 use sq_flags::flags::RaceMode;
 use sq_lines::counted::Counted;
-use sq_mover::mover::Mover;
 use sq_program::reports::{no_memory, report_audit};
 use sq_program::results::print_race;
 use sq_store::slots::SlotStore;
@@ -27,9 +27,6 @@ use std::sync::ledger::Ledger;
 use std::thread;
 use std::thread::Threads;
 use std::time::Clock;
-
-/// How many turns a mover of a race makes.
-const TURNS: u64 = 1000;
 
 // What one of the threads does.
 fn run<R: Clock + Wait, D: Ledger, T: Ledger>(
@@ -43,10 +40,7 @@ fn run<R: Clock + Wait, D: Ledger, T: Ledger>(
 {
     match racer.role {
         Role::Call => racer.count = make_calls(service, &mut racer.client, calls),
-        Role::Move => {
-            let mut mover = Mover::new(service.alloc);
-            service.turns(&mut racer.client, &mut mover, TURNS);
-        }
+        Role::Move => move_for_a_race(service, &mut racer.client),
     }
 }
 

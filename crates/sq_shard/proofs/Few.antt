@@ -9,7 +9,7 @@ use Rattle.sq_base.specs.declared.row.Row.{Row}
 use Rattle.sq_base.specs.declared.settings.Settings.{Settings}
 use Rattle.sq_model.specs.declared.calls.Receipt.{Receipt}
 use Rattle.sq_model.specs.declared.place.Limits.{Limits}
-use Rattle.sq_model.specs.Homes.{place_refusal, last_serial, slots}
+use Rattle.sq_model.specs.Homes.{full_refusal, last_serial, slots}
 use Rattle.sq_model.specs.Rows.{unexpired, is_expired, without, is_named}
 
 few_filtered : (p : Row → Bool) (rows : List Row) (most : ℕ) → length rows ≤ most → length (filter p rows) ≤ most
@@ -39,12 +39,12 @@ upto a b h = grind (arith, common_steps)
 
 -- a home that is full has a slot left, as it may hold fewer rows than there are slots
 pub full_refused : (l : Limits) (next : ℕ) (s : Settings) (m : ℕ) (rows : List Row) (later : Option Refusal)
-    → next < last_serial → l.rows < slots → length rows ≤ l.rows → l.rows ≤ length (unexpired s m rows) → place_refusal l next (unexpired s m rows) later ≡ Some OverLimit
+    → next < last_serial → l.rows < slots → length rows ≤ l.rows → l.rows ≤ length (unexpired s m rows) → full_refusal l next (unexpired s m rows) later ≡ Some OverLimit
 full_refused l next s m rows later low fits within full =
     let kept = few_unexpired s m rows l.rows within in
     rw (above next last_serial low, above (length (unexpired s m rows)) slots (omega (arith, fits, kept)), upto l.rows (length (unexpired s m rows)) full) refl
 
 -- and one that is not full, with serials left, refuses no row
-pub place_left : (l : Limits) (next : ℕ) (s : Settings) (m : ℕ) (rows : List Row) → next < last_serial → l.rows < slots → length (unexpired s m rows) < l.rows → place_refusal l next (unexpired s m rows) None ≡ None
-place_left l next s m rows low fits room =
+pub one_more_left : (l : Limits) (next : ℕ) (s : Settings) (m : ℕ) (rows : List Row) → next < last_serial → l.rows < slots → length (unexpired s m rows) < l.rows → full_refusal l next (unexpired s m rows) None ≡ None
+one_more_left l next s m rows low fits room =
     rw (above next last_serial low, above (length (unexpired s m rows)) slots (omega (arith, fits, room)), above (length (unexpired s m rows)) l.rows room) refl

@@ -9,8 +9,8 @@ use Rattle.sq_base.specs.declared.settings.Settings.{Settings}
 use Rattle.sq_model.specs.declared.calls.HomeCall.TheVariants.{Look}
 use Rattle.sq_model.specs.declared.place.Site.{Site}
 use Rattle.sq_model.specs.declared.replies.HomeReply.TheVariants.{Looked}
-use Rattle.sq_model.specs.Homes.{Serving, HomeStep}
-use Rattle.sq_model.specs.Rows.{is_live, received, unexpired, IsLook, RisesFrom}
+use Rattle.sq_model.specs.Homes.{Contents, Serving, HomeStep, unexpired_rows}
+use Rattle.sq_model.specs.Rows.{is_live, received, IsLook, RisesFrom}
 use Rattle.sq_slots.specs.Slots.{SerialsRise}
 use Rattle.sq_slots.proofs.RowLists.{same_serial}
 use Rattle.sq_shard.specs.Looks.{look_after}
@@ -29,10 +29,10 @@ empty_look s m until n rows none =
     record { exact = omega (arith, counted); distinct = refl; each = All-nil _ }
 
 -- and the look is done with none
-pub nothing_given : (site : Site) (s : Settings) (v n m max : ℕ) (timeout : Option ℕ) (rows : List Row) → list_any (is_live s m) (unexpired s m rows) ≡ false
-    → HomeStep site (Serving s v n rows) m (Look max timeout) (Looked []) (look_after (Serving s v n rows) m timeout (Some []))
+pub nothing_given : (site : Site) (its : Contents) (m max : ℕ) (timeout : Option ℕ) → list_any (is_live its.settings m) (unexpired_rows its m) ≡ false
+    → HomeStep site (Serving its) m (Look max timeout) (Looked []) (look_after (Serving its) m timeout (Some []))
 unfolding HomeStep
-nothing_given site s v n m max timeout rows none = ((λ live. let k : true ≡ false = sym live ∙ none in cc), empty_look s m _ _ (unexpired s m rows) none, refl)
+nothing_given site its m max timeout none = ((λ live. let k : true ≡ false = sym live ∙ none in cc), empty_look its.settings m _ _ (unexpired_rows its m) none, refl)
 
 pub rises_rise : (low : ℕ) (rows : List Row) (next : ℕ) → RisesFrom low rows next → SerialsRise low rows
 rises_rise low [] next h = tt

@@ -7,17 +7,14 @@ use Rattle.std.proofs.lemmas.Grind.{common_steps}
 use Rattle.sq_base.specs.declared.refusal.Refusal.{Refusal}
 use Rattle.sq_base.specs.declared.refusal.Refusal.TheVariants.{Worn, OverLimit}
 use Rattle.sq_base.specs.declared.row.Row.{Row}
-use Rattle.sq_base.specs.declared.settings.Settings.{Settings}
 use Rattle.sq_model.specs.declared.place.Site.{Site}
-use Rattle.sq_model.specs.declared.calls.HomeCall.TheVariants.{Enter, TurnBack, GiveBack, GiveUp}
-use Rattle.sq_base.specs.declared.ids.HomeId.{HomeId}
+use Rattle.sq_model.specs.declared.calls.HomeCall.TheVariants.{Enter, TurnBack, GiveBack, Drop}
 use Rattle.sq_model.specs.declared.item.Item.{Item}
-use Rattle.sq_model.specs.declared.item.Reason.{Reason}
-use Rattle.sq_model.specs.declared.item.Reason.TheVariants.{DeadLetter, Task}
+use Rattle.sq_model.specs.declared.replies.EnteredRow.{EnteredRow}
 use Rattle.sq_model.specs.declared.replies.HomeReply.TheVariants.{Done, Entered}
-use Rattle.sq_model.specs.Homes.{Home, HomeStep, last_serial, slots, refused_if, may_enter, may_return, entered_row, entered_as, returned_row, returned_as}
+use Rattle.sq_model.specs.Homes.{Contents, Home, HomeStep, last_serial, slots, refused_if, may_enter, may_return, entered_row, returned_row, unexpired_rows}
 use Rattle.sq_model.specs.Homes.{Unopened as Never, Serving as Serves, Closed as Gone}
-use Rattle.sq_model.specs.Rows.{RisesFrom, Takes, unexpired}
+use Rattle.sq_model.specs.Rows.{RisesFrom, Takes}
 use Rattle.sq_model.proofs.RowLaws.{rises_weaker, rises_unexpired}
 use Rattle.sq_shard.specs.declared.shard.Status.{Status}
 use Rattle.sq_shard.specs.declared.shard.Status.TheVariants.{Unopened, Serving, Closed}
@@ -103,74 +100,66 @@ over a b h = grind (arith, common_steps)
 below : (a b : ℕ) → nat_le b a ≡ false → a < b
 below a b h = grind (arith, common_steps, h)
 
-pub takes_one : (status : Status) (site : Site) (s : Settings) (v n m : ℕ) (rows : List Row) → coming_refusal site (home_with status s v n rows) m None ≡ None → TakesOne status site n (unexpired s m rows)
-takes_one Unopened site s v n m rows h = absurd cc
-takes_one Closed site s v n m rows h = absurd cc
-takes_one Serving site s v n m rows h =
-    elim (nat_le last_serial n) as (λ a. nat_le last_serial n ≡ a → (if a || nat_le slots (length (unexpired s m rows)) then Some Worn else refused_if (nat_le site.limits.rows (length (unexpired s m rows))) OverLimit None) ≡ None → TakesOne Serving site n (unexpired s m rows)) [
+pub takes_one : (status : Status) (site : Site) (its : Contents) (m : ℕ) → coming_refusal site (home_with status its) m None ≡ None → TakesOne status site its.next (unexpired_rows its m)
+takes_one Unopened site its m h = absurd cc
+takes_one Closed site its m h = absurd cc
+takes_one Serving site its m h =
+    elim (nat_le last_serial its.next) as (λ a. nat_le last_serial its.next ≡ a → (if a || nat_le slots (length (unexpired_rows its m)) then Some Worn else refused_if (nat_le site.limits.rows (length (unexpired_rows its m))) OverLimit None) ≡ None → TakesOne Serving site its.next (unexpired_rows its m)) [
       | true ↦ (λ e k. absurd cc)
-      | false ↦ (λ e. elim (nat_le slots (length (unexpired s m rows))) as (λ b. nat_le slots (length (unexpired s m rows)) ≡ b → (if b then Some Worn else refused_if (nat_le site.limits.rows (length (unexpired s m rows))) OverLimit None) ≡ None → TakesOne Serving site n (unexpired s m rows)) [
+      | false ↦ (λ e. elim (nat_le slots (length (unexpired_rows its m))) as (λ b. nat_le slots (length (unexpired_rows its m)) ≡ b → (if b then Some Worn else refused_if (nat_le site.limits.rows (length (unexpired_rows its m))) OverLimit None) ≡ None → TakesOne Serving site its.next (unexpired_rows its m)) [
         | true ↦ (λ f k. absurd cc)
-        | false ↦ (λ f. elim (nat_le site.limits.rows (length (unexpired s m rows))) as (λ d. nat_le site.limits.rows (length (unexpired s m rows)) ≡ d → (if d then Some OverLimit else None) ≡ None → TakesOne Serving site n (unexpired s m rows)) [
+        | false ↦ (λ f. elim (nat_le site.limits.rows (length (unexpired_rows its m))) as (λ d. nat_le site.limits.rows (length (unexpired_rows its m)) ≡ d → (if d then Some OverLimit else None) ≡ None → TakesOne Serving site its.next (unexpired_rows its m)) [
           | true ↦ (λ i k. absurd cc)
-          | false ↦ (λ i k. record { serves = refl; not_worn = below n last_serial e; slot_left = below (length (unexpired s m rows)) slots f; within = below (length (unexpired s m rows)) site.limits.rows i })
+          | false ↦ (λ i k. record { serves = refl; not_worn = below its.next last_serial e; slot_left = below (length (unexpired_rows its m)) slots f; within = below (length (unexpired_rows its m)) site.limits.rows i })
         ] refl)
       ] refl)
     ] refl h
 
--- where a row has place, what is checked later decides
-pub place_later : (site : Site) (home : Home) (m : ℕ) (later : Option Refusal) → coming_refusal site home m None ≡ None → coming_refusal site home m later ≡ later
-place_later site Never m later h = absurd cc
-place_later site Gone m later h = absurd cc
-place_later site (Serves s v n rows) m later h =
-    let takes = takes_one Serving site s v n m rows h in
-    rw (over n last_serial takes.not_worn, over (length (unexpired s m rows)) slots takes.slot_left, over (length (unexpired s m rows)) site.limits.rows takes.within) refl
-
-in_slot : (reason : Reason) (home : HomeId) (source serial slot m : ℕ) (row : Row) → record (entered_as reason home source serial 0 m row) { serial = serial; slot = slot } ≡ entered_as reason home source serial slot m row
-in_slot DeadLetter home source serial slot m row = refl
-in_slot (Task number) home source serial slot m row = refl
-
-back_in_slot : (reason : Reason) (serial slot m : ℕ) (row : Row) → record (returned_as reason serial 0 m row) { serial = serial; slot = slot } ≡ returned_as reason serial slot m row
-back_in_slot DeadLetter serial slot m row = refl
-back_in_slot (Task number) serial slot m row = refl
+-- where a row may come in, what is checked later decides
+pub later_decides : (site : Site) (home : Home) (m : ℕ) (later : Option Refusal) → coming_refusal site home m None ≡ None → coming_refusal site home m later ≡ later
+later_decides site Never m later h = absurd cc
+later_decides site Gone m later h = absurd cc
+later_decides site (Serves its) m later h =
+    let takes = takes_one Serving site its m h in
+    rw (over its.next last_serial takes.not_worn, over (length (unexpired_rows its m)) slots takes.slot_left, over (length (unexpired_rows its m)) site.limits.rows takes.within) refl
 
 -- what a home that puts the row of an item last has done
-pub entered_at : (site : Site) (home : Home) (m serial slot : ℕ) (item : Item) (after : Home) → may_enter site.home item ≡ true → IsNextOf home serial → IsPut site home m (entered_row site.home serial 0 m item) slot after
-    → HomeStep site home m (Enter item) (Entered (record { serial = serial; slot = slot })) after
+pub entered_at : (site : Site) (home : Home) (m serial : ℕ) (entered : EnteredRow) (item : Item) (after : Home) → may_enter site.home item ≡ true → IsNextOf home serial → IsPut site home m (entered_row site.home serial 0 m item) entered after
+    → HomeStep site home m (Enter item) (Entered entered) after
 unfolding HomeStep
-entered_at site Never m serial slot item after may next put = absurd next
-entered_at site Gone m serial slot item after may next put = absurd next
-entered_at site (Serves s v n rows) m serial slot item after may next put =
-    let left : IsPut site (Serves s v n rows) m (entered_row site.home n 0 m item) slot after = subst (λ (k : ℕ). IsPut site (Serves s v n rows) m (entered_row site.home k 0 m item) slot after) next put in
-    rw next (may, put.0, refl, left.1 ∙ ap (λ (row : Row). Serves s v (n + 1) (unexpired s m rows ++ row ∷ [])) (in_slot item.reason site.home item.source n slot m item.row))
+entered_at site Never m serial entered item after may next put = absurd next
+entered_at site Gone m serial entered item after may next put = absurd next
+entered_at site (Serves its) m serial entered item after may next put =
+    let left : IsPut site (Serves its) m (entered_row site.home its.next 0 m item) entered after = subst (λ (k : ℕ). IsPut site (Serves its) m (entered_row site.home k 0 m item) entered after) next put in
+    (may, left.0, left.1, left.2)
 
-pub returned_at : (site : Site) (home : Home) (m serial slot : ℕ) (item : Item) (after : Home) → may_return site.home item ≡ true → IsNextOf home serial → IsPut site home m (returned_row serial 0 m item) slot after
-    → HomeStep site home m (GiveBack item) (Entered (record { serial = serial; slot = slot })) after
+pub returned_at : (site : Site) (home : Home) (m serial : ℕ) (entered : EnteredRow) (item : Item) (after : Home) → may_return site.home item ≡ true → IsNextOf home serial → IsPut site home m (returned_row serial 0 m item) entered after
+    → HomeStep site home m (GiveBack item) (Entered entered) after
 unfolding HomeStep
-returned_at site Never m serial slot item after may next put = absurd next
-returned_at site Gone m serial slot item after may next put = absurd next
-returned_at site (Serves s v n rows) m serial slot item after may next put =
-    let left : IsPut site (Serves s v n rows) m (returned_row n 0 m item) slot after = subst (λ (k : ℕ). IsPut site (Serves s v n rows) m (returned_row k 0 m item) slot after) next put in
-    rw next (may, put.0, refl, left.1 ∙ ap (λ (row : Row). Serves s v (n + 1) (unexpired s m rows ++ row ∷ [])) (back_in_slot item.reason n slot m item.row))
+returned_at site Never m serial entered item after may next put = absurd next
+returned_at site Gone m serial entered item after may next put = absurd next
+returned_at site (Serves its) m serial entered item after may next put =
+    let left : IsPut site (Serves its) m (returned_row its.next 0 m item) entered after = subst (λ (k : ℕ). IsPut site (Serves its) m (returned_row k 0 m item) entered after) next put in
+    (may, left.0, left.1, left.2)
 
 pub turned_at : (site : Site) (home : Home) (m : ℕ) (item : Item) → home ≡ Gone → may_enter site.home item ≡ true → HomeStep site home m (TurnBack item) Done home
 unfolding HomeStep
 turned_at site home m item gone may = rw gone (may, refl)
 
-pub given_up_at : (site : Site) (home : Home) (m : ℕ) (item : Item) → home ≡ Gone → may_return site.home item ≡ true → HomeStep site home m (GiveUp item) Done home
+pub dropped_at : (site : Site) (home : Home) (m : ℕ) (item : Item) → home ≡ Gone → may_return site.home item ≡ true → HomeStep site home m (Drop item) Done home
 unfolding HomeStep
-given_up_at site home m item gone may = rw gone (may, refl)
+dropped_at site home m item gone may = rw gone (may, refl)
 
 -- a row that the home has goes out, and it is the one that was found by its slot and serial
-pub record GoneOut (status : Status) (s : Settings) (v n m : ℕ) (rows rest : List Row) (row taken : Row) : Type 0 where
+pub record GoneOut (status : Status) (its : Contents) (m : ℕ) (rest : List Row) (row taken : Row) : Type 0 where
   pub serves : status ≡ Serving
   pub same : taken ≡ row
-  pub without : GoesWithout (home_with status s v n rows) m row (home_with status s v n rest)
+  pub without : GoesWithout (home_with status its) m row (home_with status (record its { rows = rest }))
 
-pub gone_out : (status : Status) (s : Settings) (v n m : ℕ) (rows rest : List Row) (row taken : Row) → RisesFrom 0 rows n → HasRow (home_with status s v n rows) m row → is_at row.slot row.serial taken ≡ true
-    → Takes taken (unexpired s m rows) rest → GoneOut status s v n m rows rest row taken
-gone_out Unopened s v n m rows rest row taken rises has at takes = absurd has
-gone_out Closed s v n m rows rest row taken rises has at takes = absurd has
-gone_out Serving s v n m rows rest row taken rises has at takes =
-    let same = taken_same (unexpired s m rows) rest n row taken (rises_unexpired s m 0 rows n rises) has takes at in
-    record { serves = refl; same = same; without = (rest, subst (λ (x : Row). Takes x (unexpired s m rows) rest) same takes, refl) }
+pub gone_out : (status : Status) (its : Contents) (m : ℕ) (rest : List Row) (row taken : Row) → RisesFrom 0 its.rows its.next → HasRow (home_with status its) m row → is_at row.slot row.serial taken ≡ true
+    → Takes taken (unexpired_rows its m) rest → GoneOut status its m rest row taken
+gone_out Unopened its m rest row taken rises has at takes = absurd has
+gone_out Closed its m rest row taken rises has at takes = absurd has
+gone_out Serving its m rest row taken rises has at takes =
+    let same = taken_same (unexpired_rows its m) rest its.next row taken (rises_unexpired its.settings m 0 its.rows its.next rises) has takes at in
+    record { serves = refl; same = same; without = (rest, subst (λ (x : Row). Takes x (unexpired_rows its m) rest) same takes, refl) }

@@ -1,8 +1,10 @@
--- A call of a home that gives nothing back.
-use Rattle.std.specs.Prelude.{◌≡◌, ℕ, Some, Result, IfErr, OnErr, OnOk}
+-- Calls of a home, each done or refused: those that give nothing back, and those by which an item comes in.
+use Rattle.std.specs.Prelude.{◌≡◌, ◌≤◌, ◌+◌, ℕ, Some, Result, IfErr, IfOk, OnErr, OnOk}
 use Rattle.sq_base.specs.declared.refusal.Refusal.{Refusal}
+use Rattle.sq_base.specs.declared.refusal.Refusal.TheVariants.{NoMemory}
 use Rattle.sq_model.specs.declared.calls.HomeCall.{HomeCall}
-use Rattle.sq_model.specs.declared.replies.HomeReply.TheVariants.{Done}
+use Rattle.sq_model.specs.declared.replies.EnteredRow.{EnteredRow}
+use Rattle.sq_model.specs.declared.replies.HomeReply.TheVariants.{Done, Entered}
 use Rattle.sq_model.specs.Homes.{HomeStep, home_refusal}
 use Rattle.sq_shard.specs.ShardValue.{ShardValue}
 
@@ -12,4 +14,12 @@ pub record IsDoneOrRefused (call : HomeCall) (m : ℕ) (old new : ShardValue) (s
   pub site : new.site ≡ old.site
   pub room : new.room ≡ old.room
   pub refusal : IfErr said (λ e. home_refusal old.site old.home m call ≡ Some e)
+  pub err : OnErr said (new ≡ old)
+
+-- the row of an item came in as a step of the home, or memory was out, which changes nothing
+pub record HasComeIn (call : HomeCall) (m : ℕ) (old new : ShardValue) (said : Result EnteredRow Refusal) : Type 0 where
+  pub step : IfOk said (λ entered. HomeStep old.site old.home m call (Entered entered) new.home)
+  pub site : new.site ≡ old.site
+  pub room : old.room ≤ new.room + 1
+  pub refused : IfErr said (λ e. e ≡ NoMemory)
   pub err : OnErr said (new ≡ old)

@@ -8,59 +8,59 @@ use Rattle.sq_model.specs.declared.calls.HomeCall.{HomeCall}
 use Rattle.sq_model.specs.declared.calls.HomeCall.TheVariants.{Send}
 use Rattle.sq_model.specs.declared.calls.HomeCall.TheVariants as call
 use Rattle.sq_model.specs.declared.place.Site.{Site}
-use Rattle.sq_model.specs.Homes.{Home, Unopened, Serving, Closed, dead_target, place_refusal, refused_if}
-use Rattle.sq_model.specs.Rows.{unexpired, is_dead, is_live, Takes}
+use Rattle.sq_model.specs.Homes.{Home, Unopened, Serving, Closed, dead_target, full_refusal, refused_if, unexpired_rows}
+use Rattle.sq_model.specs.Rows.{is_dead, is_live, Takes}
 use Rattle.sq_model.specs.declared.item.Item.{Item}
 use Rattle.sq_model.specs.declared.shared.ItemAct.{ItemAct}
-use Rattle.sq_model.specs.declared.shared.ItemAct.TheVariants.{Enter, TurnBack, GiveBack, GiveUp}
+use Rattle.sq_model.specs.declared.shared.ItemAct.TheVariants.{Enter, TurnBack, GiveBack, Drop}
 use Rattle.sq_model.specs.ItemActs.{is_its}
 use Rattle.sq_store.specs.Picked.{IsOneOf}
 
 -- a dead row of the home at m
 abbrev pub IsDeadAt : Home → ℕ → Row → Type 0
-IsDeadAt (Serving s v n rows) m row = IsOneOf (is_dead s m) (unexpired s m rows) row
+IsDeadAt (Serving its) m row = IsOneOf (is_dead its.settings m) (unexpired_rows its m) row
 IsDeadAt Unopened m row = ⊥
 IsDeadAt Closed m row = ⊥
 
 -- a live row of the home at m
 abbrev pub IsLiveAt : Home → ℕ → Row → Type 0
-IsLiveAt (Serving s v n rows) m row = IsOneOf (is_live s m) (unexpired s m rows) row
+IsLiveAt (Serving its) m row = IsOneOf (is_live its.settings m) (unexpired_rows its m) row
 IsLiveAt Unopened m row = ⊥
 IsLiveAt Closed m row = ⊥
 
 -- one is there
 abbrev pub has_live_row : Home → ℕ → Bool
-has_live_row (Serving s v n rows) m = list_any (is_live s m) (unexpired s m rows)
+has_live_row (Serving its) m = list_any (is_live its.settings m) (unexpired_rows its m)
 has_live_row Unopened m = false
 has_live_row Closed m = false
 
 -- it serves, or is closed
 abbrev pub is_opened : Home → Bool
-is_opened (Serving s v n rows) = true
+is_opened (Serving its) = true
 is_opened Unopened = false
 is_opened Closed = true
 
 -- without its expired rows
 abbrev pub unexpired_home : Home → ℕ → Home
-unexpired_home (Serving s v n rows) m = Serving s v n (unexpired s m rows)
+unexpired_home (Serving its) m = Serving (record its { rows = unexpired_rows its m })
 unexpired_home Unopened m = Unopened
 unexpired_home Closed m = Closed
 
 -- the queue that a dead row leaves for
 abbrev pub target_at : Home → Option ℕ
-target_at (Serving s v n rows) = dead_target s.redrive
+target_at (Serving its) = dead_target its.settings.redrive
 target_at Unopened = None
 target_at Closed = None
 
 -- the home has this row at m
 abbrev pub HasRow : Home → ℕ → Row → Type 0
-HasRow (Serving s v n rows) m row = Contains (unexpired s m rows) row
+HasRow (Serving its) m row = Contains (unexpired_rows its m) row
 HasRow Unopened m row = ⊥
 HasRow Closed m row = ⊥
 
 -- the row goes out, and the others stay
 abbrev pub GoesWithout : Home → ℕ → Row → Home → Type 0
-GoesWithout (Serving s v n rows) m row after = (rest : List Row) × Takes row (unexpired s m rows) rest × (after ≡ Serving s v n rest)
+GoesWithout (Serving its) m row after = (rest : List Row) × Takes row (unexpired_rows its m) rest × (after ≡ Serving (record its { rows = rest }))
 GoesWithout Unopened m row after = ⊥
 GoesWithout Closed m row after = ⊥
 
@@ -76,17 +76,17 @@ abbrev pub PutsRow : ItemAct → Type 0
 PutsRow Enter = Unit {0}
 PutsRow TurnBack = ⊥
 PutsRow GiveBack = Unit {0}
-PutsRow GiveUp = ⊥
+PutsRow Drop = ⊥
 
 -- why a home takes no row at m
 abbrev pub coming_refusal : Site → Home → ℕ → Option Refusal → Option Refusal
-coming_refusal site (Serving s v n rows) m later = place_refusal site.limits n (unexpired s m rows) later
+coming_refusal site (Serving its) m later = full_refusal site.limits its.next (unexpired_rows its m) later
 coming_refusal site Unopened m later = Some QueueDoesNotExist
 coming_refusal site Closed m later = Some QueueDoesNotExist
 
--- why no item is sent back from a home, or given up there: it is not closed, or the item is not one for that
+-- why no item is sent back from a home, or dropped there: it is not closed, or the item is not one for that
 abbrev pub closed_refusal : Home → Bool → Option Refusal
-closed_refusal (Serving s v n rows) is_its = Some UnsupportedOperation
+closed_refusal (Serving its) is_its = Some UnsupportedOperation
 closed_refusal Unopened is_its = Some QueueDoesNotExist
 closed_refusal Closed is_its = refused_if (not is_its) UnsupportedOperation None
 
@@ -95,11 +95,11 @@ abbrev pub item_refusal : ItemAct → Site → Home → ℕ → Option Item → 
 item_refusal Enter site home m item = coming_refusal site home m (refused_if (not (is_its Enter site.home item)) UnsupportedOperation None)
 item_refusal TurnBack site home m item = closed_refusal home (is_its TurnBack site.home item)
 item_refusal GiveBack site home m item = coming_refusal site home m (refused_if (not (is_its GiveBack site.home item)) UnsupportedOperation None)
-item_refusal GiveUp site home m item = closed_refusal home (is_its GiveUp site.home item)
+item_refusal Drop site home m item = closed_refusal home (is_its Drop site.home item)
 
 -- a home can do it with an item that is one for it
 abbrev pub IsFor : ItemAct → Site → Home → ℕ → Type 0
 IsFor Enter site home m = coming_refusal site home m None ≡ None
 IsFor TurnBack site home m = home ≡ Closed
 IsFor GiveBack site home m = coming_refusal site home m None ≡ None
-IsFor GiveUp site home m = home ≡ Closed
+IsFor Drop site home m = home ≡ Closed

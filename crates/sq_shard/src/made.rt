@@ -8,7 +8,7 @@ use sq_base::ids::{HomeId, Serial};
 use sq_base::message_id::MessageId;
 use sq_base::refusal::Refusal;
 use sq_base::row::Row;
-use sq_model::item::{Item, Reason};
+use sq_model::item::{Carried, Item, Reason};
 use sq_model::rows::copy_row;
 use sq_model::shared::ItemAct;
 
@@ -43,17 +43,17 @@ pub fn sent_row(home: &HomeId, serial: Serial, moment: u64, until: u64, body: Bo
     }
 }
 
-// A row at a home that it is new to, before it has a slot: visible at once, and never received there. Refused as
-// NoMemory.
-fn moved_row(serial: Serial, moment: u64, row: &Row) -> Result<Row, Refusal>
-    ensures moved { IfOk result (λ moved. moved ≡ homes.moved serial 0 moment row.now) }
+// A row at a home that it is new to, before it has a slot: visible at once. Refused as NoMemory.
+fn moved_row(keeps: Carried, serial: Serial, moment: u64, row: &Row) -> Result<Row, Refusal>
+    ensures moved { IfOk result (λ moved. moved ≡ homes.moved keeps serial 0 moment row.now) }
     ensures err { IfErr result (λ e. e ≡ Refusal.NoMemory) }
 {
     let mut moved = copy_row(row)?;
     moved.serial = serial;
     moved.slot = 0;
+    moved.enqueued = keeps.enqueued;
     moved.visible_from = moment;
-    moved.receives = 0;
+    moved.receives = keeps.receives;
     moved.last_receive = None;
     Ok(moved)
 }
@@ -64,12 +64,12 @@ pub fn entered_row(home: &HomeId, serial: Serial, moment: u64, item: &Item) -> R
     ensures entered { IfOk result (λ row. row ≡ homes.entered_row home.now serial 0 moment item.now) }
     ensures err { IfErr result (λ e. e ≡ Refusal.NoMemory) }
 {
-    let mut row = moved_row(serial, moment, &item.row)?;
+    let keeps = Carried::by(&item.reason, moment, item.row.enqueued);
+    let mut row = moved_row(keeps, serial, moment, &item.row)?;
     match item.reason {
         Reason::DeadLetter => row.origin = Some(item.source),
         Reason::Task(_) => {
             row.id = fresh_id(home, serial);
-            row.enqueued = moment;
             row.origin = None;
         }
     }
@@ -81,7 +81,8 @@ pub fn returned_row(serial: Serial, moment: u64, item: &Item) -> Result<Row, Ref
     ensures returned { IfOk result (λ row. row ≡ homes.returned_row serial 0 moment item.now) }
     ensures err { IfErr result (λ e. e ≡ Refusal.NoMemory) }
 {
-    moved_row(serial, moment, &item.row)
+    let keeps = Carried::back(item.row.enqueued);
+    moved_row(keeps, serial, moment, &item.row)
 }
 
 /// Whether an item is one for this home: on its way to it, or on its way back.
@@ -90,6 +91,6 @@ pub fn may_act(act: ItemAct, home: &HomeId, item: &Item) -> bool
 {
     match act {
         ItemAct::Enter | ItemAct::TurnBack => !item.homeward && item.target == home.queue,
-        ItemAct::GiveBack | ItemAct::GiveUp => item.homeward && item.source == home.queue,
+        ItemAct::GiveBack | ItemAct::Drop => item.homeward && item.source == home.queue,
     }
 }

@@ -1,10 +1,10 @@
 //! Messages that leave a home or come in, as the home sees it.
-ghost use Rattle.std.specs.Prelude.{◌≡◌, ◌<◌, ◌≤◌, ◌+◌, Bool, true, false, Some, None, option_map, IfOk, IfErr, IfSome, IfNone, OnErr, OnOk};
+ghost use Rattle.std.specs.Prelude.{◌≡◌, ◌<◌, Bool, true, false, Some, None, option_map, IfOk, IfErr, IfSome, IfNone, OnErr, OnOk};
 ghost use Rattle.sq_model.specs.declared.calls.HomeCall.TheVariants.{LeaveDead, Enter, GiveBack};
-ghost use Rattle.sq_model.specs.declared.replies.HomeReply.TheVariants.{Entered};
 ghost use Rattle.sq_model.specs.Homes.{HomeStep, IsIdle, home_refusal, may_enter, may_return};
 ghost use Rattle.sq_model.specs.ItemActs.{call_with, is_its, may_act, replied_by};
 ghost use Rattle.sq_model.specs.Homes.{Closed as Gone};
+ghost use Rattle.sq_shard.specs.Calls.{HasComeIn};
 ghost use Rattle.sq_shard.specs.Moves.{IsDeadAt, IsLiveAt, HasRow, GoesWithout, IsFor, KeepsRowRoom, PutsRow, has_live_row, is_opened, target_at, unexpired_home, coming_refusal, closed_refusal, item_refusal};
 
 use crate::made;
@@ -109,7 +109,7 @@ impl<S: Store> Shard<S> {
     /// The item, where this may be done with it here. Refused where its row comes in as QueueDoesNotExist (not serving),
     /// Worn (no serial is left), OverLimit (full), and where the home is to be closed as QueueDoesNotExist (never opened),
     /// UnsupportedOperation (serving); then as UnsupportedOperation (no item, or not one for this home).
-    #[tactic(auto, using(crate::proofs::MoveLaws::place_later))]
+    #[tactic(auto, using(crate::proofs::MoveLaws::later_decides))]
     pub fn check_item<'a>(
         &self,
         act: ItemAct,
@@ -118,20 +118,20 @@ impl<S: Store> Shard<S> {
     ) -> Result<&'a Item, Refusal>
         ensures item { IfOk result (λ it. option_map (λ i. i.now) item.entry ≡ Some it.now) }
         ensures may { IfOk result (λ it. may_act act self.now.site.home it.now ≡ true) }
-        ensures place { OnOk result (IsFor act self.now.site self.now.home moment) }
+        ensures is_for { OnOk result (IsFor act self.now.site self.now.home moment) }
         ensures none { OnOk result (item_refusal act self.now.site self.now.home moment (option_map (λ i. i.now) item.entry) ≡ None) }
         ensures refusal { IfErr result (λ e. item_refusal act self.now.site self.now.home moment (option_map (λ i. i.now) item.entry) ≡ Some e) }
     {
         match act {
-            ItemAct::Enter | ItemAct::GiveBack => self.check_place(moment)?,
-            ItemAct::TurnBack | ItemAct::GiveUp => self.check_closed()?,
+            ItemAct::Enter | ItemAct::GiveBack => self.check_coming(moment)?,
+            ItemAct::TurnBack | ItemAct::Drop => self.check_closed()?,
         }
         its(act, &self.site.home, item)
     }
 
     /// Does this with an item, as `check_item` found: with the row that came in, where one did. Refused only where one is to
     /// come in and memory is out.
-    #[tactic(auto, using(crate::proofs::MoveLaws::turned_at, crate::proofs::MoveLaws::given_up_at))]
+    #[tactic(auto, using(crate::proofs::MoveLaws::turned_at, crate::proofs::MoveLaws::dropped_at))]
     pub fn item_step(
         &mut self,
         act: ItemAct,
@@ -139,7 +139,7 @@ impl<S: Store> Shard<S> {
         item: &Item,
     ) -> Result<Option<EnteredRow>, Refusal>
         requires may { may_act act self.old.site.home item.now ≡ true }
-        requires place { IsFor act self.old.site self.old.home moment }
+        requires is_for { IsFor act self.old.site self.old.home moment }
         ensures step { IfOk result (λ entered. HomeStep self.old.site self.old.home moment (call_with act item.now) (replied_by entered) self.new.home) }
         ensures site { self.new.site ≡ self.old.site }
         ensures room { OnOk result (KeepsRowRoom (call_with act item.now) self.old.room self.new.room) }
@@ -149,7 +149,7 @@ impl<S: Store> Shard<S> {
         match act {
             ItemAct::Enter => Ok(Some(self.enter(moment, item)?)),
             ItemAct::GiveBack => Ok(Some(self.give_back(moment, item)?)),
-            ItemAct::TurnBack | ItemAct::GiveUp => Ok(None),
+            ItemAct::TurnBack | ItemAct::Drop => Ok(None),
         }
     }
 
@@ -157,34 +157,22 @@ impl<S: Store> Shard<S> {
     #[tactic(auto, using(crate::proofs::MoveLaws::entered_at))]
     pub fn enter(&mut self, moment: u64, item: &Item) -> Result<EnteredRow, Refusal>
         requires may { may_enter self.old.site.home item.now ≡ true }
-        requires place { coming_refusal self.old.site self.old.home moment None ≡ None }
-        ensures step { IfOk result (λ entered. HomeStep self.old.site self.old.home moment (Enter item.now) (Entered entered) self.new.home) }
-        ensures site { self.new.site ≡ self.old.site }
-        ensures room { self.old.room ≤ self.new.room + 1 }
-        ensures refused { IfErr result (λ e. e ≡ Refusal.NoMemory) }
-        ensures err { OnErr result (self.new ≡ self.old) }
+        requires may_come { coming_refusal self.old.site self.old.home moment None ≡ None }
+        ensures { HasComeIn (Enter item.now) moment self.old self.new result }
     {
-        let serial = self.next;
-        let row = made::entered_row(&self.site.home, serial, moment, item)?;
-        let slot = self.put(moment, row)?;
-        Ok(EnteredRow { serial, slot })
+        let row = made::entered_row(&self.site.home, self.next, moment, item)?;
+        self.put(moment, row)
     }
 
     /// Puts the row of an item last, which comes back, as `check_item` found. Refused only where memory is out.
     #[tactic(auto, using(crate::proofs::MoveLaws::returned_at))]
     pub fn give_back(&mut self, moment: u64, item: &Item) -> Result<EnteredRow, Refusal>
         requires may { may_return self.old.site.home item.now ≡ true }
-        requires place { coming_refusal self.old.site self.old.home moment None ≡ None }
-        ensures step { IfOk result (λ entered. HomeStep self.old.site self.old.home moment (GiveBack item.now) (Entered entered) self.new.home) }
-        ensures site { self.new.site ≡ self.old.site }
-        ensures room { self.old.room ≤ self.new.room + 1 }
-        ensures refused { IfErr result (λ e. e ≡ Refusal.NoMemory) }
-        ensures err { OnErr result (self.new ≡ self.old) }
+        requires may_come { coming_refusal self.old.site self.old.home moment None ≡ None }
+        ensures { HasComeIn (GiveBack item.now) moment self.old self.new result }
     {
-        let serial = self.next;
-        let row = made::returned_row(serial, moment, item)?;
-        let slot = self.put(moment, row)?;
-        Ok(EnteredRow { serial, slot })
+        let row = made::returned_row(self.next, moment, item)?;
+        self.put(moment, row)
     }
 
     // Refused as QueueDoesNotExist (never opened), UnsupportedOperation (serving).

@@ -21,7 +21,7 @@ use sq_base::row::Row;
 use sq_base::settings::Settings;
 use sq_model::calls::Receipt;
 use sq_model::place::Site;
-use sq_model::replies::{Counts, SentMessage};
+use sq_model::replies::{Counts, EnteredRow, SentMessage};
 use sq_model::rows::Rows;
 use sq_store::store::{At, Store};
 use std::alloc::Global;
@@ -78,7 +78,7 @@ impl<S: Store> Model for Shard<S> {
 
     ghost Value = { ShardValue };
 
-    ghost view = { λ a. record { site = a.site; home = home_with a.status a.settings a.version a.next (S.rows a.store); room = a.room } };
+    ghost view = { λ a. record { site = a.site; home = home_with a.status (record { settings = a.settings; version = a.version; next = a.next; rows = S.rows a.store }); room = a.room } };
 
     ghost use Rattle.sq_shard.specs.declared.shard.Status.TheVariants.{Unopened, Closed};
 
@@ -147,7 +147,7 @@ impl<S: Store> Shard<S> {
     /// Puts a message last; without a delay the home's is taken.
     /// Refused as QueueDoesNotExist (not serving), Worn (no serial is left), OverLimit (full), NoMemory (it shows room for no
     /// row).
-    #[tactic(auto, unfolding(sq_model::specs::Homes::HomeStep, sq_model::specs::Homes::home_refusal), using(sq_model::proofs::RowLaws::rises_unexpired, crate::proofs::Few::few_unexpired, sq_model::proofs::RowLaws::rises_push, crate::proofs::Few::few_pushed, crate::proofs::Few::full_refused, crate::proofs::Few::place_left))]
+    #[tactic(auto, unfolding(sq_model::specs::Homes::HomeStep, sq_model::specs::Homes::home_refusal), using(sq_model::proofs::RowLaws::rises_unexpired, crate::proofs::Few::few_unexpired, sq_model::proofs::RowLaws::rises_push, crate::proofs::Few::few_pushed, crate::proofs::Few::full_refused, crate::proofs::Few::one_more_left))]
     pub fn send(
         &mut self,
         moment: u64,
@@ -162,19 +162,19 @@ impl<S: Store> Shard<S> {
         ensures err { OnErr result (self.new ≡ self.old) }
     {
         // What refuses a message is checked before it asks for memory.
-        self.check_place(moment)?;
+        self.check_coming(moment)?;
         let delay = delay.unwrap_or(self.settings.delay);
         let until = after_seconds(moment, delay.get());
         let row = made::sent_row(&self.site.home, self.next, moment, until, body);
         let id = made::fresh_id(&self.site.home, self.next);
-        let slot = self.put(moment, row)?;
+        let EnteredRow { slot, .. } = self.put(moment, row)?;
         Ok(SentMessage { id, slot })
     }
 
     // Refused as QueueDoesNotExist (not serving), Worn (no serial is left), OverLimit (full).
-    #[tactic(auto, using(crate::proofs::Few::full_refused, crate::proofs::Few::place_left))]
-    pub(crate) fn check_place(&self, moment: u64) -> Result<(), Refusal>
-        ensures place { OnOk result (coming_refusal self.now.site self.now.home moment None ≡ None) }
+    #[tactic(auto, using(crate::proofs::Few::full_refused, crate::proofs::Few::one_more_left))]
+    pub(crate) fn check_coming(&self, moment: u64) -> Result<(), Refusal>
+        ensures may_come { OnOk result (coming_refusal self.now.site self.now.home moment None ≡ None) }
         ensures refused { IfErr result (λ e. (later : Option Refused) → coming_refusal self.now.site self.now.home moment later ≡ Some e) }
     {
         let Status::Serving = self.status else {
@@ -190,10 +190,10 @@ impl<S: Store> Shard<S> {
         Ok(())
     }
 
-    // Puts a row last, with the next serial, and gives its slot. Refused as NoMemory where it shows room for none.
-    pub(crate) fn put(&mut self, moment: u64, row: Row) -> Result<u32, Refusal>
+    // Puts a row last, with the next serial. Refused as NoMemory where it shows room for none.
+    pub(crate) fn put(&mut self, moment: u64, row: Row) -> Result<EnteredRow, Refusal>
         requires { coming_refusal self.old.site self.old.home moment None ≡ None }
-        ensures put { IfOk result (λ slot. IsPut self.old.site self.old.home moment row slot self.new.home) }
+        ensures put { IfOk result (λ entered. IsPut self.old.site self.old.home moment row entered self.new.home) }
         ensures site { self.new.site ≡ self.old.site }
         ensures room { self.old.room ≤ self.new.room + 1 }
         ensures refused { IfErr result (λ e. (e ≡ Refusal.NoMemory) × (self.old.room ≡ 0)) }
@@ -202,14 +202,15 @@ impl<S: Store> Shard<S> {
         make_room(&mut self.store, self.room)?;
         let settings = self.settings;
         self.store.expire(&At { settings, moment });
+        let serial = self.next;
         let mut row = row;
-        row.serial = self.next;
+        row.serial = serial;
         let slot = self.store.insert(row);
         self.room = self.store.spare();
-        if let Some(after) = Serial::new(self.next.get() + 1) {
+        if let Some(after) = Serial::new(serial.get() + 1) {
             self.next = after;
         }
-        Ok(slot)
+        Ok(EnteredRow { serial, slot })
     }
 
     /// What a look at this moment gives, as it stands after it, and nothing is changed yet: up to `max` messages, which are none

@@ -75,11 +75,11 @@ impl SlotTable {
     pub fn spare(&self) -> usize
         ensures { result ≡ self.now.reserved }
     {
-        let places = self.rows.capacity();
-        if places > 4_294_967_296 {
+        let capacity = self.rows.capacity();
+        if capacity > 4_294_967_296 {
             return 0;
         }
-        places - self.rows.len()
+        capacity - self.rows.len()
     }
 
     /// The slot of the next row; none where it would be at or past 2^32.

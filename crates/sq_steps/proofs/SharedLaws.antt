@@ -13,7 +13,7 @@ use Rattle.sq_model.specs.declared.place.Site.{Site}
 use Rattle.sq_model.specs.declared.replies.HomeReply.{HomeReply}
 use Rattle.sq_model.specs.declared.replies.HomeReply.TheVariants.{Done, Entered}
 use Rattle.sq_model.specs.declared.shared.ItemAct.{ItemAct}
-use Rattle.sq_model.specs.declared.shared.ItemAct.TheVariants.{Enter, TurnBack, GiveBack, GiveUp}
+use Rattle.sq_model.specs.declared.shared.ItemAct.TheVariants.{Enter, TurnBack, GiveBack, Drop}
 use Rattle.sq_model.specs.declared.shared.SharedAct.TheVariants as asks
 use Rattle.sq_model.specs.Homes.{Home, Unopened, Serving, Closed, HomeStep, IsFrom, home_refusal}
 use Rattle.sq_model.specs.ItemActs.{asked_with, call_with}
@@ -31,29 +31,29 @@ use Rattle.sq_steps.specs.SharedSteps.{HasMessage, IsPairRefused}
 -- a home that did this with an item is the one for it, and answers so
 pub answers_so : (act : ItemAct) (site : Site) (home : Home) (m : ℕ) (item : Item) (reply : HomeReply) (after : Home) → HomeStep site home m (call_with act item) reply after → DoesItem act site.home (call_with act item) reply item
 unfolding HomeStep
-answers_so Enter site (Serving s v n rows) m item (Entered entered) after h = record { is_call = refl; may = h.0; replies = (entered, refl) }
-answers_so GiveBack site (Serving s v n rows) m item (Entered entered) after h = record { is_call = refl; may = h.0; replies = (entered, refl) }
+answers_so Enter site (Serving its) m item (Entered entered) after h = record { is_call = refl; may = h.0; replies = (entered, refl) }
+answers_so GiveBack site (Serving its) m item (Entered entered) after h = record { is_call = refl; may = h.0; replies = (entered, refl) }
 answers_so TurnBack site Closed m item Done after h = record { is_call = refl; may = h.0; replies = refl }
-answers_so GiveUp site Closed m item Done after h = record { is_call = refl; may = h.0; replies = refl }
+answers_so Drop site Closed m item Done after h = record { is_call = refl; may = h.0; replies = refl }
 answers_so act site home m item reply after h = elim h [ ]
 
 -- ---- a home's first check is that of both
 
 item_first : (act : ItemAct) (site : Site) (home : Home) (l : Ledger) (m number : ℕ) → item_refusal act site home m (item_of number l) ≡ shared_refusal site home l m (asked_with act number)
 unfolding shared_refusal
-item_first act site Unopened l m number = elim act as (λ a. item_refusal a site Unopened m (item_of number l) ≡ shared_refusal site Unopened l m (asked_with a number)) [ Enter ↦ refl | TurnBack ↦ refl | GiveBack ↦ refl | GiveUp ↦ refl ]
-item_first act site (Serving s v n rows) l m number = elim act as (λ a. item_refusal a site (Serving s v n rows) m (item_of number l) ≡ shared_refusal site (Serving s v n rows) l m (asked_with a number)) [ Enter ↦ refl | TurnBack ↦ refl | GiveBack ↦ refl | GiveUp ↦ refl ]
-item_first act site Closed l m number = elim act as (λ a. item_refusal a site Closed m (item_of number l) ≡ shared_refusal site Closed l m (asked_with a number)) [ Enter ↦ refl | TurnBack ↦ refl | GiveBack ↦ refl | GiveUp ↦ refl ]
+item_first act site Unopened l m number = elim act as (λ a. item_refusal a site Unopened m (item_of number l) ≡ shared_refusal site Unopened l m (asked_with a number)) [ Enter ↦ refl | TurnBack ↦ refl | GiveBack ↦ refl | Drop ↦ refl ]
+item_first act site (Serving its) l m number = elim act as (λ a. item_refusal a site (Serving its) m (item_of number l) ≡ shared_refusal site (Serving its) l m (asked_with a number)) [ Enter ↦ refl | TurnBack ↦ refl | GiveBack ↦ refl | Drop ↦ refl ]
+item_first act site Closed l m number = elim act as (λ a. item_refusal a site Closed m (item_of number l) ≡ shared_refusal site Closed l m (asked_with a number)) [ Enter ↦ refl | TurnBack ↦ refl | GiveBack ↦ refl | Drop ↦ refl ]
 
 -- what is done with an item is recorded
 recorded : (act : ItemAct) (site : Site) (home : Home) (l : Ledger) (m number : ℕ) → IsUnrecorded site home l m (asked_with act number) → ⊥
 recorded act site Unopened l m number h = h
 recorded act site Closed l m number h = h
-recorded act site (Serving s v n rows) l m number h =
-    elim act as (λ a. IsUnrecorded site (Serving s v n rows) l m (asked_with a number) → ⊥) [ Enter ↦ (λ k. k) | TurnBack ↦ (λ k. k) | GiveBack ↦ (λ k. k) | GiveUp ↦ (λ k. k) ] h
+recorded act site (Serving its) l m number h =
+    elim act as (λ a. IsUnrecorded site (Serving its) l m (asked_with a number) → ⊥) [ Enter ↦ (λ k. k) | TurnBack ↦ (λ k. k) | GiveBack ↦ (λ k. k) | Drop ↦ (λ k. k) ] h
 
 copies_item : (act : ItemAct) (home : Home) (m number : ℕ) → HasMessage home m (asked_with act number)
-copies_item act home m number = elim act as (λ a. HasMessage home m (asked_with a number)) [ Enter ↦ tt | TurnBack ↦ tt | GiveBack ↦ tt | GiveUp ↦ tt ]
+copies_item act home m number = elim act as (λ a. HasMessage home m (asked_with a number)) [ Enter ↦ tt | TurnBack ↦ tt | GiveBack ↦ tt | Drop ↦ tt ]
 
 -- why a home does not do it is why neither half is done
 pub item_out : (act : ItemAct) (old : HistoryValue) (l : Ledger) (m number : ℕ) (item : Option Item) (e : Refusal) → item ≡ item_of number l
@@ -83,18 +83,18 @@ leave_passes : (site : Site) (home : Home) (l : Ledger) (m : ℕ) → HasDead ho
 unfolding shared_refusal
 leave_passes site Unopened l m dead = absurd dead
 leave_passes site Closed l m dead = absurd dead
-leave_passes site (Serving s v n rows) l m dead = rw dead refl
+leave_passes site (Serving its) l m dead = rw dead refl
 
 leaves_recorded : (site : Site) (home : Home) (l : Ledger) (m : ℕ) → HasDead home m → IsUnrecorded site home l m asks.LeaveDead → ⊥
 leaves_recorded site Unopened l m dead h = h
 leaves_recorded site Closed l m dead h = h
-leaves_recorded site (Serving s v n rows) l m dead h = let k : true ≡ false = sym dead ∙ h in cc
+leaves_recorded site (Serving its) l m dead h = let k : true ≡ false = sym dead ∙ h in cc
 
 home_first : (site : Site) (home : Home) (l : Ledger) (m : ℕ) (e : Refusal) → home_refusal site home m call.LeaveDead ≡ Some e → shared_refusal site home l m asks.LeaveDead ≡ Some e
 unfolding shared_refusal home_refusal
 home_first site Unopened l m e h = h
 home_first site Closed l m e h = h
-home_first site (Serving s v n rows) l m e h = absurd cc
+home_first site (Serving its) l m e h = absurd cc
 
 pub leave_refused : (old : HistoryValue) (l : Ledger) (m reserved : ℕ) (number : Result ℕ Refusal) (e : Refusal) → ((n : ℕ) → number ≡ Ok n → room_refusal l ≡ None)
     → ((r : Refusal) → number ≡ Err r → (room_refusal l ≡ Some r) ⊎ ((room_refusal l ≡ None) × (r ≡ NoMemory) × (reserved ≡ 0)))

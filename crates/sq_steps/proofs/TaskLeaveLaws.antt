@@ -71,7 +71,7 @@ task_refuses l old reserved m home number e said is err = subst (λ (r : Result 
 
 from_home : (site : Site) (home : Home) (m number : ℕ) (item : Item) (after : Home) → HomeStep site home m (call.LeaveTask number) (Left item) after → IsFrom site.home (ForTask number) item
 unfolding HomeStep
-from_home site (Serving s v n rows) m number item after h = h.0
+from_home site (Serving its) m number item after h = h.0
 from_home site home m number item after h = elim h [ ]
 
 pub told_left : (l : Ledger) (old reserved m : ℕ) (site : Site) (home after : Home) (number : ℕ) (said : TaskLeave) (task : Task) (reply : HomeReply) (left : Option Item) → IsSaid l old reserved m site.home number said
@@ -119,14 +119,14 @@ home_first : (site : Site) (home : Home) (l : Ledger) (m number : ℕ) (e : Refu
 unfolding shared_refusal home_refusal
 home_first site Unopened l m number e h = h
 home_first site Closed l m number e h = absurd cc
-home_first site (Serving s v n rows) l m number e h = absurd cc
+home_first site (Serving its) l m number e h = absurd cc
 
 then_task : (site : Site) (home : Home) (l : Ledger) (m number : ℕ) (e : Refusal) → home_refusal site home m (call.LeaveTask number) ≡ None → task_refusal site.home (task_of number l) None ≡ Some e
     → shared_refusal site home l m (asks.LeaveTask number) ≡ Some e
 unfolding shared_refusal home_refusal
 then_task site Unopened l m number e none h = absurd cc
 then_task site Closed l m number e none h = h
-then_task site (Serving s v n rows) l m number e none h = task_first site.home (task_of number l) _ e h
+then_task site (Serving its) l m number e none h = task_first site.home (task_of number l) _ e h
 
 -- where a live message may leave for the task, only the ledger's room is left to check
 then_room : (site : Site) (home : Home) (l : Ledger) (old reserved m number : ℕ) (said : TaskLeave) (task : Task) → IsSaid l old reserved m site.home number said → IsTaker said task → said.allowed ≡ true → has_live_row home m ≡ true
@@ -134,7 +134,7 @@ then_room : (site : Site) (home : Home) (l : Ledger) (old reserved m number : �
 unfolding shared_refusal
 then_room site Unopened l old reserved m number said task is taker ok live = absurd cc
 then_room site Closed l old reserved m number said task is taker ok live = absurd cc
-then_room site (Serving s v n rows) l old reserved m number said task is taker ok live =
+then_room site (Serving its) l old reserved m number said task is taker ok live =
     let may = takes l old reserved m site.home number said task is taker in
     let allowed : not (is_throttled m (task_of number l)) ≡ true = sym is.allowed ∙ ok in
     passed_task site.home (task_of number l) task _ may.found may.running may.of_source ∙ rw (allowed, live) refl
@@ -142,7 +142,7 @@ then_room site (Serving s v n rows) l old reserved m number said task is taker o
 is_recorded : (site : Site) (home : Home) (l : Ledger) (old reserved m number : ℕ) (said : TaskLeave) → IsSaid l old reserved m site.home number said → said.allowed ≡ true → IsUnrecorded site home l m (asks.LeaveTask number) → ⊥
 is_recorded site Unopened l old reserved m number said is ok h = h
 is_recorded site Closed l old reserved m number said is ok h = h
-is_recorded site (Serving s v n rows) l old reserved m number said is ok h =
+is_recorded site (Serving its) l old reserved m number said is ok h =
     let k : true ≡ false = sym ok ∙ sym (allowed_as l old reserved m site.home number said h.0 is h.1.found) ∙ h.2 in cc
 
 pub task_refused : (old : HistoryValue) (l : Ledger) (had reserved m number : ℕ) (said : TaskLeave) (e : Refusal) → IsSaid l had reserved m old.site.home number said
@@ -167,6 +167,6 @@ task_refused old l had reserved m number said e is (inr (inr (inr (inr (taker, o
 pub at_its_rate : (site : Site) (home : Home) (l : Ledger) (old reserved m number : ℕ) (said : TaskLeave) → IsSaid l old reserved m site.home number said → IsThrottled home said → IsUnrecorded site home l m (asks.LeaveTask number)
 at_its_rate site Unopened l old reserved m number said is h = h.0
 at_its_rate site Closed l old reserved m number said is h = h.0
-at_its_rate site (Serving s v n rows) l old reserved m number said is h =
+at_its_rate site (Serving its) l old reserved m number said is h =
     let may = takes l old reserved m site.home number said h.1.0 is h.1.1 in
     (h.1.0, may, allowed_as l old reserved m site.home number said h.1.0 is may.found ∙ h.2)

@@ -37,7 +37,7 @@ pub record IsJournal (journal : Journal) : Type 0 where
   pub below : AllByRecursion (λ n. place_of_record n < journal.next) journal.records
   pub saw : AllByRecursion (λ n. IsSeen (record_stamp n) journal.seen) journal.records
 
--- the records of the actor at a place rise
+-- the records of the actor at an index rise
 abbrev pub RecordsRiseAt : List Journal → ℕ → Type 0
 RecordsRiseAt journals b = (journal : Journal) → slice_get journals b ≡ Some journal → RecordsRise journal.records
 

@@ -49,7 +49,7 @@ HasMessage home m (asks.LeaveTask number) = has_live_row home m ≡ true
 HasMessage home m (asks.Enter number) = Unit {0}
 HasMessage home m (asks.TurnBack number) = Unit {0}
 HasMessage home m (asks.GiveBack number) = Unit {0}
-HasMessage home m (asks.GiveUp number) = Unit {0}
+HasMessage home m (asks.Drop number) = Unit {0}
 
 -- a message is copied, and where it leaves it becomes an item: nothing refuses the step, and something is there for it
 abbrev pub CopiesMessage : Site → Home → Ledger → ℕ → SharedAct → Type 0

@@ -1,5 +1,7 @@
 //! What an actor does in one step, and its outcome.
-use sq_base::ids::{HomeId, QueueNo};
+ghost use Rattle.std.specs.Prelude.{◌≡◌, Some};
+
+use sq_base::ids::{HomeId, HomeNo, QueueNo};
 use sq_base::name::QueueName;
 use sq_base::ranges::MaxResults;
 pub use sq_history::act::HomeAct;
@@ -20,6 +22,29 @@ pub enum TaskAct {
     /// Lists the tasks of a source, so many at most.
     List(QueueNo, MaxResults),
     Finish(TaskNo),
+}
+
+/// A home, and the name of its queue that was used, if any.
+#[derive(Clone, Copy)]
+pub struct NamedHome {
+    pub name: Option<QueueName>,
+    pub id: HomeId,
+}
+
+impl NamedHome {
+    /// A home of a queue that was found by its name.
+    pub fn found(queue: &NamedQueue, home: HomeNo) -> NamedHome
+        ensures { result ≡ record { name = Some queue.now.name; id = record { queue = queue.now.number; home = home } } }
+    {
+        let id = HomeId {
+            queue: queue.number,
+            home,
+        };
+        NamedHome {
+            name: Some(queue.name),
+            id,
+        }
+    }
 }
 
 /// Where the next item in transit goes.

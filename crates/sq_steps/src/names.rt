@@ -12,7 +12,7 @@ use sq_base::refusal::Refusal;
 use std::alloc::Global;
 use std::marker::Model;
 
-/// Names, each once, the one that was used first first. There are as many at most as a place of four bytes can tell apart.
+/// Names, each once, the one that was used first first. There are as many at most as an index of four bytes can tell apart.
 #[derive(Drop)]
 pub(crate) struct Names {
     names: IndexSet<QueueName>,
@@ -40,7 +40,7 @@ impl Names {
         }
     }
 
-    /// The name at a place, from 0 upwards.
+    /// The name at an index, from 0 upwards.
     pub(crate) fn get(&self, at: u32) -> Option<&QueueName>
         ensures { option_map (λ n. n.now) result ≡ slice_get self.now.names at }
     {
@@ -70,8 +70,8 @@ impl Names {
         Ok(())
     }
 
-    /// The place of a name, that is put last where it is not there.
-    pub(crate) fn place_of(&mut self, name: &QueueName) -> u32
+    /// The index of a name, that is put last where it is not there.
+    pub(crate) fn index_of(&mut self, name: &QueueName) -> u32
         requires { 0 < self.old.reserved }
         ensures put { HasPut self.old.names self.new.names name.now result }
         ensures reserved { self.old.reserved ≤ self.new.reserved + 1 }

@@ -1,9 +1,8 @@
 //! The records of an actor's steps.
-ghost use Rattle.std.specs.Prelude.{◌≡◌, ◌<◌, ◌≤◌, ◌+◌, ◌++◌, ◌∷◌, ◌==◌, [], None, Some, false, length, slice_get, IfErr, IfSome, OnOk};
+ghost use Rattle.std.specs.Prelude.{◌≡◌, ◌<◌, ◌≤◌, ◌+◌, ◌++◌, ◌∷◌, ◌==◌, [], None, Some, false, length, slice_get, IfSome};
 ghost use Rattle.std.specs.List.{list_any};
-ghost use Rattle.sq_base.specs.declared.refusal.Refusal.{Refusal as Why};
 ghost use Rattle.sq_model.specs.RecordValues.{OfHome, place_of_record};
-ghost use Rattle.sq_log.specs.Rooms.{IsReady, KeepsRoom};
+ghost use Rattle.sq_log.specs.Rooms.{HasReserved, IsReady, KeepsRoom};
 ghost use Rattle.sq_steps.specs.Records.{value_of_record};
 ghost use Rattle.sq_steps.specs.inside.Records.{IsFirstAt, IsKeptAs, least, place_of_kept, value_of_other, without_first};
 
@@ -22,7 +21,7 @@ use sq_model::replies::HomeReply;
 use std::alloc::Global;
 use std::marker::Model;
 
-/// A record of a home, by no name or by the one at a place; or at which place among the others a record is. What is small
+/// A record of a home, by no name or by the one at an index; or at which index among the others a record is. What is small
 /// comes first, where the mark of the kind leaves room for it.
 #[derive(Drop)]
 pub(crate) enum Kept {
@@ -39,7 +38,7 @@ pub(crate) enum Other {
     Ledger(LedgerRecord),
 }
 
-/// Records in their order, those of homes in their places and the others apart; each name that was used is there once. Memory
+/// Records in their order, those of homes in their order and the others apart; each name that was used is there once. Memory
 /// is got before a step, for a record of any part; it shows for how many more there was memory when its last one was put.
 #[derive(Drop)]
 pub(crate) struct Records {
@@ -87,7 +86,7 @@ impl Records {
         self.kept.len()
     }
 
-    /// The record at a place, from 0 upwards.
+    /// The record at an index, from 0 upwards.
     pub(crate) fn record(&self, index: usize) -> Record<'_>
         requires { index < length self.now.items }
         ensures { slice_get self.now.items index ≡ Some (value_of_record result) }
@@ -104,11 +103,7 @@ impl Records {
     /// Gets memory for one record more, and for four at once where it shows room for none. Refused as NoMemory where it
     /// shows room for none and has memory for fewer than four.
     pub(crate) fn reserve(&mut self) -> Result<(), Refusal>
-        ensures items { self.new.items ≡ self.old.items }
-        ensures room { self.new.room ≡ self.old.room }
-        ensures kept { self.old.reserved ≤ self.new.reserved }
-        ensures ready { OnOk result (IsReady self.new.room self.new.reserved) }
-        ensures refused { IfErr result (λ e. (e ≡ Why.NoMemory) × (self.old.room ≡ 0) × (self.old.reserved < 4)) }
+        ensures { HasReserved self.old self.new result }
     {
         if self.room == 0 {
             self.kept.reserve()?;
@@ -130,7 +125,7 @@ impl Records {
         self.room = spare(&self.kept, &self.others, &self.names);
     }
 
-    /// Puts a record of the directory or of the ledger last, for which `reserve` got memory: apart, with its place here.
+    /// Puts a record of the directory or of the ledger last, for which `reserve` got memory: apart, with its index here.
     pub(crate) fn push_other(&mut self, other: Other)
         requires { IsReady self.old.room self.old.reserved }
         ensures items { self.new.items ≡ self.old.items ++ value_of_other other ∷ [] }
@@ -179,7 +174,7 @@ fn keep(names: &mut Names, its_record: HomeRecord) -> Kept
 {
     let (step, home, name) = its_record.into_parts();
     match name {
-        Some(name) => Kept::Named(names.place_of(&name), home, step),
+        Some(name) => Kept::Named(names.index_of(&name), home, step),
         None => Kept::Home(home, step),
     }
 }

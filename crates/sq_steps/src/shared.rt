@@ -15,8 +15,9 @@ use sq_base::refusal::Refusal;
 use sq_base::stamp::Stamp;
 use sq_history::record::HomeRecord;
 use sq_history::recorded::Home;
-use sq_history::shared::HomeHalf;
+use sq_history::shared::StampedStep;
 use sq_ledger::ledger::{SharedEvent, TransitLedger};
+use sq_model::calls::HomeCall;
 use sq_model::event::Actor;
 use sq_model::item::{Item, ItemNo, TaskNo};
 use sq_model::replies::HomeReply;
@@ -34,68 +35,61 @@ fn stamp_of_both(home: Stamp, ledger: Stamp, seen: Stamp, now: u64) -> Result<St
     Stamp::after(above_both, seen, now)
 }
 
+// The ledger's event of a step of which the home's half is done, by its record and what is kept for the ledger.
+fn event_of<'a>(
+    kept: (HomeCall, HomeReply),
+    step: &'a StampedStep,
+    its_record: &'a HomeRecord,
+) -> SharedEvent<'a>
+    ensures by { result.by.now ≡ step.now.by }
+    ensures stamp { result.stamp ≡ step.now.stamp }
+    ensures home { result.home.now ≡ its_record.now.home }
+    ensures kept { result.kept ≡ kept }
+{
+    SharedEvent {
+        by: &step.by,
+        stamp: step.stamp,
+        home: its_record.home(),
+        kept,
+    }
+}
+
 // A dead message leaves the home, and is an item of the ledger; none where none is dead.
 fn leave_dead(
-    alloc: Global,
     home: &mut Home,
     ledger: &mut TransitLedger,
-    by: &Actor,
-    stamp: Stamp,
-    name: Option<QueueName>,
+    step: StampedStep,
 ) -> Result<Option<(HomeReply, HomeRecord)>, Refusal>
-    requires { IsPairReady home.old ledger.old by.now stamp }
-    ensures { PairEnds home.old home.new ledger.old.history ledger.new.history by.now stamp name asks.LeaveDead result }
+    requires { IsPairReady home.old ledger.old step.by step.stamp }
+    ensures { PairEnds home.old home.new ledger.old.history ledger.new.history step.by step.stamp step.name asks.LeaveDead result }
 {
     let number = ledger.room();
-    let Some((half, item)) = home.leave_dead(alloc, by, stamp, name, number)? else {
+    let Some((half, item)) = home.leave_dead(&step, number)? else {
         return Ok(None);
     };
-    let HomeHalf {
-        answered,
-        for_ledger,
-        its_record,
-    } = half;
-    let event = SharedEvent {
-        by,
-        stamp,
-        home: its_record.home(),
-        kept: for_ledger,
-    };
+    let event = event_of(half.for_ledger, &step, &half.its_record);
     ledger.take_in(event, item);
-    Ok(Some((answered, its_record)))
+    Ok(Some((half.answered, half.its_record)))
 }
 
 // A live message leaves the home for a task, and is an item of the ledger; or the ledger notes that none left. None where
 // the task is at its rate.
 fn leave_task(
-    alloc: Global,
     home: &mut Home,
     ledger: &mut TransitLedger,
-    by: &Actor,
-    stamp: Stamp,
-    name: Option<QueueName>,
+    step: StampedStep,
     number: TaskNo,
 ) -> Result<Option<(HomeReply, HomeRecord)>, Refusal>
-    requires { IsPairReady home.old ledger.old by.now stamp }
-    ensures { PairEnds home.old home.new ledger.old.history ledger.new.history by.now stamp name (asks.LeaveTask number) result }
+    requires { IsPairReady home.old ledger.old step.by step.stamp }
+    ensures { PairEnds home.old home.new ledger.old.history ledger.new.history step.by step.stamp step.name (asks.LeaveTask number) result }
 {
-    let asked = ledger.task_leave(&home.id(), number, stamp.moment);
-    let Some((half, left)) = home.leave_task(alloc, by, stamp, name, &asked)? else {
+    let asked = ledger.task_leave(&home.id(), number, step.stamp.moment);
+    let Some((half, left)) = home.leave_task(&step, &asked)? else {
         return Ok(None);
     };
-    let HomeHalf {
-        answered,
-        for_ledger,
-        its_record,
-    } = half;
-    let event = SharedEvent {
-        by,
-        stamp,
-        home: its_record.home(),
-        kept: for_ledger,
-    };
+    let event = event_of(half.for_ledger, &step, &half.its_record);
     tell_left(ledger, event, left, number);
-    Ok(Some((answered, its_record)))
+    Ok(Some((half.answered, half.its_record)))
 }
 
 // The ledger takes in the item that left for a task of a number, or notes that none did.
@@ -114,31 +108,19 @@ fn tell_left(ledger: &mut TransitLedger, event: SharedEvent<'_>, left: Option<It
 
 // This is done with the item of a number.
 fn item_step(
-    alloc: Global,
     home: &mut Home,
     ledger: &mut TransitLedger,
-    by: &Actor,
-    stamp: Stamp,
-    name: Option<QueueName>,
+    step: StampedStep,
     act: ItemAct,
     number: ItemNo,
 ) -> Result<Option<(HomeReply, HomeRecord)>, Refusal>
-    requires { IsPairReady home.old ledger.old by.now stamp }
-    ensures { PairEnds home.old home.new ledger.old.history ledger.new.history by.now stamp name (asked_with act number) result }
+    requires { IsPairReady home.old ledger.old step.by step.stamp }
+    ensures { PairEnds home.old home.new ledger.old.history ledger.new.history step.by step.stamp step.name (asked_with act number) result }
 {
-    let HomeHalf {
-        answered,
-        for_ledger,
-        its_record,
-    } = home.item_step(alloc, by, stamp, name, act, ledger.item(number))?;
-    let event = SharedEvent {
-        by,
-        stamp,
-        home: its_record.home(),
-        kept: for_ledger,
-    };
+    let half = home.item_step(&step, act, ledger.item(number))?;
+    let event = event_of(half.for_ledger, &step, &half.its_record);
     ledger.item_step(event, act, number);
-    Ok(Some((answered, its_record)))
+    Ok(Some((half.answered, half.its_record)))
 }
 
 // Both halves of a step; none where nothing leaves.
@@ -154,17 +136,21 @@ fn both_halves(
     requires { IsPairReady home.old ledger.old by.now stamp }
     ensures { PairEnds home.old home.new ledger.old.history ledger.new.history by.now stamp name act result }
 {
+    let step = StampedStep {
+        alloc,
+        by: *by,
+        stamp,
+        name,
+    };
     let (act, number) = match act {
-        SharedAct::LeaveDead => return leave_dead(alloc, home, ledger, by, stamp, name),
-        SharedAct::LeaveTask(number) => {
-            return leave_task(alloc, home, ledger, by, stamp, name, number);
-        }
+        SharedAct::LeaveDead => return leave_dead(home, ledger, step),
+        SharedAct::LeaveTask(number) => return leave_task(home, ledger, step, number),
         SharedAct::Enter(number) => (ItemAct::Enter, number),
         SharedAct::TurnBack(number) => (ItemAct::TurnBack, number),
         SharedAct::GiveBack(number) => (ItemAct::GiveBack, number),
-        SharedAct::GiveUp(number) => (ItemAct::GiveUp, number),
+        SharedAct::Drop(number) => (ItemAct::Drop, number),
     };
-    item_step(alloc, home, ledger, by, stamp, name, act, number)
+    item_step(home, ledger, step, act, number)
 }
 
 /// A step of a home and the ledger that are lent, by an actor that is lent. All that grows in the ledger and in the

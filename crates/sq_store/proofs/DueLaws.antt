@@ -232,46 +232,46 @@ due_of_class class key slots rows own ds held m p = found_of_class (λ row. clas
 
 -- ---- a walk
 
--- a place further, the row of its deadline is found, where it passes
-pub found_more : (p : Row → Bool) (rows : List Row) (ds : List Deadline) (place : ℕ) (d : Deadline) → slice_get ds place ≡ Some d
-    → found p rows (take (place + 1) ds) ≡ found p rows (take place ds) ++ filter p (cons_option (row_of rows d) [])
-found_more p rows ds place d at =
-    let more : take (place + 1) ds ≡ take place ds ++ d ∷ [] = rw (get_or_from_slice_get ds place d d at) at (take_more ds place d (slice_get_within ds place d at)) in
-    ap (found p rows) more ∙ ap (filter p) (filter_map-append (row_of rows) (take place ds) (d ∷ [])) ∙ filter-append p (filter_map (row_of rows) (take place ds)) (cons_option (row_of rows d) [])
+-- a rank further, the row of its deadline is found, where it passes
+pub found_more : (p : Row → Bool) (rows : List Row) (ds : List Deadline) (rank : ℕ) (d : Deadline) → slice_get ds rank ≡ Some d
+    → found p rows (take (rank + 1) ds) ≡ found p rows (take rank ds) ++ filter p (cons_option (row_of rows d) [])
+found_more p rows ds rank d at =
+    let more : take (rank + 1) ds ≡ take rank ds ++ d ∷ [] = rw (get_or_from_slice_get ds rank d d at) at (take_more ds rank d (slice_get_within ds rank d at)) in
+    ap (found p rows) more ∙ ap (filter p) (filter_map-append (row_of rows) (take rank ds) (d ∷ [])) ∙ filter-append p (filter_map (row_of rows) (take rank ds)) (cons_option (row_of rows d) [])
 
 pub at_most_one : (p : Row → Bool) (o : Option Row) → length (filter p (cons_option o [])) ≤ 1
 at_most_one p None = omega arith
 at_most_one p (Some row) = elim (p row) as (λ b. length (cond b (row ∷ []) []) ≤ 1) [ true ↦ omega arith | false ↦ omega arith ]
 
-pub counts_on : (p : Row → Bool) (rows : List Row) (ds : List Deadline) (place : ℕ) (d : Deadline) → slice_get ds place ≡ Some d
-    → length (found p rows (take (place + 1) ds)) ≡ length (found p rows (take place ds)) + length (filter p (cons_option (row_of rows d) []))
-counts_on p rows ds place d at = rw (found_more p rows ds place d at) (length-append (found p rows (take place ds)) (filter p (cons_option (row_of rows d) [])))
+pub counts_on : (p : Row → Bool) (rows : List Row) (ds : List Deadline) (rank : ℕ) (d : Deadline) → slice_get ds rank ≡ Some d
+    → length (found p rows (take (rank + 1) ds)) ≡ length (found p rows (take rank ds)) + length (filter p (cons_option (row_of rows d) []))
+counts_on p rows ds rank d at = rw (found_more p rows ds rank d at) (length-append (found p rows (take rank ds)) (filter p (cons_option (row_of rows d) [])))
 
 -- one that does not pass is passed over
-pub passed_over : (p : Row → Bool) (rows : List Row) (ds : List Deadline) (place : ℕ) (d : Deadline) → slice_get ds place ≡ Some d → filter p (cons_option (row_of rows d) []) ≡ []
-    → found p rows (take place ds) ≡ [] → found p rows (take (place + 1) ds) ≡ []
-passed_over p rows ds place d at fails none = rw (found_more p rows ds place d at, none, fails) refl
+pub passed_over : (p : Row → Bool) (rows : List Row) (ds : List Deadline) (rank : ℕ) (d : Deadline) → slice_get ds rank ≡ Some d → filter p (cons_option (row_of rows d) []) ≡ []
+    → found p rows (take rank ds) ≡ [] → found p rows (take (rank + 1) ds) ≡ []
+passed_over p rows ds rank d at fails none = rw (found_more p rows ds rank d at, none, fails) refl
 
 -- where all that is due is walked over, it is what is found
-pub found_all : (p : Row → Bool) (rows : List Row) (m : ℕ) (ds : List Deadline) (place : ℕ) → DeadlinesRise 0 ds → place ≤ count_by (is_due m) ds → count_by (is_due m) ds ≤ place
-    → found_due p rows m ds ≡ found p rows (take place ds)
-found_all p rows m ds place rise low high =
-    let same : count_by (is_due m) ds ≡ place = omega (arith, low, high) in
+pub found_all : (p : Row → Bool) (rows : List Row) (m : ℕ) (ds : List Deadline) (rank : ℕ) → DeadlinesRise 0 ds → rank ≤ count_by (is_due m) ds → count_by (is_due m) ds ≤ rank
+    → found_due p rows m ds ≡ found p rows (take rank ds)
+found_all p rows m ds rank rise low high =
+    let same : count_by (is_due m) ds ≡ rank = omega (arith, low, high) in
     ap (found p rows) (due_first m 0 ds rise ∙ ap (λ (n : ℕ). take n ds) same)
 
--- where one is due at a place, it is due at as many places as up to there
-pub walks_on : (m : ℕ) (ds : List Deadline) (place : ℕ) (d : Deadline) → DeadlinesRise 0 ds → if_due m (slice_get ds place) ≡ Some d → place + 1 ≤ count_by (is_due m) ds
-walks_on m ds place d rise at = omega (arith, due_is_counted m 0 d ds place rise at)
+-- where one is due at a rank, it is due at as many ranks as up to there
+pub walks_on : (m : ℕ) (ds : List Deadline) (rank : ℕ) (d : Deadline) → DeadlinesRise 0 ds → if_due m (slice_get ds rank) ≡ Some d → rank + 1 ≤ count_by (is_due m) ds
+walks_on m ds rank d rise at = omega (arith, due_is_counted m 0 d ds rank rise at)
 
--- where none is due at a place, all that is due is walked over
-pub found_before : (p : Row → Bool) (rows : List Row) (m : ℕ) (ds : List Deadline) (place : ℕ) → DeadlinesRise 0 ds → place ≤ count_by (is_due m) ds → if_due m (slice_get ds place) ≡ None
-    → found_due p rows m ds ≡ found p rows (take place ds)
-found_before p rows m ds place rise low none = found_all p rows m ds place rise low (none_due_is_past m 0 ds place rise none)
+-- where none is due at a rank, all that is due is walked over
+pub found_before : (p : Row → Bool) (rows : List Row) (m : ℕ) (ds : List Deadline) (rank : ℕ) → DeadlinesRise 0 ds → rank ≤ count_by (is_due m) ds → if_due m (slice_get ds rank) ≡ None
+    → found_due p rows m ds ≡ found p rows (take rank ds)
+found_before p rows m ds rank rise low none = found_all p rows m ds rank rise low (none_due_is_past m 0 ds rank rise none)
 
 -- and so it is where the walk is at the end
-pub found_at_end : (p : Row → Bool) (rows : List Row) (m : ℕ) (ds : List Deadline) (place : ℕ) → DeadlinesRise 0 ds → place ≤ count_by (is_due m) ds → length ds ≤ place
-    → found_due p rows m ds ≡ found p rows (take place ds)
-found_at_end p rows m ds place rise low end = found_all p rows m ds place rise low (omega (arith, end, count_by-le-length (is_due m) ds))
+pub found_at_end : (p : Row → Bool) (rows : List Row) (m : ℕ) (ds : List Deadline) (rank : ℕ) → DeadlinesRise 0 ds → rank ≤ count_by (is_due m) ds → length ds ≤ rank
+    → found_due p rows m ds ≡ found p rows (take rank ds)
+found_at_end p rows m ds rank rise low end = found_all p rows m ds rank rise low (omega (arith, end, count_by-le-length (is_due m) ds))
 
 -- no row is found in none
 pub found_in_none : (p : Row → Bool) (rows : List Row) (m : ℕ) (ds : List Deadline) → length rows ≡ 0 → found_due p rows m ds ≡ []

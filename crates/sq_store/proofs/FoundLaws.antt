@@ -12,7 +12,7 @@ use Rattle.sq_model.specs.Rows.{RisesFrom, Takes}
 use Rattle.sq_slots.specs.Slots.{is_at}
 use Rattle.sq_store.specs.Picked.{IsOneOf}
 
--- where no place passes, none does
+-- where no rank passes, none does
 pub none_passes : {X : Type 0} (p : X → Bool) (xs : List X) → position p xs ≡ None → list_any p xs ≡ false
 none_passes p xs h =
     elim (nat_lt (position_or_len p xs) (length xs)) as (λ v. nat_lt (position_or_len p xs) (length xs) ≡ v → cond v (Some (position_or_len p xs)) None ≡ None → list_any p xs ≡ false)
@@ -51,7 +51,7 @@ both : (a b : Bool) → (a && b) ≡ true → (a ≡ true) × (b ≡ true)
 both true b h = (refl, h)
 both false b h = absurd cc
 
--- the first place that is kept and passes has one of those that pass
+-- the first rank that is kept and passes has one of those that pass
 pub one_kept : (q p : Row → Bool) (rows : List Row) (i : ℕ) (row : Row) → position (λ x. q x && p x) rows ≡ Some i → slice_index_or rows i row ≡ row → IsOneOf p (filter q rows) row
 one_kept q p rows i row first is =
     let at = position-Some (λ x. q x && p x) rows i row first in

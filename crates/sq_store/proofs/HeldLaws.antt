@@ -42,7 +42,7 @@ module _ (class : Row → Bool) (key : Row → Deadline) (before : List Row) (ro
   held_out true is ds rise held = goes_out 0 (key row) (map key (filter class (before ++ after))) ds (rise refl) (IsPermutation-trans _ _ _ (IsPermutation-sym _ _ (among is)) held)
   held_out false is ds rise held = subst (λ (es : List Deadline). IsPermutation es ds) (apart is) held
 
-  -- another row in its place, of the class and with its moment
+  -- another row in its rank, of the class and with its moment
   pub held_same : (row' : Row) → class row ≡ true → class row' ≡ true → key row' ≡ key row → (ds : List Deadline) → Holds class key (before ++ row ∷ after) ds → Holds class key (before ++ row' ∷ after) ds
   held_same row' is is' same ds held =
       let one : map key (filter class (row' ∷ after)) ≡ map key (filter class (row ∷ after)) = rw (is, is', same) refl in

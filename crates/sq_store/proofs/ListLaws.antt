@@ -19,8 +19,8 @@ use Rattle.sq_store.specs.Due.{Holds, enqueued_at, visible_at}
 use Rattle.sq_store.specs.inside.Found.{found, row_of}
 use Rattle.sq_store.specs.SlotStores.{AreVisible, received_row, any_row, unreceived_row, exhausted_row}
 use Rattle.sq_store.specs.declared.visible.VisibleFrom.{VisibleFrom}
-use Rattle.sq_store.specs.Visible.{HasRoomFor, HasSpace}
-use Rattle.sq_store.specs.inside.Visible.{IsOrdered, IsSet, KeepsSpace}
+use Rattle.sq_store.specs.Visible.{HasSpace}
+use Rattle.sq_store.specs.inside.Visible.{IsOrdered, IsSet, KeepsSpace, HasRoomFor}
 use Rattle.sq_store.proofs.HeldLaws.{held_few}
 use Rattle.sq_store.proofs.MemoryLaws.{has_more, has_room}
 use Rattle.sq_store.proofs.DueLaws.{found_more, found_of_class}
@@ -98,16 +98,16 @@ slots_before rows before after row apart same =
     let k : true ≡ false = sym (is_number r.serial row.serial (ap (λ (x : Row). x.serial) one)) ∙ other in cc) before (All-contains_itself before)
 
 -- one more age, and the row of its slot stands in the list of its class
-pub listed_more : (rows : List Row) (ages : List Deadline) (place : ℕ) (d : Deadline) (row : Row) (old new : VisibleFrom) → AreApart rows → Holds any_row enqueued_at rows ages
-    → slice_get ages place ≡ Some d → row_of rows d ≡ Some row → row.slot < 4294967296 → IsOrdered row.receives old → IsSet row.receives (visible_at row) old new
-    → AreVisible (found any_row rows (take place ages)) old → AreVisible (found any_row rows (take (place + 1) ages)) new
-listed_more rows ages place d row old new apart held at is fits ordered set h =
-    let before = found any_row rows (take place ages) in
-    let after = found any_row rows (drop (place + 1) ages) in
-    let more : found any_row rows (take (place + 1) ages) ≡ before ++ row ∷ [] =
-    found_more any_row rows ages place d at ∙ ap (λ (o : Option Row). before ++ filter any_row (cons_option o [])) is in
+pub listed_more : (rows : List Row) (ages : List Deadline) (rank : ℕ) (d : Deadline) (row : Row) (old new : VisibleFrom) → AreApart rows → Holds any_row enqueued_at rows ages
+    → slice_get ages rank ≡ Some d → row_of rows d ≡ Some row → row.slot < 4294967296 → IsOrdered row.receives old → IsSet row.receives (visible_at row) old new
+    → AreVisible (found any_row rows (take rank ages)) old → AreVisible (found any_row rows (take (rank + 1) ages)) new
+listed_more rows ages rank d row old new apart held at is fits ordered set h =
+    let before = found any_row rows (take rank ages) in
+    let after = found any_row rows (drop (rank + 1) ages) in
+    let more : found any_row rows (take (rank + 1) ages) ≡ before ++ row ∷ [] =
+    found_more any_row rows ages rank d at ∙ ap (λ (o : Option Row). before ++ filter any_row (cons_option o [])) is in
     let whole : found any_row rows ages ≡ before ++ row ∷ after =
-    ap (found any_row rows) (sym (take-append-drop (place + 1) ages)) ∙ found_append rows (take (place + 1) ages) (drop (place + 1) ages) ∙ ap (λ (rs : List Row). rs ++ after) more ∙ append_assoc before (row ∷ []) after in
+    ap (found any_row rows) (sym (take-append-drop (rank + 1) ages)) ∙ found_append rows (take (rank + 1) ages) (drop (rank + 1) ages) ∙ ap (λ (rs : List Row). rs ++ after) more ∙ append_assoc before (row ∷ []) after in
     let others = slots_before rows before after row apart (subst (λ (rs : List Row). IsPermutation rows rs) whole (all_found rows ages apart held)) in
     rw more (comes_in before row [] old new fits (rw (append-nil before) others) ordered set (rw (append-nil before) h))
 
@@ -120,12 +120,12 @@ kept_few h (d ∷ ds) = let rest = kept_few h ds in elim (h d) as (λ o. length 
   | None ↦ omega (arith, rest)
 ]
 
-pub room_for_next : (rows : List Row) (ages : List Deadline) (place : ℕ) (first v : VisibleFrom) → Holds any_row enqueued_at rows ages → place < length ages → HasSpace (length rows) first → KeepsSpace first v
-    → AreVisible (found any_row rows (take place ages)) v → (receives : ℕ) → HasRoomFor receives v
-room_for_next rows ages place first v held within memory kept h =
-    let before = found any_row rows (take place ages) in
-    let few = kept_few (row_of rows) (take place ages) in
-    let taken : length (take place ages) ≤ place = omega (arith, length-take place ages, min-le_left place (length ages)) in
+pub room_for_next : (rows : List Row) (ages : List Deadline) (rank : ℕ) (first v : VisibleFrom) → Holds any_row enqueued_at rows ages → rank < length ages → HasSpace (length rows) first → KeepsSpace first v
+    → AreVisible (found any_row rows (take rank ages)) v → (receives : ℕ) → HasRoomFor receives v
+room_for_next rows ages rank first v held within memory kept h =
+    let before = found any_row rows (take rank ages) in
+    let few = kept_few (row_of rows) (take rank ages) in
+    let taken : length (take rank ages) ≤ rank = omega (arith, length-take rank ages, min-le_left rank (length ages)) in
     let all = held_few any_row enqueued_at rows ages held in
     let less : length before + 1 ≤ length rows = omega (arith, few, taken, all, within) in
     let more = has_more (length rows) first v kept memory in
@@ -144,6 +144,6 @@ slot_fits low (x ∷ ds) (suc k) d rise h = slot_fits (key_of x + 1) ds k d rise
 pub its_slot : (rows : List Row) (d : Deadline) (row : Row) → row_of rows d ≡ Some row → row.slot ≡ d.slot
 its_slot rows d row h = is_same row.slot d.slot (find_passes (is_in d.slot) rows row h).1
 
-pub none_more : (rows : List Row) (ages : List Deadline) (place : ℕ) (d : Deadline) → slice_get ages place ≡ Some d → row_of rows d ≡ None → found any_row rows (take (place + 1) ages) ≡ found any_row rows (take place ages)
-none_more rows ages place d at none =
-    found_more any_row rows ages place d at ∙ ap (λ (o : Option Row). found any_row rows (take place ages) ++ filter any_row (cons_option o [])) none ∙ append-nil (found any_row rows (take place ages))
+pub none_more : (rows : List Row) (ages : List Deadline) (rank : ℕ) (d : Deadline) → slice_get ages rank ≡ Some d → row_of rows d ≡ None → found any_row rows (take (rank + 1) ages) ≡ found any_row rows (take rank ages)
+none_more rows ages rank d at none =
+    found_more any_row rows ages rank d at ∙ ap (λ (o : Option Row). found any_row rows (take rank ages) ++ filter any_row (cons_option o [])) none ∙ append-nil (found any_row rows (take rank ages))

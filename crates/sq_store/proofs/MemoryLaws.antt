@@ -8,11 +8,11 @@ use Rattle.sq_store.specs.Due.{Holds, enqueued_at, space, visible_at}
 use Rattle.sq_store.specs.declared.visible.VisibleFrom.{VisibleFrom}
 use Rattle.sq_store.proofs.HeldLaws.{held_few}
 use Rattle.sq_store.specs.SlotStores.{AreVisible, SlotValue, received_row, any_row, unreceived_row, reserved_in, exhausted_row}
-use Rattle.sq_store.specs.Visible.{HasRoomFor, HasSpace}
-use Rattle.sq_store.specs.inside.Visible.{KeepsSpace}
+use Rattle.sq_store.specs.Visible.{HasSpace}
+use Rattle.sq_store.specs.inside.Visible.{KeepsSpace, HasRoomFor}
 
 -- there is memory for one row more
-pub record HasPlaceLeft (s : SlotValue) : Type 0 where
+pub record HasOneMore (s : SlotValue) : Type 0 where
   pub table : 0 < s.table.reserved
   pub visible : HasSpace (length s.table.rows + 1) s.visible
   pub ages : length s.table.rows + 1 ≤ space s.ages
@@ -26,8 +26,8 @@ right a b h = grind (arith, common_steps, h)
 above : (n m : ℕ) → 0 < n - m → m + 1 ≤ n
 above n m h = omega (arith, h)
 
-pub has_place : (s : SlotValue) → 0 < reserved_in s → HasPlaceLeft s
-has_place s h =
+pub has_one_more : (s : SlotValue) → 0 < reserved_in s → HasOneMore s
+has_one_more s h =
     let n = length s.table.rows in
     let lists = right s.table.reserved _ h in
     let others = right (space s.visible.unreceived - n) _ lists in
@@ -73,8 +73,8 @@ less : (a b m n : ℕ) → a ≤ b → n ≤ m → a - m ≤ b - n
 less a b m n one other = omega (arith, one, other)
 
 -- memory is kept where rows go out, or stay as many
-pub keeps_places : (old new : SlotValue) → old.table.reserved ≤ new.table.reserved → length new.table.rows ≤ length old.table.rows → KeepsSpace old.visible new.visible → space old.ages ≤ space new.ages → reserved_in old ≤ reserved_in new
-keeps_places old new table rows kept ages =
+pub keeps_reserved : (old new : SlotValue) → old.table.reserved ≤ new.table.reserved → length new.table.rows ≤ length old.table.rows → KeepsSpace old.visible new.visible → space old.ages ≤ space new.ages → reserved_in old ≤ reserved_in new
+keeps_reserved old new table rows kept ages =
     let n = length new.table.rows in
     let m = length old.table.rows in
     least_kept _ _ _ _ table (least_kept _ _ _ _ (less (space old.visible.unreceived) (space new.visible.unreceived) m n kept.unreceived rows)
@@ -84,9 +84,9 @@ keeps_places old new table rows kept ages =
 one_less : (a b m n : ℕ) → a ≤ b → n ≡ m + 1 → a - m ≤ b - n + 1
 one_less a b m n one other = omega (arith, one, other)
 
--- one place is taken where a row comes in
-pub takes_place : (old new : SlotValue) → old.table.reserved ≡ new.table.reserved + 1 → length new.table.rows ≡ length old.table.rows + 1 → KeepsSpace old.visible new.visible → space old.ages ≤ space new.ages → reserved_in old ≤ reserved_in new + 1
-takes_place old new table rows kept ages =
+-- one rank is taken where a row comes in
+pub takes_one_more : (old new : SlotValue) → old.table.reserved ≡ new.table.reserved + 1 → length new.table.rows ≡ length old.table.rows + 1 → KeepsSpace old.visible new.visible → space old.ages ≤ space new.ages → reserved_in old ≤ reserved_in new + 1
+takes_one_more old new table rows kept ages =
     let n = length new.table.rows in
     let m = length old.table.rows in
     least_more _ _ _ _ (omega (arith, table)) (least_more _ _ _ _ (one_less (space old.visible.unreceived) (space new.visible.unreceived) m n kept.unreceived rows)

@@ -106,26 +106,26 @@ take_twice (suc n) [] ys = refl
 take_twice {X} (suc n) (x ∷ xs) ys = ap (λ (zs : List X). x ∷ zs) (take_twice n xs ys)
 
 -- of all that is due, what is walked over comes first
-found_part : (p : Row → Bool) (rows : List Row) (m : ℕ) (ds : List Deadline) (place : ℕ) → InOrder 0 ds → place ≤ count_by (is_due m) ds
-    → found_due p rows m ds ≡ found p rows (take place ds) ++ found p rows (drop place (filter (is_due m) ds))
-found_part p rows m ds place rise low =
+found_part : (p : Row → Bool) (rows : List Row) (m : ℕ) (ds : List Deadline) (rank : ℕ) → InOrder 0 ds → rank ≤ count_by (is_due m) ds
+    → found_due p rows m ds ≡ found p rows (take rank ds) ++ found p rows (drop rank (filter (is_due m) ds))
+found_part p rows m ds rank rise low =
     let due = filter (is_due m) ds in
-    let first : take place due ≡ take place ds = ap (take place) (due_first m 0 ds rise) ∙ take-take place (count_by (is_due m) ds) ds low in
-    let parts : due ≡ take place ds ++ drop place due = sym (take-append-drop place due) ∙ ap (λ (es : List Deadline). es ++ drop place due) first in
-    ap (found p rows) parts ∙ ap (filter p) (filter_map-append (row_of rows) (take place ds) (drop place due)) ∙ filter-append p (filter_map (row_of rows) (take place ds)) (filter_map (row_of rows) (drop place due))
+    let first : take rank due ≡ take rank ds = ap (take rank) (due_first m 0 ds rise) ∙ take-take rank (count_by (is_due m) ds) ds low in
+    let parts : due ≡ take rank ds ++ drop rank due = sym (take-append-drop rank due) ∙ ap (λ (es : List Deadline). es ++ drop rank due) first in
+    ap (found p rows) parts ∙ ap (filter p) (filter_map-append (row_of rows) (take rank ds) (drop rank due)) ∙ filter-append p (filter_map (row_of rows) (take rank ds)) (filter_map (row_of rows) (drop rank due))
 
-module _ (p : Row → Bool) (f : Row → Row) (rows : List Row) (m max : ℕ) (ds : List Deadline) (place : ℕ) (before picked : List Row) (so_far : picked ≡ before ++ map f (found p rows (take place ds))) where
+module _ (p : Row → Bool) (f : Row → Row) (rows : List Row) (m max : ℕ) (ds : List Deadline) (rank : ℕ) (before picked : List Row) (so_far : picked ≡ before ++ map f (found p rows (take rank ds))) where
   -- where as many are picked as may be, the rest is not
-  pub picked_full : InOrder 0 ds → place ≤ count_by (is_due m) ds → length picked ≡ max → picked ≡ take max (before ++ map f (found_due p rows m ds))
+  pub picked_full : InOrder 0 ds → rank ≤ count_by (is_due m) ds → length picked ≡ max → picked ≡ take max (before ++ map f (found_due p rows m ds))
   picked_full rise low full =
-      let rest = found p rows (drop place (filter (is_due m) ds)) in
+      let rest = found p rows (drop rank (filter (is_due m) ds)) in
       let all : before ++ map f (found_due p rows m ds) ≡ picked ++ map f rest =
-      ap (λ (rs : List Row). before ++ map f rs) (found_part p rows m ds place rise low) ∙ ap (λ (rs : List Row). before ++ rs) (map-append f (found p rows (take place ds)) rest)
-      ∙ sym (append_assoc before (map f (found p rows (take place ds))) (map f rest)) ∙ ap (λ (rs : List Row). rs ++ map f rest) (sym so_far) in
+      ap (λ (rs : List Row). before ++ map f rs) (found_part p rows m ds rank rise low) ∙ ap (λ (rs : List Row). before ++ rs) (map-append f (found p rows (take rank ds)) rest)
+      ∙ sym (append_assoc before (map f (found p rows (take rank ds))) (map f rest)) ∙ ap (λ (rs : List Row). rs ++ map f rest) (sym so_far) in
       rw all (sym (take-append-le max picked (map f rest) (omega (arith, full)) ∙ take_all max picked (omega (arith, full))))
 
   -- where all that is due is walked over, all are picked
-  pub picked_all : found_due p rows m ds ≡ found p rows (take place ds) → length picked ≤ max → picked ≡ take max (before ++ map f (found_due p rows m ds))
+  pub picked_all : found_due p rows m ds ≡ found p rows (take rank ds) → length picked ≤ max → picked ≡ take max (before ++ map f (found_due p rows m ds))
   picked_all all few = rw all (rw (← so_far) (sym (take_all max picked few)))
 
 -- ---- a pick

@@ -90,7 +90,7 @@ first_is_apart x xs h = elim (list_any (λ y. y == x) xs) as (λ b. (not b && is
   | false ↦ (λ e. (refl, e))
 ] h
 
--- a number of distinct ones does not stand before its place
+-- a number of distinct ones does not stand before its rank
 pub apart_before : (xs : List ℕ) (i d : ℕ) → is_distinct xs ≡ true → i < length xs → list_any (λ c. c == get_or xs i d) (take i xs) ≡ false
 apart_before [] i d h lt = absurd (omega (arith, lt))
 apart_before (x ∷ xs) zero d h lt = refl

@@ -13,8 +13,8 @@ use Rattle.sq_slots.specs.Slots.{is_in, updated}
 use Rattle.sq_slots.proofs.RowLists.{is_this}
 use Rattle.sq_store.specs.Due.{Holds, enqueued_at, is_received_below, is_unreceived, is_exhausted_by, space, visible_at}
 use Rattle.sq_store.specs.declared.visible.VisibleFrom.{VisibleFrom}
-use Rattle.sq_store.specs.Visible.{HasRoomFor, HasSpace}
-use Rattle.sq_store.specs.inside.Visible.{IsCleared, IsOrdered, IsSet}
+use Rattle.sq_store.specs.Visible.{HasSpace}
+use Rattle.sq_store.specs.inside.Visible.{IsCleared, IsOrdered, IsSet, HasRoomFor}
 use Rattle.sq_store.specs.SlotStores.{AreVisible, IsIndexed, received_row, any_row, unreceived_row, exhausted_row}
 use Rattle.sq_store.proofs.HeldLaws.{held_in, held_out, held_same}
 use Rattle.sq_store.proofs.MemoryLaws.{has_more, has_room}

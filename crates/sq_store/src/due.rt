@@ -49,8 +49,8 @@ pub(crate) fn first_of<'a>(
     if table.len() == 0 {
         return None;
     }
-    for place in 0..index.len() {
-        let due = index.nth_due(place, at.moment)?;
+    for rank in 0..index.len() {
+        let due = index.nth_due(rank, at.moment)?;
         if let Some(row) = table.at(due.slot) {
             if is_wanted(what, at, row) {
                 return Some(row);
@@ -78,11 +78,11 @@ pub(crate) fn pick_of(
     if table.len() == 0 {
         return Ok(());
     }
-    for place in 0..index.len() {
+    for rank in 0..index.len() {
         if picked.len() == max {
             return Ok(());
         }
-        let Some(due) = index.nth_due(place, at.moment) else {
+        let Some(due) = index.nth_due(rank, at.moment) else {
             return Ok(());
         };
         if let Some(row) = table.at(due.slot) {
@@ -104,8 +104,8 @@ pub(crate) fn count_in_flight_of(
     ensures { result ≡ length (found_due (model.is_in_flight moment) table.now.rows due index.now.deadlines) }
 {
     let mut count = 0;
-    for place in 0..index.len() {
-        let Some(deadline) = index.nth_due(place, due) else {
+    for rank in 0..index.len() {
+        let Some(deadline) = index.nth_due(rank, due) else {
             return count;
         };
         if let Some(row) = table.at(deadline.slot) {

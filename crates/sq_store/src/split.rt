@@ -25,8 +25,8 @@ fn list_all(table: &SlotTable, ages: &DeadlineIndex, visible: &mut VisibleFrom)
     if table.len() == 0 {
         return;
     }
-    for place in 0..ages.len() {
-        if let Some(age) = ages.nth(place) {
+    for rank in 0..ages.len() {
+        if let Some(age) = ages.nth(rank) {
             if let Some(row) = table.at(age.slot) {
                 let until = Deadline {
                     moment: row.visible_from,

@@ -1,7 +1,7 @@
 //! From when the rows of a home are visible.
 ghost use Rattle.std.specs.Prelude.{◌≡◌, [], min, OnOk, IfErr};
-ghost use Rattle.sq_store.specs.Visible.{HasRoomFor, HasSpace};
-ghost use Rattle.sq_store.specs.inside.Visible.{first_list, AreBoth, IsCleared, IsOrdered, IsSet, KeepsSpace, LacksSpace};
+ghost use Rattle.sq_store.specs.Visible.{HasSpace};
+ghost use Rattle.sq_store.specs.inside.Visible.{first_list, AreBoth, IsCleared, IsOrdered, IsSet, KeepsSpace, LacksSpace, HasRoomFor};
 ghost use Rattle.sq_store.specs.Due.{space};
 
 use sq_base::refusal::Refusal;

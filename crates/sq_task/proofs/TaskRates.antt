@@ -5,8 +5,8 @@ use Rattle.std.proofs.lemmas.Grind.{common_steps}
 use Rattle.std.proofs.lemmas.Bool.{eqb-true}
 use Rattle.std.proofs.lemmas.List.Sums.{sum_by-cons}
 use Rattle.sq_model.specs.declared.task.Task.{Task}
-use Rattle.sq_model.specs.Tasks.{cancelled_as, failed_as, finished_as, left_in, may_leave, rate_of, second_of, with_back, with_given_up, with_left, with_moved, with_status}
-use Rattle.sq_task.specs.TaskSteps.{TaskCall, Left, CameIn, CameBack, GivenUp, Cancel, Finish, Fail, NoLeaveFalls, TaskRun, is_left_in, lefts_in}
+use Rattle.sq_model.specs.Tasks.{cancelled_as, failed_as, finished_as, left_in, may_leave, rate_of, second_of, with_back, with_dropped, with_left, with_moved, with_status}
+use Rattle.sq_task.specs.TaskSteps.{TaskCall, Left, CameIn, CameBack, Dropped, Cancel, Finish, Fail, NoLeaveFalls, TaskRun, is_left_in, lefts_in}
 
 one_call : (second : ℕ) (call : TaskCall) (calls : List TaskCall) → lefts_in second (call ∷ calls) ≡ cond (is_left_in second call) 1 0 + lefts_in second calls
 one_call second call calls = sum_by-cons (λ (x : TaskCall). cond (is_left_in second x) 1 0) call calls
@@ -30,7 +30,7 @@ none_before second low (Left m ∷ calls) lt h =
     none_more second (Left m) calls (not_now (second_of m) second later) (none_before second m calls later h.1)
 none_before second low (CameIn ∷ calls) lt h = none_more second CameIn calls refl (none_before second low calls lt h)
 none_before second low (CameBack ∷ calls) lt h = none_more second CameBack calls refl (none_before second low calls lt h)
-none_before second low (GivenUp ∷ calls) lt h = none_more second GivenUp calls refl (none_before second low calls lt h)
+none_before second low (Dropped ∷ calls) lt h = none_more second Dropped calls refl (none_before second low calls lt h)
 none_before second low (Cancel ∷ calls) lt h = none_more second Cancel calls refl (none_before second low calls lt h)
 none_before second low (Finish ∷ calls) lt h = none_more second Finish calls refl (none_before second low calls lt h)
 none_before second low (Fail reason ∷ calls) lt h = none_more second (Fail reason) calls refl (none_before second low calls lt h)
@@ -87,8 +87,8 @@ from_task second low (CameIn ∷ calls) task after within le r h =
     still second CameIn calls task refl (from_task second low calls (with_moved task) after within le (goes_on (with_moved task) r.0 after calls r.1.1 r.2) h)
 from_task second low (CameBack ∷ calls) task after within le r h =
     still second CameBack calls task refl (from_task second low calls (with_back task) after within le (goes_on (with_back task) r.0 after calls r.1.1 r.2) h)
-from_task second low (GivenUp ∷ calls) task after within le r h =
-    still second GivenUp calls task refl (from_task second low calls (with_given_up task) after within le (goes_on (with_given_up task) r.0 after calls r.1.1 r.2) h)
+from_task second low (Dropped ∷ calls) task after within le r h =
+    still second Dropped calls task refl (from_task second low calls (with_dropped task) after within le (goes_on (with_dropped task) r.0 after calls r.1.1 r.2) h)
 from_task second low (Cancel ∷ calls) task after within le r h =
     let next = with_status cancelled_as task in
     still second Cancel calls task refl (from_task second low calls next after within le (goes_on next r.0 after calls r.1.1 r.2) h)

@@ -3,9 +3,9 @@ use Rattle.std.specs.Prelude.{◌≡◌, ◌≤◌, ℕ, ◌+◌, ◌-◌, true}
 use Rattle.sq_model.specs.declared.task.Task.{Task}
 use Rattle.sq_model.specs.Tasks.{is_ended, rate_of}
 
--- how many messages left, and are in transit no more: they came in, came back or were given up
+-- how many messages left, and are in transit no more: they came in, came back or were dropped
 abbrev pub settled : Task → ℕ
-settled task = task.moved + task.back + task.given_up
+settled task = task.moved + task.back + task.dropped
 
 -- how many are in transit
 abbrev pub unsettled : Task → ℕ

@@ -3,7 +3,7 @@ ghost use Rattle.std.specs.Prelude.{◌≡◌, ◌+◌, ◌<◌, ◌≤◌, ◌&
 ghost use Rattle.sq_model.specs.Ledgers.{cancel_refusal, finish_refusal};
 ghost use Rattle.sq_model.specs.Tasks.{is_active, is_running, left_in, may_leave, new_task, rate_of, second_of};
 ghost use Rattle.sq_task.specs.Counts.{IsTaskKept, settled, unsettled};
-ghost use Rattle.sq_task.specs.TaskSteps.{Cancel, CameBack, CameIn, Fail, Finish, GivenUp, Left, TaskStep};
+ghost use Rattle.sq_task.specs.TaskSteps.{Cancel, CameBack, CameIn, Fail, Finish, Dropped, Left, TaskStep};
 
 use sq_base::ranges::Rate;
 use sq_base::refusal::Refusal;
@@ -55,7 +55,7 @@ impl MoveTask {
                 left: 0,
                 moved: 0,
                 back: 0,
-                given_up: 0,
+                dropped: 0,
                 second: 0,
                 in_second: 0,
             },
@@ -87,11 +87,11 @@ impl MoveTask {
         )
     }
 
-    /// How many of its messages are in transit: those that left, and neither came in, nor came back, nor were given up.
+    /// How many of its messages are in transit: those that left, and neither came in, nor came back, nor were dropped.
     pub fn in_transit(&self) -> u64
         ensures { self.now.left ≡ settled self.now + result }
     {
-        self.task.left - self.task.moved - self.task.back - self.task.given_up
+        self.task.left - self.task.moved - self.task.back - self.task.dropped
     }
 
     /// Whether its rate allows that a message leaves at this moment: fewer left in the second of the moment.
@@ -136,12 +136,12 @@ impl MoveTask {
         self.task.back += 1;
     }
 
-    /// Counts a message that was given up on its way back, since its source was closed too. One is in transit.
+    /// Counts a message that was dropped on its way back, since its source was closed too. One is in transit.
     pub fn note_dropped(&mut self)
         requires { 0 < unsettled self.old }
-        ensures { TaskStep self.old GivenUp self.new }
+        ensures { TaskStep self.old Dropped self.new }
     {
-        self.task.given_up += 1;
+        self.task.dropped += 1;
     }
 
     /// Takes no more messages, and goes on to wait for those in transit: RUNNING becomes CANCELLING. Nothing that was moved is

@@ -85,3 +85,7 @@ EventFits {K} {R} per_queue journals of events k = (e : Event K R) → slice_get
 -- what may be wrong with one of its events
 abbrev pub HasEventFault : {K R : Type 0} → ℕ → List Journal → Part → List (Event K R) → AuditFault → Type 0
 HasEventFault {K} {R} per_queue journals of events f = (k : ℕ) × (e : Event K R) × (slice_get events k ≡ Some e) × IsEventFault per_queue journals e.actor e.place of k f
+
+-- an event that the home shares with the ledger stands in the ledger's history too
+abbrev pub HasPartner : List LedgerEvent → HomeEvent → Type 0
+HasPartner ledger e = is_alone e.call ≡ false → (home : HomeId) → e.component ≡ component.Home home → IsInLedger ledger home e

@@ -8,10 +8,10 @@ use Rattle.sq_model.specs.Systems.{DirectoryEvent, Tag, OfDirectory, OfLedger, O
 abbrev pub own_events : List LedgerEvent → List LedgerEvent
 own_events ledger = filter (λ e. is_own e.call) ledger
 
--- the events of all homes from this place on, one home after another
+-- the events of all homes from this index on, one home after another
 abbrev pub home_tags : ℕ → List (List HomeEvent) → List Tag
-home_tags place [] = []
-home_tags place (es ∷ rest) = map (λ e. OfHome place e) es ++ home_tags (place + 1) rest
+home_tags index [] = []
+home_tags index (es ∷ rest) = map (λ e. OfHome index e) es ++ home_tags (index + 1) rest
 
 -- the events of the directory, then those of the ledger alone, and then those of one home after another
 abbrev pub by_part : List DirectoryEvent → List LedgerEvent → List (List HomeEvent) → List Tag

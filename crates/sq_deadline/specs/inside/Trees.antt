@@ -1,10 +1,10 @@
 -- Deadlines in a tree, from left to right. Own.
-use Rattle.std.specs.Prelude.{ℕ, ◌+◌, ◌*◌, ◌≤◌, Bool, nat_le, nat_lt, if◌then◌else◌}
+use Rattle.std.specs.Prelude.{◌≡◌, ℕ, ◌+◌, ◌*◌, ◌≤◌, ◌<◌, Bool, true, length, nat_le, nat_lt, if◌then◌else◌}
 use Rattle.sq_deadline.specs.declared.deadline.Deadline.{Deadline}
 use Rattle.sq_deadline.specs.declared.tree.Tree.{Tree}
 use Rattle.sq_deadline.specs.declared.tree.Tree.TheVariants.{Empty, Full'}
 use Rattle.sq_deadline.specs.Deadlines.{key_of}
-use Rattle.sq_deadline.specs.Trees.{weight}
+use Rattle.sq_deadline.specs.Trees.{is_kept, listed, weight}
 
 -- the same, as bounds
 pub record IsLevel (left right : Tree) : Type 0 where
@@ -29,3 +29,9 @@ depth (Full' p left deadline count right) = (if nat_le (depth left) (depth right
 -- below a key
 abbrev pub is_below : ℕ → Deadline → Bool
 is_below key d = nat_lt (key_of d) key
+
+-- two trees may stand to either side of one node: each is kept, and they can be counted with it
+pub record AreSides (left right : Tree) : Type 0 where
+  pub left_kept : is_kept left ≡ true
+  pub right_kept : is_kept right ≡ true
+  pub fits : length (listed left) + length (listed right) < 18446744073709551615

@@ -169,9 +169,9 @@ fn share<R: Threads + Wait + Abort + Sync, D: Ledger + Send + Sync, T: Ledger + 
         rt,
         &mut sessions,
         2,
-        &|place: usize, session: &mut Session<D, T>| {
+        &|index: usize, session: &mut Session<D, T>| {
             let served = is_served(rt, alloc, &shop, session, orders) as u64;
-            if let Some(flag) = received.get(place) {
+            if let Some(flag) = received.get(index) {
                 flag.store(served, Ordering::SeqCst);
             }
         },

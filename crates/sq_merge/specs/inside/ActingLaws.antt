@@ -27,7 +27,7 @@ kept_is actor s t ask answered n b more journals left =
     subst (LeavesOf ask answered (journal_of actor s.journals)) (sym (mine_is actor s t b own journals)) left
 
 does_leaves : (actor now : ℕ) (s t : WorldValue) (ask : Ask) (gave : Gave) → ActorDoes actor now s ask gave t → LeavesOf ask (Ok gave) (journal_of actor s.journals) (journal_of actor t.journals)
-does_leaves actor now s t (Resolve name) (Found queue) h = read_is actor s t s.directory.last (ap (λ (v : WorldValue). v.journals) h.1)
+does_leaves actor now s t (Resolve name) (Found queue) h = read_is actor s t s.directory.last (ap (λ (v : WorldValue). v.journals) h.2)
 does_leaves actor now s t (AskDirectory call) (Answered reply) h =
     kept_is actor s t (AskDirectory call) (Ok (Answered reply)) (OfDirectory h.moves.its_record) h.recorded_in h.moves.recorded_as (ap (λ (v : WorldValue). v.journals) h.changed)
     (directory_leaves s.directory h.after (journal_of actor s.journals) h.recorded_in now call reply h.moves)

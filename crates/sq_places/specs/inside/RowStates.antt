@@ -6,15 +6,14 @@ use Rattle.sq_model.specs.declared.calls.Receipt.{Receipt}
 use Rattle.sq_model.specs.declared.calls.HomeCall.{HomeCall}
 use Rattle.sq_model.specs.declared.calls.HomeCall.TheVariants as call
 use Rattle.sq_model.specs.declared.item.Item.{Item}
-use Rattle.sq_model.specs.declared.item.Reason.{Reason}
-use Rattle.sq_model.specs.declared.item.Reason.TheVariants.{DeadLetter, Task}
+use Rattle.sq_model.specs.declared.item.Carried.{Carried}
 use Rattle.sq_model.specs.declared.replies.SentMessage.{SentMessage}
 use Rattle.sq_model.specs.declared.replies.EnteredRow.{EnteredRow}
 use Rattle.sq_model.specs.declared.replies.HomeReply.{HomeReply}
 use Rattle.sq_model.specs.declared.replies.HomeReply.TheVariants as reply
 use Rattle.sq_model.specs.Rows as rows
-use Rattle.sq_model.specs.Homes.{Home}
-use Rattle.sq_model.specs.Lineages.{Cause, Expired, Deleted, Purged, ClosedAway, GivenUp, Ending, rows_of}
+use Rattle.sq_model.specs.Homes.{Home, carried, carried_back}
+use Rattle.sq_model.specs.Lineages.{Cause, Expired, Deleted, Purged, ClosedAway, Dropped, Ending, rows_of}
 use Rattle.sq_places.specs.declared.state.RowState.{RowState}
 use Rattle.sq_places.specs.declared.state.Policy.{Policy}
 
@@ -37,18 +36,17 @@ is_state_named receipt row = (row.slot == receipt.slot) && (row.serial == receip
 abbrev pub sent_state : SentMessage → ℕ → RowState
 sent_state sent m = record { lineage = sent.id; serial = sent.id.serial; slot = sent.slot; enqueued = m; receives = 0 }
 
--- a row that comes in for a task is a new message; a dead letter keeps its age
-abbrev pub enqueued_as : Reason → ℕ → ℕ → ℕ
-enqueued_as DeadLetter m enqueued = enqueued
-enqueued_as (Task task) m enqueued = m
+-- the row of a message that came in with what it keeps
+abbrev pub row_with : Carried → MessageId → ℕ → ℕ → RowState
+row_with keeps lineage serial slot = record { lineage = lineage; serial = serial; slot = slot; enqueued = keeps.enqueued; receives = keeps.receives }
 
 -- the row of an item that comes in at its target at a moment
 abbrev pub entered_state : ℕ → Item → EnteredRow → RowState
-entered_state m item entered = record { lineage = item.row.lineage; serial = entered.serial; slot = entered.slot; enqueued = enqueued_as item.reason m item.row.enqueued; receives = 0 }
+entered_state m item entered = row_with (carried item.reason m item.row.enqueued) item.row.lineage entered.serial entered.slot
 
 -- the row of an item that comes back to its source
 abbrev pub returned_state : Item → EnteredRow → RowState
-returned_state item entered = record { lineage = item.row.lineage; serial = entered.serial; slot = entered.slot; enqueued = item.row.enqueued; receives = 0 }
+returned_state item entered = row_with (carried_back item.row.enqueued) item.row.lineage entered.serial entered.slot
 
 -- the row of this slot and serial
 abbrev pub is_state_of : Row → RowState → Bool
@@ -87,10 +85,10 @@ next_policy policy (call.LeaveTask task) = policy
 next_policy policy (call.Enter item) = policy
 next_policy policy (call.TurnBack item) = policy
 next_policy policy (call.GiveBack item) = policy
-next_policy policy (call.GiveUp item) = policy
+next_policy policy (call.Drop item) = policy
 
 -- What an event does to the rows that have not expired. A message leaves the system, or goes into transit as a row; one that comes
--- in from there is a new row, and one that is given up there leaves the system.
+-- in from there is a new row, and one that is dropped there leaves the system.
 pub data Effect : Type 0 where
   Stays : Effect
   Arrives : SentMessage → Effect
@@ -140,7 +138,7 @@ effect_of m (call.LeaveTask task) reply = reply_effect reply
 effect_of m (call.Enter item) reply = entry_effect (entered_state m item) reply
 effect_of m (call.TurnBack item) reply = Stays
 effect_of m (call.GiveBack item) reply = entry_effect (returned_state item) reply
-effect_of m (call.GiveUp item) reply = Drops item.row.lineage
+effect_of m (call.Drop item) reply = Drops item.row.lineage
 
 -- A message is sent, goes into transit, or is in transit no more.
 pub data Crossing : Type 0 where
@@ -216,7 +214,7 @@ left_states (Looks picked) rows = []
 left_states (Leaves p cause) rows = ended_states cause (filter p rows)
 left_states (Departs row) rows = []
 left_states (Enters row) rows = []
-left_states (Drops line) rows = record { line = line; cause = GivenUp } ∷ []
+left_states (Drops line) rows = record { line = line; cause = Dropped } ∷ []
 
 abbrev pub state_ends : Option Policy → ℕ → Effect → List RowState → List Ending
 state_ends policy m effect rows = ended_states Expired (past_states policy m rows) ++ left_states effect (kept_states policy m rows)

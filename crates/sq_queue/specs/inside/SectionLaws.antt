@@ -9,7 +9,7 @@ use Rattle.sq_queue.specs.Sections.{Surroundings, SectionDone, IsSection}
 use Rattle.sq_queue.specs.SessionValue.{SessionValue}
 
 done_leaves : (at : Surroundings) (ask : Ask) (gave : Gave) (before after : SessionValue) → SectionDone at ask gave before after → LeavesOf ask (Ok gave) before.journal after.journal
-done_leaves at (Resolve name) (Found queue) before after h = (h.0.last, ap (λ (s : SessionValue). s.journal) h.3)
+done_leaves at (Resolve name) (Found queue) before after h = (h.0.last, ap (λ (s : SessionValue). s.journal) h.4)
 done_leaves at (AskDirectory call) (Answered reply) before after h = directory_leaves h.1 h.2 before.journal after.journal h.0 call reply h.5
 done_leaves at (AskHome name id act) (Replied reply) before after h = home_leaves h.1 h.2 before.journal after.journal h.0 name id act reply h.5 h.6
 done_leaves at (AskShared name id what) (Replied reply) before after h = shared_leaves h.1 h.2 h.3 h.4 before.journal after.journal h.0 name id what reply h.8 h.9

@@ -1,17 +1,18 @@
 -- What a line asks.
-use Rattle.std.specs.Prelude.{ℕ, List, Bool, if◌then◌else◌, Result, Ok, Err, codes, is_some, ◌||◌}
+use Rattle.std.specs.Prelude.{ℕ, List, Bool, false, if◌then◌else◌, Option, Some, None, Result, Ok, Err, codes, is_some, ◌||◌}
 use Rattle.std.specs.Str.{bytes_eq}
 use Rattle.serde_json.specs.Data.{Data}
 use Rattle.serde_json.specs.Find.{as_object}
 use Rattle.sq_base.specs.declared.refusal.Refusal.{Refusal}
 use Rattle.sq_base.specs.declared.refusal.Refusal.TheVariants.{InvalidRequest}
 use Rattle.sq_policy.specs.Reading.{◌>>=◌}
+use Rattle.sq_calls.specs.declared.turns.Turn.{Turn}
 use Rattle.sq_requests.specs.Members.{text_at}
 use Rattle.sq_requests.specs.Queues.{create_asks, set_asks}
 use Rattle.sq_requests.specs.declared.batches.BatchKind.TheVariants as kind
 use Rattle.sq_calls.specs.declared.calls.Asked.TheVariants as asked
 use Rattle.sq_calls.specs.declared.calls.Call.TheVariants as call
-use Rattle.sq_requests.specs.Requests.{clock_at, actor_at, call_of, kind_of, turn_of, asks_or}
+use Rattle.sq_requests.specs.Requests.{clock_at, actor_at, call_of, kind_of, turn_of}
 
 -- memory is asked for the text of a policy, for a body, and for the entries of a batch
 unfoldable pub call_asks : List ℕ → Data → Result Bool Refusal
@@ -19,6 +20,11 @@ call_asks action d =
     if bytes_eq action (codes "CreateQueue") then create_asks d
     else if bytes_eq action (codes "SetQueueAttributes") then set_asks d
     else call_of action d >>= λ call. Ok (bytes_eq action (codes "SendMessage") || is_some (kind_of action))
+
+-- no memory is asked for a turn
+abbrev pub asks_or : Option (Result Turn Refusal) → Result Bool Refusal → Result Bool Refusal
+asks_or (Some turn) asks = turn >>= λ turn. Ok false
+asks_or None asks = asks
 
 unfoldable pub call_or_turn_asks : List ℕ → Data → Result Bool Refusal
 call_or_turn_asks action d = asks_or (turn_of action d) (call_asks action d)

@@ -2,18 +2,20 @@
 use Rattle.std.specs.Prelude.{◌≡◌, ℕ, ◌+◌, [], ◌∷◌, ◌++◌}
 use Rattle.sq_base.specs.declared.row.Row.{Row}
 use Rattle.sq_model.specs.declared.place.Site.{Site}
-use Rattle.sq_model.specs.Homes.{Home, Unopened, Serving, Closed, HasPlace}
-use Rattle.sq_model.specs.Rows.{unexpired}
+use Rattle.sq_model.specs.declared.replies.EnteredRow.{EnteredRow}
+use Rattle.sq_model.specs.Homes.{Home, Unopened, Serving, Closed, MayHoldOneMore, unexpired_rows}
 
--- a row is put last, with the next serial and this slot
-abbrev pub IsPut : Site → Home → ℕ → Row → ℕ → Home → Type 0
-IsPut site (Serving s v n rows) m row slot after =
-    HasPlace site.limits n slot (unexpired s m rows) × (after ≡ Serving s v (n + 1) (unexpired s m rows ++ record row { serial = n; slot = slot } ∷ []))
-IsPut site Unopened m row slot after = ⊥
-IsPut site Closed m row slot after = ⊥
+-- a row is put last, with the next serial, which is told, and this slot
+abbrev pub IsPut : Site → Home → ℕ → Row → EnteredRow → Home → Type 0
+IsPut site (Serving its) m row entered after =
+    MayHoldOneMore site.limits its.next entered.slot (unexpired_rows its m)
+    × (entered.serial ≡ its.next)
+    × (after ≡ Serving (record its { next = its.next + 1; rows = unexpired_rows its m ++ record row { serial = its.next; slot = entered.slot } ∷ [] }))
+IsPut site Unopened m row entered after = ⊥
+IsPut site Closed m row entered after = ⊥
 
 -- the next serial of a home
 abbrev pub IsNextOf : Home → ℕ → Type 0
-IsNextOf (Serving s v n rows) serial = serial ≡ n
+IsNextOf (Serving its) serial = serial ≡ its.next
 IsNextOf Unopened serial = ⊥
 IsNextOf Closed serial = ⊥

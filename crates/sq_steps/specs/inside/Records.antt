@@ -24,7 +24,7 @@ abbrev pub other_at : Option Other → RecordValue
 other_at None = no_record
 other_at (Some other) = value_of_other other
 
--- a record of a home, by no name or by the one at a place; or the one at a place among the others
+-- a record of a home, by no name or by the one at an index; or the one at an index among the others
 abbrev pub value_of_kept : List Other → List (List ℕ) → Kept → RecordValue
 value_of_kept others names (Home home step) = OfHome (with_home home None step)
 value_of_kept others names (Named at home step) = OfHome (with_home home (slice_get names at) step)
@@ -44,7 +44,7 @@ abbrev pub without_first : {X : Type 0} → (X → Bool) → List X → List X
 without_first p [] = []
 without_first p (x ∷ xs) = if p x then xs else x ∷ without_first p xs
 
--- the first one that passes stands at this place
+-- the first one that passes stands at this index
 pub record IsFirstAt {X : Type 0} (p : X → Bool) (xs : List X) (at : ℕ) : Type 0 where
   pub within : at < length xs
   pub before : list_any p (take at xs) ≡ false
@@ -65,7 +65,7 @@ pub record NamesValue : Type 0 where
 abbrev pub with_name : List ℕ → List (List ℕ) → List (List ℕ)
 with_name name names = if list_any (bytes_eq name) names then names else names ++ name ∷ []
 
--- a name is there, at this place: it was put where it was not there, and no other was
+-- a name is there, at this index: it was put where it was not there, and no other was
 pub record HasPut (old new : List (List ℕ)) (name : List ℕ) (at : ℕ) : Type 0 where
   pub there : slice_get new at ≡ Some name
   pub put : new ≡ with_name name old

@@ -1,6 +1,5 @@
 //! Each call by its own name.
 use super::asks::{Ask, call_of};
-use super::evidence::Seen;
 use super::shared::{Client, QUEUE, Setting};
 use super::stories::{Deed, Scene, must, tell};
 use sq_base::refusal::Refusal;
@@ -81,11 +80,6 @@ const EACH: &[Deed] = &[
 #[test]
 fn each_call_by_its_name_does_its_steps(rt: HostRuntime) {
     let told = tell(&rt, rt.alloc(), Setting::of(QUEUE, 1), &[EACH]);
-    let seen = Seen {
-        sessions: [1, 1],
-        events: [9, 3, 13],
-        messages: Some(2),
-    };
-    let all = told.by[0] == 1_111_111_111_111_111_111;
-    must(&rt, &told, all && told.seen == seen);
+    let all = told.is_of_one(1_111_111_111_111_111_111, [9, 3, 13], 2);
+    must(&rt, &told, all);
 }

@@ -1,6 +1,5 @@
 //! Runs of one session.
 use super::asks::Ask;
-use super::evidence::Seen;
 use super::shared::{QUEUE, Setting};
 use super::stories::{Deed, must, tell};
 
@@ -14,12 +13,7 @@ const FOUR_CALLS: &[Deed] = &[
 #[test]
 fn a_message_is_sent_received_and_deleted(rt: HostRuntime) {
     let told = tell(&rt, rt.alloc(), Setting::of(QUEUE, 1), &[FOUR_CALLS]);
-    let seen = Seen {
-        sessions: [1, 1],
-        events: [1, 0, 4],
-        messages: Some(1),
-    };
-    must(&rt, &told, told.by[0] == 11 && told.seen == seen);
+    must(&rt, &told, told.is_of_one(11, [1, 0, 4], 1));
 }
 
 // A send looks its queue up, and puts its message.

@@ -62,7 +62,7 @@ pub struct Scene<'s, 'a, D: Ledger, T: Ledger, R> {
     pub service: &'s Shared<'a, D, T, SlotStore>,
     pub signs: &'s Signs,
     /// Which client it is, from 0.
-    pub place: usize,
+    pub index: usize,
 }
 
 // What a deed tells that is done to the clock or to the signs.
@@ -176,9 +176,9 @@ fn begun<D: Ledger, T: Ledger, R: Wait + Abort>(
     clients: usize,
 ) -> Vec<Worker<D, T>> {
     let mut workers = Vec::new(at.alloc);
-    for place in 0..clients {
+    for index in 0..clients {
         let mut client = at.service.client(at.rt, at.alloc);
-        if place == 0 {
+        if index == 0 {
             let told = at.act(&mut client, setting.begin.deeds);
             must_begin(at.rt, told, setting.begin.tells);
         }
@@ -203,15 +203,15 @@ fn act_all<D: Ledger + Send + Sync, T: Ledger + Send + Sync, R: Threads + Wait +
         rt,
         workers,
         threads,
-        &|place: usize, worker: &mut Worker<D, T>| {
+        &|index: usize, worker: &mut Worker<D, T>| {
             let at = Scene {
                 rt,
                 alloc,
                 service,
                 signs,
-                place,
+                index,
             };
-            if let Some(all) = deeds.get(place) {
+            if let Some(all) = deeds.get(index) {
                 worker.told = at.act(&mut worker.client, all);
             }
         },
@@ -227,16 +227,16 @@ fn apart<D: Ledger, T: Ledger, R: Wait + Abort>(
 ) -> ([u64; 8], Vec<Session<D, T>>) {
     let mut by = [0u64; 8];
     let mut left = Vec::new(alloc);
-    for place in 0..workers.len() {
+    for index in 0..workers.len() {
         if workers.is_empty() {
             break;
         }
         let worker = workers.remove(0);
-        if let Some(number) = by.get_mut(place) {
+        if let Some(number) = by.get_mut(index) {
             *number = worker.told;
         }
         let session = worker.client.into_session();
-        if place % 2 == 1 {
+        if index % 2 == 1 {
             service.retire(rt, session);
         } else {
             left.push(session).expect(rt, "memory");
@@ -271,7 +271,7 @@ fn told_by<D: Ledger + Send + Sync, T: Ledger + Send + Sync, R: Threads + Wait +
         alloc,
         service: &service,
         signs: &signs,
-        place: 0,
+        index: 0,
     };
     let mut workers = begun(&at, setting, deeds.len());
     act_all(rt, alloc, &service, &signs, deeds, &mut workers);
@@ -279,6 +279,19 @@ fn told_by<D: Ledger + Send + Sync, T: Ledger + Send + Sync, R: Threads + Wait +
     let seen = service.finish(rt, alloc, left).seen();
     let met = signs.met.load(Ordering::SeqCst) == 1;
     Told { by, met, seen }
+}
+
+impl Told {
+    /// Whether the only client told this, as digits, and left so many events of the directory, the ledger and the first home, and so
+    /// many messages.
+    pub fn is_of_one(&self, digits: u64, events: [u64; 3], messages: u64) -> bool {
+        let seen = Seen {
+            sessions: [1, 1],
+            events,
+            messages: Some(messages),
+        };
+        self.by[0] == digits && self.seen == seen
+    }
 }
 
 /// Whether a story told what it must; what it told is shown where it did not.

@@ -101,7 +101,7 @@ pub fn random<D: Ledger, T: Ledger, R: Wait + Abort>(
 ) -> u64 {
     let mut progress = Progress::new();
     let mut choices = Choices {
-        state: at.place as u64,
+        state: at.index as u64,
     };
     let mut sent = 0u64;
     for _ in 0..calls {

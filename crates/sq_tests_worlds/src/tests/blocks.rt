@@ -17,7 +17,7 @@ fn numbers(alloc: Global, many: u64) -> Option<Blocks<u64>> {
     Some(blocks)
 }
 
-// Whether each number stands at its place, and nothing past the last one.
+// Whether each number stands at its index, and nothing past the last one.
 fn are_in_place(blocks: &Blocks<u64>, many: u64) -> bool {
     for number in 0..many {
         match blocks.get(number as usize) {
@@ -29,7 +29,7 @@ fn are_in_place(blocks: &Blocks<u64>, many: u64) -> bool {
 }
 
 #[test]
-fn items_stand_at_their_places_over_several_blocks(rt: HostRuntime) {
+fn items_stand_at_their_indices_over_several_blocks(rt: HostRuntime) {
     for many in [0u64, 1, 4095, 4096, 4097, 8192, 10_000] {
         let blocks = numbers(rt.alloc(), many).expect(&rt, "memory");
         assert!(rt; are_in_place(&blocks, many), "{many}");
@@ -47,21 +47,21 @@ fn in_one(alloc: Global, many: u64) -> Option<Vec<u64>> {
 
 // Whether both have the same numbers.
 fn are_same(blocks: &Blocks<u64>, all: &[u64]) -> bool {
-    for (place, number) in all.iter().enumerate() {
-        if blocks.get(place) != Some(number) {
+    for (index, number) in all.iter().enumerate() {
+        if blocks.get(index) != Some(number) {
             return false;
         }
     }
     blocks.len() == all.len()
 }
 
-// Whether the items at these places, taken out one after another, and what is left are those of a list of one piece.
-fn are_taken_out(blocks: &mut Blocks<u64>, all: &mut Vec<u64>, places: &[usize]) -> bool {
-    for place in places {
-        if *place >= blocks.len() || *place >= all.len() {
+// Whether the items at these indices, taken out one after another, and what is left are those of a list of one piece.
+fn are_taken_out(blocks: &mut Blocks<u64>, all: &mut Vec<u64>, indices: &[usize]) -> bool {
+    for index in indices {
+        if *index >= blocks.len() || *index >= all.len() {
             return false;
         }
-        if blocks.remove(*place) != all.remove(*place) || !are_same(blocks, all.as_slice()) {
+        if blocks.remove(*index) != all.remove(*index) || !are_same(blocks, all.as_slice()) {
             return false;
         }
     }
@@ -73,6 +73,6 @@ fn are_taken_out(blocks: &mut Blocks<u64>, all: &mut Vec<u64>, places: &[usize])
 fn items_that_are_taken_out_are_followed_by_the_next(rt: HostRuntime) {
     let mut blocks = numbers(rt.alloc(), 8193).expect(&rt, "memory");
     let mut all = in_one(rt.alloc(), 8193).expect(&rt, "memory");
-    let places = [0, 8191, 8190, 4096, 4095, 100, 0];
-    assert!(rt; are_taken_out(&mut blocks, &mut all, &places));
+    let indices = [0, 8191, 8190, 4096, 4095, 100, 0];
+    assert!(rt; are_taken_out(&mut blocks, &mut all, &indices));
 }

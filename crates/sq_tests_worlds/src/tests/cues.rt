@@ -30,10 +30,10 @@ pub enum Move {
     Enter(u64),
     TurnBack(u64),
     GiveBack(u64),
-    GiveUp(u64),
+    Drop(u64),
 }
 
-/// What no line asks. A queue is meant by its place in order of creation, and its first home by it.
+/// What no line asks. A queue is meant by its index in order of creation, and its first home by it.
 #[derive(Clone, Copy)]
 pub enum Asked {
     /// A queue of this name, whose homes are not opened.
@@ -60,10 +60,12 @@ pub enum Cue {
     Any(&'static str),
     /// A step of an actor, at a clock reading in ms.
     Step(u32, u64, Asked, Answers),
+    /// A move that actor 5 makes at 1000 ms, at one queue after another.
+    Moves(Move, &'static [(u32, Answers)]),
 }
 
-fn queue(place: u32) -> QueueNo {
-    QueueNo::following(place)
+fn queue(index: u32) -> QueueNo {
+    QueueNo::following(index)
 }
 
 fn task(number: u64) -> TaskNo {
@@ -90,13 +92,13 @@ fn shared_act(what: Move) -> SharedAct {
         Move::Enter(number) => SharedAct::Enter(item(number)),
         Move::TurnBack(number) => SharedAct::TurnBack(item(number)),
         Move::GiveBack(number) => SharedAct::GiveBack(item(number)),
-        Move::GiveUp(number) => SharedAct::GiveUp(item(number)),
+        Move::Drop(number) => SharedAct::Drop(item(number)),
     }
 }
 
-fn start(place: u32) -> Result<TaskStart, Refusal> {
+fn start(index: u32) -> Result<TaskStart, Refusal> {
     let source = NamedQueue {
-        number: queue(place),
+        number: queue(index),
         name: named("letters")?,
     };
     Ok(TaskStart {
@@ -114,16 +116,16 @@ pub fn act_of(alloc: Global, asked: Asked) -> Result<Act, Refusal> {
         }
         Asked::Names => Act::Names,
         Asked::Home(number, what) => Act::Home(home(number), home_act(alloc, ask_of(what))?),
-        Asked::Shared(place, what) => {
+        Asked::Shared(index, what) => {
             let id = HomeId {
-                queue: queue(place),
+                queue: queue(index),
                 home: HomeNo::first(),
             };
             Act::Shared(id, shared_act(what))
         }
-        Asked::Start(place) => Act::Ledger(TaskAct::Start(start(place)?)),
+        Asked::Start(index) => Act::Ledger(TaskAct::Start(start(index)?)),
         Asked::Finish(number) => Act::Ledger(TaskAct::Finish(task(number))),
-        Asked::Last(place) => Act::LastTask(queue(place)),
+        Asked::Last(index) => Act::LastTask(queue(index)),
         Asked::Read(number) => Act::ReadTask(task(number)),
     })
 }
@@ -136,19 +138,37 @@ fn told(alloc: Global, stage: &mut Stage, actor: u32, clock: u64, asked: Asked) 
     }
 }
 
-/// Whether it is told what it must be.
-pub fn is_right(alloc: Global, stage: &mut Stage, cue: &Cue) -> bool {
-    match cue {
+// The first of these queues at which a move is not told what it must be.
+fn wrong_queue(
+    alloc: Global,
+    stage: &mut Stage,
+    what: Move,
+    wants: &[(u32, Answers)],
+) -> Option<u32> {
+    for (index, want) in wants {
+        if told(alloc, stage, 5, 1000, Asked::Shared(*index, what)) != *want {
+            return Some(*index);
+        }
+    }
+    None
+}
+
+/// Where it is not told what it must be: at the queue of this index, or at 0 where no queue is named. None where all is right.
+pub fn wrong_at(alloc: Global, stage: &mut Stage, cue: &Cue) -> Option<u32> {
+    let is_right = match cue {
         Cue::Line(line, want) => stage.is_answered(line, Some(*want)),
         Cue::Any(line) => stage.is_answered(line, None),
         Cue::Step(actor, clock, asked, want) => told(alloc, stage, *actor, *clock, *asked) == *want,
-    }
+        Cue::Moves(what, wants) => return wrong_queue(alloc, stage, *what, wants),
+    };
+    if is_right { None } else { Some(0) }
 }
 
 /// Does what the cues say, one after another.
 pub fn play(rt: &impl Abort, alloc: Global, stage: &mut Stage, cues: &[Cue]) {
-    for (place, cue) in cues.iter().enumerate() {
-        assert!(rt; is_right(alloc, stage, cue), "cue {place}");
+    for (index, cue) in cues.iter().enumerate() {
+        let wrong = wrong_at(alloc, stage, cue);
+        assert!(rt; wrong.is_none(), "cue {index}: {wrong:?}");
     }
 }
 

@@ -138,14 +138,14 @@ fn is_right<S: Store>(alloc: Global, home: &mut Recorded<S>, seen: u64, line: &L
     false
 }
 
-// The place of the first line that a home answers otherwise, to an actor that has seen so much; how many there are, where it answers all
+// The index of the first line that a home answers otherwise, to an actor that has seen so much; how many there are, where it answers all
 // as they say.
 fn first_wrong<S: Store>(alloc: Global, home: &mut Recorded<S>, seen: u64, lines: &[Line]) -> usize
     requires { seen < stamp_end }
 {
-    for (place, line) in lines.iter().enumerate() {
+    for (index, line) in lines.iter().enumerate() {
         if !is_right(alloc, home, seen, line) {
-            return place;
+            return index;
         }
     }
     lines.len()

@@ -6,7 +6,7 @@ use sq_base::ids::QueueNo;
 use sq_base::refusal::Refusal;
 use sq_base::stamp::Stamp;
 use sq_history::recorded::Home;
-use sq_history::shared::HomeHalf;
+use sq_history::shared::{HomeHalf, StampedStep};
 use sq_model::event::Actor;
 use sq_model::item::{Item, ItemNo, TaskNo};
 use sq_model::replies::HomeReply;
@@ -89,7 +89,13 @@ fn left(alloc: Global, home: &mut Home, by: &Actor, at: Stamp, leave: &TaskLeave
     requires last { Below home.old.last at }
     requires seen { Below by.now.seen at }
 {
-    told_by(&home.leave_task(alloc, by, at, None, leave))
+    let step = StampedStep {
+        alloc,
+        by: *by,
+        stamp: at,
+        name: None,
+    };
+    told_by(&home.leave_task(&step, leave))
 }
 
 // What is answered at this moment.
@@ -126,11 +132,11 @@ fn is_told(alloc: Global, home: &mut Home, line: &Line) -> bool {
     leave(alloc, home, moment, &asked(has_destination, allowed)) == want
 }
 
-// The place of the first line that a home answers otherwise; how many there are, where it answers all as they say.
+// The index of the first line that a home answers otherwise; how many there are, where it answers all as they say.
 fn first_wrong(alloc: Global, home: &mut Home, lines: &[Line]) -> usize {
-    for (place, line) in lines.iter().enumerate() {
+    for (index, line) in lines.iter().enumerate() {
         if !is_told(alloc, home, line) {
-            return place;
+            return index;
         }
     }
     lines.len()

@@ -1,5 +1,5 @@
 //! Messages that move: what no row shows of them, and what the audit says where a home, the ledger and the records do not agree.
-use super::cues::{Asked, Cue, Move, is_right, play, played};
+use super::cues::{Asked, Cue, Move, play, played, wrong_at};
 use super::evidence::{Evidence, Fault, Mix, NO_FAULT, missing, must};
 use super::stage::{Stage, options};
 use sq_base::refusal::Refusal;
@@ -43,70 +43,37 @@ const SEND_D: Cue = Cue::Any(
     r#"{"Action":"SendMessage","Now":1000,"QueueUrl":"http://localhost/000000000000/d","MessageBody":"hello"}"#,
 );
 
-const LEAVE: Cue = Cue::Line(
-    r#"{"Action":"DeadTurn","Actor":1,"Now":31000,"QueueUrl":"http://localhost/000000000000/q"}"#,
-    r#"{"Turn":"left"}"#,
-);
+const DEAD_TURN: &str =
+    r#"{"Action":"DeadTurn","Actor":1,"Now":31000,"QueueUrl":"http://localhost/000000000000/q"}"#;
 
-const LEAVE_LATER: Cue = Cue::Line(
-    r#"{"Action":"DeadTurn","Actor":1,"Now":32000,"QueueUrl":"http://localhost/000000000000/q"}"#,
-    r#"{"Turn":"left"}"#,
-);
+const DEAD_TURN_LATER: &str =
+    r#"{"Action":"DeadTurn","Actor":1,"Now":32000,"QueueUrl":"http://localhost/000000000000/q"}"#;
 
-const LEAVE_BY_ANOTHER: Cue = Cue::Line(
-    r#"{"Action":"DeadTurn","Actor":2,"Now":31000,"QueueUrl":"http://localhost/000000000000/q"}"#,
-    r#"{"Turn":"left"}"#,
-);
+const DEAD_TURN_OF_ANOTHER: &str =
+    r#"{"Action":"DeadTurn","Actor":2,"Now":31000,"QueueUrl":"http://localhost/000000000000/q"}"#;
 
-const ENTER: Cue = Cue::Line(
-    r#"{"Action":"EnterTurn","Actor":1,"Now":31000}"#,
-    r#"{"Turn":"entered"}"#,
-);
+const ENTER_TURN: &str = r#"{"Action":"EnterTurn","Actor":1,"Now":31000}"#;
 
-const ENTER_BY_ANOTHER: Cue = Cue::Line(
-    r#"{"Action":"EnterTurn","Actor":2,"Now":31000}"#,
-    r#"{"Turn":"entered"}"#,
-);
+const ENTER_TURN_OF_ANOTHER: &str = r#"{"Action":"EnterTurn","Actor":2,"Now":31000}"#;
 
-const TURN_BACK: Cue = Cue::Line(
-    r#"{"Action":"EnterTurn","Actor":1,"Now":31000}"#,
-    r#"{"Turn":"turned"}"#,
-);
+const TASK_TURN: &str =
+    r#"{"Action":"TaskTurn","Actor":1,"Now":31000,"TaskHandle":"task-0000000000000001"}"#;
 
-const COME_BACK: Cue = Cue::Line(
-    r#"{"Action":"EnterTurn","Actor":1,"Now":31000}"#,
-    r#"{"Turn":"back"}"#,
-);
+// What a turn is told.
+const HAS_LEFT: &str = r#"{"Turn":"left"}"#;
 
-const DROP: Cue = Cue::Line(
-    r#"{"Action":"EnterTurn","Actor":1,"Now":31000}"#,
-    r#"{"Turn":"dropped"}"#,
-);
+const HAS_ENTERED: &str = r#"{"Turn":"entered"}"#;
 
 const START: Cue = Cue::Line(
     r#"{"Action":"StartMessageMoveTask","Now":31000,"SourceArn":"arn:aws:sqs:local:000000000000:d"}"#,
     r#"{"TaskHandle":"task-0000000000000001"}"#,
 );
 
-const LEAVE_FOR_TASK: Cue = Cue::Line(
-    r#"{"Action":"TaskTurn","Actor":1,"Now":31000,"TaskHandle":"task-0000000000000001"}"#,
-    r#"{"Turn":"left"}"#,
-);
+const REMOVE_D: &str =
+    r#"{"Action":"DeleteQueue","Now":31000,"QueueUrl":"http://localhost/000000000000/d"}"#;
 
-const FAIL: Cue = Cue::Line(
-    r#"{"Action":"TaskTurn","Actor":1,"Now":31000,"TaskHandle":"task-0000000000000001"}"#,
-    r#"{"Turn":"failed"}"#,
-);
-
-const REMOVE_D: Cue = Cue::Line(
-    r#"{"Action":"DeleteQueue","Now":31000,"QueueUrl":"http://localhost/000000000000/d"}"#,
-    r#"{}"#,
-);
-
-const REMOVE_Q: Cue = Cue::Line(
-    r#"{"Action":"DeleteQueue","Now":31000,"QueueUrl":"http://localhost/000000000000/q"}"#,
-    r#"{}"#,
-);
+const REMOVE_Q: &str =
+    r#"{"Action":"DeleteQueue","Now":31000,"QueueUrl":"http://localhost/000000000000/q"}"#;
 
 // Four queues of one home.
 fn few(rows: u32, transit: u32) -> Options {
@@ -153,19 +120,19 @@ fn cue_of(line: Line) -> Cue {
         Line::SendD => SEND_D,
         Line::Receive => RECEIVE,
         Line::ReceiveLater => RECEIVE_LATER,
-        Line::Leave => LEAVE,
-        Line::LeaveLater => LEAVE_LATER,
-        Line::LeaveByAnother => LEAVE_BY_ANOTHER,
-        Line::Enter => ENTER,
-        Line::EnterByAnother => ENTER_BY_ANOTHER,
-        Line::TurnBack => TURN_BACK,
-        Line::ComeBack => COME_BACK,
-        Line::Drop => DROP,
+        Line::Leave => Cue::Line(DEAD_TURN, HAS_LEFT),
+        Line::LeaveLater => Cue::Line(DEAD_TURN_LATER, HAS_LEFT),
+        Line::LeaveByAnother => Cue::Line(DEAD_TURN_OF_ANOTHER, HAS_LEFT),
+        Line::Enter => Cue::Line(ENTER_TURN, HAS_ENTERED),
+        Line::EnterByAnother => Cue::Line(ENTER_TURN_OF_ANOTHER, HAS_ENTERED),
+        Line::TurnBack => Cue::Line(ENTER_TURN, r#"{"Turn":"turned"}"#),
+        Line::ComeBack => Cue::Line(ENTER_TURN, r#"{"Turn":"back"}"#),
+        Line::Drop => Cue::Line(ENTER_TURN, r#"{"Turn":"dropped"}"#),
         Line::Start => START,
-        Line::LeaveForTask => LEAVE_FOR_TASK,
-        Line::Fail => FAIL,
-        Line::RemoveD => REMOVE_D,
-        Line::RemoveQ => REMOVE_Q,
+        Line::LeaveForTask => Cue::Line(TASK_TURN, HAS_LEFT),
+        Line::Fail => Cue::Line(TASK_TURN, r#"{"Turn":"failed"}"#),
+        Line::RemoveD => Cue::Line(REMOVE_D, "{}"),
+        Line::RemoveQ => Cue::Line(REMOVE_Q, "{}"),
     }
 }
 
@@ -210,8 +177,9 @@ const DEAD_FOR_E: &[Line] = &[
 ];
 
 fn play_lines(rt: &impl Abort, alloc: Global, stage: &mut Stage, lines: &[Line]) {
-    for (place, line) in lines.iter().enumerate() {
-        assert!(rt; is_right(alloc, stage, &cue_of(*line)), "line {place}");
+    for (index, line) in lines.iter().enumerate() {
+        let wrong = wrong_at(alloc, stage, &cue_of(*line));
+        assert!(rt; wrong.is_none(), "line {index}");
     }
 }
 
@@ -244,14 +212,18 @@ const LEFT_LATER: Fault = [3, 32_000, 1];
 
 const LEFT_FOR_ANOTHER: Fault = [3, 31_000, 1];
 
+const LEAVES: Story = (DEAD, &[Line::Leave]);
+
+const COMES_IN: Story = (DEAD, &[Line::Leave, Line::Enter]);
+
 // A story whose last line moves a message, what is wrong where one history of two lacks that, and how many records the client and the
 // mover have.
 type Moved = (Story, Fault, [u64; 2]);
 
 // Each of the seven moves.
 const MOVES: &[Moved] = &[
-    ((DEAD, &[Line::Leave]), LEFT, [7, 1]),
-    ((DEAD, &[Line::Leave, Line::Enter]), CAME_IN, [7, 2]),
+    (LEAVES, LEFT, [7, 1]),
+    (COMES_IN, CAME_IN, [7, 2]),
     (
         (DEAD, &[Line::Leave, Line::RemoveD, Line::TurnBack]),
         CAME_IN,
@@ -320,13 +292,13 @@ fn but_the_last(story: Story) -> Story {
 }
 
 // Whether the audit tells in each of the eight ways what is wrong.
-fn is_reported_everywhere(rt: &impl Abort, alloc: Global, place: usize, moved: &Moved) {
+fn is_reported_everywhere(rt: &impl Abort, alloc: Global, index: usize, moved: &Moved) {
     let (story, alone, records) = moved;
     let record = records[1].saturating_sub(1);
     for number in 0..8u32 {
         let mix = mix_of(number);
         let found = mixed(rt, alloc, but_the_last(*story), *story, mix);
-        let case = (place as u64)
+        let case = (index as u64)
             .saturating_mul(8)
             .saturating_add(number as u64);
         must(rt, case, &found, found == wrong(mix, *alone, record));
@@ -335,8 +307,8 @@ fn is_reported_everywhere(rt: &impl Abort, alloc: Global, place: usize, moved: &
 
 #[test]
 fn a_move_that_is_not_everywhere_is_reported(rt: HostRuntime) {
-    for (place, moved) in MOVES.iter().enumerate() {
-        is_reported_everywhere(&rt, rt.alloc(), place, moved);
+    for (index, moved) in MOVES.iter().enumerate() {
+        is_reported_everywhere(&rt, rt.alloc(), index, moved);
     }
 }
 
@@ -374,44 +346,30 @@ fn each_record_that_is_taken_out_is_reported(rt: HostRuntime) {
     }
 }
 
+const OTHER_LEAVES: Story = (OTHER_DEAD, &[Line::Leave]);
+
+const OTHER_COMES_IN: Story = (OTHER_DEAD, &[Line::Leave, Line::Enter]);
+
+const BROUGHT_BY_ANOTHER: Story = (DEAD, &[Line::Leave, Line::EnterByAnother]);
+
+const LEAVES_FOR_D: Story = (DEAD_FOR_D, &[Line::Leave]);
+
+const LEAVES_FOR_E: Story = (DEAD_FOR_E, &[Line::Leave]);
+
 // Stories of which the ledger has the second, and what may be told of that.
 type Differing = (Story, Story, [Fault; 2]);
 
 // The ledger's step has the same stamp, and is of another message, actor or target; or it has another stamp.
 const DIFFERING: &[Differing] = &[
+    (LEAVES, OTHER_LEAVES, [LEFT, LEFT]),
+    (OTHER_LEAVES, LEAVES, [LEFT, LEFT]),
+    (COMES_IN, OTHER_COMES_IN, [LEFT, CAME_IN]),
+    (LEAVES, (DEAD, &[Line::LeaveByAnother]), [LEFT, LEFT]),
+    (COMES_IN, BROUGHT_BY_ANOTHER, [CAME_IN, CAME_IN]),
+    (LEAVES, (DEAD, &[Line::LeaveLater]), [LEFT, LEFT_LATER]),
     (
-        (DEAD, &[Line::Leave]),
-        (OTHER_DEAD, &[Line::Leave]),
-        [LEFT, LEFT],
-    ),
-    (
-        (OTHER_DEAD, &[Line::Leave]),
-        (DEAD, &[Line::Leave]),
-        [LEFT, LEFT],
-    ),
-    (
-        (DEAD, &[Line::Leave, Line::Enter]),
-        (OTHER_DEAD, &[Line::Leave, Line::Enter]),
-        [LEFT, CAME_IN],
-    ),
-    (
-        (DEAD, &[Line::Leave]),
-        (DEAD, &[Line::LeaveByAnother]),
-        [LEFT, LEFT],
-    ),
-    (
-        (DEAD, &[Line::Leave, Line::Enter]),
-        (DEAD, &[Line::Leave, Line::EnterByAnother]),
-        [CAME_IN, CAME_IN],
-    ),
-    (
-        (DEAD, &[Line::Leave]),
-        (DEAD, &[Line::LeaveLater]),
-        [LEFT, LEFT_LATER],
-    ),
-    (
-        (DEAD_FOR_D, &[Line::Leave]),
-        (DEAD_FOR_E, &[Line::Leave]),
+        LEAVES_FOR_D,
+        LEAVES_FOR_E,
         [LEFT_FOR_ANOTHER, LEFT_FOR_ANOTHER],
     ),
 ];
@@ -420,11 +378,11 @@ const DIFFERING: &[Differing] = &[
 fn what_differs_between_two_histories_is_a_fault(rt: HostRuntime) {
     let mut mix = Mix::none();
     mix.ledger = true;
-    for (place, (kept, ledger, wants)) in DIFFERING.iter().enumerate() {
+    for (index, (kept, ledger, wants)) in DIFFERING.iter().enumerate() {
         let found = mixed(&rt, rt.alloc(), *kept, *ledger, mix);
         must(
             &rt,
-            place as u64,
+            index as u64,
             &found,
             found == wants[0] || found == wants[1],
         );
@@ -437,17 +395,17 @@ const REMOVE_C: Cue = Cue::Any(
 
 const LEAVE_EARLY: Cue = Cue::Line(
     r#"{"Action":"DeadTurn","Actor":1,"Now":1000,"QueueUrl":"http://localhost/000000000000/q"}"#,
-    r#"{"Turn":"left"}"#,
+    HAS_LEFT,
 );
 
 const REMOVE_D_EARLY: Cue = Cue::Line(
     r#"{"Action":"DeleteQueue","Now":1000,"QueueUrl":"http://localhost/000000000000/d"}"#,
-    r#"{}"#,
+    "{}",
 );
 
 const REMOVE_Q_EARLY: Cue = Cue::Line(
     r#"{"Action":"DeleteQueue","Now":1000,"QueueUrl":"http://localhost/000000000000/q"}"#,
-    r#"{}"#,
+    "{}",
 );
 
 // The queues d, q, c and u, of one row a home: q has a message, another one of it is in transit to d, c is deleted, and u was never
@@ -477,42 +435,38 @@ const REFUSED: &[Cue] = &[
     // Both queues are there, one item is in transit, and no other.
     Cue::Step(5, CLOCK_END, Asked::Shared(0, Move::LeaveDead), LATE),
     Cue::Step(5, CLOCK_END, Asked::Shared(4, Move::LeaveDead), LATE),
-    Cue::Step(5, 1000, Asked::Shared(0, Move::LeaveDead), Answers::Nothing),
-    Cue::Step(5, 1000, Asked::Shared(1, Move::LeaveDead), Answers::Nothing),
-    Cue::Step(5, 1000, Asked::Shared(2, Move::LeaveDead), NO_QUEUE),
-    Cue::Step(5, 1000, Asked::Shared(3, Move::LeaveDead), NO_QUEUE),
-    Cue::Step(5, 1000, Asked::Shared(4, Move::LeaveDead), NO_QUEUE),
-    Cue::Step(5, 1000, Asked::Shared(0, Move::Enter(2)), NOT_SO),
-    Cue::Step(5, 1000, Asked::Shared(1, Move::Enter(1)), FULL),
-    Cue::Step(5, 1000, Asked::Shared(2, Move::Enter(1)), NO_QUEUE),
-    Cue::Step(5, 1000, Asked::Shared(3, Move::Enter(1)), NO_QUEUE),
-    Cue::Step(5, 1000, Asked::Shared(0, Move::GiveBack(1)), NOT_SO),
-    Cue::Step(5, 1000, Asked::Shared(1, Move::GiveBack(1)), FULL),
-    Cue::Step(5, 1000, Asked::Shared(3, Move::GiveBack(1)), NO_QUEUE),
-    Cue::Step(5, 1000, Asked::Shared(0, Move::TurnBack(1)), NOT_SO),
-    Cue::Step(5, 1000, Asked::Shared(2, Move::TurnBack(1)), NOT_SO),
-    Cue::Step(5, 1000, Asked::Shared(3, Move::TurnBack(1)), NO_QUEUE),
-    Cue::Step(5, 1000, Asked::Shared(1, Move::GiveUp(1)), NOT_SO),
-    Cue::Step(5, 1000, Asked::Shared(2, Move::GiveUp(1)), NOT_SO),
-    Cue::Step(5, 1000, Asked::Shared(3, Move::GiveUp(1)), NO_QUEUE),
+    Cue::Moves(
+        Move::LeaveDead,
+        &[(0, Answers::Nothing), (1, Answers::Nothing)],
+    ),
+    Cue::Moves(
+        Move::LeaveDead,
+        &[(2, NO_QUEUE), (3, NO_QUEUE), (4, NO_QUEUE)],
+    ),
+    Cue::Moves(Move::Enter(2), &[(0, NOT_SO)]),
+    Cue::Moves(Move::Enter(1), &[(1, FULL), (2, NO_QUEUE), (3, NO_QUEUE)]),
+    Cue::Moves(Move::GiveBack(1), &[(0, NOT_SO), (1, FULL), (3, NO_QUEUE)]),
+    Cue::Moves(
+        Move::TurnBack(1),
+        &[(0, NOT_SO), (2, NOT_SO), (3, NO_QUEUE)],
+    ),
+    Cue::Moves(Move::Drop(1), &[(1, NOT_SO), (2, NOT_SO), (3, NO_QUEUE)]),
     // The message that waits is dead too, and finds no room in transit.
     RECEIVE,
-    Cue::Step(5, 1000, Asked::Shared(1, Move::LeaveDead), FULL),
+    Cue::Moves(Move::LeaveDead, &[(1, FULL)]),
     // The item turns, and finds no room where it comes from.
     REMOVE_D_EARLY,
-    Cue::Step(5, 1000, Asked::Shared(0, Move::Enter(1)), NO_QUEUE),
-    Cue::Step(5, 1000, Asked::Shared(0, Move::GiveUp(1)), NOT_SO),
-    Cue::Step(5, 1000, Asked::Shared(0, Move::TurnBack(2)), NOT_SO),
-    Cue::Step(5, 1000, Asked::Shared(0, Move::TurnBack(1)), Answers::Done),
-    Cue::Step(5, 1000, Asked::Shared(0, Move::TurnBack(1)), NOT_SO),
-    Cue::Step(5, 1000, Asked::Shared(1, Move::GiveBack(1)), FULL),
-    Cue::Step(5, 1000, Asked::Shared(1, Move::GiveUp(1)), NOT_SO),
-    // It is given up.
+    Cue::Moves(Move::Enter(1), &[(0, NO_QUEUE)]),
+    Cue::Moves(Move::Drop(1), &[(0, NOT_SO)]),
+    Cue::Moves(Move::TurnBack(2), &[(0, NOT_SO)]),
+    Cue::Moves(Move::TurnBack(1), &[(0, Answers::Done), (0, NOT_SO)]),
+    Cue::Moves(Move::GiveBack(1), &[(1, FULL)]),
+    Cue::Moves(Move::Drop(1), &[(1, NOT_SO)]),
+    // It is dropped.
     REMOVE_Q_EARLY,
-    Cue::Step(5, 1000, Asked::Shared(1, Move::GiveBack(1)), NO_QUEUE),
-    Cue::Step(5, 1000, Asked::Shared(1, Move::TurnBack(1)), NOT_SO),
-    Cue::Step(5, 1000, Asked::Shared(1, Move::GiveUp(1)), Answers::Done),
-    Cue::Step(5, 1000, Asked::Shared(1, Move::GiveUp(1)), NOT_SO),
+    Cue::Moves(Move::GiveBack(1), &[(1, NO_QUEUE)]),
+    Cue::Moves(Move::TurnBack(1), &[(1, NOT_SO)]),
+    Cue::Moves(Move::Drop(1), &[(1, Answers::Done), (1, NOT_SO)]),
 ];
 
 #[test]
@@ -521,10 +475,11 @@ fn moves_are_refused_in_order(rt: HostRuntime) {
     assert!(rt; evidence.fault() == NO_FAULT);
 }
 
-const FULL_TURN: Cue = Cue::Line(
-    r#"{"Action":"EnterTurn","Actor":1,"Now":1000}"#,
-    r#"{"Turn":"full"}"#,
-);
+const ENTER_TURN_EARLY: &str = r#"{"Action":"EnterTurn","Actor":1,"Now":1000}"#;
+
+const FULL_TURN: Cue = Cue::Line(ENTER_TURN_EARLY, r#"{"Turn":"full"}"#);
+
+const ENTER_EARLY: Cue = Cue::Line(ENTER_TURN_EARLY, HAS_ENTERED);
 
 const LEAVE_D: Cue = Cue::Line(
     r#"{"Action":"DeadTurn","Actor":1,"Now":1000,"QueueUrl":"http://localhost/000000000000/d"}"#,
@@ -534,11 +489,6 @@ const LEAVE_D: Cue = Cue::Line(
 const OPEN_D: Cue = Cue::Line(
     r#"{"Action":"CreateQueue","Now":1000,"QueueName":"d"}"#,
     r#"{"QueueUrl":"http://localhost/000000000000/d"}"#,
-);
-
-const ENTER_EARLY: Cue = Cue::Line(
-    r#"{"Action":"EnterTurn","Actor":1,"Now":1000}"#,
-    r#"{"Turn":"entered"}"#,
 );
 
 // No message leaves a home that was never opened, and none comes in, until it is.

@@ -16,38 +16,38 @@ use std::process::Abort;
 fn part_of(event: &Tagged<'_>) -> u64 {
     match event {
         Tagged::Directory(_) => 0,
-        Tagged::Home(place, _) => *place as u64 + 1,
+        Tagged::Home(index, _) => *index as u64 + 1,
         Tagged::Ledger(_) => u64::MAX,
     }
 }
 
-// An event by the number of its part and its stamp, a moment and a count.
-type Listed = [u64; 3];
-
-// Whether an event of a run is this one.
-fn is_event(run: &Run<'_>, at: usize, want: &Listed) -> bool {
+// Whether an event of a run is of the part of this number and has this stamp: its moment, and its count as the last digit.
+fn is_event(run: &Run<'_>, at: usize, part: u64, stamp: u64) -> bool {
     let Some(event) = run.event(at) else {
         return false;
     };
-    let stamp = event.stamp();
-    [part_of(&event), stamp.moment, stamp.count] == *want
+    let found = event.stamp();
+    part_of(&event) == part && [found.moment, found.count] == [stamp / 10, stamp % 10]
 }
 
-// The place of the first event of a run that is not the one of this list, or the list's length; and how many events there are.
-fn compared(run: &Run<'_>, wants: &[Listed]) -> [usize; 2] {
-    for (at, want) in wants.iter().enumerate() {
-        if !is_event(run, at, want) {
-            return [at, run.len()];
+// The index of the first event of a run that is not of these parts with these stamps, or how many they are; and how many events there
+// are.
+fn compared(run: &Run<'_>, parts: &[u64], stamps: &[u64]) -> [usize; 2] {
+    for (at, part) in parts.iter().enumerate() {
+        match stamps.get(at) {
+            Some(stamp) if is_event(run, at, *part, *stamp) => {}
+            _ => return [at, run.len()],
         }
     }
-    [wants.len(), run.len()]
+    [stamps.len(), run.len()]
 }
 
-// What is so compared with the run that these cues leave.
-fn left(rt: &impl Abort, alloc: Global, cues: &[Cue], wants: &[Listed]) -> [usize; 2] {
+// The run that these cues leave must have one event of each of these parts, with these stamps, in this order.
+fn must_leave(rt: &impl Abort, alloc: Global, cues: &[Cue], parts: &[u64], stamps: &[u64]) {
     let evidence = played(rt, alloc, options(2, 10, 16), cues, &[]);
     let run = merge(alloc, evidence.parts()).expect(rt, "one run");
-    compared(&run, wants)
+    let found = compared(&run, parts, stamps);
+    assert!(rt; found == [parts.len(); 2], "{found:?}");
 }
 
 const NOTHING: Answers = Answers::GaveAll(0);
@@ -73,17 +73,9 @@ const THREE_ACTORS: &[Cue] = &[
 
 #[test]
 fn steps_of_three_actors_have_one_order(rt: HostRuntime) {
-    let wants: [Listed; 7] = [
-        [0, 0, 1],
-        [1, 0, 2],
-        [1, 0, 3],
-        [2, 0, 3],
-        [2, 0, 4],
-        [1, 0, 5],
-        [2, 0, 5],
-    ];
-    let found = left(&rt, rt.alloc(), THREE_ACTORS, &wants);
-    assert!(rt; found == [7, 7], "{found:?}");
+    let parts = [0, 1, 1, 2, 2, 1, 2];
+    let stamps = [1, 2, 3, 3, 4, 5, 5];
+    must_leave(&rt, rt.alloc(), THREE_ACTORS, &parts, &stamps);
 }
 
 // Each step is of another actor, so that a stamp follows from its part alone. A message is given where it is.
@@ -105,28 +97,21 @@ const BY_STAMP: &[Cue] = &[
 
 #[test]
 fn events_are_listed_by_stamp(rt: HostRuntime) {
-    let wants: [Listed; 8] = [
-        [0, 1000, 0],
-        [1, 1000, 0],
-        [2, 1000, 0],
-        [2, 1500, 0],
-        [1, 2000, 0],
-        [2, 2000, 0],
-        [1, 2000, 1],
-        [2, 3000, 0],
+    let parts = [0, 1, 2, 2, 1, 2, 1, 2];
+    let stamps = [
+        1000_0, 1000_0, 1000_0, 1500_0, 2000_0, 2000_0, 2000_1, 3000_0,
     ];
-    let found = left(&rt, rt.alloc(), BY_STAMP, &wants);
-    assert!(rt; found == [8, 8], "{found:?}");
+    must_leave(&rt, rt.alloc(), BY_STAMP, &parts, &stamps);
 }
 
 // The stamp that an actor recorded of its step of this number; none where there is no such record.
-fn recorded(parts: &Parts, actor: u32, place: usize) -> [u64; 2] {
+fn recorded(parts: &Parts, actor: u32, index: usize) -> [u64; 2] {
     for journal in parts.records.as_slice() {
         if journal.actor() == actor {
-            if place >= journal.len() {
+            if index >= journal.len() {
                 return NONE;
             }
-            let stamp = journal.record(place).stamp();
+            let stamp = journal.record(index).stamp();
             return [stamp.moment, stamp.count];
         }
     }

@@ -20,15 +20,15 @@ fn keep(counts: &mut [u32; 16], home: HomeNo) {
     }
 }
 
-// How often each home stands at this place of three that are drawn among five.
-fn drawn(rt: &impl Abort, alloc: Global, place: usize) -> [u32; 16] {
+// How often each home stands at this index of three that are drawn among five.
+fn drawn(rt: &impl Abort, alloc: Global, index: usize) -> [u32; 16] {
     let mut sampler = Sampler::new(0);
     let mut counts = [0u32; 16];
     for _ in 0..100_000 {
         let drawn = sampler
             .draw(alloc, HomeCount::of(5), HomeCount::of(3))
             .expect(rt, "memory");
-        if let Some(home) = drawn.get(place) {
+        if let Some(home) = drawn.get(index) {
             keep(&mut counts, *home);
         }
     }
@@ -49,9 +49,9 @@ fn is_even(counts: &[u32; 16], homes: usize, often: u32) -> bool {
 #[test]
 fn homes_are_chosen_evenly(rt: HostRuntime) {
     assert!(rt; is_even(&picked(7, 100_000), 16, 6250));
-    for place in 0..3 {
-        let counts = drawn(&rt, rt.alloc(), place);
-        assert!(rt; is_even(&counts, 5, 20_000), "at {place}");
+    for index in 0..3 {
+        let counts = drawn(&rt, rt.alloc(), index);
+        assert!(rt; is_even(&counts, 5, 20_000), "at {index}");
     }
     assert!(rt; drawn(&rt, rt.alloc(), 3) == [0; 16]);
 }

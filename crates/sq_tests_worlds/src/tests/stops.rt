@@ -63,8 +63,7 @@ const LIST: &str =
 
 const MAKE_Q_PLAIN: &str = r#"{"Action":"CreateQueue","Now":0,"QueueName":"q"}"#;
 
-const PURGE: &str =
-    r#"{"Action":"PurgeQueue","Now":1000,"QueueUrl":"http://localhost/000000000000/q"}"#;
+const PURGE: &str = r#"{"Action":"PurgeQueue","QueueUrl":"http://localhost/000000000000/q"}"#;
 
 const PURGE_TOO_EARLY: &str =
     r#"{"Action":"PurgeQueue","Now":60999,"QueueUrl":"http://localhost/000000000000/q"}"#;
@@ -157,19 +156,19 @@ fn only_place(alloc: Global, evidence: &Evidence) -> Option<Place> {
     }
 }
 
-// Does lines, the one at this place up to so many steps: whether a further step of it was due, how many messages its clients were
+// Does lines, the one at this index up to so many steps: whether a further step of it was due, how many messages its clients were
 // told to be sent, and how many are in one place each; none where what is left is not of one run.
 fn stopped_at(
     rt: &impl Abort,
     alloc: Global,
     lines: &[&str],
-    place: usize,
+    index: usize,
     steps: u64,
 ) -> (bool, u64, Option<u64>) {
     let mut stage = Stage::new(rt, alloc, options(2, 100, 100));
     let mut run = Run::new(alloc);
     for (at, line) in lines.iter().enumerate() {
-        let most = if at == place { steps } else { u64::MAX };
+        let most = if at == index { steps } else { u64::MAX };
         run.line(alloc, &mut stage, line, most);
     }
     let found = stage.evidence(rt).messages();
@@ -189,10 +188,10 @@ fn must_leave(rt: &impl Abort, stop: [u64; 2], want: u64, found: Option<u64>) {
 // leave: of a batch of sends one message for each after the first, which looks its queue up, and of all others none.
 fn stops_of(rt: &impl Abort, alloc: Global, lines: &[&str]) -> u64 {
     let mut stops = 0u64;
-    for (place, line) in lines.iter().enumerate() {
+    for (index, line) in lines.iter().enumerate() {
         let is_batch = *line == SEND_ALL;
         for steps in 0..20u64 {
-            let (stopped, told, found) = stopped_at(rt, alloc, lines, place, steps);
+            let (stopped, told, found) = stopped_at(rt, alloc, lines, index, steps);
             let untold = if stopped && is_batch {
                 steps.saturating_sub(1)
             } else {
@@ -200,7 +199,7 @@ fn stops_of(rt: &impl Abort, alloc: Global, lines: &[&str]) -> u64 {
             };
             must_leave(
                 rt,
-                [place as u64, steps],
+                [index as u64, steps],
                 told.saturating_add(untold),
                 found,
             );
@@ -213,55 +212,32 @@ fn stops_of(rt: &impl Abort, alloc: Global, lines: &[&str]) -> u64 {
     stops
 }
 
-// Lines, and in how many ways they can be stopped. A queue that is made, purged or deleted is three steps, of the directory and of two
-// homes; a send is two, a receive two or three, and what is refused at once is one. A batch has one for each entry that is not refused
-// by itself, after the look-up.
-type Stopped = (&'static [&'static str], u64);
+// A message is dead, and on its way to the other queue.
+const ON_THE_WAY: &[&str] = &[MAKE_D, MAKE_Q, SEND_TO_Q, RECEIVE, RECEIVE_LATER, LEAVE];
 
-const BATCHES: Stopped = (&[MAKE_D, MAKE_Q, SEND_ALL, RECEIVE, COUNT], 15);
+// How a run begins and how it goes on, and in how many ways it can be stopped. A queue that is made, purged or deleted is three steps,
+// of the directory and of two homes; a send is two, a receive two or three, and what is refused at once is one. A batch has one for
+// each entry that is not refused by itself, after the look-up.
+type Stopped = (&'static [&'static str], &'static [&'static str], u64);
 
-const DEAD_LETTERS: Stopped = (
-    &[
-        MAKE_D,
-        MAKE_Q,
-        SEND_TO_Q,
-        RECEIVE,
-        RECEIVE_LATER,
-        LEAVE,
-        ENTER,
-        RECEIVE_FROM_D,
-    ],
-    17,
-);
+const BATCHES: Stopped = (&[MAKE_D, MAKE_Q], &[SEND_ALL, RECEIVE, COUNT], 15);
 
-const DELETIONS_ON_THE_WAY: Stopped = (
-    &[
-        MAKE_D,
-        MAKE_Q,
-        SEND_TO_Q,
-        RECEIVE,
-        RECEIVE_LATER,
-        LEAVE,
-        DELETE_D,
-        DELETE_Q,
-        ENTER,
-        ENTER,
-    ],
-    20,
-);
+const DEAD_LETTERS: Stopped = (ON_THE_WAY, &[ENTER, RECEIVE_FROM_D], 17);
+
+const DELETIONS_ON_THE_WAY: Stopped = (ON_THE_WAY, &[DELETE_D, DELETE_Q, ENTER, ENTER], 20);
 
 const TASKS: Stopped = (
+    &[MAKE_D, MAKE_Q],
     &[
-        MAKE_D, MAKE_Q, SEND_TO_D, SEND_TO_D, SEND_TO_D, SEND_TO_D, SEND_TO_D, START, TASK, TASK,
-        TASK_LATER, ENTER, ENTER, CANCEL, LIST, TASK, ENTER, TASK, RECEIVE,
+        SEND_TO_D, SEND_TO_D, SEND_TO_D, SEND_TO_D, SEND_TO_D, START, TASK, TASK, TASK_LATER,
+        ENTER, ENTER, CANCEL, LIST, TASK, ENTER, TASK, RECEIVE,
     ],
     24,
 );
 
 const PURGES_AND_DELETIONS: Stopped = (
+    &[MAKE_Q_PLAIN, SEND_TO_Q],
     &[
-        MAKE_Q_PLAIN,
-        SEND_TO_Q,
         PURGE,
         PURGE_TOO_EARLY,
         PURGE_AGAIN,
@@ -274,6 +250,19 @@ const PURGES_AND_DELETIONS: Stopped = (
     22,
 );
 
+// All lines of a run.
+fn lines_of(rt: &impl Abort, alloc: Global, run: Stopped) -> Vec<&'static str> {
+    let (begin, then, _) = run;
+    let mut lines = Vec::new(alloc);
+    for line in begin {
+        lines.push(*line).expect(rt, "memory");
+    }
+    for line in then {
+        lines.push(*line).expect(rt, "memory");
+    }
+    lines
+}
+
 #[test]
 fn calls_are_stopped_after_each_step(rt: HostRuntime) {
     let runs = [
@@ -283,14 +272,12 @@ fn calls_are_stopped_after_each_step(rt: HostRuntime) {
         TASKS,
         PURGES_AND_DELETIONS,
     ];
-    for (place, (lines, stops)) in runs.iter().enumerate() {
-        let found = stops_of(&rt, rt.alloc(), lines);
-        assert!(rt; found == *stops, "{place}: {found}");
+    for (index, run) in runs.iter().enumerate() {
+        let lines = lines_of(&rt, rt.alloc(), *run);
+        let found = stops_of(&rt, rt.alloc(), lines.as_slice());
+        assert!(rt; found == run.2, "{index}: {found}");
     }
 }
-
-// What comes before a deletion that is stopped.
-const ON_THE_WAY: &[&str] = &[MAKE_D, MAKE_Q, SEND_TO_Q, RECEIVE, RECEIVE_LATER, LEAVE];
 
 // A queue is deleted up to its first step: it is gone by its name, and its homes are open yet, so that a message on its way comes
 // in.

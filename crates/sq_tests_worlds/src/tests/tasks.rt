@@ -47,7 +47,7 @@ fn has_left(task: &mut MoveTask) -> bool {
     left && next
 }
 
-// It is cancelled, once, and waits for those in transit, of which one comes back and one is given up.
+// It is cancelled, once, and waits for those in transit, of which one comes back and one is dropped.
 fn waits(task: &mut MoveTask) -> bool {
     let busy = task.finish() == Err(Refusal::UnsupportedOperation);
     let cancelled = task.cancel().is_ok() && !task.is_running() && task.is_active();
@@ -73,7 +73,7 @@ fn is_ended(task: &mut MoveTask) -> bool {
         && ended.left == 3
         && ended.moved == 1
         && ended.back == 1
-        && ended.given_up == 1
+        && ended.dropped == 1
 }
 
 #[test]

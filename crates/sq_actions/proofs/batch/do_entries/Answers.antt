@@ -15,6 +15,6 @@ loop-at-preserved g c =
       same = c.do_entry-answer.ensures.same_counts ∙ c.loop-at.invariant.same;
       many = search (rules, arith);
       room = search rules;
-      asked = entry_more _ g.S.LockSteps.counts _ _ _ c.args.batch.now c.args.of.now.name c.args.of.now.number c.loop-at.at c.loop-at.told.items c.push_reserved.new.self.items e c.do_entry-answer.result c.loop-at.invariant.asked c.loop-at.invariant.same c.requires.named
+      asked = entry_more _ g.S.LockSteps.counts _ _ _ c.args.batch.now c.args.batch.now.queue c.args.number c.loop-at.at c.loop-at.told.items c.push_reserved.new.self.items e c.do_entry-answer.result c.loop-at.invariant.asked c.loop-at.invariant.same refl
           (slice_get_read entries (length entries) c.loop-at.at e refl (search rules) (search rules)) c.do_entry-answer.ensures.did more;
     }

@@ -17,11 +17,11 @@ pub returns-in_err-tasks : goal.returns-in_err-tasks
 returns-in_err-tasks g c =
     let is : c.from_residual.result ≡ Err c.in_err-tasks.field-0.0 = search rules in
     let number = c.in-Ok.source.number in
-    answered_more _ (ListTasksFits c.args.call.now) (ByLedger (task.List number c.args.call.now.max) MakesTasks) _ _ _ _ (named c.args.call.now.source (Ok (Found number))) c.in-Ok.ensures.did
-    (ledger_refused _ _ _ (task.List number c.args.call.now.max) MakesTasks c.in_err-tasks.field-0.0 _ c.in_err-tasks.ensures.did c.in_err-tasks.ensures.refusal is) (λ ds fits. inr (number, ds, refl, fits))
+    answered_more _ (ListTasksFits c.args.call.now) (ByLedger (task.List number c.args.call.now.max) MakesTasks) _ _ _ _ (named c.args.call.now.source (Ok (Found c.in-Ok.source))) c.in-Ok.ensures.did
+    (ledger_refused _ _ _ (task.List number c.args.call.now.max) MakesTasks c.in_err-tasks.field-0.0 _ c.in_err-tasks.ensures.did c.in_err-tasks.ensures.refusal is) (λ ds fits. inr (c.in-Ok.source, ds, refl, fits))
 
 pub returns : goal.returns
 returns g c =
     let number = c.in-Ok.source.number in
-    answered_more _ (ListTasksFits c.args.call.now) (ByLedger (task.List number c.args.call.now.max) MakesTasks) _ _ _ _ (named c.args.call.now.source (Ok (Found number))) c.in-Ok.ensures.did
-    (ledger_told _ _ _ (task.List number c.args.call.now.max) MakesTasks (ledger.Listed c.in-Listed.tasks) (answer.Tasks c.in-Listed.tasks) (rw c.in-Listed.is at c.in_ok-tasks.ensures.did) (c.in-Listed.tasks, refl, refl)) (λ ds fits. inr (number, ds, refl, fits))
+    answered_more _ (ListTasksFits c.args.call.now) (ByLedger (task.List number c.args.call.now.max) MakesTasks) _ _ _ _ (named c.args.call.now.source (Ok (Found c.in-Ok.source))) c.in-Ok.ensures.did
+    (ledger_told _ _ _ (task.List number c.args.call.now.max) MakesTasks (ledger.Listed c.in-Listed.tasks) (answer.Tasks c.in-Listed.tasks) (rw c.in-Listed.is at c.in_ok-tasks.ensures.did) (c.in-Listed.tasks, refl, refl)) (λ ds fits. inr (c.in-Ok.source, ds, refl, fits))

@@ -20,7 +20,7 @@ returns-in_err-home_step-clause-did g c =
     let h = c.in_ok-handle.handle in
     let is : c.from_residual-in_err-home_step.result ≡ Err c.in_err-home_step.field-0.0 = search rules in
     answered_one _ (HandleAt (g.S.LockSteps.counts c.args.steps.now).homes of.name of.number c.args.handle.now (act_of c.args.what)) _ _ _ _ (home_step of.name of.number h.home (act_of c.args.what (receipt_of h)) (Err c.in_err-home_step.field-0.0)) refl
-    (rw c.act-act.ensures at c.in_err-home_step.ensures.did)
+    (rw (c.act-act.ensures, c.found.ensures) at c.in_err-home_step.ensures.did)
     (inr (h, rw c.homes.ensures at c.in_ok-handle.ensures.found, inr (c.in_err-home_step.field-0.0, rw c.act-act.ensures at c.in_err-home_step.ensures.refusal, refl, is)))
 
 pub returns-clause-did : goal.returns-clause-did
@@ -29,5 +29,5 @@ returns-clause-did g c =
     let h = c.in_ok-handle.handle in
     let by = c.in_ok-home_step.field-0 in
     answered_one _ (HandleAt (g.S.LockSteps.counts c.args.steps.now).homes of.name of.number c.args.handle.now (act_of c.args.what)) _ _ _ _ (home_step of.name of.number h.home (act_of c.args.what (receipt_of h)) (Ok by)) refl
-    (rw c.act-act.ensures at c.in_ok-home_step.ensures.did)
+    (rw (c.act-act.ensures, c.found.ensures) at c.in_ok-home_step.ensures.did)
     (inr (h, rw c.homes.ensures at c.in_ok-handle.ensures.found, inl (by, Done, refl, (message_done c.args.what (receipt_of h) by (rw c.act-act.ensures at c.in_ok-home_step.ensures.reply), refl), refl)))

@@ -11,4 +11,4 @@ returns-in_err-task g c =
 
 pub returns : goal.returns
 returns g c =
-    rw c.in-Some.is (served _ g.S.LockSteps.counts _ _ _ c.in-Some.number c.args.progress.now _ c.in_ok-task.task c.walk_for-walk.result _ _ c.in_ok-task.ensures.did c.read_task.ensures.same_counts c.walk_for-walk.ensures c.serve_on-word.ensures refl)
+    rw c.in-Some.is (served _ g.S.LockSteps.counts _ _ _ c.in-Some.number c.args.progress.now _ c.in_ok-task.task c.walk_for-walk.result _ _ c.in_ok-task.ensures.did c.read_task.ensures.same_counts c.walk_for-walk.ensures.walk c.walk_for-walk.ensures.task c.serve_on-word.ensures refl)

@@ -16,7 +16,7 @@ moves g c =
 there : (g : _) (c : goal.After-push_out g) → slice_get c.loop-left.blocks (c.args.index / 4096) ≡ Some (get_or c.loop-left.blocks (c.args.index / 4096) c.index-blocks-at.result)
 there g c = slice_get-get_or c.loop-left.blocks (c.args.index / 4096) c.index-blocks-at.result (omega arith)
 
--- what came out was at the place, and is no more in the blocks
+-- what came out was at the index, and is no more in the blocks
 out : (g : _) (c : goal.After-push_out g) → (slice_get (joined c.args.blocks.now []) c.args.index ≡ Some c.push_out.result)
     × (joined (slice_set c.loop-left.blocks (c.args.index / 4096) c.push_out.new.block) [] ≡ remove (joined c.args.blocks.now []) c.args.index ++ c.args.item ∷ [])
 out g c =

@@ -5,5 +5,5 @@ use Rattle.sq_queue.proofs.stay.begin_with.Goals as goal
 
 pub returns-in-Some : goal.returns-in-Some
 returns-in-Some c =
-    let at : c.in-Some.place < length c.args.drawn.now.items = search rules in
-    record { sample = subst (λ (drawn : List ℕ). IsSampleOf c.args.homes (length c.args.drawn.now.items) drawn) (sym c.swap.ensures.items) (sample_swap c.args.homes (length c.args.drawn.now.items) 0 c.in-Some.place c.args.drawn.now.items c.requires.sample c.requires.some at) }
+    let at : c.in-Some.at < length c.args.drawn.now.items = search rules in
+    record { sample = subst (λ (drawn : List ℕ). IsSampleOf c.args.homes (length c.args.drawn.now.items) drawn) (sym c.swap.ensures.items) (sample_swap c.args.homes (length c.args.drawn.now.items) 0 c.in-Some.at c.args.drawn.now.items c.requires.sample c.requires.some at) }

@@ -1,6 +1,7 @@
 use Rattle.std.proofs.Common.{◌≡◌, length}
 use Rattle.sq_json.specs.View.{items_view}
-use Rattle.sq_requests.specs.Asked.{any_item, asks}
+use Rattle.sq_requests.specs.Lists.{any_item}
+use Rattle.sq_requests.specs.Asked.{asks}
 use Rattle.sq_requests.proofs.asked.any_asks.Given as goal
 
 abbrev pub invariant-names : goal.invariant-names

@@ -1,6 +1,7 @@
 use Rattle.std.proofs.Common.{◌≡◌, length}
 use Rattle.sq_json.specs.View.{items_view}
-use Rattle.sq_requests.specs.Asked.{all_items, is_text}
+use Rattle.sq_requests.specs.Lists.{all_items}
+use Rattle.sq_requests.specs.Asked.{is_text}
 use Rattle.sq_requests.proofs.asked.are_texts.Given as goal
 
 abbrev pub invariant-names : goal.invariant-names

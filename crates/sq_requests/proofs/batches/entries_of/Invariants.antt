@@ -1,7 +1,6 @@
 use Rattle.std.proofs.Common.{◌≡◌, length, ◌+◌, true, vec_len, vec_capacity}
 use Rattle.sq_json.specs.View.{items_view}
-use Rattle.sq_requests.specs.Lists.{listed_items}
-use Rattle.sq_requests.specs.Asked.{all_items}
+use Rattle.sq_requests.specs.Lists.{listed_items, all_items}
 use Rattle.sq_requests.specs.Batches.{entries_of, has_id, how_many}
 use Rattle.sq_requests.proofs.BatchLaws.{after}
 use Rattle.sq_requests.proofs.batches.entries_of.Given as goal

@@ -1,7 +1,6 @@
 use Rattle.std.proofs.Common.{◌≡◌, length}
 use Rattle.sq_json.specs.View.{items_view}
-use Rattle.sq_requests.specs.Lists.{listed_items}
-use Rattle.sq_requests.specs.Asked.{all_items}
+use Rattle.sq_requests.specs.Lists.{listed_items, all_items}
 use Rattle.sq_requests.specs.Batches.{has_id}
 use Rattle.sq_requests.proofs.batches.have_ids.Given as goal
 

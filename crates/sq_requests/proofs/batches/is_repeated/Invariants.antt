@@ -1,7 +1,6 @@
 use Rattle.std.proofs.Common.{◌≡◌, length}
 use Rattle.sq_json.specs.View.{view, items_view}
-use Rattle.sq_requests.specs.Lists.{listed_items}
-use Rattle.sq_requests.specs.Asked.{any_item}
+use Rattle.sq_requests.specs.Lists.{listed_items, any_item}
 use Rattle.sq_requests.specs.Batches.{have_same_id}
 use Rattle.sq_requests.specs.inside.Batches.{behind}
 use Rattle.sq_requests.proofs.batches.is_repeated.Given as goal

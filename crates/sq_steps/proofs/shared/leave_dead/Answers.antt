@@ -11,10 +11,10 @@ returns-in_err-half c =
     let l = c.args.ledger.now.history.ledger in
     let room = c.room-number.ensures in
     let refused =
-    leave_refused c.args.home.now l c.args.stamp.moment c.args.ledger.now.item_reserved c.room-number.result c.in_err-half.field-0.0
+    leave_refused c.args.home.now l c.args.step.stamp.moment c.args.ledger.now.item_reserved c.room-number.result c.in_err-half.field-0.0
     (λ n is. subst (λ (r : Result ℕ Refusal). OnOk r (room_refusal l ≡ None)) is room.passes)
     (λ e is. subst (λ (r : Result ℕ Refusal). IfErr r (λ x. (room_refusal l ≡ Some x) ⊎ ((room_refusal l ≡ None) × (x ≡ NoMemory) × (c.args.ledger.now.item_reserved ≡ 0)))) is room.refused) c.in_err-half.ensures.refusal in
     search rules
 
 pub take_in-requires-clause-leaves : goal.take_in-requires-clause-leaves
-take_in-requires-clause-leaves c = rw c.home.ensures (leaving_dead _ _ _ _ _ (search rules) (search rules))
+take_in-requires-clause-leaves c = rw (c.event_of-event.ensures.stamp, c.event_of-event.ensures.home, c.event_of-event.ensures.kept) (leaving_dead _ _ _ _ _ (search rules) (search rules))

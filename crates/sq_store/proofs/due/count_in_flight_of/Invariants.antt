@@ -6,9 +6,9 @@ use Rattle.sq_store.specs.inside.Found.{found}
 use Rattle.sq_store.proofs.due.count_in_flight_of.Given as goal
 
 -- those walked over are due, and those in flight are counted
-abbrev pub invariant-loop-place : goal.invariant-loop-place
-invariant-loop-place l = record {
-  due : l.place ≤ count_by (is_due l.due) l.index.deadlines;
-  count : l.count ≡ length (found (is_in_flight l.moment) l.table.rows (take l.place l.index.deadlines));
-  few : l.count ≤ l.place;
+abbrev pub invariant-loop-rank : goal.invariant-loop-rank
+invariant-loop-rank l = record {
+  due : l.rank ≤ count_by (is_due l.due) l.index.deadlines;
+  count : l.count ≡ length (found (is_in_flight l.moment) l.table.rows (take l.rank l.index.deadlines));
+  few : l.count ≤ l.rank;
 }

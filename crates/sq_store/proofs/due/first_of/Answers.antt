@@ -14,9 +14,9 @@ returns-then-len-eq0-clause-none c = found_in_none _ c.args.table.now.rows c.arg
 
 pub returns-in_err-due-clause-none : goal.returns-in_err-due-clause-none
 returns-in_err-due-clause-none c =
-    let at : if_due c.args.at.now.moment (slice_get c.args.index.now.deadlines c.loop-place.place) ≡ None = search rules in
+    let at : if_due c.args.at.now.moment (slice_get c.args.index.now.deadlines c.loop-rank.rank) ≡ None = search rules in
     rw c.from_residual.ensures (found_before (is_kept_and (is_wanted c.args.what c.args.at.now.settings c.args.at.now.moment) c.args.at.now.settings c.args.at.now.moment) c.args.table.now.rows c.args.at.now.moment
-    c.args.index.now.deadlines c.loop-place.place c.nth_due.ensures.order c.loop-place.invariant.due at ∙ c.loop-place.invariant.none)
+    c.args.index.now.deadlines c.loop-rank.rank c.nth_due.ensures.order c.loop-rank.invariant.due at ∙ c.loop-rank.invariant.none)
 
 pub returns-then-is_wanted-clause-one : goal.returns-then-is_wanted-clause-one
 returns-then-is_wanted-clause-one c =
@@ -24,21 +24,21 @@ returns-then-is_wanted-clause-one c =
     is_one_of_kept (is_wanted c.args.what c.args.at.now.settings c.args.at.now.moment) c.args.at.now.settings c.args.at.now.moment c.in_ok-due.due.now.slot c.args.table.now.rows c.in-Some.row.now at
     (sym c.is_wanted.ensures ∙ c.if-is_wanted.true)
 
-pub loop-place-preserved : goal.loop-place-preserved
-loop-place-preserved c =
+pub loop-rank-preserved : goal.loop-rank-preserved
+loop-rank-preserved c =
     let d = c.in_ok-due.due.now in
     let p = is_kept_and (is_wanted c.args.what c.args.at.now.settings c.args.at.now.moment) c.args.at.now.settings c.args.at.now.moment in
-    let at : if_due c.args.at.now.moment (slice_get c.args.index.now.deadlines c.loop-place.place) ≡ Some d = search rules in
+    let at : if_due c.args.at.now.moment (slice_get c.args.index.now.deadlines c.loop-rank.rank) ≡ Some d = search rules in
     let fails : filter p (cons_option (row_of c.args.table.now.rows d) []) ≡ [] = elim c.match-at.branch [
       | in-Some+else-is_wanted w ↦ let no : p w.in-Some.row.now ≡ false = sym w.is_wanted.ensures ∙ w.if-is_wanted.false in rw (← w.in-Some.ensures.row, no) refl
       | in_default w ↦ rw (← w.in_default.ensures.row) refl
     ] in
     record {
-      due = walks_on c.args.at.now.moment c.args.index.now.deadlines c.loop-place.place d c.nth_due.ensures.order at;
-      none = passed_over p c.args.table.now.rows c.args.index.now.deadlines c.loop-place.place d (due_at c.args.at.now.moment d c.args.index.now.deadlines c.loop-place.place at).0 fails c.loop-place.invariant.none;
+      due = walks_on c.args.at.now.moment c.args.index.now.deadlines c.loop-rank.rank d c.nth_due.ensures.order at;
+      none = passed_over p c.args.table.now.rows c.args.index.now.deadlines c.loop-rank.rank d (due_at c.args.at.now.moment d c.args.index.now.deadlines c.loop-rank.rank at).0 fails c.loop-rank.invariant.none;
     }
 
 pub returns-clause-none : goal.returns-clause-none
 returns-clause-none c =
-    found_at_end (is_kept_and (is_wanted c.args.what c.args.at.now.settings c.args.at.now.moment) c.args.at.now.settings c.args.at.now.moment) c.args.table.now.rows c.args.at.now.moment c.args.index.now.deadlines c.loop-place.place
-    c.len-place-end.ensures.order c.loop-place.invariant.due (omega arith) ∙ c.loop-place.invariant.none
+    found_at_end (is_kept_and (is_wanted c.args.what c.args.at.now.settings c.args.at.now.moment) c.args.at.now.settings c.args.at.now.moment) c.args.table.now.rows c.args.at.now.moment c.args.index.now.deadlines c.loop-rank.rank
+    c.len-rank-end.ensures.order c.loop-rank.invariant.due (omega arith) ∙ c.loop-rank.invariant.none

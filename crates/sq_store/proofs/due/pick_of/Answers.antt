@@ -20,42 +20,42 @@ returns-then-len-eq0-clause-picked c =
 pub returns-then-len-max-clause-picked : goal.returns-then-len-max-clause-picked
 returns-then-len-max-clause-picked c =
     picked_full (is_kept_and (is_live c.args.at.now.settings c.args.at.now.moment) c.args.at.now.settings c.args.at.now.moment) (received c.args.at.now.moment c.args.until) c.args.table.now.rows c.args.at.now.moment c.args.max c.args.index.now.deadlines
-    c.loop-place.place c.args.picked.now c.loop-place.picked c.loop-place.invariant.picked c.len-place-end.ensures.order c.loop-place.invariant.due (omega arith)
+    c.loop-rank.rank c.args.picked.now c.loop-rank.picked c.loop-rank.invariant.picked c.len-rank-end.ensures.order c.loop-rank.invariant.due (omega arith)
 
 pub returns-in_default-clause-picked : goal.returns-in_default-clause-picked
 returns-in_default-clause-picked c =
     let p = is_kept_and (is_live c.args.at.now.settings c.args.at.now.moment) c.args.at.now.settings c.args.at.now.moment in
-    let at : if_due c.args.at.now.moment (slice_get c.args.index.now.deadlines c.loop-place.place) ≡ None = search rules in
-    picked_all p (received c.args.at.now.moment c.args.until) c.args.table.now.rows c.args.at.now.moment c.args.max c.args.index.now.deadlines c.loop-place.place c.args.picked.now c.loop-place.picked c.loop-place.invariant.picked
-    (found_before p c.args.table.now.rows c.args.at.now.moment c.args.index.now.deadlines c.loop-place.place c.nth_due.ensures.order c.loop-place.invariant.due at) c.loop-place.invariant.few
+    let at : if_due c.args.at.now.moment (slice_get c.args.index.now.deadlines c.loop-rank.rank) ≡ None = search rules in
+    picked_all p (received c.args.at.now.moment c.args.until) c.args.table.now.rows c.args.at.now.moment c.args.max c.args.index.now.deadlines c.loop-rank.rank c.args.picked.now c.loop-rank.picked c.loop-rank.invariant.picked
+    (found_before p c.args.table.now.rows c.args.at.now.moment c.args.index.now.deadlines c.loop-rank.rank c.nth_due.ensures.order c.loop-rank.invariant.due at) c.loop-rank.invariant.few
 
-pub loop-place-preserved : goal.loop-place-preserved
-loop-place-preserved c =
+pub loop-rank-preserved : goal.loop-rank-preserved
+loop-rank-preserved c =
     let d = c.in-Some.due.now in
     let p = is_kept_and (is_live c.args.at.now.settings c.args.at.now.moment) c.args.at.now.settings c.args.at.now.moment in
     let f = received c.args.at.now.moment c.args.until in
     let rows = c.args.table.now.rows in
     let ds = c.args.index.now.deadlines in
-    let place = c.loop-place.place in
-    let at : if_due c.args.at.now.moment (slice_get ds place) ≡ Some d = search rules in
+    let rank = c.loop-rank.rank in
+    let at : if_due c.args.at.now.moment (slice_get ds rank) ≡ Some d = search rules in
     let new : List Row = filter p (cons_option (row_of rows d) []) in
-    let added : c.match-at.picked ≡ c.loop-place.picked ++ map f new = elim c.match-at.branch [
+    let added : c.match-at.picked ≡ c.loop-rank.picked ++ map f new = elim c.match-at.branch [
       | in-Some-at+then-is_wanted+in_ok-received_copy+in_ok-push w ↦ let yes : p w.in-Some-at.row.now ≡ true = sym w.is_wanted.ensures ∙ w.if-is_wanted.true in rw (← w.in-Some-at.ensures.row, yes)
-          (w.picked-is ∙ w.in_ok-push.ensures.ok ∙ ap (λ (row : Row). c.loop-place.picked ++ row ∷ []) w.in_ok-received_copy.ensures.copy)
-      | in-Some-at+else-is_wanted w ↦ let none : p w.in-Some-at.row.now ≡ false = sym w.is_wanted.ensures ∙ w.if-is_wanted.false in rw (← w.in-Some-at.ensures.row, none, append-nil c.loop-place.picked) w.picked-is
-      | in_default-at w ↦ rw (← w.in_default-at.ensures.row, append-nil c.loop-place.picked) w.picked-is
+          (w.picked-is ∙ w.in_ok-push.ensures.ok ∙ ap (λ (row : Row). c.loop-rank.picked ++ row ∷ []) w.in_ok-received_copy.ensures.copy)
+      | in-Some-at+else-is_wanted w ↦ let none : p w.in-Some-at.row.now ≡ false = sym w.is_wanted.ensures ∙ w.if-is_wanted.false in rw (← w.in-Some-at.ensures.row, none, append-nil c.loop-rank.picked) w.picked-is
+      | in_default-at w ↦ rw (← w.in_default-at.ensures.row, append-nil c.loop-rank.picked) w.picked-is
     ] in
-    let more = found_more p rows ds place d (due_at c.args.at.now.moment d ds place at).0 in
+    let more = found_more p rows ds rank d (due_at c.args.at.now.moment d ds rank at).0 in
     record {
-      due = walks_on c.args.at.now.moment ds place d c.nth_due.ensures.order at;
-      picked = added ∙ ap (λ (rs : List Row). rs ++ map f new) c.loop-place.invariant.picked ∙ append_assoc c.args.picked.now (map f (found p rows (take place ds))) (map f new)
-          ∙ ap (λ (rs : List Row). c.args.picked.now ++ rs) (sym (map-append f (found p rows (take place ds)) new) ∙ ap (map f) (sym more));
-      few = let long : length c.match-at.picked ≡ length c.loop-place.picked + length new = rw (added, length-append c.loop-place.picked (map f new), length-map new f) refl in
-          omega (arith, long, at_most_one p (row_of rows d), c.loop-place.invariant.few);
+      due = walks_on c.args.at.now.moment ds rank d c.nth_due.ensures.order at;
+      picked = added ∙ ap (λ (rs : List Row). rs ++ map f new) c.loop-rank.invariant.picked ∙ append_assoc c.args.picked.now (map f (found p rows (take rank ds))) (map f new)
+          ∙ ap (λ (rs : List Row). c.args.picked.now ++ rs) (sym (map-append f (found p rows (take rank ds)) new) ∙ ap (map f) (sym more));
+      few = let long : length c.match-at.picked ≡ length c.loop-rank.picked + length new = rw (added, length-append c.loop-rank.picked (map f new), length-map new f) refl in
+          omega (arith, long, at_most_one p (row_of rows d), c.loop-rank.invariant.few);
     }
 
 pub returns-clause-picked : goal.returns-clause-picked
 returns-clause-picked c =
     let p = is_kept_and (is_live c.args.at.now.settings c.args.at.now.moment) c.args.at.now.settings c.args.at.now.moment in
-    picked_all p (received c.args.at.now.moment c.args.until) c.args.table.now.rows c.args.at.now.moment c.args.max c.args.index.now.deadlines c.loop-place.place c.args.picked.now c.loop-place.picked c.loop-place.invariant.picked
-    (found_at_end p c.args.table.now.rows c.args.at.now.moment c.args.index.now.deadlines c.loop-place.place c.len-place-end.ensures.order c.loop-place.invariant.due (omega arith)) c.loop-place.invariant.few
+    picked_all p (received c.args.at.now.moment c.args.until) c.args.table.now.rows c.args.at.now.moment c.args.max c.args.index.now.deadlines c.loop-rank.rank c.args.picked.now c.loop-rank.picked c.loop-rank.invariant.picked
+    (found_at_end p c.args.table.now.rows c.args.at.now.moment c.args.index.now.deadlines c.loop-rank.rank c.len-rank-end.ensures.order c.loop-rank.invariant.due (omega arith)) c.loop-rank.invariant.few

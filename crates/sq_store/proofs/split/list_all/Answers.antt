@@ -13,36 +13,36 @@ pub returns : goal.returns
 returns c =
     let ages = c.args.ages.now.deadlines in
     let rows = c.args.table.now.rows in
-    let whole : take c.loop-place.place ages ≡ ages = take_all c.loop-place.place ages (omega arith) in
-    let listed : AreVisible (found any_row rows ages) c.loop-place.visible = subst (λ (ds : List Deadline). AreVisible (found any_row rows ds) c.loop-place.visible) whole c.loop-place.invariant.listed in
-    record { held = all_listed rows ages c.loop-place.visible c.len.ensures.apart c.requires.aged listed; most = c.loop-place.invariant.most; space = c.loop-place.invariant.space }
+    let whole : take c.loop-rank.rank ages ≡ ages = take_all c.loop-rank.rank ages (omega arith) in
+    let listed : AreVisible (found any_row rows ages) c.loop-rank.visible = subst (λ (ds : List Deadline). AreVisible (found any_row rows ds) c.loop-rank.visible) whole c.loop-rank.invariant.listed in
+    record { held = all_listed rows ages c.loop-rank.visible c.len.ensures.apart c.requires.aged listed; most = c.loop-rank.invariant.most; space = c.loop-rank.invariant.space }
 
 pub set-requires : goal.set-requires
-set-requires c = room_for_next c.args.table.now.rows c.args.ages.now.deadlines c.loop-place.place c.args.visible.now c.loop-place.visible c.requires.aged (omega arith) c.requires.memory c.loop-place.invariant.space c.loop-place.invariant.listed _
+set-requires c = room_for_next c.args.table.now.rows c.args.ages.now.deadlines c.loop-rank.rank c.args.visible.now c.loop-rank.visible c.requires.aged (omega arith) c.requires.memory c.loop-rank.invariant.space c.loop-rank.invariant.listed _
 
-pub loop-place-preserved : goal.loop-place-preserved
-loop-place-preserved c =
+pub loop-rank-preserved : goal.loop-rank-preserved
+loop-rank-preserved c =
     let rows = c.args.table.now.rows in
     let ages = c.args.ages.now.deadlines in
-    let place = c.loop-place.place in
+    let rank = c.loop-rank.rank in
     elim c.match-nth.branch [
       | in-Some+in-Some-at w ↦ (
           let d = w.in-Some.age.now in
           let row = w.in-Some-at.row.now in
-          let at : slice_get ages place ≡ Some d = search rules in
+          let at : slice_get ages rank ≡ Some d = search rules in
           let is : row_of rows d ≡ Some row = search rules in
-          let fits : row.slot < 4294967296 = rw (its_slot rows d row is) (slot_fits 0 ages place d c.nth.ensures.order at) in
+          let fits : row.slot < 4294967296 = rw (its_slot rows d row is) (slot_fits 0 ages rank d c.nth.ensures.order at) in
           rw w.visible-is (record {
-            listed = listed_more rows ages place d row c.loop-place.visible w.set.new.self w.at.ensures.apart c.requires.aged at is fits w.set.ensures.ordered w.set.ensures.set c.loop-place.invariant.listed;
-            most = w.set.ensures.set.most ∙ c.loop-place.invariant.most;
-            space = keeps_on c.args.visible.now c.loop-place.visible w.set.new.self c.loop-place.invariant.space w.set.ensures.set.space;
+            listed = listed_more rows ages rank d row c.loop-rank.visible w.set.new.self w.at.ensures.apart c.requires.aged at is fits w.set.ensures.ordered w.set.ensures.set c.loop-rank.invariant.listed;
+            most = w.set.ensures.set.most ∙ c.loop-rank.invariant.most;
+            space = keeps_on c.args.visible.now c.loop-rank.visible w.set.new.self c.loop-rank.invariant.space w.set.ensures.set.space;
           }))
       | in-Some+in_default-at w ↦ (
           let d = w.in-Some.age.now in
-          let at : slice_get ages place ≡ Some d = search rules in
+          let at : slice_get ages rank ≡ Some d = search rules in
           let none : row_of rows d ≡ None = search rules in
-          rw (w.visible-is, none_more rows ages place d at none) (record { listed = c.loop-place.invariant.listed; most = c.loop-place.invariant.most; space = c.loop-place.invariant.space }))
+          rw (w.visible-is, none_more rows ages rank d at none) (record { listed = c.loop-rank.invariant.listed; most = c.loop-rank.invariant.most; space = c.loop-rank.invariant.space }))
       | in_default w ↦ (
-          let none : slice_get ages place ≡ None = search rules in
-          absurd (omega (arith, none_is_past ages place none)))
+          let none : slice_get ages rank ≡ None = search rules in
+          absurd (omega (arith, none_is_past ages rank none)))
     ]

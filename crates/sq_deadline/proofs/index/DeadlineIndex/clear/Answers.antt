@@ -9,7 +9,7 @@ use Rattle.sq_deadline.proofs.OrderLaws.{goes_out, is_not_there, place_of, rise_
 use Rattle.sq_deadline.proofs.index.DeadlineIndex.clear.Goals as goal
 use Rattle.sq_deadline.proofs.index.DeadlineIndex.clear.Goals.{After-remove}
 
--- it goes out of its place
+-- it goes out at its index
 went : (c : After-remove) → listed c.remove.new.self ≡ filter (is_other c.args.deadline.now) c.args.self.now.deadlines
 went c =
     let ds = c.args.self.now.deadlines in

@@ -8,5 +8,5 @@ abbrev pub invariant-loop : goal.invariant-loop
 invariant-loop l = record {
   tree : l.self-inside.tree ≡ l.initial.self-inside.tree;
   spare : vec_len l.self-inside.spare ≡ vec_len l.initial.self-inside.spare + l.counter;
-  places : vec_len l.initial.self-inside.spare + l.missing + length (listed l.self-inside.tree) ≤ vec_capacity l.self-inside.spare;
+  needed : vec_len l.initial.self-inside.spare + l.missing + length (listed l.self-inside.tree) ≤ vec_capacity l.self-inside.spare;
 }

@@ -12,7 +12,7 @@ use Rattle.sq_deadline.proofs.index.DeadlineIndex.set.Goals.{After-insert}
 pub returns-then-is_there-clause-deadlines : goal.returns-then-is_there-clause-deadlines
 returns-then-is_there-clause-deadlines c = stays c.args.deadline c.args.self.now.deadlines (search rules)
 
--- it comes in at its place
+-- it comes in at its index
 came : (c : After-insert) → listed c.insert.new.self ≡ with_deadline c.args.deadline c.args.self.now.deadlines
 came c =
     let ds = c.args.self.now.deadlines in

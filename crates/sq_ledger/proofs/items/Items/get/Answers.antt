@@ -9,7 +9,7 @@ use Rattle.sq_ledger.proofs.items.Items.get.Goals as goal
 -- what is read is the item of the number, where it has the number
 read : (c : After-get) → find (has_number c.args.number) c.self.inside.items.items ≡ kept_if (has_number c.args.number) (option_map (λ (x : Bor Item). x.now) c.get.result)
 read c =
-    found_by (λ (x : Bor Item). x.now) c.args.number c.self.inside.items.items c.self.invariant.0 c.place.result c.get.result c.self.invariant.1 (rw (← c.self.view_is) at c.place.ensures) c.get.ensures.item
+    found_by (λ (x : Bor Item). x.now) c.args.number c.self.inside.items.items c.self.invariant.0 c.index.result c.get.result c.self.invariant.1 (rw (← c.self.view_is) at c.index.ensures) c.get.ensures.item
 
 pub returns-in_err-item : goal.returns-in_err-item
 returns-in_err-item c =

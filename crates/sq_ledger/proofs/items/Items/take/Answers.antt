@@ -10,8 +10,8 @@ use Rattle.sq_ledger.proofs.items.Items.take.Goals as goal
 goes : (c : After-remove) → (c.remove.result ≡ find (has_number c.args.number) c.self.inside.items.items) × (c.remove.new.self.items ≡ items_without c.args.number c.self.inside.items.items)
 goes c =
     let found : find (has_number c.args.number) c.args.self.now.items ≡ Some c.in_ok-get.field-0.now = search rules in
-    taken_out c.args.number c.self.inside.items.items c.remove.new.self.items c.self.invariant.0 c.place-place.result c.remove.result c.in_ok-get.field-0.now c.self.invariant.1
-    (rw (← c.self.view_is) at c.place-place.ensures) (rw (← c.self.view_is) at found) (λ d lt. c.remove.ensures.succeeds d (omega (arith, lt))) c.remove.ensures.items
+    taken_out c.args.number c.self.inside.items.items c.remove.new.self.items c.self.invariant.0 c.index-index.result c.remove.result c.in_ok-get.field-0.now c.self.invariant.1
+    (rw (← c.self.view_is) at c.index-index.ensures) (rw (← c.self.view_is) at found) (λ d lt. c.remove.ensures.succeeds d (omega (arith, lt))) c.remove.ensures.items
 
 pub returns-in_err-get-clause-items : goal.returns-in_err-get-clause-items
 returns-in_err-get-clause-items c =

@@ -11,19 +11,19 @@ pub returns-clause-items : goal.returns-clause-items
 returns-clause-items c =
     let number = c.args.number in
     let items = c.self.inside.items.items in
-    let place = rw (← c.self.view_is) at c.place-place.ensures in
-    let read = read_is (λ (x : MutBor Item). x.now) items c.place-place.result c.get_mut.result c.get_mut.ensures.item in
-    let found = found_by (λ (x : MutBor Item). x.now) number items c.self.invariant.0 c.place-place.result c.get_mut.result c.self.invariant.1 place c.get_mut.ensures.item in
+    let index = rw (← c.self.view_is) at c.index-index.ensures in
+    let read = read_is (λ (x : MutBor Item). x.now) items c.index-index.result c.get_mut.result c.get_mut.ensures.item in
+    let found = found_by (λ (x : MutBor Item). x.now) number items c.self.invariant.0 c.index-index.result c.get_mut.result c.self.invariant.1 index c.get_mut.ensures.item in
     elim c.match-get_mut.branch [
       | in-Some+then-get-number w ↦
           let passes : has_number number w.in-Some.item.now ≡ true = search rules in
           let there : find (has_number number) items ≡ Some w.in-Some.item.now = found ∙ rw (w.in-Some.is, passes) refl in
-          rw (← c.self.view_is, w.self-inside-is) (sym (turned_at number items c.self.invariant.0 c.place-place.result w.in-Some.item.now c.self.invariant.1 place there))
+          rw (← c.self.view_is, w.self-inside-is) (sym (turned_at number items c.self.invariant.0 c.index-index.result w.in-Some.item.now c.self.invariant.1 index there))
       | in-Some+else-get-number w ↦
           let fails : has_number number w.in-Some.item.now ≡ false = search rules in
           let none : find (has_number number) items ≡ None = found ∙ rw (w.in-Some.is, fails) refl in
-          let there : slice_get items c.place-place.result ≡ Some w.in-Some.item.now = sym read ∙ rw w.in-Some.is refl in
-          rw (← c.self.view_is, w.self-inside-is) (set_same items c.place-place.result w.in-Some.item.now there ∙ sym (none_turns number items none))
+          let there : slice_get items c.index-index.result ≡ Some w.in-Some.item.now = sym read ∙ rw w.in-Some.is refl in
+          rw (← c.self.view_is, w.self-inside-is) (set_same items c.index-index.result w.in-Some.item.now there ∙ sym (none_turns number items none))
       | in_default w ↦
           let none : find (has_number number) items ≡ None = found ∙ rw w.in_default.is refl in
           rw (← c.self.view_is, w.self-inside-is) (sym (none_turns number items none))

@@ -2,15 +2,15 @@ use Rattle.std.proofs.Common.{rules, ◌≡◌, length, Err, arith, subst}
 use Rattle.sq_model.specs.RecordValues.{Journal}
 use Rattle.sq_steps.specs.Journals.{journal_of, IsDirectoryStepRefused}
 use Rattle.sq_steps.proofs.JournalListLaws.{opened_is}
-use Rattle.sq_merge.proofs.StepLaws.{as_fields, directed_opened, directed_unmade, closed_again}
-use Rattle.sq_merge.proofs.WorldLaws.{kept_directed}
+use Rattle.sq_merge.proofs.StepLaws.{as_fields, directory_opened, directory_unmade, closed_again}
+use Rattle.sq_merge.proofs.WorldLaws.{kept_directory}
 use Rattle.sq_merge.proofs.world.World.directory_step.Goals.{After-directory_step, After-truncate}
 use Rattle.sq_merge.proofs.world.World.directory_step.Goals as goal
 
 pub returns-in_err-at-clause-refusal : goal.returns-in_err-at-clause-refusal
 returns-in_err-at-clause-refusal c =
     let refused : c.from_residual.result ≡ Err c.in_err-at.field-0.0 = search rules in
-    rw (refused, c.in_err-at.ensures.refused.0, ← c.self.view_is) (directed_unmade (as_fields c.self.view_is) c.args.actor c.args.now c.args.call.now c.in_err-at.ensures.refused.1)
+    rw (refused, c.in_err-at.ensures.refused.0, ← c.self.view_is) (directory_unmade (as_fields c.self.view_is) c.args.actor c.args.now c.args.call.now c.in_err-at.ensures.refused.1)
 
 -- what the actor has, as the step finds it
 mine : (c : After-directory_step) → c.index_mut-journal.result.now ≡ journal_of c.args.actor c.self.inside.journals.items
@@ -21,8 +21,8 @@ invariant_of-self-in-Ok c =
     let old = as_fields c.self.view_is in
     record {
       kept = rw (c.in_ok-at.ensures.opened, c.in_ok-at.ensures.index)
-          (kept_directed old c.args.actor c.args.now c.args.call.now c.in-Ok.by _ c.self.invariant.kept
-          (directed_opened old c.args.actor c.args.now c.args.call.now c.in-Ok.by c.directory_step.new.directory c.index_mut-journal.result.now c.directory_step.new.journal (mine (goal.at.invariant_of-self-in-Ok c).After-directory_step) c.in-Ok.ensures.step));
+          (kept_directory old c.args.actor c.args.now c.args.call.now c.in-Ok.by _ c.self.invariant.kept
+          (directory_opened old c.args.actor c.args.now c.args.call.now c.in-Ok.by c.directory_step.new.directory c.index_mut-journal.result.now c.directory_step.new.journal (mine (goal.at.invariant_of-self-in-Ok c).After-directory_step) c.in-Ok.ensures.step));
       sample = c.self.invariant.sample;
       few = c.self.invariant.few;
     }
@@ -30,7 +30,7 @@ invariant_of-self-in-Ok c =
 pub returns-in-Ok-clause-stepped : goal.returns-in-Ok-clause-stepped
 returns-in-Ok-clause-stepped c =
     rw (← c.self.view_is, c.in_ok-at.ensures.opened, c.in_ok-at.ensures.index)
-    (directed_opened (as_fields c.self.view_is) c.args.actor c.args.now c.args.call.now c.in-Ok.by c.directory_step.new.directory c.index_mut-journal.result.now c.directory_step.new.journal (mine (goal.at.returns-in-Ok-clause-stepped c).After-directory_step) c.in-Ok.ensures.step)
+    (directory_opened (as_fields c.self.view_is) c.args.actor c.args.now c.args.call.now c.in-Ok.by c.directory_step.new.directory c.index_mut-journal.result.now c.directory_step.new.journal (mine (goal.at.returns-in-Ok-clause-stepped c).After-directory_step) c.in-Ok.ensures.step)
 
 -- a step that was refused leaves the actors as they were
 front : (c : After-truncate) → c.index_mut-journal.result.now ≡ journal_of c.args.actor c.self.inside.journals.items → c.truncate.new.self.items ≡ c.self.inside.journals.items

@@ -3,15 +3,15 @@ use Rattle.sq_model.specs.RecordValues.{Journal}
 use Rattle.sq_steps.specs.TaskActs.{task_call}
 use Rattle.sq_steps.specs.Journals.{journal_of, IsLedgerStepRefused}
 use Rattle.sq_steps.proofs.JournalListLaws.{opened_is}
-use Rattle.sq_merge.proofs.StepLaws.{as_fields, ledgered_opened, ledgered_unmade, closed_again}
-use Rattle.sq_merge.proofs.WorldLaws.{kept_ledgered}
+use Rattle.sq_merge.proofs.StepLaws.{as_fields, ledger_opened, ledger_unmade, closed_again}
+use Rattle.sq_merge.proofs.WorldLaws.{kept_ledger}
 use Rattle.sq_merge.proofs.world.World.ledger_step.Goals.{After-ledger_step, After-truncate}
 use Rattle.sq_merge.proofs.world.World.ledger_step.Goals as goal
 
 pub returns-in_err-at-clause-refusal : goal.returns-in_err-at-clause-refusal
 returns-in_err-at-clause-refusal c =
     let refused : c.from_residual.result ≡ Err c.in_err-at.field-0.0 = search rules in
-    rw (refused, c.in_err-at.ensures.refused.0, ← c.self.view_is) (ledgered_unmade (as_fields c.self.view_is) c.args.actor c.args.now c.args.act.now c.in_err-at.ensures.refused.1)
+    rw (refused, c.in_err-at.ensures.refused.0, ← c.self.view_is) (ledger_unmade (as_fields c.self.view_is) c.args.actor c.args.now c.args.act.now c.in_err-at.ensures.refused.1)
 
 -- what the actor has, as the step finds it
 mine : (c : After-ledger_step) → c.index_mut-journal.result.now ≡ journal_of c.args.actor c.self.inside.journals.items
@@ -22,8 +22,8 @@ invariant_of-self-in-Ok c =
     let old = as_fields c.self.view_is in
     record {
       kept = rw (c.in_ok-at.ensures.opened, c.in_ok-at.ensures.index)
-          (kept_ledgered old c.args.actor c.args.now c.args.act.now c.in-Ok.told _ c.self.invariant.kept
-          (ledgered_opened old c.args.actor c.args.now c.args.act.now c.in-Ok.told c.ledger_step.new.ledger.history c.index_mut-journal.result.now c.ledger_step.new.journal (mine (goal.at.invariant_of-self-in-Ok c).After-ledger_step) c.in-Ok.ensures.step));
+          (kept_ledger old c.args.actor c.args.now c.args.act.now c.in-Ok.told _ c.self.invariant.kept
+          (ledger_opened old c.args.actor c.args.now c.args.act.now c.in-Ok.told c.ledger_step.new.ledger.history c.index_mut-journal.result.now c.ledger_step.new.journal (mine (goal.at.invariant_of-self-in-Ok c).After-ledger_step) c.in-Ok.ensures.step));
       sample = c.self.invariant.sample;
       few = c.self.invariant.few;
     }
@@ -31,7 +31,7 @@ invariant_of-self-in-Ok c =
 pub returns-in-Ok-clause-stepped : goal.returns-in-Ok-clause-stepped
 returns-in-Ok-clause-stepped c =
     rw (← c.self.view_is, c.in_ok-at.ensures.opened, c.in_ok-at.ensures.index)
-    (ledgered_opened (as_fields c.self.view_is) c.args.actor c.args.now c.args.act.now c.in-Ok.told c.ledger_step.new.ledger.history c.index_mut-journal.result.now c.ledger_step.new.journal (mine (goal.at.returns-in-Ok-clause-stepped c).After-ledger_step) c.in-Ok.ensures.step)
+    (ledger_opened (as_fields c.self.view_is) c.args.actor c.args.now c.args.act.now c.in-Ok.told c.ledger_step.new.ledger.history c.index_mut-journal.result.now c.ledger_step.new.journal (mine (goal.at.returns-in-Ok-clause-stepped c).After-ledger_step) c.in-Ok.ensures.step)
 
 -- a step that was refused leaves the actors as they were
 front : (c : After-truncate) → c.index_mut-journal.result.now ≡ journal_of c.args.actor c.self.inside.journals.items → c.truncate.new.self.items ≡ c.self.inside.journals.items

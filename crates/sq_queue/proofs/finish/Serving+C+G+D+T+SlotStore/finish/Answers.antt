@@ -1,7 +1,12 @@
-use Rattle.std.proofs.Common.{rules, sym, ◌∙◌}
+use Rattle.std.proofs.Common.{rules, sym, ◌∙◌, map}
 use Rattle.sq_queue.specs.Tallies.{directory_records, ledger_records}
 use Rattle.sq_queue.proofs.FinishLaws.{all_counted}
 use Rattle.sq_queue.proofs.finish.Serving+C+G+D+T+SlotStore.finish.Goals as goal
+
+pub returns-clause-records : goal.returns-clause-records
+returns-clause-records g c =
+    let all = c.all_of-made.ensures.journals in
+    (map (λ s. s.journal) c.into_inner-actors.result.retired.items, λ distinct. c.evidence.ensures.all (rw all distinct) ∙ all)
 
 pub returns-clause-directory : goal.returns-clause-directory
 returns-clause-directory g c =

@@ -1,6 +1,5 @@
 use Rattle.std.proofs.Common.{refl, rules}
 use Rattle.std.specs.Prelude.{vec_len}
-use Rattle.sq_actions.specs.Calls.{home_numbered}
 use Rattle.sq_queue.specs.Sections.{around}
 use Rattle.sq_queue.proofs.LockLaws.{answered_home, refused_home, home_section}
 use Rattle.sq_queue.proofs.locked.LockedLockSteps.home_step.Goals as goal
@@ -8,9 +7,9 @@ use Rattle.sq_queue.proofs.locked.LockedLockSteps.home_step.Goals as goal
 pub returns-clause-did : goal.returns-clause-did
 returns-clause-did g c =
     let at = around (g.C.Clock.tells c.args.self.now.service.now.clock) (g.G.Gate.saw c.args.self.now.service.now.gate) c.args.self.now.service.now.per_queue (vec_len c.args.self.now.service.now.homes) in
-    let placed = c.deref_mut.result.now in
+    let part = c.deref_mut.result.now in
     let told = c.step in (
-      home_section at c.now-now.result placed.home told.new.self.home c.args.self.now.session.now told.new.session c.args.of.now.name placed.id (home_numbered c.args.of.now.number c.args.home) c.args.act c.in-Some.index told.result c.now-now.ensures (search rules) placed.own (search rules)
+      home_section at c.now-now.result part.home told.new.self.home c.args.self.now.session.now told.new.session c.args.at.now.name part.id c.args.at.now.id c.args.act c.in-Some.index told.result c.now-now.ensures (search rules) part.own (search rules)
           told.ensures.step told.ensures.at told.ensures.refusal told.ensures.session_err,
       refl,
       refl,
@@ -20,4 +19,4 @@ pub returns-clause-reply : goal.returns-clause-reply
 returns-clause-reply g c = answered_home _ _ _ _ _ _ c.args.act c.step.result c.step.ensures.step
 
 pub returns-clause-refusal : goal.returns-clause-refusal
-returns-clause-refusal g c = refused_home c.deref_mut.result.now.id c.deref_mut.result.now.home c.args.self.now.session.now.journal c.now-now.result c.args.of.now.name (home_numbered c.args.of.now.number c.args.home) c.args.act c.step.result c.step.ensures.refusal
+returns-clause-refusal g c = refused_home c.deref_mut.result.now.id c.deref_mut.result.now.home c.args.self.now.session.now.journal c.now-now.result c.args.at.now.name c.args.at.now.id c.args.act c.step.result c.step.ensures.refusal

@@ -8,9 +8,9 @@ pub returns-clause-did : goal.returns-clause-did
 returns-clause-did g c =
     let at = around (g.C.Clock.tells c.args.self.now.service.now.clock) (g.G.Gate.saw c.args.self.now.service.now.gate) c.args.self.now.service.now.per_queue (vec_len c.args.self.now.service.now.homes) in
     let ledger = c.deref_mut.result.now in
-    let placed = c.deref_mut-2.result.now in
+    let part = c.deref_mut-2.result.now in
     let told = c.share-told in (
-      moving_section at c.now-now.result placed.home told.new.placed.home ledger.ledger.history told.new.self.ledger.history c.args.self.now.session.now told.new.session c.args.name placed.id c.args.home.now c.args.what c.in-Some.index told.result c.now-now.ensures (search rules) (search rules) placed.own (search rules)
+      moving_section at c.now-now.result part.home told.new.part.home ledger.ledger.history told.new.self.ledger.history c.args.self.now.session.now told.new.session c.args.at.now.name part.id c.args.at.now.id c.args.what c.in-Some.index told.result c.now-now.ensures (search rules) (search rules) part.own (search rules)
           told.ensures.step told.ensures.at told.ensures.none told.ensures.none_session told.ensures.refusal told.ensures.session_err,
       refl,
       refl,
@@ -19,5 +19,5 @@ returns-clause-did g c =
 pub returns-clause-refusal : goal.returns-clause-refusal
 returns-clause-refusal g c =
     let ledger = c.deref_mut.result.now in
-    let placed = c.deref_mut-2.result.now in
-    refused_shared placed.id placed.home ledger.ledger.history c.args.self.now.session.now.journal c.now-now.result c.args.name c.args.home.now c.args.what c.share-told.result c.share-told.ensures.refusal
+    let part = c.deref_mut-2.result.now in
+    refused_shared part.id part.home ledger.ledger.history c.args.self.now.session.now.journal c.now-now.result c.args.at.now.name c.args.at.now.id c.args.what c.share-told.result c.share-told.ensures.refusal

@@ -1,4 +1,5 @@
 use Rattle.std.proofs.Common.{rules, ◌≡◌, sym, ◌∙◌}
+use Rattle.sq_model.specs.Homes.{Contents}
 use Rattle.sq_model.specs.Rows.{unexpired}
 use Rattle.sq_model.proofs.RowLaws.{rises_unexpired}
 use Rattle.sq_shard.specs.declared.shard.Status.TheVariants.{Unopened, Serving, Closed}
@@ -9,11 +10,13 @@ use Rattle.sq_shard.specs.ShardValue.{home_with}
 use Rattle.sq_shard.proofs.shard.Shard.take_out.Given as given
 use Rattle.sq_shard.proofs.shard.Shard.take_out.Goals as goal
 
-gone : (g : given.Over) (c : goal.In-Some g) → GoneOut c.self.inside.status c.self.inside.settings c.self.inside.version c.self.inside.next c.args.moment (g.S.Store.rows c.self.inside.store) (g.S.Store.rows c.take_out.new.self) c.args.row.now c.in-Some.row
+abbrev held : (g : given.Over) (c : goal.In-Some g) → Contents
+held g c = record { settings = c.self.inside.settings; version = c.self.inside.version; next = c.self.inside.next; rows = g.S.Store.rows c.self.inside.store }
+
+gone : (g : given.Over) (c : goal.In-Some g) → GoneOut c.self.inside.status (held g c) c.args.moment (g.S.Store.rows c.take_out.new.self) c.args.row.now c.in-Some.row
 gone g c =
-    let rows = g.S.Store.rows c.self.inside.store in
-    let has : HasRow (home_with c.self.inside.status c.self.inside.settings c.self.inside.version c.self.inside.next rows) c.args.moment c.args.row.now = search rules in
-    gone_out c.self.inside.status c.self.inside.settings c.self.inside.version c.self.inside.next c.args.moment rows (g.S.Store.rows c.take_out.new.self) c.args.row.now c.in-Some.row c.self.invariant.rising has (search rules) (search rules)
+    let has : HasRow (home_with c.self.inside.status (held g c)) c.args.moment c.args.row.now = search rules in
+    gone_out c.self.inside.status (held g c) c.args.moment (g.S.Store.rows c.take_out.new.self) c.args.row.now c.in-Some.row c.self.invariant.rising has (search rules) (search rules)
 
 pub invariant_of-self : goal.invariant_of-self
 invariant_of-self g c =

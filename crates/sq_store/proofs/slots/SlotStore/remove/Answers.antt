@@ -4,7 +4,7 @@ use Rattle.std.proofs.lemmas.List.Sums.{length-filter, count_by-le-length}
 use Rattle.sq_slots.specs.Slots.{IsBetween, is_at, is_away}
 use Rattle.sq_slots.proofs.SplitLaws.{stands_between}
 use Rattle.sq_store.specs.SlotStores.{IsIndexed, SlotValue}
-use Rattle.sq_store.proofs.MemoryLaws.{keeps_places}
+use Rattle.sq_store.proofs.MemoryLaws.{keeps_reserved}
 use Rattle.sq_store.proofs.SlotLaws.{indexed_out}
 use Rattle.sq_store.proofs.slots.SlotStore.remove.Goals as goal
 use Rattle.sq_store.proofs.slots.SlotStore.remove.Goals.{After-unlist}
@@ -29,7 +29,7 @@ returns-clause-reserved c =
     let rows = c.self.inside.table.rows in
     let fewer : length c.take.new.self.rows ≤ length rows =
     rw c.take.ensures.rows (omega (arith, length-filter (is_away c.args.slot c.args.serial) rows, count_by-le-length (is_away c.args.slot c.args.serial) rows)) in
-    rw (← c.self.view_is) (keeps_places old new c.take.ensures.reserved fewer c.unlist.ensures.cleared.space c.unlist.ensures.memory)
+    rw (← c.self.view_is) (keeps_reserved old new c.take.ensures.reserved fewer c.unlist.ensures.cleared.space c.unlist.ensures.memory)
 
 pub returns-clause-between : goal.returns-clause-between
 returns-clause-between c = rw (← c.self.view_is) (split (goal.at.returns-clause-between c).After-unlist)

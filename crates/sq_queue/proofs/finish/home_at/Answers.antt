@@ -1,6 +1,6 @@
 use Rattle.std.proofs.Common.{◌∙◌, sym}
 use Rattle.sq_queue.proofs.FinishLaws.{found_same}
-use Rattle.sq_queue.proofs.finish.at_place.Goals as goal
+use Rattle.sq_queue.proofs.finish.home_at.Goals as goal
 
 pub returns-then-eq-clause-at : goal.returns-then-eq-clause-at
 returns-then-eq-clause-at c =
