@@ -41,11 +41,15 @@ class Gate:
             for name, word in said:
                 crate = self.crates.get(name)
                 if crate and name not in self.taken:
-                    self.taken[name] = word != "NOT PROVED"
+                    place = f"{self.folder}/rlib/{name}/{name}.rlib"
                     if os.path.isdir(crate.library):
-                        place = f"{self.folder}/rlib/{name}/{name}.rlib"
-                        shutil.copytree(crate.library, place, copy_function=os.link)
+                        try:
+                            shutil.copytree(crate.library, place, copy_function=os.link)
+                        except OSError:  # the gate has it in its hands: the next reading takes it
+                            shutil.rmtree(place, ignore_errors=True)
+                            continue
                         crate.library = place
+                    self.taken[name] = word != "NOT PROVED"
             self.is_over = is_over
             while is_over and self.behind:
                 put_forward(self.behind.pop())

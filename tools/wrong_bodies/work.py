@@ -5,6 +5,7 @@ import shutil
 import subprocess
 import threading
 import time
+import traceback
 from collections import Counter
 
 from .checks import Check
@@ -16,6 +17,7 @@ from .rounds import end_of, is_control, rounds_of
 MEMORY = 3_500_000  # what a check takes, in KiB
 ENDED = {0, 1, 2}  # the statuses of a check that came to its end: not 3, where the prover could not tell, nor a signal
 BY_PROOF = "refused by its proof alone"
+LATER = 30  # s
 
 
 def free_memory():
@@ -108,20 +110,22 @@ class Work:
             self.rooms += 1
             room = f"{self.folder}/{self.rooms}"
         texts = self.texts_of(crate, tries)
-        for path, text in texts.items():
-            os.makedirs(os.path.dirname(f"{room}/{path}"), exist_ok=True)
-            with open(f"{room}/{path}", "w", encoding="utf-8", newline="") as file:
-                file.write(text)
-        # A check replaces what it keeps, and never writes it in place: links serve.
-        if os.path.isdir(self.kept(crate)):
-            shutil.copytree(self.kept(crate), f"{room}/out/incremental", copy_function=os.link)
-        only = [word for it in map(end_of, tries) if it for word in ("--only", it)]
-        what = " ".join(end_of(it) if is_control(it) else it.edit.name for it in tries)
-        check = self.check(crate, room, what, only, {it: text for it, text in texts.items() if it.startswith("proofs/")})
-        with self.lock:
-            if not os.path.isdir(f"{self.folder}/{crate.name}.kept") and os.path.isdir(f"{room}/out/incremental"):
-                os.rename(f"{room}/out/incremental", f"{self.folder}/{crate.name}.kept")
-        shutil.rmtree(room, ignore_errors=True)
+        try:
+            for path, text in texts.items():
+                os.makedirs(os.path.dirname(f"{room}/{path}"), exist_ok=True)
+                with open(f"{room}/{path}", "w", encoding="utf-8", newline="") as file:
+                    file.write(text)
+            # A check replaces what it keeps, and never writes it in place: links serve.
+            if os.path.isdir(self.kept(crate)):
+                shutil.copytree(self.kept(crate), f"{room}/out/incremental", copy_function=os.link)
+            only = [word for it in map(end_of, tries) if it for word in ("--only", it)]
+            what = " ".join(end_of(it) if is_control(it) else it.edit.name for it in tries)
+            check = self.check(crate, room, what, only, {it: text for it, text in texts.items() if it.startswith("proofs/")})
+            with self.lock:
+                if not os.path.isdir(f"{self.folder}/{crate.name}.kept") and os.path.isdir(f"{room}/out/incremental"):
+                    os.rename(f"{room}/out/incremental", f"{self.folder}/{crate.name}.kept")
+        finally:
+            shutil.rmtree(room, ignore_errors=True)
         unread = {}
         for path, line, words in check.errors:
             # Of a crate that reads well the prover says, by its name, which item of src/ it refuses.
@@ -131,7 +135,27 @@ class Work:
         return check, unread
 
     def try_round(self, crate, tries):
-        """Tries edits by one check, and once more those of which it does not tell. Each has its verdict then."""
+        """Tries edits by one check, and once more those of which it does not tell. Each has its verdict then. A round that the system
+        does not let be made, since no disk is left, say, is made once more a little later."""
+        for left in (1, 0):
+            try:
+                self.judge(crate, tries)
+                return
+            except OSError as why:
+                if left:
+                    say(f"{crate.name}: a round ended early: {why!r:.300}")
+                    time.sleep(LATER)
+                    continue
+                fault = why
+            except Exception as why:  # its edits are told, and the others are tried
+                say(traceback.format_exc())
+                fault = why
+            for it in (it for it in tries if not is_control(it) and not it.edit.verdict):
+                it.edit.tell("NOT TRIED", f"{fault!r:.300}")
+            return
+
+    def judge(self, crate, tries):
+        """Makes a round, and tells what it says of each edit."""
         check, unread = self.with_tries(crate, tries)
         # Nothing is said of edits beside a control that is not proved: their copies lack something.
         seconds = {it.edit: it for it in tries if it.is_second}
