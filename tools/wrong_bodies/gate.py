@@ -45,9 +45,11 @@ class Gate:
                     if os.path.isdir(crate.library):
                         try:
                             shutil.copytree(crate.library, place, copy_function=os.link)
-                        except OSError:  # the gate has it in its hands: the next reading takes it
+                        except OSError:
                             shutil.rmtree(place, ignore_errors=True)
-                            continue
+                            if is_over:
+                                raise
+                            continue  # the gate has it in its hands: the next reading takes it
                         crate.library = place
                     self.taken[name] = word != "NOT PROVED"
             self.is_over = is_over

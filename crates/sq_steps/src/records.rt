@@ -38,8 +38,9 @@ pub(crate) enum Other {
     Ledger(LedgerRecord),
 }
 
-/// Records in their order, those of homes in their order and the others apart; each name that was used is there once. Memory
-/// is got before a step, for a record of any part; it shows for how many more there was memory when its last one was put.
+/// Records in their order: those of homes as they are, and of the others, which stand apart, their index. Each name that was used is
+/// there once. Memory is got before a step, for a record of any part; it shows for how many more there was memory when its last one
+/// was put.
 #[derive(Drop)]
 pub(crate) struct Records {
     kept: Blocks<Kept>,
