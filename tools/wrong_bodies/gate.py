@@ -1,24 +1,11 @@
 """The gate that proves the crates meanwhile: which libraries it has left so far, and how much of the machine it leaves."""
-import contextlib
 import os
 import re
 import shutil
 import threading
-import time
 
 DONE = re.compile(r"rt: (\w+) (proved$|is kept: an earlier run|NOT PROVED)", re.M)
 ROOM = 4_000_000  # what is left free for the gate beside each check, in KiB
-BEHIND = 10  # how nice a check is while the gate runs
-
-
-def put_forward(pid):
-    """Gives a process with its threads and its children what others get, where the system lets it."""
-    with contextlib.suppress(OSError):
-        for task in os.listdir(f"/proc/{pid}/task"):
-            os.setpriority(os.PRIO_PROCESS, int(task), 0)
-            with open(f"/proc/{pid}/task/{task}/children", encoding="ascii") as file:
-                for child in file.read().split():
-                    put_forward(int(child))
 
 
 class Gate:
@@ -27,8 +14,7 @@ class Gate:
     def __init__(self, log, crates, folder, free_memory, memory):
         self.log, self.crates, self.folder = log, crates, folder
         self.free_memory, self.memory = free_memory, memory
-        self.lock, self.begun, self.is_over, self.taken = threading.Lock(), 0, not log, {}
-        self.behind = set()  # the checks that leave the processors to the gate
+        self.lock, self.is_over, self.taken = threading.Lock(), not log, {}
 
     def read(self):
         """Takes the libraries of the crates that were proved since: a link each, since the gate puts others back at its end."""
@@ -53,50 +39,17 @@ class Gate:
                         crate.library = place
                     self.taken[name] = word != "NOT PROVED"
             self.is_over = is_over
-            while is_over and self.behind:
-                put_forward(self.behind.pop())
 
-    def wait_for(self, crate):
-        """Waits until a crate is proved, or the crates below a program. Returns whether they were."""
-        while True:
-            self.read()
-            wanted = [it.name for it in crate.below] + [crate.name] * (not crate.is_program())
-            if all(self.taken.get(it) for it in wanted) or not self.log:
-                return True
-            if self.is_over or any(self.taken.get(it) is False for it in wanted):
-                return False
-            time.sleep(1)
-
-    @contextlib.contextmanager
-    def turn(self, slots):
-        """One of so many checks at once; beside the gate half of them, and only where memory is free."""
-        with slots:
-            while not self.may_begin():
-                time.sleep(1)
-            try:
-                yield
-            finally:
-                with self.lock:
-                    self.begun -= 1
-
-    @contextlib.contextmanager
-    def beside(self, pid):
-        """A check that runs: it leaves the processors to the gate until that is over."""
-        with self.lock:
-            if not self.is_over:
-                self.behind.add(pid)
-                os.setpriority(os.PRIO_PROCESS, pid, BEHIND)
-        try:
-            yield
-        finally:
-            with self.lock:
-                self.behind.discard(pid)
-
-    def may_begin(self):
+    def is_proved(self, crate):
+        """Whether a crate is proved, or the crates below a program; None where that is not known yet."""
         self.read()
-        with self.lock:
-            half = max(1, len(os.sched_getaffinity(0)) // 2)
-            if not self.is_over and (self.begun >= half or self.free_memory() < self.memory + ROOM):
-                return False
-            self.begun += 1
+        wanted = [it.name for it in crate.below] + [crate.name] * (not crate.is_program())
+        if all(self.taken.get(it) for it in wanted) or not self.log:
             return True
+        return False if self.is_over or any(self.taken.get(it) is False for it in wanted) else None
+
+    def may_begin(self, running):
+        """Whether one more check may begin beside so many: beside the gate half of the processors, and only where memory is free."""
+        self.read()
+        half = max(1, len(os.sched_getaffinity(0)) // 2)
+        return self.is_over or running < half and self.free_memory() >= self.memory + ROOM

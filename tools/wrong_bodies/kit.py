@@ -17,3 +17,10 @@ def kit_sum():
         with open(it, "rb") as file:
             total.update(hashlib.sha256(file.read()).digest())
     return total.hexdigest()
+
+
+@functools.lru_cache(maxsize=None)
+def kit_name():
+    """The toolchain's name, in one word."""
+    with open(f"{KIT}/KIT-ID", encoding="utf-8") as file:
+        return file.read().split()[0]

@@ -28,6 +28,10 @@ def sum_of(*parts):
     return hashlib.sha256(repr(parts).encode()).hexdigest()[:32]
 
 
+def short_sum(*parts):
+    return sum_of(*parts)[:8]
+
+
 class Sums:
     """The sums of the edits of some crates, whose libraries are there."""
 
@@ -156,6 +160,14 @@ class Sums:
     def is_coarse(self, edit):
         """Whether its sum has the whole crate in it."""
         return not edit.body or edit.crate.is_program() or bool(self.new_names(edit)) or not self.of_function(edit.crate.name, edit.path, edit.function)
+
+    def of_own(self, edit):
+        """A sum of an edit and of the function that it stands in, with its stored proof, whatever these rest on."""
+        files = edit.crate.files
+        if not edit.body:
+            return short_sum(sorted(edit.texts.items()), sorted((it, files[it]) for it in edit.texts))
+        text = files[edit.path][edit.function.begins : edit.function.closes]
+        return short_sum(edit.path, edit.body, text, [files[it] for it in self.proof(edit.crate, edit.function.path)])
 
     def of_edit(self, edit):
         """The sum of an edit that can be applied."""

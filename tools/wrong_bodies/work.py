@@ -12,12 +12,14 @@ from .checks import Check
 from .edits import say
 from .functions import copy_proof, function_at, leave_out, leave_unoffered, proof_of
 from .kit import KIT
-from .rounds import end_of, is_control, rounds_of
+from .order import Late
+from .rounds import end_of, is_control
 
 MEMORY = 3_500_000  # what a check takes, in KiB
 ENDED = {0, 1, 2}  # the statuses of a check that came to its end: not 3, where the prover could not tell, nor a signal
 BY_PROOF = "refused by its proof alone"
 LATER = 30  # s
+LOWEST = "19"
 
 
 def free_memory():
@@ -32,9 +34,9 @@ def checks_at_once():
 class Work:
     """Checks of copies of crates, so many at once."""
 
-    def __init__(self, options, crates, folder, gate):
-        self.options, self.crates, self.folder, self.gate, self.rooms = options, crates, folder, gate, 0
-        self.lock, self.slots, self.used = threading.Lock(), threading.Semaphore(options.jobs), Counter()
+    def __init__(self, options, crates, folder, limit):
+        self.options, self.crates, self.folder, self.limit, self.rooms = options, crates, folder, limit, 0
+        self.lock, self.used = threading.Lock(), Counter()
 
     def kept(self, crate):
         """The work of the crate's earlier checks, which later ones take up: of a check of the crate itself, or of a round."""
@@ -44,7 +46,8 @@ class Work:
     def command(self, crate, words):
         """A check of a crate by the toolchain's prover, over the libraries that are built."""
         own = [it for it in crate.uses if it in self.crates]
-        command = [f"{KIT}/bin/rattle", "check", "--crate-name", crate.name]
+        # Proofs, tests and the programs of the project have the processors first.
+        command = ["nice", "-n", LOWEST, f"{KIT}/bin/rattle", "check", "--crate-name", crate.name]
         command += ["src/main.rt" if crate.is_program() else "src/lib.rt"]
         for it in ["std", *(it for it in crate.uses if it not in own)]:
             command += ["--extern", f"{it}={KIT}/rlibs/{it}.rlib"]
@@ -55,32 +58,45 @@ class Work:
         command += ["--antt-project", f"{KIT}/rattle/logic/antt-project.json", "--logic-built", f"{KIT}/logic_built"]
         return [*command, "--incremental", "out/incremental", "--jobs", "1", "--progress", *words]
 
-    def check(self, crate, room, what, words, proofs):
-        """Runs a check, and writes down what it took. One that did not come to its end, most likely for memory, is run once more."""
-        with self.gate.turn(self.slots):
-            for _ in range(2):
-                began, last, text, slow = time.monotonic(), None, "", []
-                ran = subprocess.Popen(self.command(crate, words), cwd=room, stdin=subprocess.DEVNULL, stdout=subprocess.PIPE,
-                                       stderr=subprocess.STDOUT, errors="replace", text=True)
-                with self.gate.beside(ran.pid):
-                    for line in ran.stdout:
-                        text += line
-                        if line.startswith("checked "):
-                            now = time.monotonic()
-                            slow += [f"{line.split()[1]} {now - last:.0f} s"] if last and now - last > 10 else []
-                            last = now
-                    _, status, used = os.wait4(ran.pid, 0)
-                ran.returncode = -(status & 127) or status >> 8
-                with self.lock:
-                    self.used[crate.name] += used.ru_utime + used.ru_stime
-                if ran.returncode in ENDED:
-                    break
-                say(f"{crate.name}: a check ended early, with status {ran.returncode}: {what[:100]}")
+    def run_check(self, crate, room, words):
+        """Runs a check to its end. Returns what it said, its status, the processor seconds that it took, and its slow functions."""
+        last, text, slow = None, "", []
+        ran = subprocess.Popen(self.command(crate, words), cwd=room, stdin=subprocess.DEVNULL, stdout=subprocess.PIPE,
+                               stderr=subprocess.STDOUT, errors="replace", text=True)
+        with self.limit.ending(ran):
+            for line in ran.stdout:
+                text += line
+                if line.startswith("checked "):
+                    now = time.monotonic()
+                    slow += [f"{line.split()[1]} {now - last:.0f} s"] if last and now - last > 10 else []
+                    last = now
+        _, status, used = os.wait4(ran.pid, 0)
+        ran.returncode = -(status & 127) or status >> 8
+        seconds = used.ru_utime + used.ru_stime
+        with self.lock:
+            self.used[crate.name] += seconds
+        return text, ran.returncode, seconds, slow
+
+    def check(self, crate, room, tries, words, proofs):
+        """Runs a check, and writes down what it took. One that did not come to its end, most likely for memory, is run once more; one
+        for which there is no time is late."""
+        what = " ".join(end_of(it) if is_control(it) else it.edit.name for it in tries)
+        for _ in range(2):
+            if not self.limit.allows(crate, tries):
+                raise Late
+            began = time.monotonic()
+            text, status, seconds, slow = self.run_check(crate, room, words)
+            if status in ENDED:
+                break
+            if self.limit.left() <= 0:
+                raise Late
+            say(f"{crate.name}: a check ended early, with status {status}: {what[:100]}")
+        self.limit.note(crate, tries, seconds)
         if self.options.times:
-            took = f"{time.monotonic() - began:.0f} s, {used.ru_utime + used.ru_stime:.0f} processor s"
+            took = f"{time.monotonic() - began:.0f} s, {seconds:.0f} processor s"
             with self.lock, open(self.options.times, "a", encoding="utf-8") as file:
                 print(f"{crate.name}: {took}: {what} {' '.join(slow)}", file=file)
-        return Check(text, ran.returncode, proofs)
+        return Check(text, status, proofs)
 
     def texts_of(self, crate, tries):
         """The files of the crate with these edits."""
@@ -119,8 +135,7 @@ class Work:
             if os.path.isdir(self.kept(crate)):
                 shutil.copytree(self.kept(crate), f"{room}/out/incremental", copy_function=os.link)
             only = [word for it in map(end_of, tries) if it for word in ("--only", it)]
-            what = " ".join(end_of(it) if is_control(it) else it.edit.name for it in tries)
-            check = self.check(crate, room, what, only, {it: text for it, text in texts.items() if it.startswith("proofs/")})
+            check = self.check(crate, room, tries, only, {it: text for it, text in texts.items() if it.startswith("proofs/")})
             with self.lock:
                 if not os.path.isdir(f"{self.folder}/{crate.name}.kept") and os.path.isdir(f"{room}/out/incremental"):
                     os.rename(f"{room}/out/incremental", f"{self.folder}/{crate.name}.kept")
@@ -135,11 +150,13 @@ class Work:
         return check, unread
 
     def try_round(self, crate, tries):
-        """Tries edits by one check, and once more those of which it does not tell. Each has its verdict then. A round that the system
-        does not let be made, since no disk is left, say, is made once more a little later."""
+        """Tries edits by one check, and once more those of which it does not tell. Each has its verdict then, if there was time. A round
+        that the system does not let be made, since no disk is left, say, is made once more a little later."""
         for left in (1, 0):
             try:
                 self.judge(crate, tries)
+                return
+            except Late:
                 return
             except OSError as why:
                 if left:
@@ -203,9 +220,3 @@ class Work:
             self.try_round(crate, whole)
         for it in (it for it in left if not it.aside):
             self.try_round(crate, [it._replace(suffix="", in_brief=False)])
-
-    def try_crate(self, crate, edits, pool):
-        """Tries edits of a crate. The first round leaves what those after it take up."""
-        first, *more = rounds_of(crate, edits, self.options.most)
-        self.try_round(crate, first)
-        return [pool.submit(self.try_round, crate, its) for its in more]
