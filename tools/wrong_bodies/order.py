@@ -32,10 +32,13 @@ class Limit:
 
     def __init__(self, minutes):
         self.ends = math.inf if minutes is None else time.monotonic() + 60 * minutes
-        self.paces = Counter()
+        self.paces, self.running = Counter(), set()
 
     def end(self):
+        """The time is over now: ends the checks that run."""
         self.ends = -math.inf
+        for it in [*self.running]:
+            it.kill()
 
     def left(self):
         return self.ends - time.monotonic()
@@ -45,9 +48,13 @@ class Limit:
         """Ends a process when the time is over, should it still run then."""
         end = threading.Timer(min(self.left(), threading.TIMEOUT_MAX), process.kill)
         end.start()
+        self.running.add(process)
         try:
+            if self.left() <= 0:
+                process.kill()
             yield
         finally:
+            self.running.discard(process)
             end.cancel()
 
     def note(self, crate, tries, seconds):
