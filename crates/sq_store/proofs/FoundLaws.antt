@@ -1,16 +1,17 @@
 -- Rows that are found where they stand, and those that stay.
 use Rattle.std.proofs.Common.{◌≡◌, ℕ, zero, suc, ◌+◌, ◌<◌, ◌≤◌, Bool, true, false, cond, List, [], ◌∷◌, ◌++◌, length, take, drop, Some, None, refl, sym, ap, subst, arith}
-use Rattle.std.specs.Prelude.{◌&&◌, ◌||◌, count_by, nat_lt, filter, position}
+use Rattle.std.specs.Prelude.{◌&&◌, ◌||◌, not, count_by, nat_lt, filter, position}
 use Rattle.std.specs.List.{All, list_any, Contains, position_or_len, slice_index_or}
 use Rattle.std.proofs.lemmas.Grind.{common_steps}
 use Rattle.std.proofs.lemmas.List.Elements.{All-cons, All-nil}
-use Rattle.std.proofs.lemmas.List.Folds.{list_any_none}
+use Rattle.std.proofs.lemmas.List.Folds.{list_any_at, list_any_none}
 use Rattle.std.proofs.lemmas.List.Quantifiers.{position-Some}
 use Rattle.std.proofs.lemmas.List.Sums.{count_by-le-length, fails_before_first}
 use Rattle.sq_base.specs.declared.row.Row.{Row}
-use Rattle.sq_model.specs.Rows.{RisesFrom, Takes}
+use Rattle.sq_base.specs.declared.settings.Settings.{Settings}
+use Rattle.sq_model.specs.Rows.{RisesFrom, Takes, is_expired, is_live, unexpired}
 use Rattle.sq_slots.specs.Slots.{is_at}
-use Rattle.sq_store.specs.Picked.{IsOneOf}
+use Rattle.sq_store.specs.Picked.{GivesLive, IsOneOf}
 
 -- where no rank passes, none does
 pub none_passes : {X : Type 0} (p : X → Bool) (xs : List X) → position p xs ≡ None → list_any p xs ≡ false
@@ -37,6 +38,16 @@ kept_at q (y ∷ xs) x (suc k) lt is passes =
 -- what is there and passes is kept
 pub kept_there : {X : Type 0} (q : X → Bool) (xs : List X) (x : X) → Contains xs x → q x ≡ true → Contains (filter q xs) x
 kept_there q xs x there passes = kept_at q xs x there.0 there.1 there.2 passes
+
+-- where a live row is found, one is there
+pub gives_live : (s : Settings) (m max : ℕ) (rows : List Row) (row : Row) → 0 < max → IsOneOf (is_live s m) (unexpired s m rows) row → GivesLive s m max rows
+gives_live s m max rows row asked one =
+    record { asked = asked; live = list_any_at (is_live s m) (unexpired s m rows) one.there.0 row one.there.1 (rw one.there.2 one.passes) }
+
+-- the same of a row that is there, not past its retention, and live
+pub gives_kept : (s : Settings) (m max : ℕ) (rows : List Row) (row : Row) → 0 < max → Contains rows row → not (is_expired s m row) ≡ true → is_live s m row ≡ true → GivesLive s m max rows
+gives_kept s m max rows row asked there kept live =
+    gives_live s m max rows row asked (record { passes = live; there = kept_there (λ r. not (is_expired s m r)) rows row there kept })
 
 -- one is taken out where it stands
 pub taken_at : (rows : List Row) (i : ℕ) (row : Row) → i < length rows → slice_index_or rows i row ≡ row → Takes row rows (take i rows ++ drop (i + 1) rows)

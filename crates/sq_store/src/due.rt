@@ -4,7 +4,7 @@ ghost use Rattle.std.specs.List.{list_any};
 ghost use Rattle.sq_model.specs.Rows as model;
 ghost use Rattle.sq_slots.specs.Slots.{AreApart};
 ghost use Rattle.sq_store.specs.inside.Found.{found_due, is_kept_and, is_wanted as wanted};
-ghost use Rattle.sq_store.specs.Picked.{IsOneOf};
+ghost use Rattle.sq_store.specs.Picked.{GivesLive, IsOneOf};
 ghost use Rattle.sq_store.specs.inside.SlotStores.{IsFromBefore};
 
 use crate::rows;
@@ -72,7 +72,7 @@ pub(crate) fn pick_of(
 ) -> Result<(), Refusal>
     requires { length picked.old ≤ max }
     ensures picked { OnOk result (picked.new ≡ take max (picked.old ++ map (model.received at.now.moment until) (found_due (is_kept_and (model.is_live at.now.settings at.now.moment) at.now.settings at.now.moment) table.now.rows at.now.moment index.now.deadlines))) }
-    ensures err { IfErr result (λ e. e ≡ Refusal.NoMemory) }
+    ensures err { IfErr result (λ e. (e ≡ Refusal.NoMemory) × GivesLive at.now.settings at.now.moment max table.now.rows) }
     ensures apart { AreApart table.now.rows }
 {
     if table.len() == 0 {

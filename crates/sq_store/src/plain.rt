@@ -4,7 +4,7 @@ ghost use Rattle.std.specs.List.{list_any};
 ghost use Rattle.sq_model.specs.Rows as model;
 ghost use Rattle.sq_slots.specs.Slots.{is_at};
 ghost use Rattle.sq_store.specs.inside.Found.{is_kept_and, is_wanted as wanted};
-ghost use Rattle.sq_store.specs.Picked.{IsOneOf};
+ghost use Rattle.sq_store.specs.Picked.{GivesLive, IsOneOf};
 
 use crate::due::{Wanted, is_wanted};
 use crate::rows;
@@ -82,7 +82,7 @@ fn count_delayed(rows: &[Row], moment: u64) -> usize
         .count()
 }
 
-// The first live rows, up to `max`, as they stand after a receive. Refused as NoMemory.
+// The first live rows, up to `max`, as they stand after a receive. Refused as NoMemory, only where one is given.
 fn pick_first(
     alloc: Global,
     rows: &[Row],
@@ -91,7 +91,7 @@ fn pick_first(
     max: usize,
 ) -> Result<Listed<Row>, Refusal>
     ensures picked { IfOk result (λ picked. picked ≡ take max (map (model.received at.now.moment until) (filter (model.is_live at.now.settings at.now.moment) (model.unexpired at.now.settings at.now.moment rows.now)))) }
-    ensures err { IfErr result (λ e. e ≡ Refusal.NoMemory) }
+    ensures err { IfErr result (λ e. (e ≡ Refusal.NoMemory) × GivesLive at.now.settings at.now.moment max rows.now) }
 {
     let mut picked = Listed::new(alloc);
     for row in rows {

@@ -5,7 +5,7 @@ ghost use Rattle.sq_base.specs.declared.row.Row.{Row};
 ghost use Rattle.sq_model.specs.Homes.{counts_of};
 ghost use Rattle.sq_model.specs.Rows.{ms, unexpired, is_in_flight, is_live, is_dead, is_held, is_late, changed_if, IsLook, RisesFrom, serials_of, received_if, without, is_free, Takes};
 ghost use Rattle.sq_slots.specs.Slots.{is_at};
-ghost use Rattle.sq_store.specs.Picked.{AreTheirs, IsOneOf};
+ghost use Rattle.sq_store.specs.Picked.{AreTheirs, GivesLive, IsOneOf};
 
 use sq_base::ids::Serial;
 use sq_base::ranges::Timeout;
@@ -68,11 +68,12 @@ pub trait Store: Drop {
         requires { length (rows self.now) < 4294967296 }
         ensures { result ≡ counts_of moment (rows self.now) };
 
-    /// Up to `max` of the live ones, as they stand after a receive that hides them until a moment. Refused as NoMemory.
+    /// Up to `max` of the live ones, as they stand after a receive that hides them until a moment. Refused as NoMemory, only where it
+    /// gives one.
     fn pick(&self, alloc: Global, at: &At, until: u64, max: usize) -> Result<Listed<Row>, Refusal>
         requires { (next : ℕ) × RisesFrom 0 (rows self.now) next }
         ensures look { IfOk result (λ picked. IsLook at.now.settings at.now.moment until max (unexpired at.now.settings at.now.moment (rows self.now)) picked) }
-        ensures err { IfErr result (λ e. e ≡ Refusal.NoMemory) };
+        ensures err { IfErr result (λ e. (e ≡ Refusal.NoMemory) × GivesLive at.now.settings at.now.moment max (rows self.now)) };
 
     /// For how many more rows there is memory.
     fn spare(&self) -> usize

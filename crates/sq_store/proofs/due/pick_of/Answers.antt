@@ -1,5 +1,5 @@
 use Rattle.std.proofs.Common.{rules, ◌≡◌, ◌∙◌, ◌+◌, ◌++◌, true, false, List, [], ◌∷◌, Some, None, length, map, take, arith, refl, sym, ap}
-use Rattle.std.specs.Prelude.{filter, slice_get}
+use Rattle.std.specs.Prelude.{filter, find, slice_get}
 use Rattle.std.specs.List.{cons_option}
 use Rattle.std.proofs.lemmas.List.{append-nil, append_assoc, length-append, length-map, map-append, take_all}
 use Rattle.sq_base.specs.declared.row.Row.{Row}
@@ -7,7 +7,9 @@ use Rattle.sq_deadline.specs.Deadlines.{if_due}
 use Rattle.sq_deadline.proofs.SetLaws.{due_at}
 use Rattle.sq_model.specs.Rows.{is_live, received}
 use Rattle.sq_store.specs.inside.Found.{found, is_kept_and, row_of}
-use Rattle.sq_store.proofs.DueLaws.{at_most_one, found_at_end, found_before, found_in_none, found_more, walks_on}
+use Rattle.sq_slots.specs.Slots.{is_in}
+use Rattle.sq_store.proofs.DueLaws.{at_most_one, found_at_end, found_before, found_in_none, found_more, is_one_of_kept, walks_on}
+use Rattle.sq_store.proofs.FoundLaws.{gives_live}
 use Rattle.sq_store.proofs.PickLaws.{picked_all, picked_full}
 use Rattle.sq_store.proofs.due.pick_of.Goals as goal
 use Rattle.sq_store.proofs.due.pick_of.Goals.{in-Some-at+then-is_wanted+in_ok-received_copy+in_ok-push, in-Some-at+else-is_wanted, in_default-at}
@@ -59,3 +61,21 @@ returns-clause-picked c =
     let p = is_kept_and (is_live c.args.at.now.settings c.args.at.now.moment) c.args.at.now.settings c.args.at.now.moment in
     picked_all p (received c.args.at.now.moment c.args.until) c.args.table.now.rows c.args.at.now.moment c.args.max c.args.index.now.deadlines c.loop-rank.rank c.args.picked.now c.loop-rank.picked c.loop-rank.invariant.picked
     (found_at_end p c.args.table.now.rows c.args.at.now.moment c.args.index.now.deadlines c.loop-rank.rank c.len-rank-end.ensures.order c.loop-rank.invariant.due (omega arith)) c.loop-rank.invariant.few
+
+pub returns-in_err-received_copy-clause-err : goal.returns-in_err-received_copy-clause-err
+returns-in_err-received_copy-clause-err c =
+    let s = c.args.at.now.settings in
+    let m = c.args.at.now.moment in
+    let at : find (is_in c.in-Some.due.now.slot) c.args.table.now.rows ≡ Some c.in-Some-at.row.now = search rules in
+    let one = is_one_of_kept (is_live s m) s m c.in-Some.due.now.slot c.args.table.now.rows c.in-Some-at.row.now at (sym c.is_wanted.ensures ∙ c.if-is_wanted.true) in
+    let gives = gives_live s m c.args.max c.args.table.now.rows c.in-Some-at.row.now (omega (arith, c.loop-rank.invariant.few)) one in
+    search rules
+
+pub returns-in_err-push-clause-err : goal.returns-in_err-push-clause-err
+returns-in_err-push-clause-err c =
+    let s = c.args.at.now.settings in
+    let m = c.args.at.now.moment in
+    let at : find (is_in c.in-Some.due.now.slot) c.args.table.now.rows ≡ Some c.in-Some-at.row.now = search rules in
+    let one = is_one_of_kept (is_live s m) s m c.in-Some.due.now.slot c.args.table.now.rows c.in-Some-at.row.now at (sym c.is_wanted.ensures ∙ c.if-is_wanted.true) in
+    let gives = gives_live s m c.args.max c.args.table.now.rows c.in-Some-at.row.now (omega (arith, c.loop-rank.invariant.few)) one in
+    search rules
