@@ -11,23 +11,36 @@ use Rattle.sq_model.specs.declared.event.Actor.{Actor}
 use Rattle.sq_model.specs.declared.item.Item.{Item}
 use Rattle.sq_model.specs.declared.place.Site.{Site}
 use Rattle.sq_model.specs.declared.replies.HomeReply.{HomeReply}
+use Rattle.sq_model.specs.declared.shared.ItemAct.{ItemAct}
 use Rattle.sq_model.specs.declared.replies.HomeReply.TheVariants.{Left, NoLiveRow, NoOrigin, SourceClosed}
 use Rattle.sq_model.specs.declared.task.Task.{Task}
 use Rattle.sq_model.specs.Homes.{Home, Unopened, Serving, Closed, home_refusal, unexpired_rows}
 use Rattle.sq_model.specs.Rows.{is_dead}
 use Rattle.sq_model.specs.Tasks.{target_of}
-pub use Rattle.sq_shard.specs.Moves.{IsLiveAt, has_live_row, item_refusal}
+pub use Rattle.sq_shard.specs.Moves.{IsLiveAt, PutsRow, has_live_row, item_refusal}
 use Rattle.sq_history.specs.HistoryValue.{HistoryValue}
 use Rattle.sq_history.specs.Histories.{RecordsShared}
 use Rattle.sq_history.specs.declared.shared.HomeHalf.{HomeHalf}
 use Rattle.sq_task.specs.declared.leave.TaskLeave.{TaskLeave}
 
--- One event was added, of this call. What is answered, and what the ledger is told, is what the record says.
-pub record DoesHalf (old new : HistoryValue) (by : Actor) (stamp : StampValue) (name : Option (List ℕ)) (call : HomeCall) (half : HomeHalf) : Type 0 where
-  pub does : RecordsShared old new by stamp name call half.its_record
+-- One event was added, of this call, at the stamp that was given. What is answered, and what the ledger is told, is what the record says.
+pub record DoesHalf (old new : HistoryValue) (by : Actor) (given : Result StampValue Refusal) (name : Option (List ℕ)) (call : HomeCall) (half : HomeHalf) : Type 0 where
+  pub stamped : given ≡ Ok half.its_record.stamp
+  pub does : RecordsShared old new by half.its_record.stamp name call half.its_record
   pub answered : half.answered ≡ half.its_record.reply
   pub ledger_call : half.for_ledger.0 ≡ call
   pub ledger_reply : half.for_ledger.1 ≡ half.its_record.reply
+
+-- nothing is done, for this reason at the moment of the stamp that was given
+abbrev pub IsWithout : Result StampValue Refusal → (ℕ → Type 0) → Type 0
+IsWithout given reason = (stamp : StampValue) × (given ≡ Ok stamp) × reason stamp.moment
+
+-- Why a half is not done: no memory was found for the event, or for what else is got before the clock; no stamp was given; or, at its moment, the home does not do it.
+abbrev pub IsHalfRefused : HistoryValue → Type 0 → Result StampValue Refusal → (ℕ → Refusal → Type 0) → Refusal → Type 0
+IsHalfRefused old copies given refused e =
+    ((e ≡ NoMemory) × ((old.room ≡ 0) ⊎ copies))
+    ⊎ (given ≡ Err e)
+    ⊎ ((stamp : StampValue) × (given ≡ Ok stamp) × refused stamp.moment e)
 
 -- a dead message is there
 abbrev pub HasDead : Home → ℕ → Type 0
@@ -35,16 +48,20 @@ HasDead (Serving its) m = list_any (is_dead its.settings m) (unexpired_rows its 
 HasDead Unopened m = ⊥
 HasDead Closed m = ⊥
 
--- Why no dead message leaves: no memory was found, for an event, or for copies of one that may leave; the home's first check that fails; or the ledger takes none in.
-abbrev pub IsLeaveRefused : HistoryValue → ℕ → Result ℕ Refusal → Refusal → Type 0
-IsLeaveRefused old m number e =
-    ((e ≡ NoMemory) × ((old.room ≡ 0) ⊎ (HasDead old.home m × ((n : ℕ) × (number ≡ Ok n)))))
-    ⊎ (home_refusal old.site old.home m LeaveDead ≡ Some e)
-    ⊎ (HasDead old.home m × (number ≡ Err e))
+-- Why no dead message leaves a home's rows: no memory was found for copies of one that may leave; the home's first check that fails; or the ledger takes none in.
+abbrev pub IsDeadRefused : Site → Home → ℕ → Result ℕ Refusal → Refusal → Type 0
+IsDeadRefused site home m number e =
+    ((e ≡ NoMemory) × HasDead home m × ((n : ℕ) × (number ≡ Ok n)))
+    ⊎ (home_refusal site home m LeaveDead ≡ Some e)
+    ⊎ (HasDead home m × (number ≡ Err e))
 
--- Why an item is not done with: no memory was found, for an event, or for copies where nothing else is wrong; or the first check that fails.
-abbrev pub IsItemRefused : HistoryValue → Option Refusal → Refusal → Type 0
-IsItemRefused old first e = ((e ≡ NoMemory) × ((old.room ≡ 0) ⊎ (first ≡ None))) ⊎ (first ≡ Some e)
+-- the item is there
+abbrev pub HasItem : Option Item → Type 0
+HasItem item = (it : Item) × (item ≡ Some it)
+
+-- Why an item is not done with by a home's rows: the first check that fails; or, where none does and its row comes in, no memory was found where the home shows room for none.
+abbrev pub IsActRefused : ItemAct → ℕ → Option Refusal → Refusal → Type 0
+IsActRefused act row_room first e = ((e ≡ NoMemory) × (first ≡ None) × PutsRow act × (row_room ≡ 0)) ⊎ (first ≡ Some e)
 
 -- the task takes messages of this home, as the ledger says
 abbrev pub IsTaker : TaskLeave → Task → Type 0

@@ -5,7 +5,7 @@ ghost use Rattle.sq_model.specs.declared.item.Reason.TheVariants.{DeadLetter};
 ghost use Rattle.sq_model.specs.declared.replies.HomeReply.TheVariants.{Left};
 ghost use Rattle.sq_model.specs.Homes.{HomeStep, IsFrom, IsIdle};
 ghost use Rattle.sq_shard.specs.Moves.{IsDeadAt, target_at};
-ghost use Rattle.sq_history.specs.inside.Halves.{IsDeadRefused};
+ghost use Rattle.sq_history.specs.Halves.{IsDeadRefused};
 
 use crate::act::Answer;
 use crate::shared::answer_left;

@@ -1,5 +1,5 @@
 //! The steps that a home shares with the ledger: the home's half, with its event and its record.
-ghost use Rattle.std.specs.Prelude.{◌≡◌, ◌⊎◌, ◌++◌, ◌∷◌, [], length, Some, Ok, option_map, IfOk, IfErr, IfSome, IfNone, OnErr};
+ghost use Rattle.std.specs.Prelude.{◌≡◌, ◌⊎◌, ◌++◌, ◌∷◌, [], length, Some, Err, Ok, option_map, IfOk, IfErr, IfSome, IfNone, OnErr, OnOk};
 ghost use Rattle.sq_base.specs.Stamps.{Below, start};
 ghost use Rattle.sq_model.specs.Replays.{StampsRise};
 ghost use Rattle.sq_model.specs.declared.item.Item.{Item as Moved};
@@ -10,8 +10,8 @@ ghost use Rattle.sq_model.specs.declared.replies.HomeReply.TheVariants.{Left};
 ghost use Rattle.sq_model.specs.Homes.{HomeStep, IsFrom, IsIdle};
 ghost use Rattle.sq_model.specs.ItemActs.{call_with, replied_by};
 ghost use Rattle.sq_shard.specs.Moves.{KeepsRowRoom, item_refusal};
-ghost use Rattle.sq_history.specs.Halves.{DoesHalf, IsLeaveRefused, IsItemRefused, IsTaker, IsTaskAnswer, IsTaskRefused, IsThrottled};
-ghost use Rattle.sq_history.specs.inside.Halves.{IsActRefused};
+ghost use Rattle.sq_history.specs.Halves.{DoesHalf, HasItem, IsActRefused, IsDeadRefused, IsHalfRefused, IsTaker, IsTaskAnswer, IsTaskRefused, IsThrottled, IsWithout};
+ghost use Rattle.sq_history.specs.inside.Halves.{AreCopies};
 ghost use Rattle.sq_history.specs.Histories.{new_event, new_record};
 ghost use Rattle.sq_log.specs.Rooms.{IsReady, KeepsRoom};
 
@@ -35,12 +35,13 @@ use sq_store::store::Store;
 use sq_task::leave::TaskLeave;
 use std::alloc::Global;
 
-/// A step that has its stamp: who does it, by which name of the home's queue, if any, and where its memory comes from.
+/// A step that is to be shared: who does it, its stamp or why none is given, by which name of the home's queue, if any, and
+/// where its memory comes from.
 #[derive(Clone, Copy)]
 pub struct StampedStep {
     pub alloc: Global,
     pub by: Actor,
-    pub stamp: Stamp,
+    pub stamp: Result<Stamp, Refusal>,
     pub name: Option<QueueName>,
 }
 
@@ -54,6 +55,9 @@ pub struct HomeHalf {
     /// The actor's record, one for both halves.
     pub its_record: HomeRecord,
 }
+
+// A copy of an item, and the calls that do something with it: for the event, for its record, and for the ledger.
+type ItemCopies = (Item, (HomeCall, HomeCall, HomeCall));
 
 // What is answered where this item leaves, and for the ledger. Refused as NoMemory.
 pub(crate) fn answer_left(alloc: Global, item: &Item) -> Result<(Answer, HomeReply), Refusal>
@@ -71,32 +75,28 @@ pub(crate) fn answer_left(alloc: Global, item: &Item) -> Result<(Answer, HomeRep
     Ok((answer, for_ledger))
 }
 
-// Adds the event of a half that was done, and gives what that half gives.
+// Adds the event of a half that was done at a stamp, and gives what that half gives.
 fn note(
     log: &mut Log<HomeCall, HomeReply>,
     step: &StampedStep,
+    stamp: Stamp,
     home: &HomeId,
     calls: (HomeCall, HomeCall, HomeCall),
     answers: (Answer, HomeReply),
 ) -> HomeHalf
     requires ready { IsReady log.old.room log.old.reserved }
-    requires above { Below log.old.last step.now.stamp }
-    ensures last { log.new.last ≡ step.now.stamp }
-    ensures events { log.new.events ≡ log.old.events ++ new_event step.now.stamp step.now.by home.now calls.0 answers.0 ∷ [] }
+    requires above { Below log.old.last stamp }
+    ensures last { log.new.last ≡ stamp }
+    ensures events { log.new.events ≡ log.old.events ++ new_event stamp step.now.by home.now calls.0 answers.0 ∷ [] }
     ensures rising { StampsRise start log.new.events log.new.last }
     ensures room { KeepsRoom log.old.room log.new.room }
-    ensures its_record { result.its_record ≡ new_record step.now.stamp step.now.by home.now (length log.old.events) calls.1 answers.0 step.now.name }
+    ensures its_record { result.its_record ≡ new_record stamp step.now.by home.now (length log.old.events) calls.1 answers.0 step.now.name }
     ensures answered { result.answered ≡ answers.0 }
     ensures for_ledger { result.for_ledger ≡ (calls.2, answers.1) }
 {
     let (kept_call, recorded_call, ledger_call) = calls;
     let (answer, ledger_reply) = answers;
-    let StampedStep {
-        by,
-        stamp,
-        name,
-        ..
-    } = *step;
+    let StampedStep { by, name, .. } = *step;
     let calls = (kept_call, recorded_call);
     let (answered, its_record) = add_step(log, &by, stamp, home, name, calls, answer);
     HomeHalf {
@@ -114,30 +114,30 @@ impl<S: Store> Recorded<S> {
         self.shard.site().home
     }
 
-    /// A dead message, any of them, leaves for its dead-letter queue, at a stamp that was drawn: it is told with the
-    /// item that it becomes. None where none is dead, which is no event. The number of the item is what the ledger
-    /// gives, or why it takes none in.
-    /// Refused as NoMemory (the history has room for none, or a message is there, which is copied), QueueDoesNotExist
-    /// (not serving), and then as the ledger.
-    #[tactic(auto, using(crate::proofs::HalfLaws::leave_refused))]
+    /// A dead message, any of them, leaves for its dead-letter queue: it is told with the item that it becomes. None where
+    /// none is dead, which is no event. The number of the item is what the ledger gives, or why it takes none in.
+    /// Refused as NoMemory (the history has room for none), as the stamp, as QueueDoesNotExist (not serving), and where a
+    /// message is dead as the ledger, and then as NoMemory (it is copied).
     pub fn leave_dead(
         &mut self,
         step: &StampedStep,
         number: Result<ItemNo, Refusal>,
     ) -> Result<Option<(HomeHalf, Item)>, Refusal>
-        requires above_last { Below self.old.last step.now.stamp }
-        requires above_seen { Below step.now.by.seen step.now.stamp }
+        requires above_last { IfOk step.now.stamp (Below self.old.last) }
+        requires above_seen { IfOk step.now.stamp (Below step.now.by.seen) }
         ensures leaves { IfOk result (λ left. IfSome left (λ l. DoesHalf self.old self.new step.now.by step.now.stamp step.now.name LeaveDead l.0)) }
         ensures item { IfOk result (λ left. IfSome left (λ l. l.0.its_record.reply ≡ Left l.1)) }
         ensures from { IfOk result (λ left. IfSome left (λ l. IsFrom self.old.site.home DeadLetter l.1)) }
         ensures number { IfOk result (λ left. IfSome left (λ l. number ≡ Ok l.1.number)) }
-        ensures none { IfOk result (λ left. IfNone left (IsIdle self.old.home step.now.stamp.moment LeaveDead × (self.new ≡ self.old))) }
-        ensures refusal { IfErr result (IsLeaveRefused self.old step.now.stamp.moment number) }
+        ensures none { IfOk result (λ left. IfNone left (IsWithout step.now.stamp (λ m. IsIdle self.old.home m LeaveDead))) }
+        ensures kept { IfOk result (λ left. IfNone left (self.new ≡ self.old)) }
+        ensures refusal { IfErr result (IsHalfRefused self.old ⊥ step.now.stamp (λ m e. IsDeadRefused self.old.site self.old.home m number e)) }
         ensures err { OnErr result (self.new ≡ self.old) }
     {
         self.log.reserve()?;
-        let moment = step.stamp.moment;
-        let Some((item, answers)) = leave_dead(step.alloc, &mut self.shard, moment, number)? else {
+        let stamp = step.stamp?;
+        let found = leave_dead(step.alloc, &mut self.shard, stamp.moment, number)?;
+        let Some((item, answers)) = found else {
             return Ok(None);
         };
         let home = self.shard.site().home;
@@ -146,38 +146,42 @@ impl<S: Store> Recorded<S> {
             HomeCall::LeaveDead,
             HomeCall::LeaveDead,
         );
-        Ok(Some((note(&mut self.log, step, &home, calls, answers), item)))
+        let half = note(&mut self.log, step, stamp, &home, calls, answers);
+        Ok(Some((half, item)))
     }
 
-    /// A live message, any of them, leaves for a move task, at a stamp that was drawn: it is told with the item that it
-    /// becomes. Recorded, with no item, is that none is live (NoLiveRow), that the one that was chosen has no queue to go
-    /// to and stays (NoOrigin), or that the home is closed (SourceClosed). None where the task is at its rate, which is no
-    /// event.
-    /// Refused as NoMemory (the history has room for none, or the message that leaves is copied), QueueDoesNotExist
-    /// (never opened), then as the ledger says of the task, and where a message is live as it says of the next item.
+    /// A live message, any of them, leaves for a move task: it is told with the item that it becomes. Recorded, with no
+    /// item, is that none is live (NoLiveRow), that the one that was chosen has no queue to go to and stays (NoOrigin), or
+    /// that the home is closed (SourceClosed). None where the task is at its rate, which is no event.
+    /// Refused as NoMemory (the history has room for none), as the stamp, as QueueDoesNotExist (never opened), then as the
+    /// ledger says of the task, and where a message is live as it says of the next item, and then as NoMemory (it is copied).
     pub fn leave_task(
         &mut self,
         step: &StampedStep,
         asked: &TaskLeave,
     ) -> Result<Option<(HomeHalf, Option<Item>)>, Refusal>
-        requires above_last { Below self.old.last step.now.stamp }
-        requires above_seen { Below step.now.by.seen step.now.stamp }
+        requires above_last { IfOk step.now.stamp (Below self.old.last) }
+        requires above_seen { IfOk step.now.stamp (Below step.now.by.seen) }
         ensures recorded { IfOk result (λ told. IfSome told (λ t. DoesHalf self.old self.new step.now.by step.now.stamp step.now.name (LeaveTask asked.now.number) t.0)) }
         ensures answer { IfOk result (λ told. IfSome told (λ t. (task : Taking) × IsTaker asked.now task × IsTaskAnswer asked.now task t.0.its_record.reply t.1)) }
-        ensures throttled { IfOk result (λ told. IfNone told (IsThrottled self.old.home asked.now × (self.new ≡ self.old))) }
-        ensures refusal { IfErr result (λ e. ((e ≡ Refusal.NoMemory) × (self.old.room ≡ 0)) ⊎ IsTaskRefused self.old.site self.old.home step.now.stamp.moment asked.now e) }
+        ensures throttled { IfOk result (λ told. IfNone told (IsWithout step.now.stamp (λ _. IsThrottled self.old.home asked.now))) }
+        ensures kept { IfOk result (λ told. IfNone told (self.new ≡ self.old)) }
+        ensures refusal { IfErr result (IsHalfRefused self.old ⊥ step.now.stamp (λ m e. IsTaskRefused self.old.site self.old.home m asked.now e)) }
         ensures err { OnErr result (self.new ≡ self.old) }
     {
         self.log.reserve()?;
-        let moment = step.stamp.moment;
-        let Some(told) = leave_for_task(step.alloc, &mut self.shard, moment, asked)? else {
+        let stamp = step.stamp?;
+        let told = leave_for_task(step.alloc, &mut self.shard, stamp.moment, asked)?;
+        let Some(
+            TaskAnswer {
+                answer,
+                for_ledger,
+                left,
+            },
+        ) = told
+        else {
             return Ok(None);
         };
-        let TaskAnswer {
-            answer,
-            for_ledger,
-            left,
-        } = told;
         let home = self.shard.site().home;
         let calls = (
             HomeCall::LeaveTask(asked.number),
@@ -185,47 +189,63 @@ impl<S: Store> Recorded<S> {
             HomeCall::LeaveTask(asked.number),
         );
         let answers = (answer, for_ledger);
-        Ok(Some((note(&mut self.log, step, &home, calls, answers), left)))
+        let half = note(&mut self.log, step, stamp, &home, calls, answers);
+        Ok(Some((half, left)))
     }
 
-    /// This is done with the item here, at a stamp that was drawn.
-    /// Refused as NoMemory (the history has room for none, or the message is copied). Where its row comes in, as
-    /// QueueDoesNotExist (not serving), Worn (no serial is left), OverLimit (full). Where it is sent back or dropped, as
-    /// QueueDoesNotExist (never opened), UnsupportedOperation (serving). Then as UnsupportedOperation (no item, or not one
-    /// for this home).
+    /// This is done with the item here, which is copied before the clock.
+    /// Refused as NoMemory (the history has room for none, or the item is copied), and as the stamp. Then where its row comes
+    /// in as QueueDoesNotExist (not serving), Worn (no serial is left), OverLimit (full), and where it is sent back or dropped
+    /// as QueueDoesNotExist (never opened), UnsupportedOperation (serving). Then as UnsupportedOperation (no item, or not one
+    /// for this home), and as NoMemory (its row comes in where the home shows room for none).
     pub fn item_step(
         &mut self,
         step: &StampedStep,
         act: ItemAct,
         item: Option<&Item>,
     ) -> Result<HomeHalf, Refusal>
-        requires above_last { Below self.old.last step.now.stamp }
-        requires above_seen { Below step.now.by.seen step.now.stamp }
+        requires above_last { IfOk step.now.stamp (Below self.old.last) }
+        requires above_seen { IfOk step.now.stamp (Below step.now.by.seen) }
         ensures does { IfOk result (λ half. (it : Moved) × (option_map (λ i. i.now) item.entry ≡ Some it) × DoesHalf self.old self.new step.now.by step.now.stamp step.now.name (call_with act it) half) }
-        ensures refusal { IfErr result (IsItemRefused self.old (item_refusal act self.old.site self.old.home step.now.stamp.moment (option_map (λ i. i.now) item.entry))) }
+        ensures refusal { IfErr result (IsHalfRefused self.old (HasItem (option_map (λ i. i.now) item.entry)) step.now.stamp (λ m e. IsActRefused act self.old.row_room (item_refusal act self.old.site self.old.home m (option_map (λ i. i.now) item.entry)) e)) }
         ensures err { OnErr result (self.new ≡ self.old) }
     {
-        self.log.reserve()?;
-        let (_, calls, answers) = act_on(
-            step.alloc,
-            &mut self.shard,
-            act,
-            step.stamp.moment,
-            item,
-        )?;
+        let (stamp, copies) = begin_item(&mut self.log, step, act, item)?;
+        let (_, calls, answers) = act_on(&mut self.shard, act, stamp.moment, item, copies)?;
         let home = self.shard.site().home;
-        Ok(note(&mut self.log, step, &home, calls, answers))
+        Ok(note(&mut self.log, step, stamp, &home, calls, answers))
     }
 }
 
-// This is done with the item by a home's rows, at a moment in ms: the item, the calls, and what is answered.
-// Refused as the first check that fails, and then as NoMemory (the message is copied).
+// Begins a step that does this with an item: its stamp, and copies of the item. Refused as NoMemory (the history has room for
+// none, or the item is copied), and as the stamp.
+fn begin_item(
+    log: &mut Log<HomeCall, HomeReply>,
+    step: &StampedStep,
+    act: ItemAct,
+    item: Option<&Item>,
+) -> Result<(Stamp, Option<ItemCopies>), Refusal>
+    ensures last { log.new.last ≡ log.old.last }
+    ensures events { log.new.events ≡ log.old.events }
+    ensures room { log.new.room ≡ log.old.room }
+    ensures ready { OnOk result (IsReady log.new.room log.new.reserved) }
+    ensures stamped { IfOk result (λ begun. step.now.stamp ≡ Ok begun.0) }
+    ensures copies { IfOk result (λ begun. AreCopies act (option_map (λ i. i.now) item.entry) begun.1) }
+    ensures refused { IfErr result (λ e. ((e ≡ Refusal.NoMemory) × ((log.old.room ≡ 0) ⊎ HasItem (option_map (λ i. i.now) item.entry))) ⊎ (step.now.stamp ≡ Err e)) }
+{
+    log.reserve()?;
+    let copies = copies_of(step.alloc, act, item)?;
+    Ok((step.stamp?, copies))
+}
+
+// This is done with the item by a home's rows, at a moment in ms, with copies of it: the item, the calls, and what is answered.
+// Refused as the first check that fails, and then as NoMemory (its row comes in where the home shows room for none).
 fn act_on<'a, S: Store>(
-    alloc: Global,
     shard: &mut Shard<S>,
     act: ItemAct,
     moment: u64,
     item: Option<&'a Item>,
+    copies: Option<ItemCopies>,
 ) -> Result<
     (
         &'a Item,
@@ -234,6 +254,7 @@ fn act_on<'a, S: Store>(
     ),
     Refusal,
 >
+    requires { AreCopies act (option_map (λ i. i.now) item) copies }
     ensures item { IfOk result (λ done. option_map (λ i. i.now) item.entry ≡ Some done.0.now) }
     ensures kept_call { IfOk result (λ done. done.1.0 ≡ call_with act done.0.now) }
     ensures recorded_call { IfOk result (λ done. done.1.1 ≡ call_with act done.0.now) }
@@ -242,13 +263,31 @@ fn act_on<'a, S: Store>(
     ensures step { IfOk result (λ done. HomeStep shard.old.site shard.old.home moment (call_with act done.0.now) done.2.0 shard.new.home) }
     ensures site { shard.new.site ≡ shard.old.site }
     ensures room { IfOk result (λ done. KeepsRowRoom (call_with act done.0.now) shard.old.room shard.new.room) }
-    ensures refusal { IfErr result (IsActRefused (item_refusal act shard.old.site shard.old.home moment (option_map (λ i. i.now) item.entry))) }
+    ensures refusal { IfErr result (IsActRefused act shard.old.room (item_refusal act shard.old.site shard.old.home moment (option_map (λ i. i.now) item.entry))) }
     ensures err { OnErr result (shard.new ≡ shard.old) }
 {
-    let item = shard.check_item(act, moment, item)?;
+    let found = shard.check_item(act, moment, item)?;
+    let Some((copy, calls)) = copies else {
+        unreachable!()
+    };
+    let entered = shard.item_step(act, moment, copy)?;
+    Ok((found, calls, replied_by(entered)))
+}
+
+// The item, where it is there, and the calls that do this with it. Refused as NoMemory, where it is there.
+fn copies_of(
+    alloc: Global,
+    act: ItemAct,
+    item: Option<&Item>,
+) -> Result<Option<ItemCopies>, Refusal>
+    ensures copies { IfOk result (AreCopies act (option_map (λ i. i.now) item.entry)) }
+    ensures refused { IfErr result (λ e. (e ≡ Refusal.NoMemory) × HasItem (option_map (λ i. i.now) item.entry)) }
+{
+    let Some(item) = item else {
+        return Ok(None);
+    };
     let calls = calls_with(alloc, act, item)?;
-    let entered = shard.item_step(act, moment, item)?;
-    Ok((item, calls, replied_by(entered)))
+    Ok(Some((item.copy()?, calls)))
 }
 
 // The calls that do this with an item: for the event, for its record, and for the ledger. Refused as NoMemory.

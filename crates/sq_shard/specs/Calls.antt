@@ -16,10 +16,10 @@ pub record IsDoneOrRefused (call : HomeCall) (m : ℕ) (old new : ShardValue) (s
   pub refusal : IfErr said (λ e. home_refusal old.site old.home m call ≡ Some e)
   pub err : OnErr said (new ≡ old)
 
--- the row of an item came in as a step of the home, or memory was out, which changes nothing
+-- the row of an item came in as a step of the home, or memory was out where the home shows room for none, which changes nothing
 pub record HasComeIn (call : HomeCall) (m : ℕ) (old new : ShardValue) (said : Result EnteredRow Refusal) : Type 0 where
   pub step : IfOk said (λ entered. HomeStep old.site old.home m call (Entered entered) new.home)
   pub site : new.site ≡ old.site
   pub room : old.room ≤ new.room + 1
-  pub refused : IfErr said (λ e. e ≡ NoMemory)
+  pub refused : IfErr said (λ e. (e ≡ NoMemory) × (old.room ≡ 0))
   pub err : OnErr said (new ≡ old)

@@ -1,15 +1,13 @@
 //! Rows that a home makes: of a message that is sent, and of an item that comes in or comes back.
-ghost use Rattle.std.specs.Prelude.{◌≡◌, IfOk, IfErr};
+ghost use Rattle.std.specs.Prelude.{◌≡◌};
 ghost use Rattle.sq_model.specs.Homes as homes;
 ghost use Rattle.sq_model.specs.ItemActs as acts;
 
 use sq_base::body::Body;
 use sq_base::ids::{HomeId, Serial};
 use sq_base::message_id::MessageId;
-use sq_base::refusal::Refusal;
 use sq_base::row::Row;
 use sq_model::item::{Carried, Item, Reason};
-use sq_model::rows::copy_row;
 use sq_model::shared::ItemAct;
 
 /// The id of the row to which a home gives a serial.
@@ -43,46 +41,50 @@ pub fn sent_row(home: &HomeId, serial: Serial, moment: u64, until: u64, body: Bo
     }
 }
 
-// A row at a home that it is new to, before it has a slot: visible at once. Refused as NoMemory.
-fn moved_row(keeps: Carried, serial: Serial, moment: u64, row: &Row) -> Result<Row, Refusal>
-    ensures moved { IfOk result (λ moved. moved ≡ homes.moved keeps serial 0 moment row.now) }
-    ensures err { IfErr result (λ e. e ≡ Refusal.NoMemory) }
+// A row at a home that it is new to, before it has a slot: visible at once.
+fn moved_row(keeps: Carried, serial: Serial, moment: u64, row: Row) -> Row
+    ensures { result ≡ homes.moved keeps serial 0 moment row }
 {
-    let mut moved = copy_row(row)?;
+    let mut moved = row;
     moved.serial = serial;
     moved.slot = 0;
     moved.enqueued = keeps.enqueued;
     moved.visible_from = moment;
     moved.receives = keeps.receives;
     moved.last_receive = None;
-    Ok(moved)
+    moved
 }
 
 /// The row of an item that comes in at its target, before it has a slot: a dead letter stays the same message and
-/// remembers its source, and a task makes a new message of it. Refused as NoMemory.
-pub fn entered_row(home: &HomeId, serial: Serial, moment: u64, item: &Item) -> Result<Row, Refusal>
-    ensures entered { IfOk result (λ row. row ≡ homes.entered_row home.now serial 0 moment item.now) }
-    ensures err { IfErr result (λ e. e ≡ Refusal.NoMemory) }
+/// remembers its source, and a task makes a new message of it.
+pub fn entered_row(home: &HomeId, serial: Serial, moment: u64, item: Item) -> Row
+    ensures { result ≡ homes.entered_row home.now serial 0 moment item }
 {
-    let keeps = Carried::by(&item.reason, moment, item.row.enqueued);
-    let mut row = moved_row(keeps, serial, moment, &item.row)?;
-    match item.reason {
-        Reason::DeadLetter => row.origin = Some(item.source),
+    let Item {
+        row,
+        source,
+        reason,
+        ..
+    } = item;
+    let keeps = Carried::by(&reason, moment, row.enqueued);
+    let mut row = moved_row(keeps, serial, moment, row);
+    match reason {
+        Reason::DeadLetter => row.origin = Some(source),
         Reason::Task(_) => {
             row.id = fresh_id(home, serial);
             row.origin = None;
         }
     }
-    Ok(row)
+    row
 }
 
-/// The row of an item that comes back to its source, before it has a slot. Refused as NoMemory.
-pub fn returned_row(serial: Serial, moment: u64, item: &Item) -> Result<Row, Refusal>
-    ensures returned { IfOk result (λ row. row ≡ homes.returned_row serial 0 moment item.now) }
-    ensures err { IfErr result (λ e. e ≡ Refusal.NoMemory) }
+/// The row of an item that comes back to its source, before it has a slot.
+pub fn returned_row(serial: Serial, moment: u64, item: Item) -> Row
+    ensures { result ≡ homes.returned_row serial 0 moment item }
 {
-    let keeps = Carried::back(item.row.enqueued);
-    moved_row(keeps, serial, moment, &item.row)
+    let Item { row, .. } = item;
+    let keeps = Carried::back(row.enqueued);
+    moved_row(keeps, serial, moment, row)
 }
 
 /// Whether an item is one for this home: on its way to it, or on its way back.

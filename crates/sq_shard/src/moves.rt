@@ -129,21 +129,21 @@ impl<S: Store> Shard<S> {
         its(act, &self.site.home, item)
     }
 
-    /// Does this with an item, as `check_item` found: with the row that came in, where one did. Refused only where one is to
-    /// come in and memory is out.
+    /// Does this with an item, as `check_item` found, of which this is a copy: with the row that came in, where one did. Refused
+    /// as NoMemory, only where one is to come in and the home shows room for none.
     #[tactic(auto, using(crate::proofs::MoveLaws::turned_at, crate::proofs::MoveLaws::dropped_at))]
     pub fn item_step(
         &mut self,
         act: ItemAct,
         moment: u64,
-        item: &Item,
+        item: Item,
     ) -> Result<Option<EnteredRow>, Refusal>
-        requires may { may_act act self.old.site.home item.now ≡ true }
+        requires may { may_act act self.old.site.home item ≡ true }
         requires is_for { IsFor act self.old.site self.old.home moment }
-        ensures step { IfOk result (λ entered. HomeStep self.old.site self.old.home moment (call_with act item.now) (replied_by entered) self.new.home) }
+        ensures step { IfOk result (λ entered. HomeStep self.old.site self.old.home moment (call_with act item) (replied_by entered) self.new.home) }
         ensures site { self.new.site ≡ self.old.site }
-        ensures room { OnOk result (KeepsRowRoom (call_with act item.now) self.old.room self.new.room) }
-        ensures refused { IfErr result (λ e. (e ≡ Refusal.NoMemory) × PutsRow act) }
+        ensures room { OnOk result (KeepsRowRoom (call_with act item) self.old.room self.new.room) }
+        ensures refused { IfErr result (λ e. (e ≡ Refusal.NoMemory) × PutsRow act × (self.old.room ≡ 0)) }
         ensures err { OnErr result (self.new ≡ self.old) }
     {
         match act {
@@ -153,25 +153,27 @@ impl<S: Store> Shard<S> {
         }
     }
 
-    /// Puts the row of an item last, which comes in here, as `check_item` found. Refused only where memory is out.
+    /// Puts the row of an item last, which comes in here, as `check_item` found. Refused as NoMemory where the home shows room for
+    /// none.
     #[tactic(auto, using(crate::proofs::MoveLaws::entered_at))]
-    pub fn enter(&mut self, moment: u64, item: &Item) -> Result<EnteredRow, Refusal>
-        requires may { may_enter self.old.site.home item.now ≡ true }
+    pub fn enter(&mut self, moment: u64, item: Item) -> Result<EnteredRow, Refusal>
+        requires may { may_enter self.old.site.home item ≡ true }
         requires may_come { coming_refusal self.old.site self.old.home moment None ≡ None }
-        ensures { HasComeIn (Enter item.now) moment self.old self.new result }
+        ensures { HasComeIn (Enter item) moment self.old self.new result }
     {
-        let row = made::entered_row(&self.site.home, self.next, moment, item)?;
+        let row = made::entered_row(&self.site.home, self.next, moment, item);
         self.put(moment, row)
     }
 
-    /// Puts the row of an item last, which comes back, as `check_item` found. Refused only where memory is out.
+    /// Puts the row of an item last, which comes back, as `check_item` found. Refused as NoMemory where the home shows room for
+    /// none.
     #[tactic(auto, using(crate::proofs::MoveLaws::returned_at))]
-    pub fn give_back(&mut self, moment: u64, item: &Item) -> Result<EnteredRow, Refusal>
-        requires may { may_return self.old.site.home item.now ≡ true }
+    pub fn give_back(&mut self, moment: u64, item: Item) -> Result<EnteredRow, Refusal>
+        requires may { may_return self.old.site.home item ≡ true }
         requires may_come { coming_refusal self.old.site self.old.home moment None ≡ None }
-        ensures { HasComeIn (GiveBack item.now) moment self.old self.new result }
+        ensures { HasComeIn (GiveBack item) moment self.old self.new result }
     {
-        let row = made::returned_row(self.next, moment, item)?;
+        let row = made::returned_row(self.next, moment, item);
         self.put(moment, row)
     }
 

@@ -20,11 +20,11 @@ use Rattle.sq_model.specs.ItemActs.{asked_with, call_with}
 use Rattle.sq_model.specs.Ledgers.{Ledger, item_of, room_refusal}
 use Rattle.sq_model.specs.RecordValues.{HomeRecordValue}
 use Rattle.sq_model.specs.Shared.{IsUnrecorded, shared_refusal}
-use Rattle.sq_history.specs.Halves.{item_refusal, DoesHalf, HasDead, IsItemRefused, IsLeaveRefused}
+use Rattle.sq_history.specs.Halves.{item_refusal, DoesHalf, HasDead, HasItem, IsActRefused, IsDeadRefused, IsHalfRefused, PutsRow}
 use Rattle.sq_history.specs.declared.shared.HomeHalf.{HomeHalf}
 use Rattle.sq_history.specs.HistoryValue.{HistoryValue}
 use Rattle.sq_ledger.specs.LedgerHistories.{DoesItem, IsLeaving}
-use Rattle.sq_steps.specs.SharedSteps.{HasMessage, IsPairRefused}
+use Rattle.sq_steps.specs.SharedSteps.{CopiesItem, GrowsLast, IsPairRefused}
 
 -- ---- what the reply of a home says
 
@@ -52,30 +52,50 @@ recorded act site Closed l m number h = h
 recorded act site (Serving its) l m number h =
     elim act as (λ a. IsUnrecorded site (Serving its) l m (asked_with a number) → ⊥) [ Enter ↦ (λ k. k) | TurnBack ↦ (λ k. k) | GiveBack ↦ (λ k. k) | Drop ↦ (λ k. k) ] h
 
-copies_item : (act : ItemAct) (home : Home) (m number : ℕ) → HasMessage home m (asked_with act number)
-copies_item act home m number = elim act as (λ a. HasMessage home m (asked_with a number)) [ Enter ↦ tt | TurnBack ↦ tt | GiveBack ↦ tt | Drop ↦ tt ]
+grows_last : (act : ItemAct) (old : HistoryValue) (m number : ℕ) → PutsRow act → old.row_room ≡ 0 → GrowsLast old m (asked_with act number)
+grows_last act old m number puts room =
+    elim act as (λ a. PutsRow a → GrowsLast old m (asked_with a number)) [ Enter ↦ (λ k. room) | TurnBack ↦ (λ k. k) | GiveBack ↦ (λ k. room) | Drop ↦ (λ k. k) ] puts
 
--- why a home does not do it is why neither half is done
-pub item_out : (act : ItemAct) (old : HistoryValue) (l : Ledger) (m number : ℕ) (item : Option Item) (e : Refusal) → item ≡ item_of number l
-    → IsItemRefused old (item_refusal act old.site old.home m item) e → IsPairRefused old l m (asked_with act number) e
-item_out act old l m number item e is h =
+-- an item that is there is copied
+copies_item : (act : ItemAct) (l : Ledger) (number : ℕ) → HasItem (item_of number l) → CopiesItem l (asked_with act number)
+copies_item act l number there = elim act as (λ a. CopiesItem l (asked_with a number)) [ Enter ↦ there | TurnBack ↦ there | GiveBack ↦ there | Drop ↦ there ]
+
+-- why a half is not done, told as why neither is
+pub half_out : {A B : Type 0} (old : HistoryValue) (given : Result StampValue Refusal) (P Q : ℕ → Refusal → Type 0) (e : Refusal) → (A → B)
+    → ((stamp : StampValue) → given ≡ Ok stamp → P stamp.moment e → Q stamp.moment e) → IsHalfRefused old A given P e → IsHalfRefused old B given Q e
+half_out {A} {B} old given P Q e copies at h = elim h [
+  | inl out ↦ inl (out.0, elim out.1 [ inl full ↦ inl full | inr copied ↦ inr (copies copied) ])
+  | inr rest ↦ elim rest [ inl clock ↦ inr (inl clock) | inr not ↦ inr (inr (not.0, not.1, at not.0 not.1 not.2)) ]
+]
+
+-- why a home's rows do not do it is why neither half is done
+act_out : (act : ItemAct) (old : HistoryValue) (l : Ledger) (m number : ℕ) (item : Option Item) (e : Refusal) → item ≡ item_of number l
+    → IsActRefused act old.row_room (item_refusal act old.site old.home m item) e → IsPairRefused old l m (asked_with act number) e
+act_out act old l m number item e is h =
     let same = ap (λ (it : Option Item). item_refusal act old.site old.home m it) is ∙ item_first act old.site old.home l m number in
     elim h [
-      | inl out ↦ inl (out.0, elim out.1 [ inl full ↦ inl full | inr none ↦ inr (sym same ∙ none, recorded act old.site old.home l m number, copies_item act old.home m number) ])
+      | inl out ↦ inl (out.0, (sym same ∙ out.1, recorded act old.site old.home l m number, grows_last act old m number out.2 out.3))
       | inr first ↦ inr (sym same ∙ first)
     ]
+
+pub item_out : (act : ItemAct) (old : HistoryValue) (l : Ledger) (given : Result StampValue Refusal) (number : ℕ) (item : Option Item) (e : Refusal) → item ≡ item_of number l
+    → IsHalfRefused old (HasItem item) given (λ m x. IsActRefused act old.row_room (item_refusal act old.site old.home m item) x) e
+    → IsHalfRefused old (CopiesItem l (asked_with act number)) given (λ m x. IsPairRefused old l m (asked_with act number) x) e
+item_out act old l given number item e is h =
+    half_out old given (λ m x. IsActRefused act old.row_room (item_refusal act old.site old.home m item) x) (λ m x. IsPairRefused old l m (asked_with act number) x) e
+    (λ there. copies_item act l number (subst HasItem is there)) (λ stamp _ not. act_out act old l stamp.moment number item e is not) h
 
 -- ---- what the ledger is told
 
 -- what a home did with an item is what its half says to the ledger
-pub half_does : (act : ItemAct) (old new : HistoryValue) (by : Actor) (stamp : StampValue) (name : Option (List ℕ)) (item : Item) (half : HomeHalf) → DoesHalf old new by stamp name (call_with act item) half
+pub half_does : (act : ItemAct) (old new : HistoryValue) (by : Actor) (given : Result StampValue Refusal) (name : Option (List ℕ)) (item : Item) (half : HomeHalf) → DoesHalf old new by given name (call_with act item) half
     → DoesItem act half.its_record.home half.for_ledger.0 half.for_ledger.1 item
-half_does act old new by stamp name item half does =
+half_does act old new by given name item half does =
     let its_home : half.its_record.home ≡ old.site.home = ap (λ (r : HomeRecordValue). r.home) does.does.record_is in
     subst (λ (h : HomeId). DoesItem act h half.for_ledger.0 half.for_ledger.1 item) (sym its_home)
     (subst (λ (k : HomeCall). DoesItem act old.site.home k half.for_ledger.1 item) (sym does.ledger_call)
     (subst (λ (r : HomeReply). DoesItem act old.site.home (call_with act item) r item) (sym does.ledger_reply)
-    (answers_so act old.site old.home stamp.moment item half.its_record.reply new.home does.does.step)))
+    (answers_so act old.site old.home half.its_record.stamp.moment item half.its_record.reply new.home does.does.step)))
 
 -- ---- a dead message that does not leave
 
@@ -96,17 +116,23 @@ home_first site Unopened l m e h = h
 home_first site Closed l m e h = h
 home_first site (Serving its) l m e h = absurd cc
 
-pub leave_refused : (old : HistoryValue) (l : Ledger) (m reserved : ℕ) (number : Result ℕ Refusal) (e : Refusal) → ((n : ℕ) → number ≡ Ok n → room_refusal l ≡ None)
+dead_out : (old : HistoryValue) (l : Ledger) (m reserved : ℕ) (number : Result ℕ Refusal) (e : Refusal) → ((n : ℕ) → number ≡ Ok n → room_refusal l ≡ None)
     → ((r : Refusal) → number ≡ Err r → (room_refusal l ≡ Some r) ⊎ ((room_refusal l ≡ None) × (r ≡ NoMemory) × (reserved ≡ 0)))
-    → IsLeaveRefused old m number e → IsPairRefused old l m asks.LeaveDead e
-leave_refused old l m reserved number e passes refuses (inl (out, inl full)) = inl (out, inl full)
-leave_refused old l m reserved number e passes refuses (inl (out, inr (dead, ok))) = inl (out, inr (leave_passes old.site old.home l m dead ∙ passes ok.0 ok.1, leaves_recorded old.site old.home l m dead, tt))
-leave_refused old l m reserved number e passes refuses (inr (inl h)) = inr (home_first old.site old.home l m e h)
-leave_refused old l m reserved number e passes refuses (inr (inr (dead, is))) =
+    → IsDeadRefused old.site old.home m number e → IsPairRefused old l m asks.LeaveDead e
+dead_out old l m reserved number e passes refuses (inl (out, dead, ok)) = inl (out, (leave_passes old.site old.home l m dead ∙ passes ok.0 ok.1, leaves_recorded old.site old.home l m dead, tt))
+dead_out old l m reserved number e passes refuses (inr (inl h)) = inr (home_first old.site old.home l m e h)
+dead_out old l m reserved number e passes refuses (inr (inr (dead, is))) =
     elim (refuses e is) [
       | inl full ↦ inr (leave_passes old.site old.home l m dead ∙ full)
-      | inr out ↦ inl (out.1, inr (leave_passes old.site old.home l m dead ∙ out.0, leaves_recorded old.site old.home l m dead, tt))
+      | inr out ↦ inl (out.1, (leave_passes old.site old.home l m dead ∙ out.0, leaves_recorded old.site old.home l m dead, tt))
     ]
+
+pub leave_refused : (old : HistoryValue) (l : Ledger) (given : Result StampValue Refusal) (reserved : ℕ) (number : Result ℕ Refusal) (e : Refusal) → ((n : ℕ) → number ≡ Ok n → room_refusal l ≡ None)
+    → ((r : Refusal) → number ≡ Err r → (room_refusal l ≡ Some r) ⊎ ((room_refusal l ≡ None) × (r ≡ NoMemory) × (reserved ≡ 0)))
+    → IsHalfRefused old ⊥ given (λ m x. IsDeadRefused old.site old.home m number x) e → IsHalfRefused old ⊥ given (λ m x. IsPairRefused old l m asks.LeaveDead x) e
+leave_refused old l given reserved number e passes refuses h =
+    half_out old given (λ m x. IsDeadRefused old.site old.home m number x) (λ m x. IsPairRefused old l m asks.LeaveDead x) e
+    (λ k. k) (λ stamp _ not. dead_out old l stamp.moment reserved number e passes refuses not) h
 
 -- ---- what the ledger is told of a dead message
 

@@ -20,7 +20,7 @@ use Rattle.sq_model.specs.Ledgers.{HasRoom, Ledger, MayTake, is_of_source, room_
 use Rattle.sq_model.specs.RecordValues.{HomeRecordValue}
 use Rattle.sq_model.specs.Shared.{IsUnrecorded, is_throttled, shared_refusal, task_refusal}
 use Rattle.sq_model.specs.Tasks.{is_running, may_leave}
-use Rattle.sq_history.specs.Halves.{has_live_row, DoesHalf, IsTaker, IsTaskAnswer, IsTaskRefused, IsThrottled}
+use Rattle.sq_history.specs.Halves.{has_live_row, DoesHalf, IsHalfRefused, IsTaker, IsTaskAnswer, IsTaskRefused, IsThrottled}
 use Rattle.sq_history.specs.HistoryValue.{HistoryValue}
 use Rattle.sq_history.specs.declared.shared.HomeHalf.{HomeHalf}
 use Rattle.sq_task.specs.declared.leave.TaskLeave.{TaskLeave}
@@ -28,6 +28,7 @@ use Rattle.sq_history.proofs.TaskLaws.{one_live}
 use Rattle.sq_ledger.specs.LedgerHistories.{IsLeaving}
 use Rattle.sq_steps.specs.SharedSteps.{IsPairRefused}
 use Rattle.sq_steps.specs.inside.SharedSteps.{IsToldLeft}
+use Rattle.sq_steps.proofs.SharedLaws.{half_out}
 
 -- what the ledger said of the task at m, with memory for so many items before and after
 pub record IsSaid (l : Ledger) (old reserved m : ℕ) (home : HomeId) (number : ℕ) (said : TaskLeave) : Type 0 where
@@ -92,15 +93,16 @@ told_left l old reserved m site home after number said task SourceClosed left is
 told_left l old reserved m site home after number said task reply left is step taker a = elim a [ ]
 
 -- what the home's half says to it
-pub half_told : (old new : HistoryValue) (l : Ledger) (had reserved : ℕ) (by : Actor) (stamp : StampValue) (name : Option (List ℕ)) (number : ℕ) (said : TaskLeave) (task : Task) (half : HomeHalf) (left : Option Item)
-    → IsSaid l had reserved stamp.moment old.site.home number said → DoesHalf old new by stamp name (call.LeaveTask said.number) half → IsTaker said task → IsTaskAnswer said task half.its_record.reply left
-    → IsToldLeft l stamp.moment half.its_record.home number half.for_ledger.0 half.for_ledger.1 left
-half_told old new l had reserved by stamp name number said task half left is does taker a =
-    let told = told_left l had reserved stamp.moment old.site old.home new.home number said task half.its_record.reply left is
-    (subst (λ (n : ℕ). HomeStep old.site old.home stamp.moment (call.LeaveTask n) half.its_record.reply new.home) is.of_number does.does.step) taker a in
-    subst (λ (h : HomeId). IsToldLeft l stamp.moment h number half.for_ledger.0 half.for_ledger.1 left) (sym (ap (λ (r : HomeRecordValue). r.home) does.does.record_is))
-    (subst (λ (c : HomeCall). IsToldLeft l stamp.moment old.site.home number c half.for_ledger.1 left) (sym (does.ledger_call ∙ ap call.LeaveTask is.of_number))
-    (subst (λ (r : HomeReply). IsToldLeft l stamp.moment old.site.home number (call.LeaveTask number) r left) (sym does.ledger_reply) told))
+pub half_told : (old new : HistoryValue) (l : Ledger) (had reserved : ℕ) (by : Actor) (given : Result StampValue Refusal) (name : Option (List ℕ)) (number : ℕ) (said : TaskLeave) (task : Task) (half : HomeHalf) (left : Option Item)
+    → IsSaid l had reserved half.its_record.stamp.moment old.site.home number said → DoesHalf old new by given name (call.LeaveTask said.number) half → IsTaker said task → IsTaskAnswer said task half.its_record.reply left
+    → IsToldLeft l half.its_record.stamp.moment half.its_record.home number half.for_ledger.0 half.for_ledger.1 left
+half_told old new l had reserved by given name number said task half left is does taker a =
+    let m = half.its_record.stamp.moment in
+    let told = told_left l had reserved m old.site old.home new.home number said task half.its_record.reply left is
+    (subst (λ (n : ℕ). HomeStep old.site old.home m (call.LeaveTask n) half.its_record.reply new.home) is.of_number does.does.step) taker a in
+    subst (λ (h : HomeId). IsToldLeft l m h number half.for_ledger.0 half.for_ledger.1 left) (sym (ap (λ (r : HomeRecordValue). r.home) does.does.record_is))
+    (subst (λ (c : HomeCall). IsToldLeft l m old.site.home number c half.for_ledger.1 left) (sym (does.ledger_call ∙ ap call.LeaveTask is.of_number))
+    (subst (λ (r : HomeReply). IsToldLeft l m old.site.home number (call.LeaveTask number) r left) (sym does.ledger_reply) told))
 
 -- ---- why neither half is done
 
@@ -145,22 +147,28 @@ is_recorded site Closed l old reserved m number said is ok h = h
 is_recorded site (Serving its) l old reserved m number said is ok h =
     let k : true ≡ false = sym ok ∙ sym (allowed_as l old reserved m site.home number said h.0 is h.1.found) ∙ h.2 in cc
 
-pub task_refused : (old : HistoryValue) (l : Ledger) (had reserved m number : ℕ) (said : TaskLeave) (e : Refusal) → IsSaid l had reserved m old.site.home number said
-    → ((e ≡ NoMemory) × (old.room ≡ 0)) ⊎ IsTaskRefused old.site old.home m said e → IsPairRefused old l m (asks.LeaveTask number) e
-task_refused old l had reserved m number said e is (inl (out, full)) = inl (out, inl full)
-task_refused old l had reserved m number said e is (inr (inl (out, leaving))) =
+task_out : (old : HistoryValue) (l : Ledger) (had reserved m number : ℕ) (said : TaskLeave) (e : Refusal) → IsSaid l had reserved m old.site.home number said
+    → IsTaskRefused old.site old.home m said e → IsPairRefused old l m (asks.LeaveTask number) e
+task_out old l had reserved m number said e is (inl (out, leaving)) =
     let ok = leaving.6.0 in
     let live = one_live old.home m leaving.1 leaving.5 in
-    inl (out, inr (then_room old.site old.home l had reserved m number said leaving.0 is leaving.4 ok live ∙ room_passes l had reserved m old.site.home number leaving.2 said is leaving.6.1, is_recorded old.site old.home l had reserved m number said is ok, live))
-task_refused old l had reserved m number said e is (inr (inr (inl h))) = inr (home_first old.site old.home l m number e (subst (λ (n : ℕ). home_refusal old.site old.home m (call.LeaveTask n) ≡ Some e) is.of_number h))
-task_refused old l had reserved m number said e is (inr (inr (inr (inl (none, err))))) =
+    inl (out, (then_room old.site old.home l had reserved m number said leaving.0 is leaving.4 ok live ∙ room_passes l had reserved m old.site.home number leaving.2 said is leaving.6.1, is_recorded old.site old.home l had reserved m number said is ok, live))
+task_out old l had reserved m number said e is (inr (inl h)) = inr (home_first old.site old.home l m number e (subst (λ (n : ℕ). home_refusal old.site old.home m (call.LeaveTask n) ≡ Some e) is.of_number h))
+task_out old l had reserved m number said e is (inr (inr (inl (none, err)))) =
     inr (then_task old.site old.home l m number e (subst (λ (n : ℕ). home_refusal old.site old.home m (call.LeaveTask n) ≡ None) is.of_number none) (task_refuses l had reserved m old.site.home number e said is err))
-task_refused old l had reserved m number said e is (inr (inr (inr (inr (taker, ok, live, err))))) =
+task_out old l had reserved m number said e is (inr (inr (inr (taker, ok, live, err)))) =
     let room = then_room old.site old.home l had reserved m number said taker.0 is taker.1 ok live in
     elim (room_refuses l had reserved m old.site.home number e said is err) [
       | inl full ↦ inr (room ∙ full)
-      | inr out ↦ inl (out.1, inr (room ∙ out.0, is_recorded old.site old.home l had reserved m number said is ok, live))
+      | inr out ↦ inl (out.1, (room ∙ out.0, is_recorded old.site old.home l had reserved m number said is ok, live))
     ]
+
+pub task_refused : (old : HistoryValue) (l : Ledger) (given : Result StampValue Refusal) (had reserved number : ℕ) (said : TaskLeave) (e : Refusal)
+    → ((stamp : StampValue) → given ≡ Ok stamp → IsSaid l had reserved stamp.moment old.site.home number said)
+    → IsHalfRefused old ⊥ given (λ m x. IsTaskRefused old.site old.home m said x) e → IsHalfRefused old ⊥ given (λ m x. IsPairRefused old l m (asks.LeaveTask number) x) e
+task_refused old l given had reserved number said e is h =
+    half_out old given (λ m x. IsTaskRefused old.site old.home m said x) (λ m x. IsPairRefused old l m (asks.LeaveTask number) x) e
+    (λ k. k) (λ stamp at not. task_out old l had reserved stamp.moment number said e (is stamp at) not) h
 
 -- ---- a task at its rate
 

@@ -4,15 +4,13 @@ use Rattle.sq_base.specs.StampValue.{StampValue}
 use Rattle.sq_base.specs.declared.refusal.Refusal.{Refusal}
 use Rattle.sq_base.specs.declared.refusal.Refusal.TheVariants.{NoMemory}
 use Rattle.sq_model.specs.declared.event.Actor.{Actor}
-use Rattle.sq_model.specs.declared.place.Site.{Site}
 use Rattle.sq_model.specs.declared.replies.HomeReply.{HomeReply}
 use Rattle.sq_model.specs.declared.shared.SharedAct.{SharedAct}
 use Rattle.sq_model.specs.declared.shared.SharedAct.TheVariants as asks
-use Rattle.sq_model.specs.Homes.{Home}
-use Rattle.sq_model.specs.Ledgers.{Ledger}
+use Rattle.sq_model.specs.Ledgers.{Ledger, item_of}
 use Rattle.sq_model.specs.RecordValues.{HomeRecordValue, OfHome, Journal, actor_of}
 use Rattle.sq_model.specs.Shared.{IsCallOf, IsUnrecorded, shared_refusal, shared_stamp}
-use Rattle.sq_history.specs.Halves.{has_live_row}
+use Rattle.sq_history.specs.Halves.{HasItem, has_live_row}
 use Rattle.sq_log.specs.Rooms.{KeepsRoom}
 use Rattle.sq_history.specs.HistoryValue.{HistoryValue}
 use Rattle.sq_history.specs.Histories.{RecordsShared}
@@ -42,30 +40,41 @@ pub record IsUnmoved (old : HistoryValue) (ledger : LedgerHistory) (journal : Jo
   pub stamped : shared_stamp old.last ledger.last journal.seen now ≡ Ok stamp
   pub unrecorded : IsUnrecorded old.site old.home ledger.ledger stamp.moment act
 
--- a leave for a task has a message to copy where one is live; a closed home, or one without a live message, answers with none
-abbrev pub HasMessage : Home → ℕ → SharedAct → Type 0
-HasMessage home m asks.LeaveDead = Unit {0}
-HasMessage home m (asks.LeaveTask number) = has_live_row home m ≡ true
-HasMessage home m (asks.Enter number) = Unit {0}
-HasMessage home m (asks.TurnBack number) = Unit {0}
-HasMessage home m (asks.GiveBack number) = Unit {0}
-HasMessage home m (asks.Drop number) = Unit {0}
+-- the item is copied before the clock, where it is there; what leaves is found after it
+abbrev pub CopiesItem : Ledger → SharedAct → Type 0
+CopiesItem l asks.LeaveDead = ⊥
+CopiesItem l (asks.LeaveTask number) = ⊥
+CopiesItem l (asks.Enter number) = HasItem (item_of number l)
+CopiesItem l (asks.TurnBack number) = HasItem (item_of number l)
+CopiesItem l (asks.GiveBack number) = HasItem (item_of number l)
+CopiesItem l (asks.Drop number) = HasItem (item_of number l)
 
--- a message is copied, and where it leaves it becomes an item: nothing refuses the step, and something is there for it
-abbrev pub CopiesMessage : Site → Home → Ledger → ℕ → SharedAct → Type 0
-CopiesMessage site home l m act = (shared_refusal site home l m act ≡ None) × (IsUnrecorded site home l m act → ⊥) × HasMessage home m act
+-- memory is got before the clock: for the event of the ledger, for that of the home, or for copies of the item
+abbrev pub GrowsFirst : HistoryValue → LedgerHistory → SharedAct → Type 0
+GrowsFirst old ledger act = (ledger.room ≡ 0) ⊎ (old.room ≡ 0) ⊎ CopiesItem ledger.ledger act
 
--- Why neither half is done at m: no memory was found, for the home's event or for copies of a message; or the first check that fails.
+-- What memory is got for where nothing refuses the step: for copies of a message that leaves, and a place in the ledger; for a row that comes in where the home shows room for none. A closed home, or one without a live message, answers a leave for a task with none.
+abbrev pub GrowsLast : HistoryValue → ℕ → SharedAct → Type 0
+GrowsLast old m asks.LeaveDead = Unit {0}
+GrowsLast old m (asks.LeaveTask number) = has_live_row old.home m ≡ true
+GrowsLast old m (asks.Enter number) = old.row_room ≡ 0
+GrowsLast old m (asks.TurnBack number) = ⊥
+GrowsLast old m (asks.GiveBack number) = old.row_room ≡ 0
+GrowsLast old m (asks.Drop number) = ⊥
+
+-- memory is got after all checks: nothing refuses the step, and something is there for it
+abbrev pub GrowsAfter : HistoryValue → Ledger → ℕ → SharedAct → Type 0
+GrowsAfter old l m act = (shared_refusal old.site old.home l m act ≡ None) × (IsUnrecorded old.site old.home l m act → ⊥) × GrowsLast old m act
+
+-- Why neither half is done at m: the first check that fails; or, where none does, no memory was found for a message that leaves or a row that comes in.
 abbrev pub IsPairRefused : HistoryValue → Ledger → ℕ → SharedAct → Refusal → Type 0
-IsPairRefused old l m act e =
-    ((e ≡ NoMemory) × ((old.room ≡ 0) ⊎ CopiesMessage old.site old.home l m act))
-    ⊎ (shared_refusal old.site old.home l m act ≡ Some e)
+IsPairRefused old l m act e = ((e ≡ NoMemory) × GrowsAfter old l m act) ⊎ (shared_refusal old.site old.home l m act ≡ Some e)
 
--- Why an actor's step of both is refused: the actor's own causes, no memory for the ledger's event, the clock's or the counts' check, or that neither half is done.
+-- Why an actor's step of both is refused: the actor's own causes; no memory for what is got before the clock; the clock's or the counts' check; or, at the stamp's moment, why neither half is done.
 abbrev pub IsSharedRefused : HistoryValue → LedgerHistory → Journal → ℕ → SharedAct → Refusal → Type 0
 IsSharedRefused old ledger journal now act e =
     IsNotReady journal now e
     ⊎ ((journal.next ≢ last_place)
-    × (((e ≡ NoMemory) × (ledger.room ≡ 0))
+    × (((e ≡ NoMemory) × GrowsFirst old ledger act)
     ⊎ (shared_stamp old.last ledger.last journal.seen now ≡ Err e)
     ⊎ ((stamp : StampValue) × (shared_stamp old.last ledger.last journal.seen now ≡ Ok stamp) × IsPairRefused old ledger.ledger stamp.moment act e)))

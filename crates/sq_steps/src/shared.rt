@@ -35,6 +35,16 @@ fn stamp_of_both(home: Stamp, ledger: Stamp, seen: Stamp, now: u64) -> Result<St
     Stamp::after(above_both, seen, now)
 }
 
+// The moment of the stamp that is given; 0 where none is.
+fn moment_of(given: &Result<Stamp, Refusal>) -> u64
+    ensures { IfOk given.now (λ stamp. result ≡ stamp.moment) }
+{
+    match given {
+        Ok(stamp) => stamp.moment,
+        Err(_) => 0,
+    }
+}
+
 // The ledger's event of a step of which the home's half is done, by its record and what is kept for the ledger.
 fn event_of<'a>(
     kept: (HomeCall, HomeReply),
@@ -42,13 +52,13 @@ fn event_of<'a>(
     its_record: &'a HomeRecord,
 ) -> SharedEvent<'a>
     ensures by { result.by.now ≡ step.now.by }
-    ensures stamp { result.stamp ≡ step.now.stamp }
+    ensures stamp { result.stamp ≡ its_record.now.stamp }
     ensures home { result.home.now ≡ its_record.now.home }
     ensures kept { result.kept ≡ kept }
 {
     SharedEvent {
         by: &step.by,
-        stamp: step.stamp,
+        stamp: its_record.step().stamp,
         home: its_record.home(),
         kept,
     }
@@ -83,7 +93,7 @@ fn leave_task(
     requires { IsPairReady home.old ledger.old step.by step.stamp }
     ensures { PairEnds home.old home.new ledger.old.history ledger.new.history step.by step.stamp step.name (asks.LeaveTask number) result }
 {
-    let asked = ledger.task_leave(&home.id(), number, step.stamp.moment);
+    let asked = ledger.task_leave(&home.id(), number, moment_of(&step.stamp));
     let Some((half, left)) = home.leave_task(&step, &asked)? else {
         return Ok(None);
     };
@@ -123,13 +133,13 @@ fn item_step(
     Ok(Some((half.answered, half.its_record)))
 }
 
-// Both halves of a step; none where nothing leaves.
+// Both halves of a step; none where nothing leaves. What grows in the home does so before a stamp that is not given refuses.
 fn both_halves(
     alloc: Global,
     home: &mut Home,
     ledger: &mut TransitLedger,
     by: &Actor,
-    stamp: Stamp,
+    stamp: Result<Stamp, Refusal>,
     name: Option<QueueName>,
     act: SharedAct,
 ) -> Result<Option<(HomeReply, HomeRecord)>, Refusal>
@@ -153,15 +163,16 @@ fn both_halves(
     item_step(home, ledger, step, act, number)
 }
 
-/// A step of a home and the ledger that are lent, by an actor that is lent. All that grows in the ledger and in the
-/// actor's records does so first, and then all that grows in the home; then the message moves, and one event stands in
-/// each history, with one stamp. None where nothing was there to leave, or a task is at its rate, which is no event and
-/// changes nothing. A clock reading is in ms.
-/// Refused as NoMemory (the actor's records or either history have room for none, or a message is copied), ClockRange, Worn,
-/// and then as the home and the ledger: QueueDoesNotExist (not serving; never opened, where an item is sent back or given
-/// up, or one is to leave for a task), ResourceNotFoundException (no such task), UnsupportedOperation (a task that does not
-/// run, or is of another queue), Worn and OverLimit (a home or the ledger has no number left, or is full),
-/// UnsupportedOperation (no item of this number, not one for this home, or a home that serves where it is to be closed).
+/// A step of a home and the ledger that are lent, by an actor that is lent. All that grows in the actor's records, the ledger and
+/// the home does so before the clock, but for a message that leaves, which is found after it, and a row that comes in; then the
+/// message moves, and one event stands in each history, with one stamp. None where nothing was there to leave, or a task is at its
+/// rate, which is no event and changes nothing. A clock reading is in ms.
+/// Refused as NoMemory (the actor's records or either history have room for none, or an item is copied), ClockRange, Worn, and then
+/// as the home and the ledger: QueueDoesNotExist (not serving; never opened, where an item is sent back or given up, or one is to
+/// leave for a task), ResourceNotFoundException (no such task), UnsupportedOperation (a task that does not run, or is of another
+/// queue), Worn and OverLimit (a home or the ledger has no number left, or is full), UnsupportedOperation (no item of this number,
+/// not one for this home, or a home that serves where it is to be closed); and where nothing refuses it as NoMemory (a message
+/// leaves, or its row comes in where the home shows room for none).
 pub fn shared_step(
     alloc: Global,
     home: &mut Home,
@@ -183,7 +194,8 @@ pub fn shared_step(
 {
     ready(&journal.by, &mut journal.records, now)?;
     ledger.prepare()?;
-    let stamp = stamp_of_both(home.last(), ledger.last(), journal.by.seen, now)?;
+    // Why no stamp is given is told by the home's half, once that has grown.
+    let stamp = stamp_of_both(home.last(), ledger.last(), journal.by.seen, now);
     match both_halves(alloc, home, ledger, &journal.by, stamp, name, act)? {
         Some((reply, record)) => {
             count(&mut journal.by, record.step().stamp);

@@ -92,7 +92,7 @@ fn left(alloc: Global, home: &mut Home, by: &Actor, at: Stamp, leave: &TaskLeave
     let step = StampedStep {
         alloc,
         by: *by,
-        stamp: at,
+        stamp: Ok(at),
         name: None,
     };
     told_by(&home.leave_task(&step, leave))

@@ -4,7 +4,7 @@ use Rattle.sq_steps.proofs.shared.item_step.Goals as goal
 
 pub returns-in_err-half : goal.returns-in_err-half
 returns-in_err-half c =
-    let refused = item_out c.args.act c.args.home.now c.args.ledger.now.history.ledger c.args.step.stamp.moment c.args.number _ c.in_err-half.field-0.0 c.item.ensures c.in_err-half.ensures.refusal in
+    let refused = item_out c.args.act c.args.home.now c.args.ledger.now.history.ledger c.args.step.stamp c.args.number _ c.in_err-half.field-0.0 c.item.ensures c.in_err-half.ensures.refusal in
     search rules
 
 pub item_step-requires-2-clause-does : goal.item_step-requires-2-clause-does

@@ -5,4 +5,4 @@ use Rattle.sq_history.proofs.recorded.Recorded.leave_task.Goals as goal
 
 pub invariant_of-self-2 : goal.invariant_of-self-2
 invariant_of-self-2 g c =
-    kept_shared _ _ c.args.step.now.by c.args.step.now.stamp c.args.step.now.name (LeaveTask c.args.asked.now.number) c.note.result.its_record c.self.invariant c.note.ensures.rising (search rules)
+    kept_shared _ _ c.args.step.now.by c.in_ok-stamp.stamp c.args.step.now.name (LeaveTask c.args.asked.now.number) c.note-half.result.its_record c.self.invariant c.note-half.ensures.rising (search rules)
