@@ -29,8 +29,7 @@ use Rattle.sq_ledger.specs.LedgerHistory.{LedgerHistory}
 use Rattle.sq_ledger.specs.LedgerHistories.{IsLedgerKept}
 use Rattle.sq_directory.specs.DirectoryHistory.{DirectoryHistory}
 use Rattle.sq_directory.specs.DirectoryHistories.{IsDirectoryKept}
-use Rattle.sq_audit.specs.SystemNow.{system_now, events_of, opening_now}
-use Rattle.sq_audit.specs.inside.SystemNow.{by_part, own_events}
+use Rattle.sq_audit.specs.SystemNow.{system_now, events_of, opening_now, by_part, own_events}
 use Rattle.sq_audit.specs.Actors.{PartsRise}
 use Rattle.sq_audit.specs.HomeIds.{histories_of, IsNumbered}
 use Rattle.sq_audit.proofs.OrderLaws.{order_under, order_over, sorted_from, order_from, part_stays}

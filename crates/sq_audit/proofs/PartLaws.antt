@@ -14,8 +14,7 @@ use Rattle.sq_model.specs.Ledgers.{LedgerEvent, is_own}
 use Rattle.sq_model.specs.Systems.{DirectoryEvent, Tag, OfDirectory, OfLedger, OfHome}
 use Rattle.sq_model.specs.Merges.{of_directory, of_home, history_at, rank_of, InOrder}
 use Rattle.sq_history.specs.HistoryValue.{HistoryValue}
-use Rattle.sq_audit.specs.SystemNow.{events_of}
-use Rattle.sq_audit.specs.inside.SystemNow.{home_tags, by_part, own_events}
+use Rattle.sq_audit.specs.SystemNow.{events_of, home_tags, by_part, own_events}
 
 abbrev pub is_directory : Tag → Bool
 is_directory (OfDirectory e) = true

@@ -20,8 +20,7 @@ use Rattle.sq_history.specs.HistoryValue.{HistoryValue}
 use Rattle.sq_history.specs.Histories.{IsKept}
 use Rattle.sq_audit.specs.Actors.{PartsRise}
 use Rattle.sq_audit.specs.HomeIds.{IsNumbered, histories_of, home_history}
-use Rattle.sq_audit.specs.SystemNow.{events_of}
-use Rattle.sq_audit.specs.inside.SystemNow.{own_events}
+use Rattle.sq_audit.specs.SystemNow.{events_of, own_events}
 use Rattle.sq_model.proofs.ElementLaws.{all_get, get_map, get_mapped, some_same}
 use Rattle.sq_audit.proofs.ActorLaws.{in_home, less_first, same_number}
 use Rattle.sq_audit.proofs.CheckLaws.{home_once}

@@ -2,4 +2,3 @@
 pub mod Actors
 pub mod EvidenceValue
 pub mod Faults
-pub mod SystemNow

@@ -1,5 +1,5 @@
 //! All events of the system in one order.
-ghost use Rattle.std.specs.Prelude.{◌≡◌, ◌≤◌, ◌-◌, ◌^◌, ◌++◌, min, map, length, ℕ, All, OnOk, IfOk};
+ghost use Rattle.std.specs.Prelude.{◌≡◌, ◌<◌, ◌≤◌, ◌-◌, ◌^◌, ◌++◌, min, map, length, ℕ, All, OnErr, OnOk, IfOk};
 ghost use Rattle.sq_model.specs.Matches.{IsPaired};
 ghost use Rattle.sq_model.specs.Systems.{OfDirectory, OfLedger, OfHome, IsRun};
 ghost use Rattle.sq_model.specs.Merges.{IsMerged};
@@ -10,8 +10,7 @@ ghost use Rattle.sq_directory.specs.DirectoryHistories.{IsDirectoryKept};
 ghost use Rattle.sq_audit.specs.Actors.{PartsRise};
 ghost use Rattle.sq_audit.specs.HomeIds.{histories_of, IsNumbered};
 ghost use Rattle.sq_audit.specs.Tags.{tags_of};
-ghost use Rattle.sq_audit.specs.SystemNow.{events_of, system_now, opening_now};
-ghost use Rattle.sq_audit.specs.inside.SystemNow.{by_part, own_events};
+ghost use Rattle.sq_audit.specs.SystemNow.{by_part, events_of, own_events, system_now, opening_now};
 
 use crate::tagged::Tagged;
 use sq_directory::directory::Directory;
@@ -23,7 +22,7 @@ use std::alloc::{AllocError, Global};
 /// All events of the directory, of the ledger alone and of the homes, sorted by stamp; at equal stamps the directory comes
 /// first, the ledger second, and then the homes in their order. Each home has an id of its own, and what homes and the
 /// ledger share is to stand in the histories of both. Then the list is a run of the whole system from its opening to what
-/// the parts are now, and two events of one part never have one stamp.
+/// the parts are now, and two events of one part never have one stamp. Refused where memory is out, only where there is an event.
 pub fn by_stamp<'a>(
     alloc: Global,
     directory: &'a Directory,
@@ -36,6 +35,7 @@ pub fn by_stamp<'a>(
     ensures merged { IfOk result (λ run. IsMerged directory.now.events ledger.now.history.events (events_of homes.now) (tags_of run.items)) }
     ensures parts { IfOk result (λ run. PartsRise (tags_of run.items)) }
     ensures run { IfOk result (λ run. IsRun (opening_now directory.now ledger.now.history homes.now) (tags_of run.items) (system_now directory.now ledger.now.history homes.now)) }
+    ensures some { OnErr result (0 < length (by_part directory.now.events ledger.now.history.events (events_of homes.now))) }
 {
     let mut all = collect(alloc, directory, ledger, homes)?;
     // The sort is stable, so what has one stamp stays in the order of its parts.
@@ -55,9 +55,14 @@ fn collect<'a>(
     ensures directory { OnOk result (IsDirectoryKept directory.now) }
     ensures ledger { OnOk result (IsLedgerKept ledger.now.history) }
     ensures homes { OnOk result (All IsKept homes.now) }
+    ensures some { OnErr result (0 < length (by_part directory.now.events ledger.now.history.events (events_of homes.now))) }
 {
-    // Room for all is made at once.
-    let mut all = Vec::with_capacity(alloc, count(directory, ledger, homes))?;
+    // Room for all is made at once, and none where there is no event.
+    let count = count(directory, ledger, homes);
+    let mut all = Vec::with_capacity(alloc, count)?;
+    if count == 0 {
+        return Ok(all);
+    }
     add_directory(&mut all, directory)?;
     add_ledger(&mut all, ledger)?;
     for (index, home) in homes.iter().enumerate() {
@@ -68,7 +73,10 @@ fn collect<'a>(
 
 // The number of all events; of more than a number can say, the greatest, for which no memory is found.
 fn count(directory: &Directory, ledger: &TransitLedger, homes: &[Home]) -> usize
-    ensures { result ≡ min (length (by_part directory.now.events ledger.now.history.events (events_of homes.now))) (2 ^ 64 - 1) }
+    ensures count { result ≡ min (length (by_part directory.now.events ledger.now.history.events (events_of homes.now))) (2 ^ 64 - 1) }
+    ensures directory { IsDirectoryKept directory.now }
+    ensures ledger { IsLedgerKept ledger.now.history }
+    ensures homes { All IsKept homes.now }
 {
     let mut count = directory.events().len().saturating_add(count_own(ledger));
     for home in homes {
@@ -79,7 +87,8 @@ fn count(directory: &Directory, ledger: &TransitLedger, homes: &[Home]) -> usize
 
 // The number of the events of the ledger alone.
 fn count_own(ledger: &TransitLedger) -> usize
-    ensures { result ≡ length (own_events ledger.now.history.events) }
+    ensures count { result ≡ length (own_events ledger.now.history.events) }
+    ensures kept { IsLedgerKept ledger.now.history }
 {
     let events = ledger.events();
     let mut count = 0;

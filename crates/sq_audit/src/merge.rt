@@ -1,11 +1,11 @@
 //! The one run of all that was done.
-ghost use Rattle.std.specs.Prelude.{◌≡◌, map, IfOk, IfErr, OnOk};
+ghost use Rattle.std.specs.Prelude.{◌≡◌, ◌<◌, length, map, IfOk, IfErr, OnOk};
 ghost use Rattle.sq_model.specs.Systems.{IsRun, IsOnePlace};
 ghost use Rattle.sq_model.specs.Merges.{IsMerged};
 ghost use Rattle.sq_model.specs.Matches.{IsMatched, IsPaired};
 ghost use Rattle.sq_audit.specs.Actors.{ActorsRise, PartsRise};
 ghost use Rattle.sq_audit.specs.Faults.{FaultHolds};
-ghost use Rattle.sq_audit.specs.SystemNow.{events_of, system_now, opening_now};
+ghost use Rattle.sq_audit.specs.SystemNow.{by_part, events_of, system_now, opening_now};
 ghost use Rattle.sq_audit.specs.HomeIds.{histories_of, IsNumbered};
 
 use crate::by_stamp::by_stamp;
@@ -21,8 +21,8 @@ use std::alloc::Global;
 /// The list is one run of the whole system, from its opening to what the parts are now, and each event has its record, and
 /// each record its event. The events of each actor stand in its order, and so do those of each part: two of one actor or of
 /// one part never have one stamp. No two homes have one id, as the law of one place asks.
-/// Refused for what is wrong with the records and the histories, and where nothing is, as NoMemory; those that a world
-/// leaves are right.
+/// Refused for what is wrong with the records and the histories, and where nothing is and there is an event, as NoMemory; those
+/// that a world leaves are right.
 pub fn merge<'a>(alloc: Global, parts: &'a Parts) -> Result<Run<'a>, AuditFault>
     ensures matched { OnOk result (IsMatched parts.now.directory.events parts.now.ledger.history.events (histories_of parts.now.homes.homes) parts.now.records) }
     ensures merged { IfOk result (λ run. IsMerged parts.now.directory.events parts.now.ledger.history.events (events_of parts.now.homes.homes) run) }
@@ -35,6 +35,7 @@ pub fn merge<'a>(alloc: Global, parts: &'a Parts) -> Result<Run<'a>, AuditFault>
     ensures fault { IfErr result (FaultHolds parts.now.directory.events parts.now.ledger.history.events (histories_of parts.now.homes.homes) parts.now.records) }
     ensures honest { IsMatched parts.now.directory.events parts.now.ledger.history.events (histories_of parts.now.homes.homes) parts.now.records → IsPaired parts.now.ledger.history.events (histories_of parts.now.homes.homes) → IfErr result (λ f. f ≡ AuditFault.NoMemory) }
     ensures out_of_memory { IfErr result (λ f. f ≡ AuditFault.NoMemory → IsMatched parts.now.directory.events parts.now.ledger.history.events (histories_of parts.now.homes.homes) parts.now.records × IsPaired parts.now.ledger.history.events (histories_of parts.now.homes.homes)) }
+    ensures some_event { IfErr result (λ f. f ≡ AuditFault.NoMemory → 0 < length (by_part parts.now.directory.events parts.now.ledger.history.events (events_of parts.now.homes.homes))) }
 {
     let homes = parts.homes.as_slice();
     let creations = creations(alloc, &parts.directory);

@@ -1,7 +1,7 @@
 use Rattle.std.proofs.Common.{◌≡◌, ◌++◌, take}
 use Rattle.std.specs.Prelude.{map}
 use Rattle.sq_model.specs.Systems.{OfLedger}
-use Rattle.sq_audit.specs.inside.SystemNow.{own_events}
+use Rattle.sq_audit.specs.SystemNow.{own_events}
 use Rattle.sq_audit.specs.Tags.{tags_of}
 use Rattle.sq_audit.proofs.by_stamp.add_ledger.Given as goal
 

@@ -18,4 +18,5 @@ returns c =
       merged = merged;
       parts = sorted_rises tag_of c.in_ok-all.all.items _ up stable c.requires.numbered.0 directory ledger homes c.requires.numbered.1 c.requires.paired made.directory made.ledger made.homes made.tags;
       run = merged_is_run directory ledger homes _ made.directory made.ledger made.homes merged;
+      some = search rules;
     }

@@ -4,8 +4,7 @@ use Rattle.sq_history.specs.Histories.{IsKept}
 use Rattle.sq_directory.specs.DirectoryHistories.{IsDirectoryKept}
 use Rattle.sq_ledger.specs.LedgerHistories.{IsLedgerKept}
 use Rattle.sq_audit.specs.Tags.{tags_of}
-use Rattle.sq_audit.specs.SystemNow.{events_of}
-use Rattle.sq_audit.specs.inside.SystemNow.{by_part}
+use Rattle.sq_audit.specs.SystemNow.{events_of, by_part}
 use Rattle.sq_audit.proofs.by_stamp.collect.Given as goal
 
 abbrev pub invariant-loop-index : goal.invariant-loop-index

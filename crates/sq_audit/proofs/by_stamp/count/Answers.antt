@@ -1,8 +1,9 @@
 use Rattle.std.proofs.Common.{arith, ℕ, ◌≡◌, ◌+◌, ◌-◌, ◌^◌, min, length, take, map, ◌∙◌, ap}
 use Rattle.std.proofs.lemmas.List.{length-map, length-append}
+use Rattle.std.proofs.lemmas.List.Elements.{All-more}
+use Rattle.sq_history.specs.Histories.{IsKept}
 use Rattle.sq_model.specs.Systems.{OfHome}
-use Rattle.sq_audit.specs.SystemNow.{events_of}
-use Rattle.sq_audit.specs.inside.SystemNow.{by_part}
+use Rattle.sq_audit.specs.SystemNow.{events_of, by_part}
 use Rattle.sq_audit.proofs.PartLaws.{by_part_more}
 use Rattle.sq_audit.proofs.by_stamp.count.Goals as goal
 
@@ -20,4 +21,9 @@ loop-home-preserved c =
     let before = by_part events moved (events_of (take at homes)) in
     let more : length (by_part events moved (events_of (take (at + 1) homes))) ≡ length before + length home.events =
     rw (by_part_more events moved homes at home (omega arith) c.home-item.is) (length-append before (map (λ e. OfHome at e) home.events) ∙ ap (λ n. length before + n) (length-map home.events (λ e. OfHome at e))) in
-    rw (more, c.saturating_add-count-in-loop-home.ensures, c.loop-home.invariant, c.len-in-loop-home.ensures, c.events-in-loop-home.ensures.items) (min_sum (length before) (length home.events) (2 ^ 64 - 1))
+    record {
+      count = rw (more, c.saturating_add-count-in-loop-home.ensures, c.loop-home.invariant.count, c.len-in-loop-home.ensures, c.events-in-loop-home.ensures.items) (min_sum (length before) (length home.events) (2 ^ 64 - 1));
+      directory = c.loop-home.invariant.directory;
+      ledger = c.loop-home.invariant.ledger;
+      homes = All-more IsKept homes at home (omega arith) c.loop-home.invariant.homes (rw (← c.home-item.is) c.events-in-loop-home.ensures.kept);
+    }

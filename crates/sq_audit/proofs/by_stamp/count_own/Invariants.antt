@@ -1,5 +1,5 @@
 use Rattle.std.proofs.Common.{◌≡◌, ◌≤◌, length, take}
-use Rattle.sq_audit.specs.inside.SystemNow.{own_events}
+use Rattle.sq_audit.specs.SystemNow.{own_events}
 use Rattle.sq_audit.proofs.by_stamp.count_own.Given as goal
 
 abbrev pub invariant-loop-at : goal.invariant-loop-at
