@@ -1,5 +1,5 @@
 //! Homes that were never opened, and those that are not there.
-ghost use Rattle.std.specs.Prelude.{◌≡◌, ◌*◌, ◌≤◌, IfErr, IfOk, length, nat_le, if◌then◌else◌};
+ghost use Rattle.std.specs.Prelude.{◌≡◌, ◌*◌, ◌<◌, ◌≤◌, IfErr, IfOk, length, nat_le, if◌then◌else◌};
 ghost use Rattle.sq_base.specs.Stamps.{stamp_end};
 ghost use Rattle.sq_base.specs.declared.refusal.Refusal.TheVariants.{ClockRange, QueueDoesNotExist};
 ghost use Rattle.sq_audit.specs.HomeIds.{home_id};
@@ -49,7 +49,7 @@ pub fn never_opened(alloc: Global, per_queue: HomeCount, limits: &Limits, index:
     Recorded::unopened(alloc, Shard::unopened(site, SlotStore::new(alloc)))
 }
 
-/// The homes of so many queues; none is opened yet. Refused as NoMemory.
+/// The homes of so many queues; none is opened yet. Refused as NoMemory, where there are any.
 pub fn never_opened_homes(
     alloc: Global,
     queues: u32,
@@ -60,7 +60,7 @@ pub fn never_opened_homes(
     ensures homes { IfOk result (λ homes. homes.items ≡ never_opened_homes per_queue limits.now (queues * per_queue)) }
     ensures many { IfOk result (λ homes. length homes.items ≡ queues * per_queue) }
     ensures few { IfOk result (λ homes. length homes.items ≤ 16384) }
-    ensures refused { IfErr result (λ e. e ≡ Refusal.NoMemory) }
+    ensures refused { IfErr result (λ e. (e ≡ Refusal.NoMemory) × (0 < queues * per_queue)) }
 {
     let mut homes = Vec::new(alloc);
     for index in 0..queues * per_queue.get() {
