@@ -6,7 +6,7 @@ use Rattle.sq_base.specs.declared.handle.Handle.{Handle}
 use Rattle.sq_base.specs.declared.refusal.Refusal.{Refusal}
 use Rattle.sq_base.specs.declared.refusal.Refusal.TheVariants.{InvalidMessageContents, NoMemory}
 use Rattle.sq_calls.specs.BodyTexts.{is_too_small_or_large}
-use Rattle.sq_calls.specs.declared.batches.Batch.{Batch}
+use Rattle.sq_calls.specs.BatchValue.{BatchValue}
 use Rattle.sq_calls.specs.declared.batches.Entry.{Entry}
 use Rattle.sq_calls.specs.declared.batches.EntryAnswer.{EntryAnswer}
 use Rattle.sq_calls.specs.declared.batches.EntryAsk.{EntryAsk}
@@ -61,7 +61,7 @@ handle_as_entry homes name queue handle (Change timeout) ds told fits = fits
 -- ---- batches
 
 -- one entry more was done
-pub entry_more : {S : Type 0} (stepped : S → Ask → Result Gave Refusal → S → Type 0) (counts : S → HomeCounts) (old mid new : S) (b : Batch) (name : List ℕ) (queue n : ℕ) (told more : List EntryResult) (e : Entry) (one : Result EntryAnswer Refusal)
+pub entry_more : {S : Type 0} (stepped : S → Ask → Result Gave Refusal → S → Type 0) (counts : S → HomeCounts) (old mid new : S) (b : BatchValue) (name : List ℕ) (queue n : ℕ) (told more : List EntryResult) (e : Entry) (one : Result EntryAnswer Refusal)
     → (trace : List Done) × Path stepped old trace mid × EntriesFit (counts old).homes b queue n trace told → counts mid ≡ counts old → name ≡ b.queue → slice_get b.entries n ≡ Some e
     → Performs stepped (EntryFits (counts mid).homes name queue e.ask) mid one new → more ≡ told ++ record { id = e.id; answer = one } ∷ []
     → (trace : List Done) × Path stepped old trace new × EntriesFit (counts old).homes b queue (n + 1) trace more
@@ -71,7 +71,7 @@ entry_more stepped counts old mid new b name queue n told more e one asked same 
     rw next (asked.0 ++ did.trace, path_append stepped old mid new asked.0 did.trace asked.1 did.path, (asked.0, did.trace, told, e, one, asked.2, at, fits, refl, is))
 
 -- all entries were done
-pub entries_done : {S : Type 0} (stepped : S → Ask → Result Gave Refusal → S → Type 0) (homes : ℕ) (old new : S) (b : Batch) (queue n : ℕ) (told : List EntryResult)
+pub entries_done : {S : Type 0} (stepped : S → Ask → Result Gave Refusal → S → Type 0) (homes : ℕ) (old new : S) (b : BatchValue) (queue n : ℕ) (told : List EntryResult)
     → (trace : List Done) × Path stepped old trace new × EntriesFit homes b queue n trace told → n ≡ length b.entries → Performs stepped (BatchAt homes b queue) old (Ok (answer.Batch told)) new
 entries_done stepped homes old new b queue n told asked all = record {
   trace = asked.0;

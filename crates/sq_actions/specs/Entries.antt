@@ -15,7 +15,7 @@ use Rattle.sq_model.specs.declared.replies.SentMessage.{SentMessage}
 use Rattle.sq_history.specs.declared.act.HomeAct.{HomeAct}
 use Rattle.sq_history.specs.declared.act.HomeAct.TheVariants.{Send, Delete, Change}
 use Rattle.sq_calls.specs.BodyTexts.{is_too_small_or_large}
-use Rattle.sq_calls.specs.declared.batches.Batch.{Batch}
+use Rattle.sq_calls.specs.BatchValue.{BatchValue}
 use Rattle.sq_calls.specs.declared.batches.Entry.{Entry}
 use Rattle.sq_calls.specs.declared.batches.EntryAnswer.{EntryAnswer}
 use Rattle.sq_calls.specs.declared.batches.EntryAnswer.TheVariants as entry
@@ -85,14 +85,14 @@ OneFits homes name asked queue trace answered = (told : Result EntryAnswer Refus
 -- ---- a batch
 
 -- The first n entries of a batch were done, one after another, and this is told of each; one that is refused stops none after it.
-abbrev pub EntriesFit : ℕ → Batch → ℕ → ℕ → List Done → List EntryResult → Type 0
+abbrev pub EntriesFit : ℕ → BatchValue → ℕ → ℕ → List Done → List EntryResult → Type 0
 EntriesFit homes b queue zero trace told = (trace ≡ []) × (told ≡ [])
 EntriesFit homes b queue (suc n) trace told =
     (front : List Done) × (mine : List Done) × (before : List EntryResult) × (e : Entry) × (one : Result EntryAnswer Refusal) × EntriesFit homes b queue n front before × (slice_get b.entries n ≡ Some e)
     × EntryFits homes b.queue queue e.ask mine one × (trace ≡ front ++ mine) × (told ≡ before ++ record { id = e.id; answer = one } ∷ [])
 
 -- A batch at a queue that was found: all entries are done; or no memory was found for what is told of them, where there are any, and none is done.
-abbrev pub BatchAt : ℕ → Batch → ℕ → List Done → Result Answer Refusal → Type 0
+abbrev pub BatchAt : ℕ → BatchValue → ℕ → List Done → Result Answer Refusal → Type 0
 BatchAt homes b queue trace answered =
     ((0 < length b.entries) × (trace ≡ []) × (answered ≡ Err NoMemory))
     ⊎ ((told : List EntryResult) × EntriesFit homes b queue (length b.entries) trace told × (answered ≡ Ok (answer.Batch told)))

@@ -16,7 +16,7 @@ use sq_model::task::NamedQueue;
 pub(crate) fn batch<S: LockSteps>(steps: &mut S, batch: &Batch) -> Result<Answer, Refusal>
     ensures { Performs S.stepped (ByName batch.now.queue (BatchAt (S.counts steps.old).homes batch.now)) steps.old result steps.new }
 {
-    let of = steps.resolve(&batch.queue)?;
+    let of = steps.resolve(&batch.queue())?;
     do_entries(steps, of.number, batch)
 }
 
@@ -30,10 +30,10 @@ fn do_entries<S: LockSteps>(
     ensures { Performs S.stepped (BatchAt (S.counts steps.old).homes batch.now number) steps.old result steps.new }
 {
     let of = NamedQueue {
-        name: batch.queue,
+        name: batch.queue(),
         number,
     };
-    let entries = batch.entries.as_slice();
+    let entries = batch.entries();
     let mut told = Vec::with_capacity(steps.alloc(), entries.len())?;
     for at in 0..entries.len() {
         let entry = &entries[at];

@@ -1,3 +1,5 @@
+pub mod BatchValue
+pub mod Batches
 pub mod BodyTexts
 pub mod ReceivedValue
 pub mod TaskHandles

@@ -20,7 +20,7 @@ use Rattle.sq_requests.specs.Batches.{as_ask, ask_of, send_ask, batch_check, bat
 use Rattle.sq_requests.specs.inside.Batches.{has_body, behind}
 use Rattle.sq_requests.specs.Memory.{ReadsAsking}
 use Rattle.sq_requests.specs.Members.{url_at}
-use Rattle.sq_requests.specs.declared.batches.BatchKind.{BatchKind}
+use Rattle.sq_calls.specs.declared.batches.BatchKind.{BatchKind}
 
 -- a send that nothing refuses but want of memory has a body
 in_range_or_not : (n : Option ℕ) → (ok_or n InvalidParameterValue >>= λ n. Ok (Some n)) ≢ Err NoMemory
@@ -164,6 +164,6 @@ wants_memory kind items f e all (inr h) = absurd (let read = (reads_all kind ite
 
 -- what comes once all members are read
 pub batch_reads : (kind : BatchKind) (d : Data) (url : Option (List ℕ)) (items : Items) → Ok url ≡ url_at d → Ok items ≡ items_at (codes "Entries") d → true ≡ all_items (is_entry kind) items
-    → batch_of kind d ≡ (ok_or url InvalidAddress >>= λ queue. batch_check kind items >>= λ checked. entries_of kind items >>= λ entries. Ok (call.Batch (record { queue = queue; entries = entries })))
+    → batch_of kind d ≡ (ok_or url InvalidAddress >>= λ queue. batch_check kind items >>= λ checked. entries_of kind items >>= λ entries. Ok (call.Batch (record { queue = queue; kind = kind; entries = entries })))
 unfolding batch_of members_of
 batch_reads kind d url items a b all = rw (← a, ← b, ← all) refl

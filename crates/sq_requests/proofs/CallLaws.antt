@@ -13,7 +13,7 @@ use Rattle.sq_calls.specs.declared.turns.Turn.{Turn}
 use Rattle.sq_policy.specs.Reading.{IsUnrefused, Reads, ◌>>=◌}
 use Rattle.sq_requests.specs.Actions.{send_of}
 use Rattle.sq_requests.specs.Batches.{batch_of}
-use Rattle.sq_requests.specs.declared.batches.BatchKind.{BatchKind}
+use Rattle.sq_calls.specs.declared.batches.BatchKind.{BatchKind}
 use Rattle.sq_requests.specs.Memory.{IsAsked, ReadsAsking}
 use Rattle.sq_requests.specs.Queues.{create_of, create_asks, set_of, set_asks}
 use Rattle.sq_requests.proofs.RequestLaws.{asks_refused}

@@ -16,8 +16,8 @@ use Rattle.sq_calls.specs.BodyTexts.{body_limit}
 use Rattle.sq_requests.specs.Members.{text_at, url_at, receipt_handle_at, amount_at, amount_if_at}
 use Rattle.sq_requests.specs.Lists.{any_item, all_items}
 use Rattle.sq_requests.specs.Actions.{body_text, has_attributes_at}
-use Rattle.sq_requests.specs.declared.batches.BatchKind.{BatchKind}
-use Rattle.sq_requests.specs.declared.batches.BatchKind.TheVariants as kind
+use Rattle.sq_calls.specs.declared.batches.BatchKind.{BatchKind}
+use Rattle.sq_calls.specs.declared.batches.BatchKind.TheVariants as kind
 use Rattle.sq_calls.specs.declared.batches.Entry.{Entry}
 use Rattle.sq_calls.specs.declared.batches.EntryAsk.{EntryAsk}
 use Rattle.sq_calls.specs.declared.batches.EntryAsk.TheVariants as ask
@@ -164,4 +164,4 @@ batch_of kind d = do
   queue ← ok_or url InvalidAddress
   checked ← batch_check kind read
   entries ← entries_of kind read
-  Ok (call.Batch (record { queue = queue; entries = entries }))
+  Ok (call.Batch (record { queue = queue; kind = kind; entries = entries }))

@@ -11,8 +11,8 @@ use Rattle.sq_requests.specs.Members.{text_at, named_task}
 use Rattle.sq_requests.specs.Queues.{create_of, set_of, get_of, get_url_of, list_of, named_queue}
 use Rattle.sq_requests.specs.Actions.{send_of, receive_of, delete_of, change_of}
 use Rattle.sq_requests.specs.Batches.{batch_of}
-use Rattle.sq_requests.specs.declared.batches.BatchKind.{BatchKind}
-use Rattle.sq_requests.specs.declared.batches.BatchKind.TheVariants as kind
+use Rattle.sq_calls.specs.declared.batches.BatchKind.{BatchKind}
+use Rattle.sq_calls.specs.declared.batches.BatchKind.TheVariants as kind
 use Rattle.sq_calls.specs.declared.calls.Asked.{Asked}
 use Rattle.sq_calls.specs.declared.calls.Asked.TheVariants as asked
 use Rattle.sq_calls.specs.declared.calls.Call.{Call}

@@ -1,5 +1,5 @@
 //! What the actions on several messages ask.
-ghost use Rattle.std.specs.Prelude.{◌≡◌, ◌≢◌, ◌⊎◌, ◌<◌, is_ok, nat_lt, true, length, if◌then◌else◌, None, Some, Ok, Err, IfOk, IfErr};
+ghost use Rattle.std.specs.Prelude.{◌≡◌, ◌≢◌, ◌⊎◌, ◌<◌, ◌≤◌, false, is_ok, nat_lt, true, length, if◌then◌else◌, None, Some, Ok, Err, IfOk, IfErr, IfSome, OnOk};
 ghost use Rattle.sq_json.specs.View.{view};
 ghost use Rattle.sq_policy.specs.Reading.{seen_as, Reads};
 ghost use Rattle.sq_calls.specs.BodyTexts.{body_limit};
@@ -14,24 +14,13 @@ use crate::members::{amount_at, amount_if_at, receipt_handle_at, text_at, url_at
 use sq_base::body::BODY_LIMIT;
 use sq_base::handle::Handle;
 use sq_base::refusal::Refusal;
-use sq_calls::batches::{Batch, Entry, EntryAsk, EntryId};
+use sq_calls::batches::{Batch, BatchKind, Entry, EntryAsk, EntryId, MOST_ENTRIES};
 use sq_calls::body_text::BodyText;
 use sq_calls::calls::Call;
 use sq_json::value::Value;
 use sq_model::listed::Listed;
 use sq_policy::amount::{Amount, in_range, in_range_if};
 use std::alloc::Global;
-
-/// How many entries a batch may have (SQS API Reference, SendMessageBatch).
-const MOST_ENTRIES: usize = 10;
-
-/// What all entries of a batch do.
-#[derive(Clone, Copy)]
-pub enum BatchKind {
-    Send,
-    Delete,
-    Change,
-}
 
 // What refuses an entry alone is what it asks; only want of memory stays a refusal.
 fn as_ask(asked: Result<EntryAsk, Refusal>) -> Result<EntryAsk, Refusal>
@@ -271,8 +260,9 @@ fn items_at<'t, 'a>(value: &Value<'t, 'a>, name: &str) -> Result<Value<'t, 'a>, 
 
 // How many entries there are, where there are ten at most.
 fn count_of(entries: &Value<'_, '_>) -> Option<usize>
-    ensures { let count = how_many (listed_items entries.now) in
+    ensures count { let count = how_many (listed_items entries.now) in
         result ≡ (if nat_lt 10 count then None else Some count) }
+    ensures few { IfSome result (λ count. count ≤ 10) }
 {
     let Some(mut items) = entries.items() else {
         return Some(0);
@@ -290,6 +280,9 @@ fn count_of(entries: &Value<'_, '_>) -> Option<usize>
 fn batch_check(kind: BatchKind, entries: &Value<'_, '_>) -> Result<usize, Refusal>
     ensures check { seen_as (λ count. tt) result ≡ batch_check kind (listed_items entries.now) }
     ensures count { IfOk result (λ count. count ≡ how_many (listed_items entries.now)) }
+    ensures some { IfOk result (λ count. 0 < count) }
+    ensures few { IfOk result (λ count. count ≤ 10) }
+    ensures distinct { OnOk result (repeat_an_id (listed_items entries.now) ≡ false) }
 {
     let Some(count) = count_of(entries) else {
         return Err(Refusal::TooManyEntriesInBatchRequest);
@@ -358,5 +351,8 @@ pub fn batch_of(alloc: Global, value: &Value<'_, '_>, kind: BatchKind) -> Result
     let queue = url.ok_or(Refusal::InvalidAddress)?;
     let count = batch_check(kind, &entries)?;
     let entries = entries_of(alloc, kind, &entries, count)?;
-    Ok(Call::Batch(Batch { queue, entries }))
+    match Batch::new(queue, kind, entries) {
+        Some(batch) => Ok(Call::Batch(batch)),
+        None => unreachable!(),
+    }
 }

@@ -7,11 +7,12 @@ ghost use Rattle.sq_requests.specs.Requests.{reading, actor_at, call_of, call_or
 ghost use Rattle.sq_requests.specs.inside.Requests.{call_asks, call_or_turn_asks, request_asks};
 
 use crate::actions::{change_of, delete_of, receive_of, send_of};
-use crate::batches::{BatchKind, batch_of};
+use crate::batches::batch_of;
 use crate::members::{named_task, text_at};
 use crate::queues::{create_of, get_of, get_url_of, list_of, named_queue, set_of};
 use crate::tasks::{list_moves_of, start_move_of};
 use sq_base::refusal::Refusal;
+use sq_calls::batches::BatchKind;
 use sq_calls::calls::{Asked, Call};
 use sq_calls::turns::Turn;
 use sq_json::Scratch;

@@ -5,8 +5,8 @@ use Rattle.std.specs.Prelude.{ℕ, zero, suc, Bool, true, false, Result, Ok}
 use Rattle.serde_json.specs.Data.{Data, Items, no_items, item}
 use Rattle.sq_base.specs.declared.refusal.Refusal.{Refusal}
 use Rattle.sq_policy.specs.Reading.{◌>>=◌}
-use Rattle.sq_requests.specs.declared.batches.BatchKind.{BatchKind}
-use Rattle.sq_requests.specs.declared.batches.BatchKind.TheVariants as kind
+use Rattle.sq_calls.specs.declared.batches.BatchKind.{BatchKind}
+use Rattle.sq_calls.specs.declared.batches.BatchKind.TheVariants as kind
 use Rattle.sq_calls.specs.declared.batches.EntryAsk.{EntryAsk}
 use Rattle.sq_calls.specs.declared.batches.EntryAsk.TheVariants as ask
 use Rattle.sq_requests.specs.Batches.{ask_of, entry_of}

@@ -9,7 +9,7 @@ use Rattle.sq_policy.specs.Reading.{◌>>=◌}
 use Rattle.sq_calls.specs.declared.turns.Turn.{Turn}
 use Rattle.sq_requests.specs.Members.{text_at}
 use Rattle.sq_requests.specs.Queues.{create_asks, set_asks}
-use Rattle.sq_requests.specs.declared.batches.BatchKind.TheVariants as kind
+use Rattle.sq_calls.specs.declared.batches.BatchKind.TheVariants as kind
 use Rattle.sq_calls.specs.declared.calls.Asked.TheVariants as asked
 use Rattle.sq_calls.specs.declared.calls.Call.TheVariants as call
 use Rattle.sq_requests.specs.Requests.{clock_at, actor_at, call_of, kind_of, turn_of}

@@ -5,7 +5,7 @@ use sq_base::ids::{HomeNo, QueueNo, Serial};
 use sq_base::name::QueueName;
 use sq_base::ranges::{MaxMessages, MaxReceives, MaxResults, Receives, Timeout};
 use sq_base::refusal::Refusal;
-use sq_calls::batches::{Batch, Entry, EntryAsk};
+use sq_calls::batches::{Batch, BatchKind, Entry, EntryAsk};
 use sq_calls::body_text::BodyText;
 use sq_calls::calls::{
     Answer, AskedAttributes, AskedOfQueue, Call, ChangeMessageVisibility, CreateQueue,
@@ -65,12 +65,19 @@ pub fn call_of(rt: &impl Abort, alloc: Global, ask: Ask) -> Call {
         Ask::Hold(name) => receive(rt, name, 30),
         Ask::Change(name, serial) => change(rt, name, serial),
         Ask::Delete(name, serial) => delete(rt, name, handle_of(serial)),
-        Ask::SendBatch(name) => batch(rt, alloc, name, send_entry(rt, alloc)),
-        Ask::ChangeBatch(name, serial) => batch(rt, alloc, name, change_entry(serial)),
+        Ask::SendBatch(name) => batch(rt, alloc, name, BatchKind::Send, send_entry(rt, alloc)),
+        Ask::ChangeBatch(name, serial) => batch(
+            rt,
+            alloc,
+            name,
+            BatchKind::Change,
+            change_entry(serial),
+        ),
         Ask::DeleteBatch(name, serial) => batch(
             rt,
             alloc,
             name,
+            BatchKind::Delete,
             EntryAsk::Delete(handle_of(serial)),
         ),
         Ask::Set(name, target) => set(rt, name, target),
@@ -186,17 +193,14 @@ fn change_entry(serial: u64) -> EntryAsk {
 }
 
 // A batch of one entry.
-fn batch(rt: &impl Abort, alloc: Global, name: u8, ask: EntryAsk) -> Call {
+fn batch(rt: &impl Abort, alloc: Global, name: u8, kind: BatchKind, ask: EntryAsk) -> Call {
     let mut entries = Listed::new(alloc);
     let entry = Entry {
         id: named(rt, name),
         ask,
     };
     assert!(rt; entries.push(entry).is_ok(), "memory");
-    Call::Batch(Batch {
-        queue: named(rt, name),
-        entries,
-    })
+    Call::Batch(Batch::new(named(rt, name), kind, entries).expect(rt, "a batch"))
 }
 
 /// The call that deletes a message by its handle.

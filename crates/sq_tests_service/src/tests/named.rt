@@ -3,24 +3,23 @@ use super::asks::{Ask, call_of};
 use super::shared::{Client, QUEUE, Setting};
 use super::stories::{Deed, Scene, must, tell};
 use sq_base::refusal::Refusal;
-use sq_calls::batches::{Batch, EntryAsk};
+use sq_calls::batches::{Batch, BatchKind};
 use sq_calls::calls::{Answer, Call};
 use std::process::Abort;
 use std::sync::Wait;
 use std::sync::ledger::Ledger;
 
-// A batch, by the name of what its first entry asks.
+// A batch, by the name of its kind.
 fn batch<D: Ledger, T: Ledger, R: Wait>(
     at: &Scene<'_, '_, D, T, R>,
     client: &mut Client<D, T>,
     batch: Batch,
 ) -> Result<Answer, Refusal> {
     let (rt, service, session) = (at.rt, at.service.service(), client.session());
-    let asks = batch.entries.as_slice().first().map(|entry| &entry.ask);
-    match asks {
-        Some(EntryAsk::Delete(_)) => service.delete_batch(rt, session, batch),
-        Some(EntryAsk::Change(_, _)) => service.change_batch(rt, session, batch),
-        _ => service.send_batch(rt, session, batch),
+    match batch.kind() {
+        BatchKind::Send => service.send_batch(rt, session, batch),
+        BatchKind::Delete => service.delete_batch(rt, session, batch),
+        BatchKind::Change => service.change_batch(rt, session, batch),
     }
 }
 

@@ -11,10 +11,10 @@ loop-at-preserved g c =
     let one : EntryResult = record { id = e.id; answer = c.do_entry-answer.result } in
     let more : c.push_reserved.new.self.items ≡ c.loop-at.told.items ++ one ∷ [] = search rules in
     record {
-      known = c.do_entry-answer.ensures.known;
+      known = rw (← c.queue.ensures) c.do_entry-answer.ensures.known;
       same = c.do_entry-answer.ensures.same_counts ∙ c.loop-at.invariant.same;
       many = search (rules, arith);
       room = search rules;
-      asked = entry_more _ g.S.LockSteps.counts _ _ _ c.args.batch.now c.args.batch.now.queue c.args.number c.loop-at.at c.loop-at.told.items c.push_reserved.new.self.items e c.do_entry-answer.result c.loop-at.invariant.asked c.loop-at.invariant.same refl
+      asked = entry_more _ g.S.LockSteps.counts _ _ _ c.args.batch.now c.queue.result c.args.number c.loop-at.at c.loop-at.told.items c.push_reserved.new.self.items e c.do_entry-answer.result c.loop-at.invariant.asked c.loop-at.invariant.same c.queue.ensures
           (slice_get_read entries (length entries) c.loop-at.at e refl (search rules) (search rules)) c.do_entry-answer.ensures.did more;
     }

@@ -1,8 +1,9 @@
-use Rattle.std.proofs.Common.{◌≡◌, rules, refl, sym, Err}
+use Rattle.std.proofs.Common.{◌≡◌, arith, rules, refl, sym, Err}
 use Rattle.sq_json.specs.View.{view}
 use Rattle.sq_requests.specs.Lists.{listed_items}
 use Rattle.sq_requests.specs.Batches.{batch_of, members_of}
 use Rattle.sq_requests.proofs.BatchLaws.{are_ids, batch_reads, wants_memory}
+use Rattle.sq_requests.proofs.EntriesLaws.{as_many, distinct, of_kind}
 use Rattle.sq_requests.proofs.RequestLaws.{reads_refused}
 use Rattle.sq_requests.proofs.batches.batch_of.Goals as goal
 
@@ -35,4 +36,19 @@ returns-in_err-entries-2 c =
 pub returns : goal.returns
 returns c =
     let so = batch_reads c.args.kind (view c.args.value.now) c.in_ok-url.url (listed_items c.in_ok-entries.entries) c.in_ok-url.ensures c.in_ok-entries.ensures c.if-not-are_entries.ensures in
-    rw (so, ← c.in_ok-queue.ensures.value, ← c.in_ok-count.ensures.check, c.in_ok-entries-2.ensures.ok) refl
+    rw (so, ← c.in_ok-queue.ensures.value, ← c.in_ok-count.ensures.check, c.in_ok-entries-2.ensures.ok, c.in-Some.ensures.made) refl
+
+pub unreachable-requires : goal.unreachable-requires
+unreachable-requires c =
+    let items = listed_items c.in_ok-entries.entries in
+    let read = c.in_ok-entries-2.ensures.ok in
+    let all = as_many c.args.kind items c.in_ok-entries-2.entries read in
+    let count = c.in_ok-count.ensures.count in
+    let some = c.in_ok-count.ensures.some in
+    let few = c.in_ok-count.ensures.few in
+    c.in-None.ensures.refused (
+      omega (arith, all, count, some),
+      omega (arith, all, count, few),
+      of_kind c.args.kind items c.in_ok-entries-2.entries read,
+      distinct c.args.kind items c.in_ok-entries-2.entries read c.in_ok-count.ensures.distinct,
+    )
