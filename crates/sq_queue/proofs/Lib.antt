@@ -1,3 +1,4 @@
 pub mod LockLaws
 pub mod FinishLaws
 pub mod LastTaskLaws
+pub mod StayLaws

@@ -1,5 +1,5 @@
 //! Who the actors of a service are.
-ghost use Rattle.std.specs.Prelude.{◌≡◌, ◌+◌, IfOk, IfErr, OnErr, OnOk, [], ◌++◌, ◌∷◌};
+ghost use Rattle.std.specs.Prelude.{◌≡◌, ◌+◌, ◌<◌, IfOk, IfErr, OnErr, OnOk, [], ◌++◌, ◌∷◌};
 ghost use Rattle.sq_queue.specs.SessionValue.{new_session};
 
 use crate::session::Session;
@@ -31,8 +31,12 @@ impl<D: Ledger, T: Ledger> Actors<D, T> {
     /// A new one, whose number is how many there were before. Refused as Worn where all numbers are given.
     pub(crate) fn make(&mut self, alloc: Global) -> Result<Session<D, T>, Refusal>
         ensures made { IfOk result (λ s. s ≡ new_session self.old.made) }
+        ensures few { OnOk result (self.old.made < 4294967295) }
         ensures counted { OnOk result (self.new.made ≡ self.old.made + 1) }
+        ensures seed { self.new.seed ≡ self.old.seed }
+        ensures retired { self.new.retired.items ≡ self.old.retired.items }
         ensures refused { IfErr result (λ e. (e ≡ Refusal.Worn) × (self.old.made ≡ 4294967295)) }
+        ensures err { OnErr result (self.new.made ≡ self.old.made) }
     {
         if self.made == u32::MAX {
             return Err(Refusal::Worn);
@@ -61,6 +65,8 @@ impl<D: Ledger, T: Ledger> Actors<D, T> {
     /// Keeps a session that is given back. Refused as NoMemory, with the session.
     pub(crate) fn keep(&mut self, session: Session<D, T>) -> Result<(), (Refusal, Session<D, T>)>
         ensures kept { OnOk result (self.new.retired.items ≡ self.old.retired.items ++ session ∷ []) }
+        ensures made { self.new.made ≡ self.old.made }
+        ensures seed { self.new.seed ≡ self.old.seed }
         ensures refused { IfErr result (λ r. (r.0 ≡ Refusal.NoMemory) × (r.1 ≡ session)) }
         ensures err { OnErr result (self.new.retired.items ≡ self.old.retired.items) }
     {

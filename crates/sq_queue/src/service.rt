@@ -1,5 +1,5 @@
 //! A service whose parts lie under locks.
-ghost use Rattle.std.specs.Prelude.{◌≡◌, ◌⊎◌, ◌*◌, ◌≤◌, ℕ, IfOk, IfErr, OnOk, length, vec_len};
+ghost use Rattle.std.specs.Prelude.{◌≡◌, ◌⊎◌, ◌*◌, ◌<◌, ◌≤◌, ℕ, IfOk, IfErr, OnOk, length, vec_len};
 ghost use Rattle.sq_opening.specs.Openings.{IsServed};
 ghost use Rattle.sq_queue.specs.LockedParts.{LockedPart, AHome, TheDirectory, TheLedger};
 ghost use Rattle.sq_queue.specs.SessionValue.{new_session};
@@ -172,7 +172,7 @@ impl<C: Clock + Drop, G: Gate + Drop, D: Ledger, T: Ledger> Serving<C, G, D, T, 
 
     /// A new client, with no records. Refused as Worn where all 2^32 - 1 numbers of actors are given.
     pub fn session(&self, rt: &impl Wait) -> Result<Session<D, T>, Refusal>
-        ensures made { IfOk result (λ s. (actor : ℕ) × (s ≡ new_session actor)) }
+        ensures made { IfOk result (λ s. (actor : ℕ) × (actor < 4294967295) × (s ≡ new_session actor)) }
         ensures refused { IfErr result (λ e. e ≡ Refusal.Worn) }
     {
         take_lock(rt, &self.actors).make(self.alloc)

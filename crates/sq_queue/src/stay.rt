@@ -1,5 +1,5 @@
 //! The home that a session stays at for a while.
-ghost use Rattle.std.specs.Prelude.{◌≡◌, ◌<◌, ◌-◌, ◌&&◌, None, Some, if◌then◌else◌, length, nat_eq, nat_lt};
+ghost use Rattle.std.specs.Prelude.{◌≡◌, ℕ, ◌<◌, ◌-◌, ◌==◌, ◌&&◌, IfSome, None, Some, if◌then◌else◌, length, nat_eq, nat_lt, position, slice_get, slice_set, swap};
 ghost use Rattle.rand.specs.Sample.{IsSampleOf};
 
 use sq_base::ids::HomeNo;
@@ -67,15 +67,26 @@ impl Stay {
     }
 }
 
-/// Makes a home the first of those drawn, in place of another if it is not among them.
+/// Makes a home the first of those drawn: it changes places with the first one, or comes in for it if it is not among them.
 pub(crate) fn begin_with(drawn: &mut Vec<HomeNo>, home: HomeNo, homes: HomeCount)
     requires below { home < homes }
     requires some { 0 < length drawn.old.items }
     requires sample { IsSampleOf homes (length drawn.old.items) drawn.old.items }
     ensures sample { IsSampleOf homes (length drawn.old.items) drawn.new.items }
+    ensures first { slice_get drawn.new.items 0 ≡ Some home }
+    ensures found { (at : ℕ) → position (λ it. it == home) drawn.old.items ≡ Some at → drawn.new.items ≡ swap drawn.old.items 0 at }
+    ensures absent { position (λ it. it == home) drawn.old.items ≡ None → drawn.new.items ≡ slice_set drawn.old.items 0 home }
 {
-    match drawn.iter().position(|it| *it == home) {
+    match place_among(drawn, home) {
         Some(at) => drawn.swap(0, at),
         None => drawn[0] = home,
     }
+}
+
+// Where a home stands among these.
+fn place_among(drawn: &[HomeNo], home: HomeNo) -> Option<usize>
+    ensures place { result ≡ position (λ it. it == home) drawn.now }
+    ensures within { IfSome result (λ at. at < length drawn.now) }
+{
+    drawn.iter().position(|it| *it == home)
 }
