@@ -1,5 +1,6 @@
 pub mod SessionValue
 pub mod Tallies
+pub mod Evidence
 pub mod LockedParts
 pub mod Services
 pub mod Sections

@@ -1,8 +1,9 @@
 //! The end of a service: its parts are taken out of their locks, and its sessions apart.
-ghost use Rattle.std.specs.Prelude.{◌≡◌, ◌⊎◌, ◌+◌, ◌≤◌, ◌<◌, ◌++◌, [], List, IfOk, IfErr, length, map, sum_by, vec_len, vec_capacity};
+ghost use Rattle.std.specs.Prelude.{◌≡◌, ◌+◌, ◌≤◌, ◌<◌, ◌++◌, [], List, IfOk, IfErr, length, map, position, sum_by, vec_len, vec_capacity};
 ghost use Rattle.sq_model.specs.RecordValues.{Journal as JournalValue};
-ghost use Rattle.sq_steps.specs.Journals.{AreDistinct};
+ghost use Rattle.sq_steps.specs.Journals.{is_of_actor, AreDistinct};
 ghost use Rattle.sq_audit.specs.HomeIds.{home_id, IsNumbered};
+ghost use Rattle.sq_queue.specs.Evidence.{first_of_each, with_firsts, with_unfound};
 ghost use Rattle.sq_queue.specs.Tallies.{directory_records, ledger_records};
 
 use crate::actors::Actors;
@@ -17,7 +18,7 @@ use sq_model::place::Limits;
 use sq_opening::homes::{id_at, never_opened};
 use sq_sample::sampler::HomeCount;
 use sq_steps::journal::Journal;
-use sq_steps::journals::{Journals, are_distinct};
+use sq_steps::journals::{Journals, journal_at};
 use sq_store::slots::SlotStore;
 use std::alloc::{AllocError, Global};
 use std::sync::ledger::{Ledger, Share};
@@ -39,18 +40,36 @@ struct Gathered<D: Ledger, T: Ledger> {
     of_ledger: Share<T>,
 }
 
-// Takes these sessions in.
+// A journal comes to these where none of its actor is there.
+fn put_first(journals: &mut Vec<Journal>, journal: Journal)
+    requires room { vec_len journals.old < vec_capacity journals.old }
+    requires distinct { AreDistinct journals.old.items }
+    ensures put { journals.new.items ≡ with_unfound journals.old.items journal (position (is_of_actor journal.actor) journals.old.items) }
+    ensures distinct { AreDistinct journals.new.items }
+    ensures one_at_most { vec_len journals.new ≤ vec_len journals.old + 1 }
+    ensures capacity { vec_capacity journals.new ≡ vec_capacity journals.old }
+{
+    match journal_at(journals, journal.actor()) {
+        Some(_first) => (),
+        None => journals.push_reserved(journal),
+    }
+}
+
+// Takes these sessions in, with the journal of each whose actor is not there yet.
 fn gather<D: Ledger, T: Ledger>(all: &mut Gathered<D, T>, sessions: Vec<Session<D, T>>)
     requires room { vec_len all.old.journals + vec_len sessions ≤ vec_capacity all.old.journals }
+    requires distinct { AreDistinct all.old.journals.items }
     requires directory_few { all.old.of_directory.parts ≤ D.parts }
     requires ledger_few { all.old.of_ledger.parts ≤ T.parts }
-    ensures journals { all.new.journals.items ≡ all.old.journals.items ++ map (λ s. s.journal) sessions.items }
+    ensures journals { all.new.journals.items ≡ with_firsts all.old.journals.items (map (λ s. s.journal) sessions.items) }
+    ensures distinct { AreDistinct all.new.journals.items }
     ensures directory_parts { all.new.of_directory.parts ≡ all.old.of_directory.parts + length sessions.items }
     ensures ledger_parts { all.new.of_ledger.parts ≡ all.old.of_ledger.parts + length sessions.items }
     ensures directory { all.new.of_directory.amount ≡ all.old.of_directory.amount + sum_by (λ s. directory_records s.journal.records) sessions.items }
     ensures ledger { all.new.of_ledger.amount ≡ all.old.of_ledger.amount + sum_by (λ s. ledger_records s.journal.records) sessions.items }
     ensures directory_few { all.new.of_directory.parts ≤ D.parts }
     ensures ledger_few { all.new.of_ledger.parts ≤ T.parts }
+    ensures room { vec_len all.new.journals ≤ vec_len all.old.journals + length sessions.items }
     ensures capacity { vec_capacity all.new.journals ≡ vec_capacity all.old.journals }
     ensures made { all.new.made ≡ all.old.made }
 {
@@ -63,11 +82,11 @@ fn gather<D: Ledger, T: Ledger>(all: &mut Gathered<D, T>, sessions: Vec<Session<
         } = session;
         all.of_directory.merge(of_directory);
         all.of_ledger.merge(of_ledger);
-        all.journals.push_reserved(journal);
+        put_first(&mut all.journals, journal);
     }
 }
 
-// What the sessions leave that were given back, and these.
+// What these sessions leave, and those that were given back.
 fn all_of<D: Ledger, T: Ledger>(
     actors: Actors<D, T>,
     sessions: Vec<Session<D, T>>,
@@ -78,11 +97,12 @@ fn all_of<D: Ledger, T: Ledger>(
     requires of_directory { D.parts ≡ 4294967296 }
     requires of_ledger { T.parts ≡ 4294967296 }
     ensures made { result.made ≡ actors.made }
-    ensures journals { result.journals.items ≡ map (λ s. s.journal) actors.retired.items ++ map (λ s. s.journal) sessions.items }
-    ensures directory_parts { result.of_directory.parts ≡ actors.of_directory.parts + length actors.retired.items + length sessions.items }
-    ensures ledger_parts { result.of_ledger.parts ≡ actors.of_ledger.parts + length actors.retired.items + length sessions.items }
-    ensures directory { result.of_directory.amount ≡ sum_by (λ s. directory_records s.journal.records) actors.retired.items + sum_by (λ s. directory_records s.journal.records) sessions.items }
-    ensures ledger { result.of_ledger.amount ≡ sum_by (λ s. ledger_records s.journal.records) actors.retired.items + sum_by (λ s. ledger_records s.journal.records) sessions.items }
+    ensures journals { result.journals.items ≡ with_firsts (with_firsts [] (map (λ s. s.journal) sessions.items)) (map (λ s. s.journal) actors.retired.items) }
+    ensures distinct { AreDistinct result.journals.items }
+    ensures directory_parts { result.of_directory.parts ≡ actors.of_directory.parts + length sessions.items + length actors.retired.items }
+    ensures ledger_parts { result.of_ledger.parts ≡ actors.of_ledger.parts + length sessions.items + length actors.retired.items }
+    ensures directory { result.of_directory.amount ≡ sum_by (λ s. directory_records s.journal.records) sessions.items + sum_by (λ s. directory_records s.journal.records) actors.retired.items }
+    ensures ledger { result.of_ledger.amount ≡ sum_by (λ s. ledger_records s.journal.records) sessions.items + sum_by (λ s. ledger_records s.journal.records) actors.retired.items }
     ensures directory_few { result.of_directory.parts ≤ 4294967296 }
     ensures ledger_few { result.of_ledger.parts ≤ 4294967296 }
 {
@@ -99,20 +119,55 @@ fn all_of<D: Ledger, T: Ledger>(
         of_directory,
         of_ledger,
     };
-    gather(&mut all, retired);
     gather(&mut all, sessions);
+    gather(&mut all, retired);
     all
 }
 
-// The journals, each of an actor of its own; two of one actor, which never are, leave no evidence at all, and `merge` says so.
-fn evidence(alloc: Global, journals: Vec<Journal>) -> Journals
-    ensures all { AreDistinct journals.items → result ≡ journals.items }
-    ensures none { (result ≡ journals.items) ⊎ (result ≡ []) }
+// The parts that are left of what lay under the locks, with the journals of these sessions and of those that were given back.
+fn left_parts<D: Ledger, T: Ledger>(
+    actors: Actors<D, T>,
+    directory: CountedDirectory<D>,
+    ledger: CountedLedger<T>,
+    homes: Homes,
+    sessions: Vec<Session<D, T>>,
+    journals: Vec<Journal>,
+) -> Parts
+    requires room { vec_len actors.retired + vec_len sessions ≤ vec_capacity journals }
+    requires none { journals.items ≡ [] }
+    requires of_directory { D.parts ≡ 4294967296 }
+    requires of_ledger { T.parts ≡ 4294967296 }
+    ensures records { result.records ≡ first_of_each (map (λ s. s.journal) sessions.items ++ map (λ s. s.journal) actors.retired.items) }
+    ensures made { result.made ≡ actors.made }
+    ensures fewer { length sessions.items + length actors.retired.items ≤ result.made }
+    ensures directory { result.directory ≡ directory.directory }
+    ensures ledger { result.ledger ≡ ledger.ledger }
+    ensures homes { result.homes ≡ homes }
+    ensures directory_counted { length result.records ≡ result.made → length result.directory.events ≡ sum_by (λ a. directory_records a.records) result.records }
+    ensures ledger_counted { length result.records ≡ result.made → length result.ledger.history.events ≡ sum_by (λ a. ledger_records a.records) result.records }
 {
-    if are_distinct(&journals) {
-        Journals::of(journals)
-    } else {
-        Journals::of(Vec::new(alloc))
+    let Gathered {
+        made,
+        journals,
+        mut of_directory,
+        mut of_ledger,
+    } = all_of(actors, sessions, journals);
+    let CountedDirectory {
+        directory,
+        mut tallies,
+    } = directory;
+    tallies.audit(&mut of_directory);
+    let CountedLedger {
+        ledger,
+        tallies: mut shared,
+    } = ledger;
+    shared.audit(&mut of_ledger);
+    Parts {
+        directory,
+        ledger,
+        homes,
+        records: Journals::of(journals),
+        made: made as u64,
     }
 }
 
@@ -175,17 +230,26 @@ fn room_for<D: Ledger, T: Ledger>(
     Ok((journals, homes))
 }
 
+/// Of actors of which each is there once, all journals are kept. It does nothing: its contract is the law.
+pub fn distinct_are_kept()
+    ensures { (journals : List JournalValue) → AreDistinct journals → first_of_each journals ≡ journals }
+{}
+
 impl<C: Drop, G: Drop, D: Ledger, T: Ledger> Serving<C, G, D, T, SlotStore> {
-    /// Ends the service. Where all sessions that were made are among the retired ones and these, each history has as
-    /// many events as the tallies say. Refused for memory alone, and everything is handed back then.
+    /// Ends the service. The parts have the journals of these sessions, and then of those that were given back: of each actor the
+    /// first, though no two sessions of a service are of one actor. Where all sessions that were made are among them, each
+    /// history has as many events as the tallies say. Refused for memory alone, and everything is handed back then.
     pub fn finish(self, sessions: Vec<Session<D, T>>) -> Result<Parts, Unfinished<C, G, D, T>>
         requires of_directory { D.parts ≡ 4294967296 }
         requires of_ledger { T.parts ≡ 4294967296 }
-        ensures records { IfOk result (λ p. (retired : List JournalValue) × (AreDistinct (retired ++ map (λ s. s.journal) sessions.items) → p.records ≡ retired ++ map (λ s. s.journal) sessions.items)) }
+        ensures records { IfOk result (λ p. (retired : List JournalValue) × (p.records ≡ first_of_each (map (λ s. s.journal) sessions.items ++ retired)) × (length sessions.items + length retired ≤ p.made)) }
+        ensures made { IfOk result (λ p. p.made ≤ 4294967295) }
         ensures directory { IfOk result (λ p. length p.records ≡ p.made → length p.directory.events ≡ sum_by (λ a. directory_records a.records) p.records) }
         ensures ledger { IfOk result (λ p. length p.records ≡ p.made → length p.ledger.history.events ≡ sum_by (λ a. ledger_records a.records) p.records) }
         ensures homes { IfOk result (λ p. (p.homes.per_queue ≡ self.per_queue) × (length p.homes.homes ≡ vec_len self.homes)) }
         ensures refused { IfErr result (λ u. (u.refusal ≡ Refusal.NoMemory) × (u.sessions ≡ sessions) × (vec_len u.service.homes ≡ vec_len self.homes)) }
+        ensures handed_back { IfErr result (λ u. (u.service.clock ≡ self.clock) × (u.service.gate ≡ self.gate) × (u.service.per_queue ≡ self.per_queue) × (u.service.sample ≡ self.sample)) }
+        ensures parts_back { IfErr result (λ u. (u.service.homes ≡ self.homes) × (u.service.directory ≡ self.directory) × (u.service.ledger ≡ self.ledger)) }
     {
         let mut service = self;
         let alloc = service.alloc;
@@ -205,29 +269,9 @@ impl<C: Drop, G: Drop, D: Ledger, T: Ledger> Serving<C, G, D, T, SlotStore> {
             ledger,
             ..
         } = service;
-        let Gathered {
-            made,
-            journals,
-            mut of_directory,
-            mut of_ledger,
-        } = all_of(actors, sessions, journals);
-        let CountedDirectory {
-            directory,
-            mut tallies,
-        } = directory.into_inner().into_inner();
-        tallies.audit(&mut of_directory);
-        let CountedLedger {
-            ledger,
-            tallies: mut shared,
-        } = ledger.into_inner().into_inner();
-        shared.audit(&mut of_ledger);
-        let homes = unlocked(alloc, per_queue, out, homes);
-        Ok(Parts {
-            directory,
-            ledger,
-            homes: Homes::of(per_queue, homes),
-            records: evidence(alloc, journals),
-            made: made as u64,
-        })
+        let directory = directory.into_inner().into_inner();
+        let ledger = ledger.into_inner().into_inner();
+        let homes = Homes::of(per_queue, unlocked(alloc, per_queue, out, homes));
+        Ok(left_parts(actors, directory, ledger, homes, sessions, journals))
     }
 }

@@ -1,10 +1,9 @@
 -- What a verdict on a service says, and the parts that it is of.
-use Rattle.std.specs.Prelude.{ℕ, List, ◌≡◌, ◌⊎◌, ◌++◌, length, map, sum_by}
+use Rattle.std.specs.Prelude.{ℕ, List, ◌≡◌, ◌⊎◌, ◌+◌, ◌≤◌, ◌++◌, length, map, sum_by}
 use Rattle.sq_model.specs.Matches.{IsMatched, IsPaired}
 use Rattle.sq_model.specs.Merges.{IsMerged}
 use Rattle.sq_model.specs.RecordValues.{Journal}
 use Rattle.sq_model.specs.Systems.{IsOnePlace, IsRun, Tag}
-use Rattle.sq_steps.specs.Journals.{AreDistinct}
 use Rattle.sq_audit.specs.Actors.{ActorsRise, PartsRise}
 use Rattle.sq_audit.specs.Faults.{IsWrong}
 use Rattle.sq_audit.specs.HomeIds.{histories_of}
@@ -12,6 +11,7 @@ use Rattle.sq_audit.specs.SystemNow.{events_of, system_now, opening_now}
 use Rattle.sq_audit.specs.declared.check.AuditFault.{AuditFault}
 use Rattle.sq_audit.specs.declared.check.AuditFault.TheVariants.{NoMemory}
 use Rattle.sq_audit.specs.declared.parts.Parts.{Parts}
+use Rattle.sq_queue.specs.Evidence.{first_of_each}
 use Rattle.sq_queue.specs.SessionValue.{SessionValue}
 use Rattle.sq_queue.specs.Tallies.{directory_records, ledger_records}
 
@@ -27,10 +27,11 @@ pub record IsOneRun (p : Parts) : Type 0 where
   pub parts : PartsRise run
   pub one_place : IsOnePlace (map (λ h. h.site) p.homes.homes)
 
--- The parts that a service of so many homes leaves: their records are those of sessions that were given back before, and of these, in this order. That two of them are of one actor
--- never is, and would leave none. Where no session is missing, each history has as many events as there are records of it.
+-- The parts that a service of so many homes leaves: their records are those of these sessions, and then those of sessions that were given back before; of each actor the first, though
+-- no two sessions are of one actor. No more sessions left them than were made. Where none is missing, each history has as many events as there are records of it.
 pub record AreLeftBy (homes : ℕ) (sessions : List SessionValue) (p : Parts) : Type 0 where
-  pub records : (before : List Journal) × (AreDistinct (before ++ map (λ s. s.journal) sessions) → p.records ≡ before ++ map (λ s. s.journal) sessions)
+  pub records : (before : List Journal) × (p.records ≡ first_of_each (map (λ s. s.journal) sessions ++ before)) × (length sessions + length before ≤ p.made)
+  pub made : p.made ≤ 4294967295
   pub homes_of : length p.homes.homes ≡ homes
   pub directory : length p.records ≡ p.made → length p.directory.events ≡ sum_by (λ a. directory_records a.records) p.records
   pub ledger : length p.records ≡ p.made → length p.ledger.history.events ≡ sum_by (λ a. ledger_records a.records) p.records
