@@ -2,3 +2,4 @@ pub mod LockLaws
 pub mod FinishLaws
 pub mod LastTaskLaws
 pub mod StayLaws
+pub mod PlaceLaws

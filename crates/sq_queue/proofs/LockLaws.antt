@@ -23,7 +23,6 @@ use Rattle.sq_actions.specs.Asks.{Ask, Done, Gave}
 use Rattle.sq_actions.specs.Performs.{Performs}
 use Rattle.sq_actions.proofs.AskLaws as ask
 use Rattle.sq_actions.proofs.PathLaws.{path_inside}
-use Rattle.sq_audit.specs.HomeIds.{home_index}
 use Rattle.sq_queue.specs.LockedParts.{AHome, TheLedger}
 use Rattle.sq_queue.specs.Sections.{Surroundings, IsSection}
 use Rattle.sq_queue.specs.SessionValue.{SessionValue}
@@ -56,25 +55,25 @@ pub refused_ledger : (l : LedgerHistory) (b : Journal) (now : ℕ) (what : TaskA
 refused_ledger l b now what (Ok by) refused = tt
 refused_ledger l b now what (Err e) refused = ask.ledger_may l b now what e refused
 
-pub home_section : (at : Surroundings) (now : ℕ) (old new : HistoryValue) (s t : SessionValue) (name : Option (List ℕ)) (its_id id : HomeId) (what : HomeAct) (index : ℕ) (answered : Result HomeReply Refusal)
-    → at.IsReading now → at.Saw (AHome old) → old.site.home ≡ its_id → home_index at.per_queue at.homes id ≡ Some index
+pub home_section : (at : Surroundings) (now : ℕ) (old new : HistoryValue) (s t : SessionValue) (name : Option (List ℕ)) (its_id id : HomeId) (what : HomeAct) (answered : Result HomeReply Refusal)
+    → at.IsReading now → at.Saw (AHome id old) → old.site.home ≡ its_id
     → IfOk answered (λ by. HomeMoves old new s.journal t.journal now name (call_of what) by) → OnOk answered (its_id ≡ id)
     → IfErr answered (λ e. ((its_id ≡ id) × IsHomeRefused old s.journal now (call_of what) e) ⊎ ((its_id ≢ id) × (e ≡ QueueDoesNotExist)))
     → OnErr answered (t ≡ s) → IsSection at s (AskHome name id what) (gave_as Replied answered) t
-home_section at now old new s t name its_id id what index (Ok by) told saw own there moves here refused err = (now, old, new, told, saw, own ∙ here, moves)
-home_section at now old new s t name its_id id what index (Err e) told saw own there moves here refused err =
-    ((now, told, elim refused [ inl cause ↦ inr (inr (old, saw, own ∙ cause.0, cause.1)) | inr other ↦ inr (inl (index, old, saw, there, (λ same. other.0 (sym own ∙ same)), other.1)) ]), err)
+home_section at now old new s t name its_id id what (Ok by) told saw own moves here refused err = (now, old, new, told, saw, own ∙ here, moves)
+home_section at now old new s t name its_id id what (Err e) told saw own moves here refused err =
+    ((now, told, elim refused [ inl cause ↦ inr (inr (old, saw, own ∙ cause.0, cause.1)) | inr other ↦ inr (inl (old, saw, (λ same. other.0 (sym own ∙ same)), other.1)) ]), err)
 
-pub moving_section : (at : Surroundings) (now : ℕ) (old new : HistoryValue) (l m : LedgerHistory) (s t : SessionValue) (name : Option (List ℕ)) (its_id id : HomeId) (what : SharedAct) (index : ℕ) (answered : Result (Option HomeReply) Refusal)
-    → at.IsReading now → at.Saw (AHome old) → at.Saw (TheLedger l) → old.site.home ≡ its_id → home_index at.per_queue at.homes id ≡ Some index
+pub moving_section : (at : Surroundings) (now : ℕ) (old new : HistoryValue) (l m : LedgerHistory) (s t : SessionValue) (name : Option (List ℕ)) (its_id id : HomeId) (what : SharedAct) (answered : Result (Option HomeReply) Refusal)
+    → at.IsReading now → at.Saw (AHome id old) → at.Saw (TheLedger l) → old.site.home ≡ its_id
     → IfOk answered (λ told. IfSome told (SharedMoves old new l m s.journal t.journal now name what)) → OnOk answered (its_id ≡ id)
     → IfOk answered (λ told. IfNone told (IsUnmoved old l s.journal now what)) → IfOk answered (λ told. IfNone told (t ≡ s))
     → IfErr answered (λ e. ((its_id ≡ id) × IsSharedRefused old l s.journal now what e) ⊎ ((its_id ≢ id) × (e ≡ QueueDoesNotExist)))
     → OnErr answered (t ≡ s) → IsSection at s (AskShared name id what) (moved_of answered) t
-moving_section at now old new l m s t name its_id id what index (Ok (Some by)) told saw held own there moves here unmoved none refused err = (now, old, new, l, m, told, saw, held, own ∙ here, moves)
-moving_section at now old new l m s t name its_id id what index (Ok None) told saw held own there moves here unmoved none refused err = (now, old, l, told, saw, held, own ∙ here, unmoved, none)
-moving_section at now old new l m s t name its_id id what index (Err e) told saw held own there moves here unmoved none refused err =
-    ((now, told, elim refused [ inl cause ↦ inr (inr (old, l, saw, held, own ∙ cause.0, cause.1)) | inr other ↦ inr (inl (index, old, saw, there, (λ same. other.0 (sym own ∙ same)), other.1)) ]), err)
+moving_section at now old new l m s t name its_id id what (Ok (Some by)) told saw held own moves here unmoved none refused err = (now, old, new, l, m, told, saw, held, own ∙ here, moves)
+moving_section at now old new l m s t name its_id id what (Ok None) told saw held own moves here unmoved none refused err = (now, old, l, told, saw, held, own ∙ here, unmoved, none)
+moving_section at now old new l m s t name its_id id what (Err e) told saw held own moves here unmoved none refused err =
+    ((now, told, elim refused [ inl cause ↦ inr (inr (old, l, saw, held, own ∙ cause.0, cause.1)) | inr other ↦ inr (inl (old, saw, (λ same. other.0 (sym own ∙ same)), other.1)) ]), err)
 
 -- What was done at what borrows a session was done at the session: each step is a section of the service that stays the same, and the reference does.
 pub at_session : {U V A : Type 0} (section : V → SessionValue → Ask → Result Gave Refusal → SessionValue → Type 0) (service : U → V) (session : U → SessionValue) (name : U → ℕ) (Fits : List Done → Result A Refusal → Type 0) (old new : U) (answered : Result A Refusal)

@@ -36,13 +36,13 @@ SectionDone at (Resolve name) (Found queue) before after = (part : DirectoryHist
 SectionDone at (AskDirectory call) (Answered reply) before after =
     (now : ℕ) × (part : DirectoryHistory) × (left : DirectoryHistory) × at.IsReading now × at.Saw (TheDirectory part) × DirectoryMoves part left before.journal after.journal now call reply
 SectionDone at (AskHome name id act) (Replied reply) before after =
-    (now : ℕ) × (part : HistoryValue) × (left : HistoryValue) × at.IsReading now × at.Saw (AHome part) × (part.site.home ≡ id)
+    (now : ℕ) × (part : HistoryValue) × (left : HistoryValue) × at.IsReading now × at.Saw (AHome id part) × (part.site.home ≡ id)
     × HomeMoves part left before.journal after.journal now name (call_of act) reply
 SectionDone at (AskShared name id what) (Replied reply) before after =
-    (now : ℕ) × (part : HistoryValue) × (left : HistoryValue) × (ledger : LedgerHistory) × (ledger_left : LedgerHistory) × at.IsReading now × at.Saw (AHome part) × at.Saw (TheLedger ledger) × (part.site.home ≡ id)
+    (now : ℕ) × (part : HistoryValue) × (left : HistoryValue) × (ledger : LedgerHistory) × (ledger_left : LedgerHistory) × at.IsReading now × at.Saw (AHome id part) × at.Saw (TheLedger ledger) × (part.site.home ≡ id)
     × SharedMoves part left ledger ledger_left before.journal after.journal now name what reply
 SectionDone at (AskShared name id what) Nothing before after =
-    (now : ℕ) × (part : HistoryValue) × (ledger : LedgerHistory) × at.IsReading now × at.Saw (AHome part) × at.Saw (TheLedger ledger) × (part.site.home ≡ id)
+    (now : ℕ) × (part : HistoryValue) × (ledger : LedgerHistory) × at.IsReading now × at.Saw (AHome id part) × at.Saw (TheLedger ledger) × (part.site.home ≡ id)
     × IsUnmoved part ledger before.journal now what × (after ≡ before)
 SectionDone at (Peek number) (Peeked next) before after = (part : LedgerHistory) × at.Saw (TheLedger part) × (next ≡ option_map next_of (peek number part.ledger)) × (after ≡ having_read before part.last)
 SectionDone at (Redriven source destination) (Ends ends) before after = (part : DirectoryHistory) × at.Saw (TheDirectory part) × (can_redrive source destination part.directory ≡ Ok ends) × (after ≡ having_read before part.last)
@@ -57,7 +57,7 @@ HasNoLock at now id e = (home_index at.per_queue at.homes id ≡ None) × (e ≡
 
 -- another home lies under the lock of this one, which never is
 abbrev pub IsOfAnother : Surroundings → HomeId → Refusal → Type 0
-IsOfAnother at id e = (index : ℕ) × (part : HistoryValue) × at.Saw (AHome part) × (home_index at.per_queue at.homes id ≡ Some index) × (part.site.home ≢ id) × (e ≡ QueueDoesNotExist)
+IsOfAnother at id e = (part : HistoryValue) × at.Saw (AHome id part) × (part.site.home ≢ id) × (e ≡ QueueDoesNotExist)
 
 -- Why a section is refused: the cause was there, in its part, as the gate saw it.
 abbrev pub SectionRefused : Surroundings → Ask → Refusal → Journal → Type 0
@@ -65,10 +65,10 @@ SectionRefused at (Resolve name) e journal = (part : DirectoryHistory) × at.Saw
 SectionRefused at (AskDirectory call) e journal = (now : ℕ) × (part : DirectoryHistory) × at.IsReading now × at.Saw (TheDirectory part) × IsDirectoryStepRefused part journal now call e
 SectionRefused at (AskHome name id act) e journal =
     (now : ℕ) × at.IsReading now
-    × (HasNoLock at now id e ⊎ IsOfAnother at id e ⊎ ((part : HistoryValue) × at.Saw (AHome part) × (part.site.home ≡ id) × IsHomeRefused part journal now (call_of act) e))
+    × (HasNoLock at now id e ⊎ IsOfAnother at id e ⊎ ((part : HistoryValue) × at.Saw (AHome id part) × (part.site.home ≡ id) × IsHomeRefused part journal now (call_of act) e))
 SectionRefused at (AskShared name id what) e journal =
     (now : ℕ) × at.IsReading now
-    × (HasNoLock at now id e ⊎ IsOfAnother at id e ⊎ ((part : HistoryValue) × (ledger : LedgerHistory) × at.Saw (AHome part) × at.Saw (TheLedger ledger) × (part.site.home ≡ id) × IsSharedRefused part ledger journal now what e))
+    × (HasNoLock at now id e ⊎ IsOfAnother at id e ⊎ ((part : HistoryValue) × (ledger : LedgerHistory) × at.Saw (AHome id part) × at.Saw (TheLedger ledger) × (part.site.home ≡ id) × IsSharedRefused part ledger journal now what e))
 SectionRefused at (Peek number) e journal = ⊥
 SectionRefused at (Redriven source destination) e journal = (part : DirectoryHistory) × at.Saw (TheDirectory part) × (can_redrive source destination part.directory ≡ Err e)
 SectionRefused at (AskLedger what) e journal = (now : ℕ) × (part : LedgerHistory) × at.IsReading now × at.Saw (TheLedger part) × IsLedgerStepRefused part journal now (task_call what) e

@@ -7,8 +7,8 @@ ghost use Rattle.sq_queue.specs.Evidence.{first_of_each, with_firsts, with_unfou
 ghost use Rattle.sq_queue.specs.Tallies.{directory_records, ledger_records};
 
 use crate::actors::Actors;
-use crate::parts::{CountedDirectory, CountedLedger, HomeWithId};
-use crate::service::{Lock, Service, Serving, under_lock};
+use crate::parts::{CountedDirectory, CountedLedger, HomeWithId, Placed};
+use crate::service::{Service, Serving, under_lock};
 use crate::session::Session;
 use sq_audit::homes::Homes;
 use sq_audit::parts::Parts;
@@ -176,18 +176,18 @@ fn unlocked(
     alloc: Global,
     per_queue: HomeCount,
     out: Vec<Home>,
-    locks: Vec<Lock<HomeWithId>>,
+    places: Vec<Placed<SlotStore>>,
 ) -> Vec<Home>
-    requires room { vec_len locks ≤ vec_capacity out }
+    requires room { vec_len places ≤ vec_capacity out }
     requires none { out.items ≡ [] }
-    requires few { vec_len locks ≤ 16384 }
-    ensures many { length result.items ≡ vec_len locks }
+    requires few { vec_len places ≤ 16384 }
+    ensures many { length result.items ≡ vec_len places }
     ensures numbered { IsNumbered per_queue result.items }
 {
     let mut out = out;
     let mut index = 0u32;
-    for lock in locks {
-        out.push_reserved(home_at(alloc, per_queue, index, lock.into_inner().into_inner()));
+    for place in places {
+        out.push_reserved(home_at(alloc, per_queue, index, place.into_home()));
         index += 1;
     }
     out
@@ -215,7 +215,7 @@ fn room_for<D: Ledger, T: Ledger>(
     alloc: Global,
     actors: &Actors<D, T>,
     sessions: &Vec<Session<D, T>>,
-    homes: &Vec<Lock<HomeWithId>>,
+    homes: &Vec<Placed<SlotStore>>,
 ) -> Result<(Vec<Journal>, Vec<Home>), AllocError>
     ensures journals { IfOk result (λ r. (r.0.items ≡ []) × (vec_len actors.now.retired + vec_len sessions.now ≤ vec_capacity r.0)) }
     ensures homes { IfOk result (λ r. (r.1.items ≡ []) × (vec_len homes.now ≤ vec_capacity r.1)) }

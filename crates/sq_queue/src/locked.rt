@@ -4,13 +4,12 @@ ghost use Rattle.sq_actions.specs.Performs.{CallFits, TurnFits, UntilFits, Leave
 ghost use Rattle.sq_queue.specs.Sections.{IsSection, around};
 ghost use Rattle.sq_queue.specs.Services.{service_counts};
 
-use crate::service::{Clock, Gate, Service, take_lock, take_lock_noting};
+use crate::service::{Clock, Gate, Service, take_lock};
 use crate::session::Session;
 use sq_actions::lock_steps::LockSteps;
 use sq_actions::progress::Progress;
 use sq_actions::until::call_until;
 use sq_actions::{client, turns};
-use sq_audit::homes::home_index;
 use sq_base::ids::HomeNo;
 use sq_base::name::QueueName;
 use sq_base::refusal::Refusal;
@@ -104,13 +103,11 @@ impl<'a, C: Clock + Drop, G: Gate + Drop, D: Ledger, T: Ledger, R: Wait> LockSte
 
     fn home_step(&mut self, at: &NamedHome, act: HomeAct) -> Result<HomeReply, Refusal> {
         let now = self.service.clock.now();
-        let count = self.service.homes.len();
-        let Some(index) = home_index(self.service.per_queue, count, &at.id) else {
+        let Some(place) = self.service.place(&at.id) else {
             return Err(no_such_home(now));
         };
         let mut was_taken = false;
-        let mut part = take_lock_noting(self.rt, &self.service.homes[index], &mut was_taken);
-        self.service.gate.inside(&part.home);
+        let mut part = place.enter(self.rt, &self.service.gate, &mut was_taken);
         part.step(self.service.alloc, self.session, now, at, act, was_taken)
     }
 
@@ -120,12 +117,10 @@ impl<'a, C: Clock + Drop, G: Gate + Drop, D: Ledger, T: Ledger, R: Wait> LockSte
         what: SharedAct,
     ) -> Result<Option<HomeReply>, Refusal> {
         let now = self.service.clock.now();
-        let count = self.service.homes.len();
-        let Some(index) = home_index(self.service.per_queue, count, &at.id) else {
+        let Some(place) = self.service.place(&at.id) else {
             return Err(no_such_home(now));
         };
-        let mut part = take_lock(self.rt, &self.service.homes[index]);
-        self.service.gate.inside(&part.home);
+        let mut part = place.enter(self.rt, &self.service.gate, &mut false);
         let mut ledger = take_lock(self.rt, &self.service.ledger);
         self.service.gate.at_ledger(&ledger.ledger);
         let told = ledger.share(self.service.alloc, &mut part, self.session, now, at, what);

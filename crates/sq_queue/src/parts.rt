@@ -9,15 +9,18 @@ ghost use Rattle.sq_steps.specs.Journals.{HomeMoves, DirectoryMoves, LedgerMoves
 ghost use Rattle.sq_steps.specs.Reads.{next_of};
 ghost use Rattle.sq_steps.specs.SharedSteps.{SharedMoves, IsUnmoved, IsSharedRefused};
 ghost use Rattle.sq_steps.specs.TaskActs.{task_call};
+ghost use Rattle.std.specs.Sync.Mutex.{mutex_guard_value};
+ghost use Rattle.sq_queue.specs.LockedParts.{AHome};
 ghost use Rattle.sq_queue.specs.SessionValue.{having_read};
 
+use crate::service::{Gate, Lock, take_lock_noting, under_lock};
 use crate::session::Session;
 use sq_base::ids::{HomeId, QueueNo};
 use sq_base::name::QueueName;
 use sq_base::refusal::Refusal;
 use sq_directory::directory::Directory;
 use sq_history::act::HomeAct;
-use sq_history::recorded::Recorded;
+use sq_history::recorded::{Home, Recorded};
 use sq_ledger::ledger::TransitLedger;
 use sq_model::directory::{DirectoryCall, DirectoryReply};
 use sq_model::item::TaskNo;
@@ -33,6 +36,7 @@ use sq_store::slots::SlotStore;
 use sq_store::store::Store;
 use std::alloc::Global;
 use std::sync::ledger::{Book, Ledger};
+use std::sync::{MutexGuard, Wait};
 
 /// A home with its id. It is generic over its store: so the prover finds that a service may be shared by threads.
 #[derive(Drop)]
@@ -44,6 +48,55 @@ pub struct WithId<S: Store> {
 
 /// The home that lies under a lock.
 pub type HomeWithId = WithId<SlotStore>;
+
+/// The place of a home: its id, and its lock.
+#[derive(Drop)]
+pub(crate) struct Placed<S: Store> {
+    pub(crate) id: HomeId,
+    lock: Lock<WithId<S>>,
+}
+
+impl Placed<SlotStore> {
+    /// The place of this id, with a home under its lock.
+    pub(crate) fn new(id: HomeId, home: Home) -> Placed<SlotStore>
+        ensures { result.id ≡ id }
+    {
+        Placed {
+            id,
+            lock: under_lock(with_id(home)),
+        }
+    }
+
+    /// Takes the lock, notes whether another thread had it, and shows the gate what lies there.
+    pub(crate) fn enter<G: Gate, R: Wait>(
+        &self,
+        rt: &R,
+        gate: &G,
+        was_taken: &mut bool,
+    ) -> MutexGuard<'_, HomeWithId>
+        ensures { G.saw gate.now (AHome self.now.id (mutex_guard_value result).home) }
+    {
+        let part = take_lock_noting(rt, &self.lock, was_taken);
+        gate.inside(self.id, &part.home);
+        part
+    }
+
+    /// The home, out of its lock.
+    pub(crate) fn into_home(self) -> HomeWithId {
+        self.lock.into_inner().into_inner()
+    }
+}
+
+// A home with its id.
+fn with_id(home: Home) -> HomeWithId
+    ensures id { result.id ≡ home.site.home }
+    ensures home { result.home ≡ home }
+{
+    WithId {
+        id: home.id(),
+        home,
+    }
+}
 
 impl WithId<SlotStore> {
     /// A step of the home, where it is the one that is meant; where it is not, which never is, QueueDoesNotExist. A session stays at no

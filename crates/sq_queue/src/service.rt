@@ -1,18 +1,22 @@
 //! A service whose parts lie under locks.
-ghost use Rattle.std.specs.Prelude.{◌≡◌, ◌⊎◌, ◌*◌, ◌<◌, ◌≤◌, ℕ, IfOk, IfErr, OnOk, length, vec_len};
+ghost use Rattle.std.specs.Prelude.{◌≡◌, ◌⊎◌, ◌*◌, ◌<◌, ◌≤◌, ℕ, None, IfOk, IfErr, IfNone, IfSome, OnOk, length, map, vec_len};
+ghost use Rattle.sq_audit.specs.HomeIds.{home_index};
 ghost use Rattle.sq_opening.specs.Openings.{IsServed};
-ghost use Rattle.sq_queue.specs.LockedParts.{LockedPart, AHome, TheDirectory, TheLedger};
+ghost use Rattle.sq_queue.specs.LockedParts.{LockedPart, AHome, TheDirectory, TheLedger, ArePlaced};
 ghost use Rattle.sq_queue.specs.SessionValue.{new_session};
 
 use crate::actors::Actors;
 use crate::making::{NewParts, new_parts};
-use crate::parts::{CountedDirectory, CountedLedger, HomeWithId, WithId};
+use crate::parts::{CountedDirectory, CountedLedger, Placed};
 use crate::session::Session;
 use crossbeam_utils::CachePadded;
+use sq_audit::homes::home_index;
+use sq_base::ids::HomeId;
 use sq_base::refusal::Refusal;
 use sq_directory::directory::Directory;
 use sq_history::recorded::Home;
 use sq_ledger::ledger::TransitLedger;
+use sq_opening::homes::id_at;
 use sq_opening::options::Options;
 use sq_sample::sampler::HomeCount;
 use sq_store::slots::SlotStore;
@@ -36,9 +40,9 @@ pub trait Gate {
     /// What it saw.
     ghost saw: { Self → LockedPart → Type 0 };
 
-    /// Called while the lock of a home is held.
-    fn inside(&self, home: &Home)
-        ensures { saw self.now (AHome home.now) };
+    /// Called while the lock of the home of this id is held.
+    fn inside(&self, id: HomeId, home: &Home)
+        ensures { saw self.now (AHome id home.now) };
 
     /// Called while the lock of the directory is held.
     fn at_directory(&self, directory: &Directory)
@@ -60,7 +64,7 @@ impl Gate for Open {
     // Whatever there is.
     ghost saw = { λ g part. Unit {0} };
 
-    fn inside(&self, _home: &Home) {}
+    fn inside(&self, _id: HomeId, _home: &Home) {}
 
     fn at_directory(&self, _directory: &Directory) {}
 
@@ -119,12 +123,13 @@ pub struct Serving<C, G, D: Ledger, T: Ledger, S: Store> {
     pub(crate) gate: G,
     pub(crate) per_queue: HomeCount,
     pub(crate) sample: HomeCount,
-    pub(crate) homes: Vec<Lock<WithId<S>>>,
+    pub(crate) homes: Vec<Placed<S>>,
     pub(crate) directory: Lock<CountedDirectory<D>>,
     pub(crate) ledger: Lock<CountedLedger<T>>,
     pub(crate) actors: Lock<Actors<D, T>>,
     ghost sampled: { sample ≤ per_queue },
     ghost few: { vec_len homes ≤ 16384 },
+    ghost placed: { ArePlaced per_queue (map (λ place. place.id) homes.items) },
 }
 
 /// A service over the homes that are used.
@@ -157,17 +162,29 @@ impl<C: Clock + Drop, G: Gate + Drop, D: Ledger, T: Ledger> Serving<C, G, D, T, 
             ledger,
             actors,
         } = new_parts(alloc, &options, of_directory, of_ledger)?;
+        let per_queue = HomeCount::of(options.homes);
         Ok(Serving {
             alloc,
             clock,
             gate,
-            per_queue: HomeCount::of(options.homes),
+            per_queue,
             sample: HomeCount::of(options.sample),
-            homes: each_under_lock(alloc, homes)?,
+            homes: each_under_lock(alloc, per_queue, homes)?,
             directory: under_lock(directory),
             ledger: under_lock(ledger),
             actors: under_lock(actors),
         })
+    }
+
+    /// The place of a home; none where the service has no such home.
+    pub(crate) fn place(&self, id: &HomeId) -> Option<&Placed<SlotStore>>
+        ensures found { IfSome result (λ place. place.now.id ≡ id.now) }
+        ensures none { IfNone result (home_index self.now.per_queue (vec_len self.now.homes) id.now ≡ None) }
+    {
+        match home_index(self.per_queue, self.homes.len(), id) {
+            Some(index) => Some(&self.homes[index]),
+            None => None,
+        }
     }
 
     /// A new client, with no records. Refused as Worn where all 2^32 - 1 numbers of actors are given.
@@ -190,25 +207,22 @@ impl<C: Clock + Drop, G: Gate + Drop, D: Ledger, T: Ledger> Serving<C, G, D, T, 
     }
 }
 
-// Homes, each with its id under a lock of its own.
-fn each_under_lock(alloc: Global, homes: Vec<Home>) -> Result<Vec<Lock<HomeWithId>>, Refusal>
-    ensures many { IfOk result (λ locks. vec_len locks ≡ length homes.items) }
+// Homes, each under a lock of its own, at the place of its index.
+fn each_under_lock(
+    alloc: Global,
+    per_queue: HomeCount,
+    homes: Vec<Home>,
+) -> Result<Vec<Placed<SlotStore>>, Refusal>
+    requires few { length homes.items ≤ 16384 }
+    ensures many { IfOk result (λ places. vec_len places ≡ length homes.items) }
+    ensures placed { IfOk result (λ places. ArePlaced per_queue (map (λ place. place.id) places.items)) }
     ensures refused { IfErr result (λ e. e ≡ Refusal.NoMemory) }
 {
-    let mut locks = Vec::with_capacity(alloc, homes.len())?;
+    let mut places = Vec::with_capacity(alloc, homes.len())?;
+    let mut index = 0u32;
     for home in homes {
-        locks.push_reserved(under_lock(with_id(home)));
+        places.push_reserved(Placed::new(id_at(per_queue, index), home));
+        index += 1;
     }
-    Ok(locks)
-}
-
-// A home with its id.
-fn with_id(home: Home) -> HomeWithId
-    ensures id { result.id ≡ home.site.home }
-    ensures home { result.home ≡ home }
-{
-    WithId {
-        id: home.id(),
-        home,
-    }
+    Ok(places)
 }

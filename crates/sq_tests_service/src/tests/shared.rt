@@ -4,6 +4,7 @@ ghost use Rattle.std.specs.Prelude.{◌≡◌};
 use super::asks::Ask;
 use super::evidence::Evidence;
 use super::stories::Deed;
+use sq_base::ids::HomeId;
 use sq_directory::directory::Directory;
 use sq_history::recorded::Home;
 use sq_ledger::ledger::TransitLedger;
@@ -163,8 +164,8 @@ impl<'a> Door<'a> {
 impl<'a> Gate for Door<'a> {
     ghost saw = { λ g part. Unit {0} };
 
-    fn inside(&self, home: &Home) {
-        if home.id().queue.get() == self.queue {
+    fn inside(&self, id: HomeId, _home: &Home) {
+        if id.queue.get() == self.queue {
             self.hold();
         }
     }

@@ -1,5 +1,7 @@
-use Rattle.std.proofs.Common.{refl, rules}
+use Rattle.std.proofs.Common.{◌≡◌, refl, rules, subst}
 use Rattle.std.specs.Prelude.{vec_len}
+use Rattle.sq_base.specs.declared.ids.HomeId.{HomeId}
+use Rattle.sq_queue.specs.LockedParts.{AHome}
 use Rattle.sq_queue.specs.Sections.{around}
 use Rattle.sq_queue.proofs.LockLaws.{answered_home, refused_home, home_section}
 use Rattle.sq_queue.proofs.locked.LockedLockSteps.home_step.Goals as goal
@@ -8,8 +10,10 @@ pub returns-clause-did : goal.returns-clause-did
 returns-clause-did g c =
     let at = around (g.C.Clock.tells c.args.self.now.service.now.clock) (g.G.Gate.saw c.args.self.now.service.now.gate) c.args.self.now.service.now.per_queue (vec_len c.args.self.now.service.now.homes) in
     let part = c.deref_mut.result.now in
-    let told = c.step in (
-      home_section at c.now-now.result part.home told.new.self.home c.args.self.now.session.now told.new.session c.args.at.now.name part.id c.args.at.now.id c.args.act c.in-Some.index told.result c.now-now.ensures (search rules) part.own (search rules)
+    let told = c.step in
+    let same : c.deref_mut.result.now ≡ c.enter-part.result.value = search rules in
+    let seen = subst (λ (id : HomeId). at.Saw (AHome id part.home)) c.in-Some.ensures.found (rw same c.enter-part.ensures) in (
+      home_section at c.now-now.result part.home told.new.self.home c.args.self.now.session.now told.new.session c.args.at.now.name part.id c.args.at.now.id c.args.act told.result c.now-now.ensures seen part.own
           told.ensures.step told.ensures.at told.ensures.refusal told.ensures.session_err,
       refl,
       refl,

@@ -1,5 +1,7 @@
-use Rattle.std.proofs.Common.{refl, rules}
+use Rattle.std.proofs.Common.{◌≡◌, refl, rules, subst}
 use Rattle.std.specs.Prelude.{vec_len}
+use Rattle.sq_base.specs.declared.ids.HomeId.{HomeId}
+use Rattle.sq_queue.specs.LockedParts.{AHome}
 use Rattle.sq_queue.specs.Sections.{around}
 use Rattle.sq_queue.proofs.LockLaws.{refused_shared, moving_section}
 use Rattle.sq_queue.proofs.locked.LockedLockSteps.shared_step.Goals as goal
@@ -9,8 +11,10 @@ returns-clause-did g c =
     let at = around (g.C.Clock.tells c.args.self.now.service.now.clock) (g.G.Gate.saw c.args.self.now.service.now.gate) c.args.self.now.service.now.per_queue (vec_len c.args.self.now.service.now.homes) in
     let ledger = c.deref_mut.result.now in
     let part = c.deref_mut-2.result.now in
-    let told = c.share-told in (
-      moving_section at c.now-now.result part.home told.new.part.home ledger.ledger.history told.new.self.ledger.history c.args.self.now.session.now told.new.session c.args.at.now.name part.id c.args.at.now.id c.args.what c.in-Some.index told.result c.now-now.ensures (search rules) (search rules) part.own (search rules)
+    let told = c.share-told in
+    let same : c.deref_mut-2.result.now ≡ c.enter-part.result.value = search rules in
+    let seen = subst (λ (id : HomeId). at.Saw (AHome id part.home)) c.in-Some.ensures.found (rw same c.enter-part.ensures) in (
+      moving_section at c.now-now.result part.home told.new.part.home ledger.ledger.history told.new.self.ledger.history c.args.self.now.session.now told.new.session c.args.at.now.name part.id c.args.at.now.id c.args.what told.result c.now-now.ensures seen (search rules) part.own
           told.ensures.step told.ensures.at told.ensures.none told.ensures.none_session told.ensures.refusal told.ensures.session_err,
       refl,
       refl,
