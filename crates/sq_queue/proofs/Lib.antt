@@ -3,3 +3,4 @@ pub mod FinishLaws
 pub mod LastTaskLaws
 pub mod StayLaws
 pub mod PlaceLaws
+pub mod AnswerLaws

@@ -1,5 +1,5 @@
 -- What the calls of a service's sessions promise.
-use Rattle.std.specs.Prelude.{◌≡◌, ℕ, List, Option}
+use Rattle.std.specs.Prelude.{◌≡◌, ℕ, List, Option, Result}
 use Rattle.sq_base.specs.StampValue.{StampValue}
 use Rattle.sq_model.specs.declared.task.NamedQueue.{NamedQueue}
 use Rattle.sq_model.specs.declared.task.Task.{Task}
@@ -7,8 +7,16 @@ use Rattle.sq_model.specs.Directories.{all_named}
 use Rattle.sq_model.specs.Ledgers.{last_task}
 use Rattle.sq_directory.specs.DirectoryHistory.{DirectoryHistory}
 use Rattle.sq_ledger.specs.LedgerHistory.{LedgerHistory}
+use Rattle.sq_base.specs.declared.refusal.Refusal.{Refusal}
+use Rattle.sq_calls.specs.declared.calls.Answer.{Answer}
+use Rattle.sq_calls.specs.declared.calls.Call.{Call}
+use Rattle.sq_calls.specs.declared.turns.Turn.{Turn}
+use Rattle.sq_calls.specs.declared.turns.Turned.{Turned}
+use Rattle.sq_actions.specs.declared.progress.Progress.{Progress}
 use Rattle.sq_actions.specs.Asks.{HomeCounts}
+use Rattle.sq_actions.specs.Performs.{CallFits, Performs, TurnFits, UntilFits}
 use Rattle.sq_queue.specs.LockedParts.{LockedPart, TheDirectory, TheLedger}
+use Rattle.sq_queue.specs.Sections.{Surroundings, IsSection}
 use Rattle.sq_queue.specs.SessionValue.{SessionValue, having_read}
 
 -- how many homes a queue of a service has, and how many of them a receive asks
@@ -26,3 +34,15 @@ NamesRead Saw before names after = (part : DirectoryHistory) × Saw (TheDirector
 -- a session has read the most recent task of a source, if it had one, as a gate that saw this saw the ledger
 abbrev pub LastTaskRead : (LockedPart → Type 0) → SessionValue → ℕ → Option Task → SessionValue → Type 0
 LastTaskRead Saw before source task after = (part : LedgerHistory) × Saw (TheLedger part) × (task ≡ last_task source part.ledger) × (after ≡ having_read before part.last)
+
+-- A session did a call at a service of which a receive asks so many homes: each of its steps is a section there, and they and what is told fit the call.
+abbrev pub CallDone : Surroundings → ℕ → Call → SessionValue → Result Answer Refusal → SessionValue → Type 0
+CallDone at sample call before told after = Performs (IsSection at) (CallFits (service_counts at.per_queue sample) call) before told after
+
+-- it did so many steps of a call, or all of it
+abbrev pub UntilDone : Surroundings → ℕ → ℕ → Call → SessionValue → Result (Option Answer) Refusal → SessionValue → Type 0
+UntilDone at sample steps call before told after = Performs (IsSection at) (UntilFits steps (CallFits (service_counts at.per_queue sample) call)) before told after
+
+-- it did a turn, and is so far before it and so far after it
+abbrev pub TurnMade : Surroundings → Turn → Progress → Progress → SessionValue → Result Turned Refusal → SessionValue → Type 0
+TurnMade at turn from to before told after = Performs (IsSection at) (TurnFits at.per_queue turn from to) before told after

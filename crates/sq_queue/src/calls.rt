@@ -1,8 +1,8 @@
 //! The calls of a session.
 ghost use Rattle.std.specs.Prelude.{vec_len};
-ghost use Rattle.sq_actions.specs.Performs.{CallFits, TurnFits, UntilFits, LeavesRecords, Performs};
-ghost use Rattle.sq_queue.specs.Sections.{IsSection, around};
-ghost use Rattle.sq_queue.specs.Services.{service_counts};
+ghost use Rattle.sq_actions.specs.Performs.{CallFits, TurnFits, UntilFits, LeavesRecords};
+ghost use Rattle.sq_queue.specs.Sections.{around};
+ghost use Rattle.sq_queue.specs.Services.{CallDone, TurnMade, UntilDone, service_counts};
 
 use crate::locked::{Locked, call_in, call_until_in, turn_in};
 use crate::service::{Clock, Gate, Serving};
@@ -26,7 +26,7 @@ impl<C: Clock + Drop, G: Gate + Drop, D: Ledger, T: Ledger> Serving<C, G, D, T, 
         session: &mut Session<D, T>,
         call: &Call,
     ) -> Result<Answer, Refusal>
-        ensures sections { Performs (IsSection (around (C.tells self.now.clock) (G.saw self.now.gate) self.now.per_queue (vec_len self.now.homes))) (CallFits (service_counts self.now.per_queue self.now.sample) call.now) session.old result session.new }
+        ensures sections { CallDone (around (C.tells self.now.clock) (G.saw self.now.gate) self.now.per_queue (vec_len self.now.homes)) self.now.sample call.now session.old result session.new }
         ensures leaves_records { LeavesRecords (CallFits (service_counts self.now.per_queue self.now.sample) call.now) session.old.journal result session.new.journal }
     {
         let mut locked = Locked::new(rt, self, session);
@@ -42,7 +42,7 @@ impl<C: Clock + Drop, G: Gate + Drop, D: Ledger, T: Ledger> Serving<C, G, D, T, 
         call: &Call,
         steps: u64,
     ) -> Result<Option<Answer>, Refusal>
-        ensures sections { Performs (IsSection (around (C.tells self.now.clock) (G.saw self.now.gate) self.now.per_queue (vec_len self.now.homes))) (UntilFits steps (CallFits (service_counts self.now.per_queue self.now.sample) call.now)) session.old result session.new }
+        ensures sections { UntilDone (around (C.tells self.now.clock) (G.saw self.now.gate) self.now.per_queue (vec_len self.now.homes)) self.now.sample steps call.now session.old result session.new }
         ensures leaves_records { LeavesRecords (UntilFits steps (CallFits (service_counts self.now.per_queue self.now.sample) call.now)) session.old.journal result session.new.journal }
     {
         let mut locked = Locked::new(rt, self, session);
@@ -58,7 +58,7 @@ impl<C: Clock + Drop, G: Gate + Drop, D: Ledger, T: Ledger> Serving<C, G, D, T, 
         progress: &mut Progress,
         turn: &Turn,
     ) -> Result<Turned, Refusal>
-        ensures sections { Performs (IsSection (around (C.tells self.now.clock) (G.saw self.now.gate) self.now.per_queue (vec_len self.now.homes))) (TurnFits self.now.per_queue turn.now progress.old progress.new) session.old result session.new }
+        ensures sections { TurnMade (around (C.tells self.now.clock) (G.saw self.now.gate) self.now.per_queue (vec_len self.now.homes)) turn.now progress.old progress.new session.old result session.new }
         ensures leaves_records { LeavesRecords (TurnFits self.now.per_queue turn.now progress.old progress.new) session.old.journal result session.new.journal }
     {
         let mut locked = Locked::new(rt, self, session);

@@ -2,6 +2,7 @@
 #![tactic(auto)]
 
 pub mod actors;
+pub mod answers;
 pub mod calls;
 pub mod finish;
 mod locked;

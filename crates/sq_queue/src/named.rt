@@ -1,19 +1,31 @@
-//! Each call of a session by its name, as `call` does it.
+//! Each call of a session by its name, as `call` does it, with its own type of answers.
+ghost use Rattle.std.specs.Prelude.{vec_len};
+ghost use Rattle.sq_calls.specs.declared.calls.Answer.TheVariants as answer;
 ghost use Rattle.sq_calls.specs.declared.calls.Call.TheVariants as asks;
 ghost use Rattle.sq_actions.specs.Performs.{CallFits, LeavesRecords};
-ghost use Rattle.sq_queue.specs.Services.{service_counts};
+ghost use Rattle.sq_queue.specs.Named.{answered_as, done_answer, sent_answer};
+ghost use Rattle.sq_queue.specs.Sections.{around};
+ghost use Rattle.sq_queue.specs.Services.{CallDone, service_counts};
 
+use crate::answers::{
+    SendMessageResult, attributes, cancelled, done, entries, queue, queues, received, sent,
+    sources, started, tasks,
+};
 use crate::service::{Clock, Gate, Serving};
 use crate::session::Session;
 use sq_base::name::QueueName;
 use sq_base::refusal::Refusal;
-use sq_calls::batches::Batch;
+use sq_calls::batches::{Batch, EntryResult};
 use sq_calls::calls::{
-    Answer, Call, ChangeMessageVisibility, CreateQueue, DeleteMessage, GetQueueAttributes,
-    ListMessageMoveTasks, ReceiveMessage, SendMessage, SetQueueAttributes, StartMessageMoveTask,
+    Call, ChangeMessageVisibility, CreateQueue, DeleteMessage, GetQueueAttributes,
+    ListMessageMoveTasks, ReceiveMessage, SendMessage, SetQueueAttributes, ShownAttributes,
+    StartMessageMoveTask,
 };
+use sq_calls::received_messages::ReceivedMessages;
 use sq_model::directory::NamePrefix;
 use sq_model::item::TaskNo;
+use sq_model::listed::Listed;
+use sq_model::task::Task;
 use sq_store::slots::SlotStore;
 use std::sync::Wait;
 use std::sync::ledger::Ledger;
@@ -25,10 +37,11 @@ impl<C: Clock + Drop, G: Gate + Drop, D: Ledger, T: Ledger> Serving<C, G, D, T, 
         rt: &R,
         session: &mut Session<D, T>,
         request: SendMessage,
-    ) -> Result<Answer, Refusal>
-        ensures { LeavesRecords (CallFits (service_counts self.now.per_queue self.now.sample) (asks.SendMessage request)) session.old.journal result session.new.journal }
+    ) -> Result<SendMessageResult, Refusal>
+        ensures sections { CallDone (around (C.tells self.now.clock) (G.saw self.now.gate) self.now.per_queue (vec_len self.now.homes)) self.now.sample (asks.SendMessage request) session.old (answered_as sent_answer result) session.new }
+        ensures leaves_records { LeavesRecords (CallFits (service_counts self.now.per_queue self.now.sample) (asks.SendMessage request)) session.old.journal (answered_as sent_answer result) session.new.journal }
     {
-        self.call(rt, session, &Call::SendMessage(request))
+        sent(self.call(rt, session, &Call::SendMessage(request)))
     }
 
     /// ReceiveMessage: gives up to ten messages of a queue, which are in flight then.
@@ -37,10 +50,11 @@ impl<C: Clock + Drop, G: Gate + Drop, D: Ledger, T: Ledger> Serving<C, G, D, T, 
         rt: &R,
         session: &mut Session<D, T>,
         request: ReceiveMessage,
-    ) -> Result<Answer, Refusal>
-        ensures { LeavesRecords (CallFits (service_counts self.now.per_queue self.now.sample) (asks.ReceiveMessage request)) session.old.journal result session.new.journal }
+    ) -> Result<ReceivedMessages, Refusal>
+        ensures sections { CallDone (around (C.tells self.now.clock) (G.saw self.now.gate) self.now.per_queue (vec_len self.now.homes)) self.now.sample (asks.ReceiveMessage request) session.old (answered_as answer.Received result) session.new }
+        ensures leaves_records { LeavesRecords (CallFits (service_counts self.now.per_queue self.now.sample) (asks.ReceiveMessage request)) session.old.journal (answered_as answer.Received result) session.new.journal }
     {
-        self.call(rt, session, &Call::ReceiveMessage(request))
+        received(self.call(rt, session, &Call::ReceiveMessage(request)))
     }
 
     /// DeleteMessage: deletes the message that a receive gave by this handle.
@@ -49,10 +63,11 @@ impl<C: Clock + Drop, G: Gate + Drop, D: Ledger, T: Ledger> Serving<C, G, D, T, 
         rt: &R,
         session: &mut Session<D, T>,
         request: DeleteMessage,
-    ) -> Result<Answer, Refusal>
-        ensures { LeavesRecords (CallFits (service_counts self.now.per_queue self.now.sample) (asks.DeleteMessage request)) session.old.journal result session.new.journal }
+    ) -> Result<(), Refusal>
+        ensures sections { CallDone (around (C.tells self.now.clock) (G.saw self.now.gate) self.now.per_queue (vec_len self.now.homes)) self.now.sample (asks.DeleteMessage request) session.old (answered_as done_answer result) session.new }
+        ensures leaves_records { LeavesRecords (CallFits (service_counts self.now.per_queue self.now.sample) (asks.DeleteMessage request)) session.old.journal (answered_as done_answer result) session.new.journal }
     {
-        self.call(rt, session, &Call::DeleteMessage(request))
+        done(self.call(rt, session, &Call::DeleteMessage(request)))
     }
 
     /// ChangeMessageVisibility: changes how long a message that is in flight stays so.
@@ -61,10 +76,11 @@ impl<C: Clock + Drop, G: Gate + Drop, D: Ledger, T: Ledger> Serving<C, G, D, T, 
         rt: &R,
         session: &mut Session<D, T>,
         request: ChangeMessageVisibility,
-    ) -> Result<Answer, Refusal>
-        ensures { LeavesRecords (CallFits (service_counts self.now.per_queue self.now.sample) (asks.ChangeMessageVisibility request)) session.old.journal result session.new.journal }
+    ) -> Result<(), Refusal>
+        ensures sections { CallDone (around (C.tells self.now.clock) (G.saw self.now.gate) self.now.per_queue (vec_len self.now.homes)) self.now.sample (asks.ChangeMessageVisibility request) session.old (answered_as done_answer result) session.new }
+        ensures leaves_records { LeavesRecords (CallFits (service_counts self.now.per_queue self.now.sample) (asks.ChangeMessageVisibility request)) session.old.journal (answered_as done_answer result) session.new.journal }
     {
-        self.call(rt, session, &Call::ChangeMessageVisibility(request))
+        done(self.call(rt, session, &Call::ChangeMessageVisibility(request)))
     }
 
     /// CreateQueue: makes a queue, or finds the one that is as is asked.
@@ -73,10 +89,11 @@ impl<C: Clock + Drop, G: Gate + Drop, D: Ledger, T: Ledger> Serving<C, G, D, T, 
         rt: &R,
         session: &mut Session<D, T>,
         request: CreateQueue,
-    ) -> Result<Answer, Refusal>
-        ensures { LeavesRecords (CallFits (service_counts self.now.per_queue self.now.sample) (asks.CreateQueue request)) session.old.journal result session.new.journal }
+    ) -> Result<QueueName, Refusal>
+        ensures sections { CallDone (around (C.tells self.now.clock) (G.saw self.now.gate) self.now.per_queue (vec_len self.now.homes)) self.now.sample (asks.CreateQueue request) session.old (answered_as answer.Queue result) session.new }
+        ensures leaves_records { LeavesRecords (CallFits (service_counts self.now.per_queue self.now.sample) (asks.CreateQueue request)) session.old.journal (answered_as answer.Queue result) session.new.journal }
     {
-        self.call(rt, session, &Call::CreateQueue(request))
+        queue(self.call(rt, session, &Call::CreateQueue(request)))
     }
 
     /// SetQueueAttributes: changes what a queue is like.
@@ -85,10 +102,11 @@ impl<C: Clock + Drop, G: Gate + Drop, D: Ledger, T: Ledger> Serving<C, G, D, T, 
         rt: &R,
         session: &mut Session<D, T>,
         request: SetQueueAttributes,
-    ) -> Result<Answer, Refusal>
-        ensures { LeavesRecords (CallFits (service_counts self.now.per_queue self.now.sample) (asks.SetQueueAttributes request)) session.old.journal result session.new.journal }
+    ) -> Result<(), Refusal>
+        ensures sections { CallDone (around (C.tells self.now.clock) (G.saw self.now.gate) self.now.per_queue (vec_len self.now.homes)) self.now.sample (asks.SetQueueAttributes request) session.old (answered_as done_answer result) session.new }
+        ensures leaves_records { LeavesRecords (CallFits (service_counts self.now.per_queue self.now.sample) (asks.SetQueueAttributes request)) session.old.journal (answered_as done_answer result) session.new.journal }
     {
-        self.call(rt, session, &Call::SetQueueAttributes(request))
+        done(self.call(rt, session, &Call::SetQueueAttributes(request)))
     }
 
     /// GetQueueAttributes: tells what a queue is like, and about how many messages it has.
@@ -97,10 +115,11 @@ impl<C: Clock + Drop, G: Gate + Drop, D: Ledger, T: Ledger> Serving<C, G, D, T, 
         rt: &R,
         session: &mut Session<D, T>,
         request: GetQueueAttributes,
-    ) -> Result<Answer, Refusal>
-        ensures { LeavesRecords (CallFits (service_counts self.now.per_queue self.now.sample) (asks.GetQueueAttributes request)) session.old.journal result session.new.journal }
+    ) -> Result<ShownAttributes, Refusal>
+        ensures sections { CallDone (around (C.tells self.now.clock) (G.saw self.now.gate) self.now.per_queue (vec_len self.now.homes)) self.now.sample (asks.GetQueueAttributes request) session.old (answered_as answer.Attributes result) session.new }
+        ensures leaves_records { LeavesRecords (CallFits (service_counts self.now.per_queue self.now.sample) (asks.GetQueueAttributes request)) session.old.journal (answered_as answer.Attributes result) session.new.journal }
     {
-        self.call(rt, session, &Call::GetQueueAttributes(request))
+        attributes(self.call(rt, session, &Call::GetQueueAttributes(request)))
     }
 
     /// GetQueueUrl: tells that a queue is there.
@@ -109,10 +128,11 @@ impl<C: Clock + Drop, G: Gate + Drop, D: Ledger, T: Ledger> Serving<C, G, D, T, 
         rt: &R,
         session: &mut Session<D, T>,
         name: QueueName,
-    ) -> Result<Answer, Refusal>
-        ensures { LeavesRecords (CallFits (service_counts self.now.per_queue self.now.sample) (asks.GetQueueUrl name)) session.old.journal result session.new.journal }
+    ) -> Result<QueueName, Refusal>
+        ensures sections { CallDone (around (C.tells self.now.clock) (G.saw self.now.gate) self.now.per_queue (vec_len self.now.homes)) self.now.sample (asks.GetQueueUrl name) session.old (answered_as answer.Queue result) session.new }
+        ensures leaves_records { LeavesRecords (CallFits (service_counts self.now.per_queue self.now.sample) (asks.GetQueueUrl name)) session.old.journal (answered_as answer.Queue result) session.new.journal }
     {
-        self.call(rt, session, &Call::GetQueueUrl(name))
+        queue(self.call(rt, session, &Call::GetQueueUrl(name)))
     }
 
     /// ListQueues: names the queues whose names begin so, in order of creation.
@@ -121,10 +141,11 @@ impl<C: Clock + Drop, G: Gate + Drop, D: Ledger, T: Ledger> Serving<C, G, D, T, 
         rt: &R,
         session: &mut Session<D, T>,
         prefix: NamePrefix,
-    ) -> Result<Answer, Refusal>
-        ensures { LeavesRecords (CallFits (service_counts self.now.per_queue self.now.sample) (asks.ListQueues prefix)) session.old.journal result session.new.journal }
+    ) -> Result<Listed<QueueName>, Refusal>
+        ensures sections { CallDone (around (C.tells self.now.clock) (G.saw self.now.gate) self.now.per_queue (vec_len self.now.homes)) self.now.sample (asks.ListQueues prefix) session.old (answered_as answer.Queues result) session.new }
+        ensures leaves_records { LeavesRecords (CallFits (service_counts self.now.per_queue self.now.sample) (asks.ListQueues prefix)) session.old.journal (answered_as answer.Queues result) session.new.journal }
     {
-        self.call(rt, session, &Call::ListQueues(prefix))
+        queues(self.call(rt, session, &Call::ListQueues(prefix)))
     }
 
     /// PurgeQueue: deletes all messages of a queue.
@@ -133,10 +154,11 @@ impl<C: Clock + Drop, G: Gate + Drop, D: Ledger, T: Ledger> Serving<C, G, D, T, 
         rt: &R,
         session: &mut Session<D, T>,
         name: QueueName,
-    ) -> Result<Answer, Refusal>
-        ensures { LeavesRecords (CallFits (service_counts self.now.per_queue self.now.sample) (asks.PurgeQueue name)) session.old.journal result session.new.journal }
+    ) -> Result<(), Refusal>
+        ensures sections { CallDone (around (C.tells self.now.clock) (G.saw self.now.gate) self.now.per_queue (vec_len self.now.homes)) self.now.sample (asks.PurgeQueue name) session.old (answered_as done_answer result) session.new }
+        ensures leaves_records { LeavesRecords (CallFits (service_counts self.now.per_queue self.now.sample) (asks.PurgeQueue name)) session.old.journal (answered_as done_answer result) session.new.journal }
     {
-        self.call(rt, session, &Call::PurgeQueue(name))
+        done(self.call(rt, session, &Call::PurgeQueue(name)))
     }
 
     /// DeleteQueue: deletes a queue with its messages.
@@ -145,10 +167,11 @@ impl<C: Clock + Drop, G: Gate + Drop, D: Ledger, T: Ledger> Serving<C, G, D, T, 
         rt: &R,
         session: &mut Session<D, T>,
         name: QueueName,
-    ) -> Result<Answer, Refusal>
-        ensures { LeavesRecords (CallFits (service_counts self.now.per_queue self.now.sample) (asks.DeleteQueue name)) session.old.journal result session.new.journal }
+    ) -> Result<(), Refusal>
+        ensures sections { CallDone (around (C.tells self.now.clock) (G.saw self.now.gate) self.now.per_queue (vec_len self.now.homes)) self.now.sample (asks.DeleteQueue name) session.old (answered_as done_answer result) session.new }
+        ensures leaves_records { LeavesRecords (CallFits (service_counts self.now.per_queue self.now.sample) (asks.DeleteQueue name)) session.old.journal (answered_as done_answer result) session.new.journal }
     {
-        self.call(rt, session, &Call::DeleteQueue(name))
+        done(self.call(rt, session, &Call::DeleteQueue(name)))
     }
 
     /// ListDeadLetterSourceQueues: names the queues whose dead letters go to a queue.
@@ -157,10 +180,11 @@ impl<C: Clock + Drop, G: Gate + Drop, D: Ledger, T: Ledger> Serving<C, G, D, T, 
         rt: &R,
         session: &mut Session<D, T>,
         name: QueueName,
-    ) -> Result<Answer, Refusal>
-        ensures { LeavesRecords (CallFits (service_counts self.now.per_queue self.now.sample) (asks.ListDeadLetterSourceQueues name)) session.old.journal result session.new.journal }
+    ) -> Result<Listed<QueueName>, Refusal>
+        ensures sections { CallDone (around (C.tells self.now.clock) (G.saw self.now.gate) self.now.per_queue (vec_len self.now.homes)) self.now.sample (asks.ListDeadLetterSourceQueues name) session.old (answered_as answer.Sources result) session.new }
+        ensures leaves_records { LeavesRecords (CallFits (service_counts self.now.per_queue self.now.sample) (asks.ListDeadLetterSourceQueues name)) session.old.journal (answered_as answer.Sources result) session.new.journal }
     {
-        self.call(rt, session, &Call::ListDeadLetterSourceQueues(name))
+        sources(self.call(rt, session, &Call::ListDeadLetterSourceQueues(name)))
     }
 
     /// StartMessageMoveTask: messages of a dead-letter queue are to move.
@@ -169,10 +193,11 @@ impl<C: Clock + Drop, G: Gate + Drop, D: Ledger, T: Ledger> Serving<C, G, D, T, 
         rt: &R,
         session: &mut Session<D, T>,
         request: StartMessageMoveTask,
-    ) -> Result<Answer, Refusal>
-        ensures { LeavesRecords (CallFits (service_counts self.now.per_queue self.now.sample) (asks.StartMessageMoveTask request)) session.old.journal result session.new.journal }
+    ) -> Result<TaskNo, Refusal>
+        ensures sections { CallDone (around (C.tells self.now.clock) (G.saw self.now.gate) self.now.per_queue (vec_len self.now.homes)) self.now.sample (asks.StartMessageMoveTask request) session.old (answered_as answer.Started result) session.new }
+        ensures leaves_records { LeavesRecords (CallFits (service_counts self.now.per_queue self.now.sample) (asks.StartMessageMoveTask request)) session.old.journal (answered_as answer.Started result) session.new.journal }
     {
-        self.call(rt, session, &Call::StartMessageMoveTask(request))
+        started(self.call(rt, session, &Call::StartMessageMoveTask(request)))
     }
 
     /// CancelMessageMoveTask: no more messages leave for a task; None where the text named none.
@@ -181,10 +206,11 @@ impl<C: Clock + Drop, G: Gate + Drop, D: Ledger, T: Ledger> Serving<C, G, D, T, 
         rt: &R,
         session: &mut Session<D, T>,
         task: Option<TaskNo>,
-    ) -> Result<Answer, Refusal>
-        ensures { LeavesRecords (CallFits (service_counts self.now.per_queue self.now.sample) (asks.CancelMessageMoveTask task)) session.old.journal result session.new.journal }
+    ) -> Result<u64, Refusal>
+        ensures sections { CallDone (around (C.tells self.now.clock) (G.saw self.now.gate) self.now.per_queue (vec_len self.now.homes)) self.now.sample (asks.CancelMessageMoveTask task) session.old (answered_as answer.Cancelled result) session.new }
+        ensures leaves_records { LeavesRecords (CallFits (service_counts self.now.per_queue self.now.sample) (asks.CancelMessageMoveTask task)) session.old.journal (answered_as answer.Cancelled result) session.new.journal }
     {
-        self.call(rt, session, &Call::CancelMessageMoveTask(task))
+        cancelled(self.call(rt, session, &Call::CancelMessageMoveTask(task)))
     }
 
     /// ListMessageMoveTasks: the tasks of a source, the most recent first.
@@ -193,10 +219,11 @@ impl<C: Clock + Drop, G: Gate + Drop, D: Ledger, T: Ledger> Serving<C, G, D, T, 
         rt: &R,
         session: &mut Session<D, T>,
         request: ListMessageMoveTasks,
-    ) -> Result<Answer, Refusal>
-        ensures { LeavesRecords (CallFits (service_counts self.now.per_queue self.now.sample) (asks.ListMessageMoveTasks request)) session.old.journal result session.new.journal }
+    ) -> Result<Listed<Task>, Refusal>
+        ensures sections { CallDone (around (C.tells self.now.clock) (G.saw self.now.gate) self.now.per_queue (vec_len self.now.homes)) self.now.sample (asks.ListMessageMoveTasks request) session.old (answered_as answer.Tasks result) session.new }
+        ensures leaves_records { LeavesRecords (CallFits (service_counts self.now.per_queue self.now.sample) (asks.ListMessageMoveTasks request)) session.old.journal (answered_as answer.Tasks result) session.new.journal }
     {
-        self.call(rt, session, &Call::ListMessageMoveTasks(request))
+        tasks(self.call(rt, session, &Call::ListMessageMoveTasks(request)))
     }
 
     /// SendMessageBatch: up to ten sends, each answered by itself.
@@ -205,10 +232,11 @@ impl<C: Clock + Drop, G: Gate + Drop, D: Ledger, T: Ledger> Serving<C, G, D, T, 
         rt: &R,
         session: &mut Session<D, T>,
         batch: Batch,
-    ) -> Result<Answer, Refusal>
-        ensures { LeavesRecords (CallFits (service_counts self.now.per_queue self.now.sample) (asks.Batch batch)) session.old.journal result session.new.journal }
+    ) -> Result<Listed<EntryResult>, Refusal>
+        ensures sections { CallDone (around (C.tells self.now.clock) (G.saw self.now.gate) self.now.per_queue (vec_len self.now.homes)) self.now.sample (asks.Batch batch) session.old (answered_as answer.Batch result) session.new }
+        ensures leaves_records { LeavesRecords (CallFits (service_counts self.now.per_queue self.now.sample) (asks.Batch batch)) session.old.journal (answered_as answer.Batch result) session.new.journal }
     {
-        self.call(rt, session, &Call::Batch(batch))
+        entries(self.call(rt, session, &Call::Batch(batch)))
     }
 
     /// DeleteMessageBatch: up to ten deletes, each answered by itself.
@@ -217,10 +245,11 @@ impl<C: Clock + Drop, G: Gate + Drop, D: Ledger, T: Ledger> Serving<C, G, D, T, 
         rt: &R,
         session: &mut Session<D, T>,
         batch: Batch,
-    ) -> Result<Answer, Refusal>
-        ensures { LeavesRecords (CallFits (service_counts self.now.per_queue self.now.sample) (asks.Batch batch)) session.old.journal result session.new.journal }
+    ) -> Result<Listed<EntryResult>, Refusal>
+        ensures sections { CallDone (around (C.tells self.now.clock) (G.saw self.now.gate) self.now.per_queue (vec_len self.now.homes)) self.now.sample (asks.Batch batch) session.old (answered_as answer.Batch result) session.new }
+        ensures leaves_records { LeavesRecords (CallFits (service_counts self.now.per_queue self.now.sample) (asks.Batch batch)) session.old.journal (answered_as answer.Batch result) session.new.journal }
     {
-        self.call(rt, session, &Call::Batch(batch))
+        entries(self.call(rt, session, &Call::Batch(batch)))
     }
 
     /// ChangeMessageVisibilityBatch: up to ten changes, each answered by itself.
@@ -229,9 +258,10 @@ impl<C: Clock + Drop, G: Gate + Drop, D: Ledger, T: Ledger> Serving<C, G, D, T, 
         rt: &R,
         session: &mut Session<D, T>,
         batch: Batch,
-    ) -> Result<Answer, Refusal>
-        ensures { LeavesRecords (CallFits (service_counts self.now.per_queue self.now.sample) (asks.Batch batch)) session.old.journal result session.new.journal }
+    ) -> Result<Listed<EntryResult>, Refusal>
+        ensures sections { CallDone (around (C.tells self.now.clock) (G.saw self.now.gate) self.now.per_queue (vec_len self.now.homes)) self.now.sample (asks.Batch batch) session.old (answered_as answer.Batch result) session.new }
+        ensures leaves_records { LeavesRecords (CallFits (service_counts self.now.per_queue self.now.sample) (asks.Batch batch)) session.old.journal (answered_as answer.Batch result) session.new.journal }
     {
-        self.call(rt, session, &Call::Batch(batch))
+        entries(self.call(rt, session, &Call::Batch(batch)))
     }
 }

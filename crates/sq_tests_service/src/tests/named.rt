@@ -2,24 +2,23 @@
 use super::asks::{Ask, call_of};
 use super::shared::{Client, QUEUE, Setting};
 use super::stories::{Deed, Scene, must, tell};
-use sq_base::refusal::Refusal;
 use sq_calls::batches::{Batch, BatchKind};
-use sq_calls::calls::{Answer, Call};
+use sq_calls::calls::Call;
 use std::process::Abort;
 use std::sync::Wait;
 use std::sync::ledger::Ledger;
 
-// A batch, by the name of its kind.
+// Does a batch by the name of its kind, and tells whether it is not refused.
 fn batch<D: Ledger, T: Ledger, R: Wait>(
     at: &Scene<'_, '_, D, T, R>,
     client: &mut Client<D, T>,
     batch: Batch,
-) -> Result<Answer, Refusal> {
+) -> bool {
     let (rt, service, session) = (at.rt, at.service.service(), client.session());
     match batch.kind() {
-        BatchKind::Send => service.send_batch(rt, session, batch),
-        BatchKind::Delete => service.delete_batch(rt, session, batch),
-        BatchKind::Change => service.change_batch(rt, session, batch),
+        BatchKind::Send => service.send_batch(rt, session, batch).is_ok(),
+        BatchKind::Delete => service.delete_batch(rt, session, batch).is_ok(),
+        BatchKind::Change => service.change_batch(rt, session, batch).is_ok(),
     }
 }
 
@@ -31,25 +30,34 @@ pub fn is_done_by_name<D: Ledger, T: Ledger, R: Wait + Abort>(
     ask: Ask,
 ) -> bool {
     let (rt, service) = (at.rt, at.service.service());
-    let told = match call_of(rt, at.alloc, ask) {
-        Call::SendMessage(request) => service.send(rt, client.session(), request),
-        Call::ReceiveMessage(request) => service.receive(rt, client.session(), request),
-        Call::DeleteMessage(request) => service.delete(rt, client.session(), request),
-        Call::ChangeMessageVisibility(request) => service.change(rt, client.session(), request),
+    match call_of(rt, at.alloc, ask) {
+        Call::SendMessage(request) => service.send(rt, client.session(), request).is_ok(),
+        Call::ReceiveMessage(request) => service.receive(rt, client.session(), request).is_ok(),
+        Call::DeleteMessage(request) => service.delete(rt, client.session(), request).is_ok(),
+        Call::ChangeMessageVisibility(request) => service
+            .change(rt, client.session(), request)
+            .is_ok(),
         Call::Batch(entries) => batch(at, client, entries),
-        Call::StartMessageMoveTask(request) => service.start_move(rt, client.session(), request),
-        Call::CancelMessageMoveTask(task) => service.cancel_move(rt, client.session(), task),
-        Call::ListMessageMoveTasks(request) => service.list_moves(rt, client.session(), request),
-        Call::CreateQueue(request) => service.create(rt, client.session(), request),
-        Call::GetQueueUrl(name) => service.url(rt, client.session(), name),
-        Call::ListQueues(prefix) => service.list(rt, client.session(), prefix),
-        Call::SetQueueAttributes(request) => service.set(rt, client.session(), request),
-        Call::GetQueueAttributes(request) => service.get(rt, client.session(), request),
-        Call::PurgeQueue(name) => service.purge(rt, client.session(), name),
-        Call::DeleteQueue(name) => service.delete_queue(rt, client.session(), name),
-        Call::ListDeadLetterSourceQueues(name) => service.sources(rt, client.session(), name),
-    };
-    told.is_ok()
+        Call::StartMessageMoveTask(request) => service
+            .start_move(rt, client.session(), request)
+            .is_ok(),
+        Call::CancelMessageMoveTask(task) => service
+            .cancel_move(rt, client.session(), task)
+            .is_ok(),
+        Call::ListMessageMoveTasks(request) => service
+            .list_moves(rt, client.session(), request)
+            .is_ok(),
+        Call::CreateQueue(request) => service.create(rt, client.session(), request).is_ok(),
+        Call::GetQueueUrl(name) => service.url(rt, client.session(), name).is_ok(),
+        Call::ListQueues(prefix) => service.list(rt, client.session(), prefix).is_ok(),
+        Call::SetQueueAttributes(request) => service.set(rt, client.session(), request).is_ok(),
+        Call::GetQueueAttributes(request) => service.get(rt, client.session(), request).is_ok(),
+        Call::PurgeQueue(name) => service.purge(rt, client.session(), name).is_ok(),
+        Call::DeleteQueue(name) => service.delete_queue(rt, client.session(), name).is_ok(),
+        Call::ListDeadLetterSourceQueues(name) => service
+            .sources(rt, client.session(), name)
+            .is_ok(),
+    }
 }
 
 const EACH: &[Deed] = &[
