@@ -1,19 +1,18 @@
 -- What an audit of the parts that a service leaves says of the service.
 use Rattle.std.proofs.Common.{ℕ, List, Result, Ok, Err, refl, inl, inr}
-use Rattle.std.specs.Prelude.{OnOk, IfErr}
+use Rattle.std.specs.Prelude.{◌≡◌, IfOk, IfErr}
 use Rattle.sq_audit.specs.Faults.{FaultHolds}
 use Rattle.sq_audit.specs.HomeIds.{histories_of}
 use Rattle.sq_audit.specs.declared.check.AuditFault.{AuditFault}
 use Rattle.sq_audit.specs.declared.check.AuditFault.TheVariants.{NoMemory, RecordMissing, RecordTwice, LeaveUnmatched, EnterUnmatched}
 use Rattle.sq_audit.specs.declared.parts.Parts.{Parts}
 use Rattle.sq_queue.specs.SessionValue.{SessionValue}
-use Rattle.sq_server.specs.Verdicts.{AreLeftBy, IsFaultLeft, IsOneRun, LeavesOneRun}
-use Rattle.sq_server.specs.inside.Verdicts.{HasFault, HasOneRun}
+use Rattle.sq_server.specs.Verdicts.{AreLeftBy, IsFaultLeft, IsFaultOf, IsOneRun, IsRunLeft}
 
 -- parts that are left, and are judged to be one run
-pub run_left : {A : Type 0} (homes : ℕ) (sessions : List SessionValue) (p : Parts) (told : Result A AuditFault) → AreLeftBy homes sessions p → OnOk told (IsOneRun p) → OnOk told (LeavesOneRun homes sessions)
-run_left homes sessions p (Ok run) left is = (p, left, is)
-run_left homes sessions p (Err fault) left is = is
+pub run_left : (homes : ℕ) (sessions : List SessionValue) (p : Parts) (told : Result Parts AuditFault) → AreLeftBy homes sessions p → IfOk told (λ run. run ≡ p) → IfOk told IsOneRun → IfOk told (IsRunLeft homes sessions)
+run_left homes sessions p (Ok run) left same is = (rw same left, is)
+run_left homes sessions p (Err fault) left same is = is
 
 -- parts that are left, and the fault that an audit found in them
 pub fault_left : {A : Type 0} (homes : ℕ) (sessions : List SessionValue) (p : Parts) (told : Result A AuditFault) → AreLeftBy homes sessions p
@@ -26,10 +25,6 @@ fault_left homes sessions p (Err (LeaveUnmatched stamp)) left holds = inr (p, le
 fault_left homes sessions p (Err (EnterUnmatched stamp)) left holds = inr (p, left, holds)
 
 -- so it is of some sessions
-pub has_run : {A : Type 0} (homes : ℕ) (sessions : List SessionValue) (told : Result A AuditFault) → OnOk told (LeavesOneRun homes sessions) → OnOk told (HasOneRun homes)
-has_run homes sessions (Ok run) is = (sessions, is)
-has_run homes sessions (Err fault) is = is
-
-pub has_fault : {A : Type 0} (homes : ℕ) (sessions : List SessionValue) (told : Result A AuditFault) → IfErr told (IsFaultLeft homes sessions) → IfErr told (HasFault homes)
+pub has_fault : {A : Type 0} (homes : ℕ) (sessions : List SessionValue) (told : Result A AuditFault) → IfErr told (IsFaultLeft homes sessions) → IfErr told (IsFaultOf homes)
 has_fault homes sessions (Ok run) holds = holds
 has_fault homes sessions (Err fault) holds = (sessions, holds)

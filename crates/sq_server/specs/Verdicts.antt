@@ -1,5 +1,5 @@
 -- What a verdict on a service says, and the parts that it is of.
-use Rattle.std.specs.Prelude.{ℕ, List, ◌≡◌, ◌⊎◌, ◌+◌, ◌≤◌, ◌++◌, length, map, sum_by}
+use Rattle.std.specs.Prelude.{ℕ, List, ◌≡◌, ◌≢◌, ◌⊎◌, ◌+◌, ◌≤◌, ◌++◌, length, map, sum_by}
 use Rattle.sq_model.specs.Matches.{IsMatched, IsPaired}
 use Rattle.sq_model.specs.Merges.{IsMerged}
 use Rattle.sq_model.specs.RecordValues.{Journal}
@@ -36,9 +36,17 @@ pub record AreLeftBy (homes : ℕ) (sessions : List SessionValue) (p : Parts) : 
   pub directory : length p.records ≡ p.made → length p.directory.events ≡ sum_by (λ a. directory_records a.records) p.records
   pub ledger : length p.records ≡ p.made → length p.ledger.history.events ≡ sum_by (λ a. ledger_records a.records) p.records
 
--- such parts are left, and what was done to them is one run
-abbrev pub LeavesOneRun : ℕ → List SessionValue → Type 0
-LeavesOneRun homes sessions = (p : Parts) × AreLeftBy homes sessions p × IsOneRun p
+-- these are such parts, and what was done to them is one run
+abbrev pub IsRunLeft : ℕ → List SessionValue → Parts → Type 0
+IsRunLeft homes sessions p = AreLeftBy homes sessions p × IsOneRun p
+
+-- the same of some sessions
+abbrev pub IsRunOf : ℕ → Parts → Type 0
+IsRunOf homes p = (sessions : List SessionValue) × IsRunLeft homes sessions p
+
+-- what was done to a service of so many homes is one run
+abbrev pub LeavesRun : ℕ → Type 0
+LeavesRun homes = (p : Parts) × IsRunOf homes p
 
 -- such parts are left, and of them it is so what a fault says
 abbrev pub LeavesFault : ℕ → List SessionValue → AuditFault → Type 0
@@ -47,3 +55,11 @@ LeavesFault homes sessions fault = (p : Parts) × AreLeftBy homes sessions p × 
 -- there was no memory for an audit, or it found a fault in parts that are left
 abbrev pub IsFaultLeft : ℕ → List SessionValue → AuditFault → Type 0
 IsFaultLeft homes sessions fault = (fault ≡ NoMemory) ⊎ LeavesFault homes sessions fault
+
+-- the same of some sessions
+abbrev pub IsFaultOf : ℕ → AuditFault → Type 0
+IsFaultOf homes fault = (sessions : List SessionValue) × IsFaultLeft homes sessions fault
+
+-- an audit found a fault in what was done to a service of so many homes
+abbrev pub LeavesNoRun : ℕ → Type 0
+LeavesNoRun homes = (fault : AuditFault) × (fault ≢ NoMemory) × IsFaultOf homes fault

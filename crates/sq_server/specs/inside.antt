@@ -2,4 +2,4 @@
 pub mod Clocks
 pub mod Crews
 pub mod Outcomes
-pub mod Verdicts
+pub mod Races

@@ -1,9 +1,12 @@
 //! The clients of a race, and what they ask.
-ghost use Rattle.std.specs.Prelude.{◌≡◌, ◌+◌, ◌*◌, ◌≤◌, IfErr, IfOk, IfSome, None, Some, codes, false, true};
+ghost use Rattle.std.specs.Prelude.{◌≡◌, ◌+◌, ◌*◌, ◌%◌, ◌≤◌, IfErr, IfOk, IfSome, None, OnOk, Option, Some, codes, false, true};
 ghost use Rattle.sq_base.specs.Names.{is_name};
 ghost use Rattle.sq_calls.specs.declared.calls.Call.TheVariants as asks;
 ghost use Rattle.sq_model.specs.Policies.{nothing_given};
+ghost use Rattle.sq_queue.specs.Services.{service_counts};
+ghost use Rattle.sq_base.specs.declared.handle.Handle.{Handle as HandleValue};
 ghost use Rattle.sq_server.specs.Handles.{first_given};
+ghost use Rattle.sq_server.specs.inside.Races.{HasCalled, HasCalledAll, HasDeleted, HasMadeQueues, HasReceived, HasSent, receive_call};
 
 use crate::served::{Client, Served};
 use sq_base::handle::Handle;
@@ -69,7 +72,9 @@ pub fn create(name: QueueName, target: Option<QueueName>) -> Call
 pub(crate) fn make_queues<R: Clock + Wait, D: Ledger, T: Ledger>(
     service: &Served<'_, R, D, T, SlotStore>,
     client: &mut Client<D, T>,
-) -> Result<(), Refusal> {
+) -> Result<(), Refusal>
+    ensures { OnOk result (HasMadeQueues (service_counts service.now.service.value.per_queue service.now.service.value.sample) client.old.journal client.new.journal) }
+{
     service.call(client, &create(dead_queue(), None))?;
     service.call(client, &create(race_queue(), Some(dead_queue())))?;
     Ok(())
@@ -125,7 +130,7 @@ pub fn first_handle(answer: &Answer) -> Option<Handle>
 
 // ReceiveMessage of one message of a race, which is visible again at once.
 fn at_once() -> Call
-    ensures { result ≡ asks.ReceiveMessage (record { queue = codes "race"; max = 1; timeout = Some 0; attributes = record { receive_count = false; sent_timestamp = false } }) }
+    ensures { result ≡ receive_call }
 {
     receive(race_queue(), Some(Timeout::of(0)))
 }
@@ -134,7 +139,9 @@ fn at_once() -> Call
 fn sends<R: Clock + Wait, D: Ledger, T: Ledger>(
     service: &Served<'_, R, D, T, SlotStore>,
     client: &mut Client<D, T>,
-) -> bool {
+) -> bool
+    ensures { HasSent (service_counts service.now.service.value.per_queue service.now.service.value.sample) client.old.journal result client.new.journal }
+{
     match send(service.alloc, race_queue()) {
         Ok(call) => service.call(client, &call).is_ok(),
         Err(_) => false,
@@ -146,7 +153,9 @@ fn receives<R: Clock + Wait, D: Ledger, T: Ledger>(
     service: &Served<'_, R, D, T, SlotStore>,
     client: &mut Client<D, T>,
     given: &mut Option<Handle>,
-) {
+)
+    ensures { HasReceived (service_counts service.now.service.value.per_queue service.now.service.value.sample) given.old client.old.journal given.new client.new.journal }
+{
     if let Ok(answer) = service.call(client, &at_once()) {
         *given = first_handle(&answer);
     }
@@ -157,12 +166,37 @@ fn deletes<R: Clock + Wait, D: Ledger, T: Ledger>(
     service: &Served<'_, R, D, T, SlotStore>,
     client: &mut Client<D, T>,
     given: &mut Option<Handle>,
-) {
+)
+    ensures { HasDeleted (service_counts service.now.service.value.per_queue service.now.service.value.sample) given.old client.old.journal given.new client.new.journal }
+{
     match given {
         Some(handle) => {
             let _ = service.call(client, &delete(race_queue(), *handle));
         }
         None => receives(service, client, given),
+    }
+}
+
+// The call of a client after so many others; whether it was a send that was answered.
+fn make_call<R: Clock + Wait, D: Ledger, T: Ledger>(
+    service: &Served<'_, R, D, T, SlotStore>,
+    client: &mut Client<D, T>,
+    number: u64,
+    given: &mut Option<Handle>,
+) -> bool
+    ensures called { HasCalled (service_counts service.now.service.value.per_queue service.now.service.value.sample) number given.old client.old.journal result given.new client.new.journal }
+    ensures a_third { result ≡ true → number % 3 ≡ 0 }
+{
+    match number % 3 {
+        0 => sends(service, client),
+        1 => {
+            receives(service, client, given);
+            false
+        }
+        _ => {
+            deletes(service, client, given);
+            false
+        }
     }
 }
 
@@ -172,15 +206,14 @@ pub(crate) fn make_calls<R: Clock + Wait, D: Ledger, T: Ledger>(
     client: &mut Client<D, T>,
     calls: u64,
 ) -> u64
-    ensures { 3 * result ≤ calls + 2 }
+    ensures called { (given : Option HandleValue) × HasCalledAll (service_counts service.now.service.value.per_queue service.now.service.value.sample) calls client.old.journal result given client.new.journal }
+    ensures a_third { 3 * result ≤ calls + 2 }
 {
     let mut given = None;
     let mut sent = 0u64;
     for number in 0..calls {
-        match number % 3 {
-            0 => sent = sent.saturating_add(sends(service, client) as u64),
-            1 => receives(service, client, &mut given),
-            _ => deletes(service, client, &mut given),
+        if make_call(service, client, number, &mut given) {
+            sent += 1;
         }
     }
     sent

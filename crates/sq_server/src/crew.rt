@@ -1,7 +1,7 @@
 //! The threads of a server or of a race: each has a session, and calls for clients or moves messages.
 ghost use Rattle.std.specs.Prelude.{◌≡◌, ◌⊎◌, ◌++◌, ◌-◌, ◌^◌, IfErr, IfOk, OnOk, map, min, replicate, sum_by, vec_len};
 ghost use Rattle.sq_server.specs.inside.Crews.{roles_of};
-ghost use Rattle.sq_server.specs.Verdicts.{IsFaultLeft, LeavesOneRun};
+ghost use Rattle.sq_server.specs.Verdicts.{IsFaultLeft, IsRunLeft};
 
 use crate::ending::end;
 use crate::served::{Client, Served};
@@ -94,7 +94,7 @@ pub(crate) fn conclude<R: Clock + Wait, D: Ledger, T: Ledger>(
     requires of_directory { D.parts ≡ 4294967296 }
     requires of_ledger { T.parts ≡ 4294967296 }
     ensures count { IfOk result (λ r. r.1 ≡ min (sum_by (λ m. m.count) crew.items) (2 ^ 64 - 1)) }
-    ensures run { OnOk result (LeavesOneRun (vec_len service.entry.service.value.homes) (map (λ m. m.client) crew.items)) }
+    ensures run { IfOk result (λ r. IsRunLeft (vec_len service.entry.service.value.homes) (map (λ m. m.client) crew.items) r.0) }
     ensures fault { IfErr result (IsFaultLeft (vec_len service.entry.service.value.homes) (map (λ m. m.client) crew.items)) }
 {
     let Ok((count, clients)) = apart(service.alloc, crew) else {

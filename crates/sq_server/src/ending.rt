@@ -1,6 +1,6 @@
 //! How a service ends: its parts are gathered with the records of its sessions, and whether all that was done is one run.
-ghost use Rattle.std.specs.Prelude.{◌≡◌, IfErr, IfOk, IfSome, OnOk, vec_len};
-ghost use Rattle.sq_server.specs.Verdicts.{AreLeftBy, IsFaultLeft, LeavesOneRun};
+ghost use Rattle.std.specs.Prelude.{◌≡◌, IfErr, IfOk, IfSome, vec_len};
+ghost use Rattle.sq_server.specs.Verdicts.{AreLeftBy, IsFaultLeft, IsRunLeft};
 
 use crate::clock::SystemClock;
 use crate::served::{Client, Served, TRIES};
@@ -75,12 +75,12 @@ pub fn end<R: Clock + Wait, D: Ledger, T: Ledger>(
 ) -> Result<OneRun, AuditFault>
     requires of_directory { D.parts ≡ 4294967296 }
     requires of_ledger { T.parts ≡ 4294967296 }
-    ensures run { OnOk result (LeavesOneRun (vec_len service.entry.service.value.homes) clients.items) }
+    ensures run { IfOk result (IsRunLeft (vec_len service.entry.service.value.homes) clients.items) }
     ensures fault { IfErr result (IsFaultLeft (vec_len service.entry.service.value.homes) clients.items) }
 {
     let alloc = service.alloc;
     match parts_of(service, clients) {
-        Some(parts) => judged(alloc, &parts),
+        Some(parts) => judged(alloc, parts),
         None => Err(AuditFault::NoMemory),
     }
 }

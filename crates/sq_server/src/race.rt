@@ -1,23 +1,22 @@
 //! A race of clients and movers at one queue.
-ghost use Rattle.std.specs.Prelude.{◌≡◌, ◌+◌, ◌*◌, ◌≤◌, IfErr, IfOk, OnOk, map, sum_by, vec_len};
+ghost use Rattle.std.specs.Prelude.{◌≡◌, ◌+◌, ◌*◌, ◌≤◌, IfErr, IfOk, IfSome, map, sum_by, vec_len};
 ghost use Rattle.sq_program.specs.Streams.{stream};
 ghost use Rattle.sq_server.specs.inside.Crews.{roles_of};
-ghost use Rattle.sq_server.specs.Outcomes.{HasRaced};
+ghost use Rattle.sq_server.specs.Outcomes.{HasRaced, homes_in_all};
 ghost use Rattle.sq_server.specs.inside.Outcomes.{HasToldRace};
-ghost use Rattle.sq_server.specs.inside.Verdicts.{HasFault, HasOneRun};
+ghost use Rattle.sq_server.specs.Verdicts.{IsFaultOf, IsRunOf};
 
 use crate::clients::{make_calls, make_queues};
 use crate::crew::{Member, Role, conclude, crew};
 use crate::movers::move_for_a_race;
 use crate::served::{Blanks, Served};
 use crate::threads::threads_for;
-use crate::verdict::OneRun;
+use crate::verdict::{OneRun, print_race};
 use sq_audit::check::AuditFault;
 use sq_base::refusal::Refusal;
 use sq_flags::flags::RaceMode;
 use sq_lines::counted::Counted;
 use sq_program::reports::{no_memory, report_audit};
-use sq_program::results::print_race;
 use sq_store::slots::SlotStore;
 use std::alloc::Global;
 use std::io::Write;
@@ -83,8 +82,8 @@ fn race_at<R: Threads + Wait + Clock + Sync, D: Ledger + Send + Sync, T: Ledger 
 ) -> Result<(OneRun, u64), AuditFault>
     requires of_directory { D.parts ≡ 4294967296 }
     requires of_ledger { T.parts ≡ 4294967296 }
-    ensures run { OnOk result (HasOneRun (vec_len service.entry.service.value.homes)) }
-    ensures fault { IfErr result (HasFault (vec_len service.entry.service.value.homes)) }
+    ensures run { IfOk result (λ r. IsRunOf (vec_len service.entry.service.value.homes) r.0) }
+    ensures fault { IfErr result (IsFaultOf (vec_len service.entry.service.value.homes)) }
 {
     let mut racers = racers;
     run_all(&service, &mut racers, calls);
@@ -100,6 +99,8 @@ fn raced<R: Threads + Wait + Clock + Sync, D: Ledger + Send + Sync, T: Ledger + 
 ) -> Option<Result<(OneRun, u64), AuditFault>>
     requires of_directory { (blanks.directory.name ≡ D.name) × (blanks.directory.parts ≡ D.parts) × (D.parts ≡ 4294967296) }
     requires of_ledger { (blanks.ledger.name ≡ T.name) × (blanks.ledger.parts ≡ T.parts) × (T.parts ≡ 4294967296) }
+    ensures run { IfSome result (λ ended. IfOk ended (λ r. IsRunOf (homes_in_all mode.now.options) r.0)) }
+    ensures fault { IfSome result (λ ended. IfErr ended (IsFaultOf (homes_in_all mode.now.options))) }
 {
     let service: Served<'_, R, D, T, SlotStore> = Served::new(
         rt,
@@ -122,8 +123,9 @@ fn tell_race<W: Write, E: Write>(
     ensures { HasToldRace mode.now ended (stream W.contents output.old output.new) result }
 {
     match ended {
-        Ok((_run, sent)) => print_race(
+        Ok((run, sent)) => print_race(
             alloc,
+            &run,
             mode.calls.saturating_mul(mode.clients as u64),
             sent,
             output,

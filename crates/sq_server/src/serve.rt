@@ -1,21 +1,21 @@
 //! A server over sockets: a thread and a session for each connection, and movers beside them.
-ghost use Rattle.std.specs.Prelude.{◌≡◌, ◌==◌, IfErr, IfOk, IfSome, OnOk, is_some, map, sum_by, vec_len};
+ghost use Rattle.std.specs.Prelude.{◌≡◌, ◌==◌, IfErr, IfOk, IfSome, is_some, map, sum_by, vec_len};
 ghost use Rattle.sq_program.specs.Streams.{stream};
 ghost use Rattle.sq_server.specs.inside.Crews.{roles_of};
-ghost use Rattle.sq_server.specs.Outcomes.{HasServed};
+ghost use Rattle.sq_server.specs.Outcomes.{HasServed, homes_in_all};
 ghost use Rattle.sq_server.specs.inside.Outcomes.{HasToldEnd};
-ghost use Rattle.sq_server.specs.inside.Verdicts.{HasFault, HasOneRun};
+ghost use Rattle.sq_server.specs.Verdicts.{IsFaultOf, IsRunOf};
 
 use crate::crew::{Member, Role, conclude, crew};
 use crate::movers::move_while_open;
 use crate::served::{Blanks, Client, Served};
 use crate::threads::threads_for;
-use crate::verdict::OneRun;
+use crate::verdict::{OneRun, tell_verdict};
 use sq_audit::check::AuditFault;
 use sq_flags::flags::ServeMode;
 use sq_lines::counted::Counted;
-use sq_program::reports::{Failure, fail, no_memory, report_audit};
-use sq_program::results::{print_listening, print_verdict};
+use sq_program::reports::{Failure, fail, no_memory};
+use sq_program::results::print_listening;
 use sq_store::slots::SlotStore;
 use std::alloc::Global;
 use std::io::Write;
@@ -115,8 +115,8 @@ fn ended<R: Clock + Wait, D: Ledger, T: Ledger>(
     requires of_directory { D.parts ≡ 4294967296 }
     requires of_ledger { T.parts ≡ 4294967296 }
     ensures taken { IfOk result (λ run. is_some run ≡ (sum_by (λ m. m.count) workers.items == 0)) }
-    ensures run { OnOk result (HasOneRun (vec_len service.entry.service.value.homes)) }
-    ensures fault { IfErr result (HasFault (vec_len service.entry.service.value.homes)) }
+    ensures run { IfOk result (λ run. IfSome run (IsRunOf (vec_len service.entry.service.value.homes))) }
+    ensures fault { IfErr result (IsFaultOf (vec_len service.entry.service.value.homes)) }
 {
     let (run, lost) = conclude(service, workers)?;
     if lost == 0 { Ok(Some(run)) } else { Ok(None) }
@@ -131,8 +131,8 @@ fn serve_at<R: Threads + Wait + Clock + Sync, D: Ledger + Send + Sync, T: Ledger
 ) -> Result<Option<OneRun>, AuditFault>
     requires of_directory { D.parts ≡ 4294967296 }
     requires of_ledger { T.parts ≡ 4294967296 }
-    ensures run { OnOk result (HasOneRun (vec_len service.entry.service.value.homes)) }
-    ensures fault { IfErr result (HasFault (vec_len service.entry.service.value.homes)) }
+    ensures run { IfOk result (λ run. IfSome run (IsRunOf (vec_len service.entry.service.value.homes))) }
+    ensures fault { IfErr result (IsFaultOf (vec_len service.entry.service.value.homes)) }
 {
     let mut workers = workers;
     work_all(&service, listener, &mut workers, connections);
@@ -158,9 +158,9 @@ fn tell_end<W: Write, E: Write>(
     ensures { HasToldEnd ended (stream W.contents output.old output.new) result }
 {
     match ended {
-        Ok(Some(_run)) => print_verdict(output, errors),
+        Ok(Some(run)) => tell_verdict(Ok(run), output, errors),
         Ok(None) => fail(errors, Failure::AcceptFailed),
-        Err(fault) => report_audit(errors, fault),
+        Err(fault) => tell_verdict(Err(fault), output, errors),
     }
 }
 
@@ -174,6 +174,7 @@ fn ready<'a, R: Clock + Wait, D: Ledger, T: Ledger>(
     requires of_directory { (blanks.directory.name ≡ D.name) × (blanks.directory.parts ≡ D.parts) × (D.parts ≡ 4294967296) }
     requires of_ledger { (blanks.ledger.name ≡ T.name) × (blanks.ledger.parts ≡ T.parts) × (T.parts ≡ 4294967296) }
     ensures homes { IfSome result (λ r. (r.0.service.value.per_queue ≡ mode.now.options.homes) × (r.0.service.value.sample ≡ mode.now.options.sample)) }
+    ensures many { IfSome result (λ r. vec_len r.0.service.value.homes ≡ homes_in_all mode.now.options) }
     ensures roles { IfSome result (λ r. map (λ w. w.role) r.1.items ≡ roles_of mode.now.connections mode.now.movers) }
 {
     let service: Served<'a, R, D, T, SlotStore> = Served::new(
@@ -204,7 +205,7 @@ fn serve_named<
 ) -> u8
     requires of_directory { (blanks.directory.name ≡ D.name) × (blanks.directory.parts ≡ D.parts) × (D.parts ≡ 4294967296) }
     requires of_ledger { (blanks.ledger.name ≡ T.name) × (blanks.ledger.parts ≡ T.parts) × (T.parts ≡ 4294967296) }
-    ensures { HasServed (stream W.contents output.old output.new) result }
+    ensures { HasServed mode.now (stream W.contents output.old output.new) result }
 {
     let made = ready::<R, D, T>(rt, alloc, mode, blanks);
     let Some((service, workers)) = made else {
@@ -237,7 +238,7 @@ pub fn serve<
     output: &mut Counted<W>,
     errors: &mut E,
 ) -> u8
-    ensures { HasServed (stream W.contents output.old output.new) result }
+    ensures { HasServed mode.now (stream W.contents output.old output.new) result }
 {
     serve_named::<R, W, E, Brand, Brand>(rt, alloc, address, mode, output, errors, Blanks::new())
 }

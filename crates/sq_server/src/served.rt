@@ -1,11 +1,12 @@
 //! A service in a box, and its sessions: a function that has one on its own stack is proved with all that it is made of.
-ghost use Rattle.std.specs.Prelude.{◌≡◌, ◌⊎◌, ◌<◌, [], ℕ, IfErr, IfOk, IfSome, IsTrue, OnOk, length};
+ghost use Rattle.std.specs.Prelude.{◌≡◌, ◌⊎◌, ◌<◌, [], ℕ, IfErr, IfOk, IfSome, IsTrue, OnOk, length, vec_len};
 ghost use Rattle.sq_actions.specs.Performs.{CallFits, LeavesRecords};
 ghost use Rattle.sq_lines.specs.Lines.{lines_left};
 ghost use Rattle.sq_mover.specs.Movers.{GainsAtMost};
 ghost use Rattle.sq_opening.specs.Openings.{IsServed};
 ghost use Rattle.sq_queue.specs.Services.{service_counts};
 ghost use Rattle.sq_queue.specs.SessionValue.{new_session};
+ghost use Rattle.sq_server.specs.Outcomes.{homes_in_all};
 ghost use Rattle.sq_wire.specs.Runs.{IsOfCall, StopsAt, Writes};
 ghost use Rattle.sq_wire.specs.Serves.{ServedReplies, ServedUnanswered};
 
@@ -84,6 +85,7 @@ impl<'a, R: Clock + Wait, D: Ledger, T: Ledger> Served<'a, R, D, T, SlotStore> {
         requires of_directory { (blanks.directory.name ≡ D.name) × (blanks.directory.parts ≡ D.parts) × (D.parts ≡ 4294967296) }
         requires of_ledger { (blanks.ledger.name ≡ T.name) × (blanks.ledger.parts ≡ T.parts) × (T.parts ≡ 4294967296) }
         ensures counts { IfOk result (λ s. (s.service.value.per_queue ≡ options.homes) × (s.service.value.sample ≡ options.sample)) }
+        ensures homes { IfOk result (λ s. vec_len s.service.value.homes ≡ homes_in_all options) }
         ensures served { OnOk result (IsServed options) }
         ensures refused { IfErr result (λ e. ((e ≡ Refusal.NoMemory) × IsServed options) ⊎ ((e ≡ Refusal.InvalidParameterValue) × (¬ IsServed options))) }
     {
