@@ -1,6 +1,7 @@
 //! Reading a line.
 ghost use Rattle.std.specs.Prelude.{true, false, IfNone, ◌≡◌, ◌≢◌, ◌∷◌, ◌++◌, [], IfOk, IfErr, IfSome, MatchOption, option_map, Some, OnOk, OnErr, ◌<◌, ◌≤◌, ◌+◌, take, drop, length, vec_len, vec_capacity};
 ghost use Rattle.sq_lines.specs.Lines.{lines_left, lines_of, read_of, none_read, has_feed, FirstIsOver, FirstIsWithin, GoesOn, OneMore};
+ghost use Rattle.sq_lines.specs.inside.Rooms.{room_for};
 ghost use Rattle.sq_lines.specs.declared.lines.LineFault.TheVariants.{TooLong, Read, NoMemory};
 
 use crate::buffer::Buffer;
@@ -48,6 +49,41 @@ impl Model for Lines {
     ghost invariant = { λ l. (has_feed l.begun.items ≡ false) × (vec_len l.begun ≤ LIMIT) };
 }
 
+// Room for so many bytes more of a line: twice what there was, or what they need where that is more, but no more than the
+// longest line has. Where there is room for them already, that stays.
+fn make_room(begun: &mut Vec<u8>, more: usize) -> Result<(), AllocError>
+    requires { vec_len begun.old + more ≤ LIMIT }
+    ensures items { begun.new.items ≡ begun.old.items }
+    ensures len { vec_len begun.new ≡ vec_len begun.old }
+    ensures room { OnOk result (vec_capacity begun.new ≡ room_for (vec_capacity begun.old) (vec_len begun.old + more)) }
+    ensures full { OnErr result (vec_capacity begun.old < vec_len begun.old + more) }
+{
+    let wanted = begun.len() + more;
+    let room = begun.capacity();
+    if wanted <= room {
+        return Ok(());
+    }
+    let grown = room.saturating_mul(2).min(LIMIT).max(wanted);
+    begun.reserve_exact(grown - begun.len())
+}
+
+// Adds bytes to a line that was begun.
+fn add(begun: &mut Vec<u8>, bytes: &[u8]) -> Result<(), LineFault>
+    requires { length begun.old.items + length bytes.now ≤ LIMIT }
+    ensures ok { OnOk result (begun.new.items ≡ begun.old.items ++ bytes.now) }
+    ensures err { OnErr result (begun.new.items ≡ begun.old.items) }
+    ensures memory { IfErr result (λ e. e ≡ NoMemory) }
+    ensures full { OnErr result (vec_capacity begun.old < vec_len begun.old + length bytes.now) }
+{
+    let Ok(()) = make_room(begun, bytes.len()) else {
+        return Err(LineFault::NoMemory);
+    };
+    let Ok(()) = begun.extend_from_slice(bytes) else {
+        return Err(LineFault::NoMemory);
+    };
+    Ok(())
+}
+
 // Ends the line that was begun before the line feed at a place of what was read ahead.
 fn end_line(
     alloc: Global,
@@ -72,9 +108,7 @@ fn end_line(
     if at > LIMIT - begun.len() {
         return Err(LineFault::TooLong);
     }
-    let Ok(()) = begun.extend_from_slice(&ahead.bytes()[..at]) else {
-        return Err(LineFault::NoMemory);
-    };
+    add(begun, &ahead.bytes()[..at])?;
     ahead.consume(at + 1);
     Ok(mem::replace(begun, Vec::new(alloc)))
 }
@@ -97,9 +131,7 @@ fn add_ahead(begun: &mut Vec<u8>, ahead: &mut Buffer) -> Result<(), LineFault>
     if count > LIMIT - begun.len() {
         return Err(LineFault::TooLong);
     }
-    let Ok(()) = begun.extend_from_slice(ahead.bytes()) else {
-        return Err(LineFault::NoMemory);
-    };
+    add(begun, ahead.bytes())?;
     ahead.consume(count);
     Ok(())
 }
