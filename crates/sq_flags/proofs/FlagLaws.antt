@@ -68,6 +68,7 @@ same_serve f g mode e h = record {
   options = same_options f g mode.options e h.options;
   address = same_address _ _ mode.address (e _) h.address;
   connections = same_given _ _ _ _ _ (e _) h.connections;
+  idle = same_number _ _ _ _ _ _ (e _) h.idle;
   movers = same_number _ _ _ _ _ _ (e _) h.movers;
 }
 

@@ -31,6 +31,10 @@ with_needed name least greatest app = with_rule app (needed (number_rule name le
 abbrev pub with_movers : App → App
 with_movers app = with_number (codes "movers") 0 8 app
 
+-- the flag of the seconds that a connection is waited for
+abbrev pub with_idle : App → App
+with_idle app = with_number (codes "idle") 1 86400 app
+
 -- the flags of the options
 abbrev pub with_options : App → App
 with_options app =
@@ -47,7 +51,7 @@ abbrev pub script_app : App
 script_app = with_rule (with_options (new_app (codes "script"))) audit_rule
 
 abbrev pub serve_app : App
-serve_app = with_options (with_movers (with_needed (codes "connections") 1 1024 (with_rule (new_app (codes "serve")) address_rule)))
+serve_app = with_options (with_movers (with_idle (with_needed (codes "connections") 1 1024 (with_rule (new_app (codes "serve")) address_rule))))
 
 abbrev pub race_app : App
 race_app = with_options (with_movers (with_needed (codes "calls") 0 1000000 (with_needed (codes "clients") 1 64 (new_app (codes "race")))))

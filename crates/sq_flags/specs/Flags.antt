@@ -24,6 +24,7 @@ pub record IsServeOf (text_of : Text → Option Text) (mode : ServeMode) : Type 
   pub options : AreOptionsOf text_of mode.options
   pub address : IsAddressOf (text_of (codes "listen")) mode.address
   pub connections : IsGivenNumber (text_of (codes "connections")) 1 1024 mode.connections
+  pub idle : IsNumberOf (text_of (codes "idle")) 1 86400 300 mode.idle
   pub movers : IsNumberOf (text_of (codes "movers")) 0 8 1 mode.movers
 
 -- those of `race`: how many clients and calls must be given

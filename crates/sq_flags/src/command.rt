@@ -2,10 +2,10 @@
 ghost use Rattle.std.specs.Prelude.{◌≡◌, IfOk, codes, false};
 ghost use Rattle.clap.specs.Words.{app_of, new_app, rule_of, with_rule, with_subcommand};
 ghost use Rattle.clap.specs.declared.Command.TheViews.{out-Command as fields_of};
-ghost use Rattle.sq_flags.specs.CommandLine.{number_rule, with_number, with_movers, with_options, script_app, serve_app, race_app, with_required, program_app};
+ghost use Rattle.sq_flags.specs.CommandLine.{number_rule, with_needed, with_idle, with_number, with_movers, with_options, script_app, serve_app, race_app, with_required, program_app};
 
 use crate::texts::{AUDIT, FLAGS, LISTEN, OptionTexts, RACE, SCRIPT, SEED, SERVE, Texts};
-use crate::values::{MOST_CALLS, MOST_CLIENTS, MOST_CONNECTIONS, MOST_MOVERS};
+use crate::values::{MOST_CALLS, MOST_CLIENTS, MOST_CONNECTIONS, MOST_IDLE, MOST_MOVERS};
 use clap::builder::ValueParser;
 use clap::{Arg, ArgAction, Command};
 use sq_opening::options::{MOST_FLIGHTS, MOST_HOMES, MOST_QUEUES, MOST_ROWS, MOST_TRANSIT};
@@ -120,6 +120,23 @@ fn script_command<'a>(alloc: Global, texts: &'a Texts) -> Result<Command<'a>, Al
     with_flag(command, audit)
 }
 
+// Adds the flags of how many connections there are, and of how long each is waited for.
+fn with_connections<'a>(
+    alloc: Global,
+    command: Command<'a>,
+    texts: &'a Texts,
+) -> Result<Command<'a>, AllocError>
+    requires { (fields_of command).has_globals ≡ false }
+    ensures app { IfOk result (λ c. app_of c ≡ with_idle (with_needed (codes "connections") 1 1024 (app_of command.entry))) }
+    ensures local { IfOk result (λ c. (fields_of c).has_globals ≡ false) }
+{
+    let most = MOST_CONNECTIONS as u64;
+    let connections = number_flag(alloc, "connections", 1, most, texts.connections.as_str());
+    let command = with_flag(command, connections.required(true))?;
+    let idle = number_flag(alloc, "idle", 1, MOST_IDLE as u64, texts.idle.as_str());
+    with_flag(command, idle)
+}
+
 fn serve_command<'a>(alloc: Global, texts: &'a Texts) -> Result<Command<'a>, AllocError>
     ensures app { IfOk result (λ c. app_of c ≡ serve_app) }
     ensures local { IfOk result (λ c. (fields_of c).has_globals ≡ false) }
@@ -130,9 +147,7 @@ fn serve_command<'a>(alloc: Global, texts: &'a Texts) -> Result<Command<'a>, All
         .required(true)
         .help(LISTEN);
     let command = with_flag(named(alloc, "serve", SERVE), address)?;
-    let most = MOST_CONNECTIONS as u64;
-    let connections = number_flag(alloc, "connections", 1, most, texts.connections.as_str());
-    let command = with_flag(command, connections.required(true))?;
+    let command = with_connections(alloc, command, texts)?;
     with_movers_and_options(alloc, command, &texts.movers, &texts.options)
 }
 

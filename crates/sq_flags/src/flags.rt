@@ -12,7 +12,7 @@ ghost use Rattle.sq_flags.specs.Flags.{IsScriptOf, IsServeOf, IsRaceOf, IsModeAt
 use crate::command::program_command;
 use crate::texts::Texts;
 use crate::values::{
-    MOST_CALLS, MOST_CLIENTS, MOST_CONNECTIONS, address_of, asks_for_audit, given_number,
+    MOST_CALLS, MOST_CLIENTS, MOST_CONNECTIONS, address_of, asks_for_audit, given_number, idle_of,
     movers_of, options_of,
 };
 use clap::error::ErrorKind;
@@ -37,6 +37,8 @@ pub struct ServeMode {
     pub address: Option<SocketAddr>,
     /// Connections that are served: 1 to `MOST_CONNECTIONS`.
     pub connections: u32,
+    /// Seconds that a connection is waited for, until a byte comes of it or goes to it: 1 to `MOST_IDLE`.
+    pub idle: u32,
     /// Threads that move messages meanwhile: 0 to `MOST_MOVERS`.
     pub movers: u32,
 }
@@ -115,6 +117,7 @@ fn serve_of(found: &ArgMatches<'_>) -> Result<ServeMode, &'static str>
     Ok(ServeMode {
         address: address_of(found)?,
         connections: given_number(found, "connections", 1, MOST_CONNECTIONS as u64)? as u32,
+        idle: idle_of(found)?,
         movers: movers_of(found)?,
         options: options_of(found)?,
     })

@@ -1,6 +1,7 @@
 //! What help says of the subcommands and their flags.
 use crate::values::{
-    HOMES, MOST_CALLS, MOST_CLIENTS, MOST_CONNECTIONS, MOST_MOVERS, MOVERS, QUEUES, SAMPLE, TRANSIT,
+    HOMES, IDLE, MOST_CALLS, MOST_CLIENTS, MOST_CONNECTIONS, MOST_IDLE, MOST_MOVERS, MOVERS,
+    QUEUES, SAMPLE, TRANSIT,
 };
 use sq_opening::options::{MOST_FLIGHTS, MOST_HOMES, MOST_QUEUES, MOST_ROWS, MOST_TRANSIT};
 use std::alloc::{AllocError, Global};
@@ -40,6 +41,7 @@ impl OptionTexts {
 pub struct Texts {
     pub options: OptionTexts,
     pub connections: String,
+    pub idle: String,
     pub clients: String,
     pub calls: String,
     pub movers: String,
@@ -51,6 +53,13 @@ impl Texts {
         Ok(Texts {
             options: OptionTexts::new(alloc)?,
             connections: needed(alloc, "Connections that are served", 1, MOST_CONNECTIONS)?,
+            idle: bounded(
+                alloc,
+                "Seconds after which a connection ends that sends nothing or takes no reply",
+                "1",
+                MOST_IDLE,
+                IDLE,
+            )?,
             clients: needed(alloc, "Clients, each a thread", 1, MOST_CLIENTS)?,
             calls: needed(alloc, "Calls of each client", 0, MOST_CALLS)?,
             movers: bounded(
@@ -109,6 +118,6 @@ pub const RACE: &str = "Has clients call at once, a thread for each, and audits 
 pub const FLAGS: &str =
     "Flags of each command: --homes N, --sample N, --queues N, --rows N, --flights N, --transit N, --seed N.
 Flags of script: --audit.
-Flags of serve: --listen ADDR, --connections N, --movers N.
+Flags of serve: --listen ADDR, --connections N, --idle N, --movers N.
 Flags of race: --clients N, --calls N, --movers N.
 'sqd COMMAND --help' says of each what it is, its bounds and its default.";

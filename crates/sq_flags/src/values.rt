@@ -17,6 +17,9 @@ pub const MOST_CONNECTIONS: u32 = 1_024;
 /// Threads that move messages, at the most.
 pub const MOST_MOVERS: u32 = 8;
 
+/// Seconds that a connection is waited for, at the most: a day.
+pub const MOST_IDLE: u32 = 86_400;
+
 /// Clients of a race, at the most.
 pub const MOST_CLIENTS: u32 = 64;
 
@@ -37,6 +40,9 @@ pub const TRANSIT: u32 = 10_000;
 
 /// How many threads move messages, where no flag says it.
 pub const MOVERS: u32 = 1;
+
+/// How many seconds a connection is waited for, where no flag says it.
+pub const IDLE: u32 = 300;
 
 // A whole number within bounds.
 fn whole(text: &str, least: u64, greatest: u64) -> Option<u64>
@@ -117,6 +123,14 @@ pub fn movers_of(matches: &ArgMatches<'_>) -> Result<u32, &'static str>
     ensures err { IfErr result (λ _. (n : ℕ) → ¬ IsNumberOf (first_value (found_of matches.now) (codes "movers")) 0 8 1 n) }
 {
     Ok(number(matches, "movers", 0, MOST_MOVERS as u64, MOVERS as u64)? as u32)
+}
+
+/// The seconds that a connection is waited for, or the flag's name where its text is no number in its bounds.
+pub fn idle_of(matches: &ArgMatches<'_>) -> Result<u32, &'static str>
+    ensures ok { IfOk result (λ n. IsNumberOf (first_value (found_of matches.now) (codes "idle")) 1 86400 300 n) }
+    ensures err { IfErr result (λ _. (n : ℕ) → ¬ IsNumberOf (first_value (found_of matches.now) (codes "idle")) 1 86400 300 n) }
+{
+    Ok(number(matches, "idle", 1, MOST_IDLE as u64, IDLE as u64)? as u32)
 }
 
 /// The options of matched flags, or the name of one whose text is no number in its bounds.
