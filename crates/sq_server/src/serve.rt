@@ -1,5 +1,5 @@
 //! A server over sockets: a thread and a session for each connection, and movers beside them.
-ghost use Rattle.std.specs.Prelude.{◌≡◌, ◌==◌, IfErr, IfOk, IfSome, is_some, map, sum_by, vec_len};
+ghost use Rattle.std.specs.Prelude.{◌≡◌, ◌==◌, IfErr, IfOk, IfSome, None, is_some, map, sum_by, true, vec_len};
 ghost use Rattle.sq_program.specs.Streams.{stream};
 ghost use Rattle.sq_server.specs.inside.Crews.{roles_of};
 ghost use Rattle.sq_server.specs.Outcomes.{HasServed, homes_in_all};
@@ -8,7 +8,7 @@ ghost use Rattle.sq_server.specs.Verdicts.{IsFaultOf, IsRunOf};
 
 use crate::crew::{Member, Role, conclude, crew};
 use crate::movers::move_while_open;
-use crate::served::{Blanks, Client, Served};
+use crate::served::{Blanks, Served};
 use crate::threads::threads_for;
 use crate::verdict::{OneRun, tell_verdict};
 use sq_audit::check::AuditFault;
@@ -45,23 +45,37 @@ fn accepted(rt: &impl Clock, listener: &TcpListener) -> Option<TcpStream> {
     None
 }
 
-// Answers the lines of a connection, until its end or a fault, which ends it alone; whether one could be taken.
+// Has reads and writes of a connection fail that wait for its client so many seconds. None, and it is closed, where the system
+// refuses that.
+fn timed(stream: TcpStream, idle: u32) -> Option<TcpStream>
+    ensures { idle ≡ 0 → result ≡ None }
+{
+    let wait = Some(Duration::from_secs(idle as u64));
+    stream.set_read_timeout(wait).ok()?;
+    stream.set_write_timeout(wait).ok()?;
+    Some(stream)
+}
+
+// Answers the lines of a connection that was taken, until its end or a fault, which ends it alone. One that could not be taken
+// is counted.
 fn connection<R: Clock + Wait, D: Ledger, T: Ledger>(
     service: &Served<'_, R, D, T, SlotStore>,
     taken: Option<TcpStream>,
-    client: &mut Client<D, T>,
-) -> bool
-    ensures { result ≡ is_some taken }
+    worker: &mut Member<D, T>,
+)
+    ensures role { worker.new.role ≡ worker.old.role }
+    ensures lost { taken ≡ None → worker.new.count ≡ 1 }
+    ensures served { is_some taken ≡ true → worker.new.count ≡ worker.old.count }
 {
     let Some(stream) = taken else {
-        return false;
+        worker.count = 1;
+        return;
     };
     // Without it a reply may wait for the peer's delayed acknowledgement; where it is not to be had, replies come later.
     let _ = stream.set_nodelay(true);
     let mut reader = Counted::new(&stream);
     let mut writer = Counted::new(&stream);
-    let _ = service.answer(client, &mut reader, &mut writer);
-    true
+    let _ = service.answer(&mut worker.client, &mut reader, &mut writer);
 }
 
 // What one of the threads does.
@@ -69,6 +83,7 @@ fn work<R: Clock + Wait, D: Ledger, T: Ledger>(
     service: &Served<'_, R, D, T, SlotStore>,
     listener: &TcpListener,
     open: &AtomicU64,
+    idle: u32,
     worker: &mut Member<D, T>,
 )
     ensures role { worker.new.role ≡ worker.old.role }
@@ -77,9 +92,11 @@ fn work<R: Clock + Wait, D: Ledger, T: Ledger>(
     match worker.role {
         Role::Call => {
             let taken = accepted(service.rt, listener);
-            if !connection(service, taken, &mut worker.client) {
-                worker.count = 1;
-            }
+            connection(
+                service,
+                taken.and_then(|stream| timed(stream, idle)),
+                worker,
+            );
             open.fetch_sub(1, Ordering::SeqCst);
         }
         Role::Move => move_while_open(service, &mut worker.client, open),
@@ -91,18 +108,19 @@ fn work_all<R: Threads + Wait + Clock + Sync, D: Ledger + Send + Sync, T: Ledger
     service: &Served<'_, R, D, T, SlotStore>,
     listener: &TcpListener,
     workers: &mut Vec<Member<D, T>>,
-    connections: u32,
+    mode: &ServeMode,
 )
     ensures { vec_len workers.new ≡ vec_len workers.old }
 {
-    let open = AtomicU64::new(connections as u64);
+    let open = AtomicU64::new(mode.connections as u64);
     let left = &open;
+    let idle = mode.idle;
     let threads = threads_for(workers.len());
     thread::for_each_mut(
         service.rt,
         workers,
         threads,
-        &|_: usize, worker: &mut Member<D, T>| { work(service, listener, left, worker) },
+        &|_: usize, worker: &mut Member<D, T>| { work(service, listener, left, idle, worker) },
     );
 }
 
@@ -127,7 +145,7 @@ fn serve_at<R: Threads + Wait + Clock + Sync, D: Ledger + Send + Sync, T: Ledger
     service: Served<'_, R, D, T, SlotStore>,
     workers: Vec<Member<D, T>>,
     listener: &TcpListener,
-    connections: u32,
+    mode: &ServeMode,
 ) -> Result<Option<OneRun>, AuditFault>
     requires of_directory { D.parts ≡ 4294967296 }
     requires of_ledger { T.parts ≡ 4294967296 }
@@ -135,7 +153,7 @@ fn serve_at<R: Threads + Wait + Clock + Sync, D: Ledger + Send + Sync, T: Ledger
     ensures fault { IfErr result (IsFaultOf (vec_len service.entry.service.value.homes)) }
 {
     let mut workers = workers;
-    work_all(&service, listener, &mut workers, connections);
+    work_all(&service, listener, &mut workers, mode);
     ended(service, workers)
 }
 
@@ -218,7 +236,7 @@ fn serve_named<
     if told != 0 {
         return told;
     }
-    let ended = serve_at(service, workers, &listener, mode.connections);
+    let ended = serve_at(service, workers, &listener, mode);
     tell_end(ended, output, errors)
 }
 

@@ -21,6 +21,7 @@ use sq_queue::service::{Open, Service, Serving};
 use sq_queue::session::Session;
 use sq_store::slots::SlotStore;
 use sq_store::store::Store;
+use sq_wire::long_lines::LongLines;
 use sq_wire::run::ServeFault;
 use sq_wire::serve::serve;
 use std::alloc::Global;
@@ -58,6 +59,7 @@ pub struct Served<'a, R, D: Ledger, T: Ledger, S: Store> {
     pub rt: &'a R,
     pub alloc: Global,
     pub(crate) service: Box<Serving<SystemClock<'a, R>, Open, D, T, S>>,
+    pub(crate) long_lines: LongLines,
 }
 
 /// A session of it.
@@ -101,6 +103,7 @@ impl<'a, R: Clock + Wait, D: Ledger, T: Ledger> Served<'a, R, D, T, SlotStore> {
             rt,
             alloc,
             service: Box::new(alloc, service)?,
+            long_lines: LongLines::new(alloc)?,
         })
     }
 
@@ -159,6 +162,7 @@ impl<'a, R: Clock + Wait, D: Ledger, T: Ledger> Served<'a, R, D, T, SlotStore> {
             writer,
             &*self.service,
             &mut client.session,
+            &self.long_lines,
         )
     }
 

@@ -3,6 +3,7 @@
 
 pub mod answering;
 pub mod audit;
+pub mod long_lines;
 mod owed;
 pub mod run;
 pub mod script;

@@ -7,6 +7,7 @@ ghost use Rattle.sq_wire.specs.Runs.{Writes, StopsAt, IsOfCall};
 ghost use Rattle.sq_wire.specs.Serves.{CallServed, ServedReplies, ServedUnanswered};
 
 use crate::answering::Answering;
+use crate::long_lines::LongLines;
 use crate::run::{ServeFault, answer_lines};
 use sq_base::refusal::Refusal;
 use sq_calls::calls::{Answered, Asked};
@@ -16,7 +17,7 @@ use sq_queue::service::{Clock, Gate, Service};
 use sq_queue::session::Session;
 use sq_replies::reply::reply_text;
 use sq_replies::text::Text;
-use sq_requests::request::{Request, read_request};
+use sq_requests::request::Request;
 use std::alloc::{AllocError, Global};
 use std::io::{Read, Write};
 use std::sync::Wait;
@@ -29,6 +30,7 @@ struct Served<'a, C, G, D: Ledger, T: Ledger, X> {
     service: &'a Service<C, G, D, T>,
     session: &'a mut Session<D, T>,
     scratch: &'a mut Scratch,
+    long_lines: &'a LongLines,
 }
 
 // Does what was read of a line, where that is a call; a turn is a script's alone. The clock reading and the actor are passed over.
@@ -58,6 +60,7 @@ fn answer<C: Clock + Drop, G: Gate + Drop, D: Ledger, T: Ledger, X: Wait>(
     rt: &X,
     alloc: Global,
     scratch: &mut Scratch,
+    long_lines: &LongLines,
     service: &Service<C, G, D, T>,
     session: &mut Session<D, T>,
     line: &[u8],
@@ -65,7 +68,7 @@ fn answer<C: Clock + Drop, G: Gate + Drop, D: Ledger, T: Ledger, X: Wait>(
     ensures ok { IfOk result (λ text. ServedReplies (service_counts service.now.per_queue service.now.sample) session.old.journal line.now text session.new.journal) }
     ensures err { OnErr result (ServedUnanswered (service_counts service.now.per_queue service.now.sample) session.old.journal line.now session.new.journal) }
 {
-    let read = read_request(alloc, scratch, line);
+    let read = long_lines.read(rt, alloc, scratch, line);
     let answered = do_read(rt, service, session, read);
     reply_text(alloc, &answered)
 }
@@ -85,6 +88,7 @@ impl<'a, C: Clock + Drop, G: Gate + Drop, D: Ledger, T: Ledger, X: Wait> Answeri
             self.rt,
             alloc,
             &mut *self.scratch,
+            self.long_lines,
             self.service,
             &mut *self.session,
             line,
@@ -116,7 +120,7 @@ fn serve_at<R: Read, W: Write, C: Clock + Drop, G: Gate + Drop, D: Ledger, T: Le
 }
 
 /// Answers each line of a client by a call of its session, until the end or a fault. Other sessions may step between any two of
-/// its steps.
+/// its steps. Lines that are longer than `SHORT` of `long_lines` are read in turn with those of other connections.
 pub fn serve<R: Read, W: Write, C: Clock + Drop, G: Gate + Drop, D: Ledger, T: Ledger, X: Wait>(
     alloc: Global,
     rt: &X,
@@ -124,6 +128,7 @@ pub fn serve<R: Read, W: Write, C: Clock + Drop, G: Gate + Drop, D: Ledger, T: L
     writer: &mut Counted<W>,
     service: &Service<C, G, D, T>,
     session: &mut Session<D, T>,
+    long_lines: &LongLines,
 ) -> Result<u64, ServeFault>
     // For each line in order one reply, made of the next of the session's new records, and nothing else.
     ensures ok { IfOk result (λ n. IfSome (lines_left [] (R.remaining reader.old.inner)) (λ lines.
@@ -145,6 +150,7 @@ pub fn serve<R: Read, W: Write, C: Clock + Drop, G: Gate + Drop, D: Ledger, T: L
         service,
         session,
         scratch: &mut scratch,
+        long_lines,
     };
     serve_at(alloc, reader, writer, &mut served)
 }
