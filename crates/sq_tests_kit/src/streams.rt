@@ -3,18 +3,20 @@ use std::alloc::Global;
 use std::io::{self, ErrorKind, Read, Write};
 use std::sync::atomic::{AtomicU64, Ordering};
 
-/// Gives at most four bytes a call, and fails at one call.
+/// Gives at most so many bytes a call, and fails at one call.
 #[derive(Drop)]
 pub struct Piecewise<'a> {
     bytes: &'a [u8],
+    most: usize,
     calls: u32,
     fails_at: u32,
 }
 
 impl<'a> Piecewise<'a> {
-    pub fn new(bytes: &'a [u8], fails_at: u32) -> Piecewise<'a> {
+    pub fn new(bytes: &'a [u8], most: usize, fails_at: u32) -> Piecewise<'a> {
         Piecewise {
             bytes,
+            most,
             calls: 0,
             fails_at,
         }
@@ -27,7 +29,7 @@ impl Read for Piecewise<'_> {
         if self.calls == self.fails_at {
             return Err(io::Error::from(ErrorKind::BrokenPipe));
         }
-        let room = buf.len().min(4);
+        let room = buf.len().min(self.most);
         self.bytes.read(&mut buf[..room])
     }
 }

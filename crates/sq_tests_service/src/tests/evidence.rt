@@ -1,6 +1,7 @@
 //! What a service leaves, and what tests look at of it.
 use sq_audit::merge::merge;
 use sq_audit::parts::Parts;
+use sq_model::place::Place;
 use sq_places::places::places_of;
 use sq_tests_kit::hidden::Hidden;
 use std::alloc::Global;
@@ -22,6 +23,8 @@ pub struct Seen {
     pub events: [u64; 3],
     /// How many messages there were; none where the evidence is not of one run.
     pub messages: Option<u64>,
+    /// How many of them are in a queue.
+    pub in_home: u64,
 }
 
 impl Evidence {
@@ -35,6 +38,7 @@ impl Evidence {
     /// What a test looks at of it.
     pub fn seen(&self) -> Seen {
         let parts = self.parts.get();
+        let (messages, in_home) = messages(self.alloc, parts);
         Seen {
             sessions: [parts.made, parts.records.as_slice().len() as u64],
             events: [
@@ -42,7 +46,8 @@ impl Evidence {
                 parts.ledger.events().len() as u64,
                 first_home(parts),
             ],
-            messages: messages(self.alloc, parts),
+            messages,
+            in_home,
         }
     }
 }
@@ -55,9 +60,17 @@ fn first_home(parts: &Parts) -> u64 {
     }
 }
 
-// How many messages there were, in one run of all.
-fn messages(alloc: Global, parts: &Parts) -> Option<u64> {
-    let run = merge(alloc, parts).ok()?;
-    let places = places_of(alloc, &run).ok()?;
-    Some(places.len() as u64)
+// How many messages there were, in one run of all, and how many of them are in a queue.
+fn messages(alloc: Global, parts: &Parts) -> (Option<u64>, u64) {
+    let Ok(run) = merge(alloc, parts) else {
+        return (None, 0);
+    };
+    let Ok(places) = places_of(alloc, &run) else {
+        return (None, 0);
+    };
+    let mut in_home = 0u64;
+    for (_, place) in &places {
+        in_home = in_home.saturating_add((*place == Place::InHome) as u64);
+    }
+    (Some(places.len() as u64), in_home)
 }

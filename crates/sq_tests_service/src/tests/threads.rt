@@ -17,7 +17,10 @@ const SENDS: &[Deed] = &[Deed::Sends(100)];
 fn two_threads_leave_one_run(rt: HostRuntime) {
     let told = tell(&rt, rt.alloc(), Setting::of(QUEUE, 2), &[SENDS; 2]);
     let seen = told.seen;
-    let left = seen.sessions == [2, 2] && seen.events[0] == 201 && seen.messages == Some(200);
+    let left = seen.sessions == [2, 2]
+        && seen.events[0] == 201
+        && seen.messages == Some(200)
+        && seen.in_home == 200;
     must(&rt, &told, told.by[0] == 200 && told.by[1] == 200 && left);
 }
 

@@ -5,7 +5,7 @@ use sq_tests_kit::streams::Piecewise;
 
 #[test]
 fn keeps_what_was_read_before_a_fault(rt: HostRuntime) {
-    let mut reader = Counted::new(Piecewise::new(b"a line of ten words\nmore", 3));
+    let mut reader = Counted::new(Piecewise::new(b"a line of ten words\nmore", 4, 3));
     let mut lines = Lines::new(rt.alloc()).expect(&rt, "memory");
     let first = lines.next_line(rt.alloc(), &mut reader);
     assert!(rt; matches!(&first, Err(LineFault::Read)));

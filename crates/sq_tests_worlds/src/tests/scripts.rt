@@ -64,7 +64,7 @@ fn must_be(rt: &impl Abort, case: usize, found: &[u64], want: &[u64]) {
 // What becomes of two lines that are no requests, where a call of the reader and a call of the writer fail, counted from 1: what is
 // told of it, and failed reads and writes.
 fn run_of(rt: &impl Abort, alloc: Global, reads: u32, writes: u32) -> [u64; 6] {
-    let mut reader = Counted::new(Piecewise::new(b"one\ntwo\n", reads));
+    let mut reader = Counted::new(Piecewise::new(b"one\ntwo\n", 4, reads));
     let mut writer = Counted::new(Bytewise::new(alloc, writes));
     let ended = ended(rt, alloc, &mut reader, &mut writer);
     let [end, lines, bytes, flushes] = told(ended, writer.inner());

@@ -128,7 +128,7 @@ impl Stage {
 
     /// Whether a line of a client or a mover is done, and answered with this reply where one is named.
     pub fn is_answered(&mut self, line: &str, want: Option<&str>) -> bool {
-        let mut reader = Counted::new(Piecewise::new(line.as_bytes(), 0));
+        let mut reader = Counted::new(Piecewise::new(line.as_bytes(), 4, 0));
         let mut writer = Counted::new(Bytewise::new(self.alloc, 0));
         let done = self.answer(&mut reader, &mut writer).is_ok();
         match (writer.inner().written.as_slice(), want) {
