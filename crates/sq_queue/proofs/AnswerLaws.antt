@@ -15,7 +15,7 @@ use Rattle.sq_model.specs.declared.ledger.LedgerReply.{LedgerReply}
 use Rattle.sq_model.specs.declared.replies.HomeReply.{HomeReply}
 use Rattle.sq_history.specs.declared.act.HomeAct.{HomeAct}
 use Rattle.sq_history.specs.declared.act.HomeAct.TheVariants.{Change, Close, Configure, Delete, Purge}
-use Rattle.sq_calls.specs.declared.batches.Batch.{Batch}
+use Rattle.sq_calls.specs.BatchValue.{BatchValue}
 use Rattle.sq_calls.specs.declared.batches.EntryAnswer.{EntryAnswer}
 use Rattle.sq_calls.specs.declared.batches.EntryAsk.TheVariants as ask
 use Rattle.sq_calls.specs.declared.calls.Answer.{Answer}
@@ -187,13 +187,13 @@ received_at counts c queue trace told fits = elim fits [
 pub receive_tells : (counts : HomeCounts) (c : ReceiveMessage) (trace : List Done) (told : Result Answer Refusal) → CallFits counts (call.ReceiveMessage c) trace told → IfOk told (IsOfKind answer.Received)
 receive_tells counts c trace told fits = by_name (IsOfKind answer.Received) c.queue (ReceiveAt counts c) trace told fits (λ queue rest h. received_at counts c queue rest told h)
 
-batch_at : (homes : ℕ) (b : Batch) (queue : ℕ) (trace : List Done) (told : Result Answer Refusal) → BatchAt homes b queue trace told → IfOk told (IsOfKind answer.Batch)
+batch_at : (homes : ℕ) (b : BatchValue) (queue : ℕ) (trace : List Done) (told : Result Answer Refusal) → BatchAt homes b queue trace told → IfOk told (IsOfKind answer.Batch)
 batch_at homes b queue trace told fits = elim fits [
   | inl failed ↦ is_refused (IsOfKind answer.Batch) told _ failed.2
   | inr did ↦ is_answered (IsOfKind answer.Batch) told _ did.2 (did.0, refl)
 ]
 
-pub batch_tells : (counts : HomeCounts) (b : Batch) (trace : List Done) (told : Result Answer Refusal) → CallFits counts (call.Batch b) trace told → IfOk told (IsOfKind answer.Batch)
+pub batch_tells : (counts : HomeCounts) (b : BatchValue) (trace : List Done) (told : Result Answer Refusal) → CallFits counts (call.Batch b) trace told → IfOk told (IsOfKind answer.Batch)
 batch_tells counts b trace told fits = by_name (IsOfKind answer.Batch) b.queue (BatchAt counts.homes b) trace told fits (λ queue rest h. batch_at counts.homes b queue rest told h)
 
 -- ---- calls on tasks

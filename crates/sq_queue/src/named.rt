@@ -1,5 +1,6 @@
 //! Each call of a session by its name, as `call` does it, with its own type of answers.
-ghost use Rattle.std.specs.Prelude.{vec_len};
+ghost use Rattle.std.specs.Prelude.{◌≡◌, vec_len};
+ghost use Rattle.sq_calls.specs.declared.batches.BatchKind.TheVariants as kind;
 ghost use Rattle.sq_calls.specs.declared.calls.Answer.TheVariants as answer;
 ghost use Rattle.sq_calls.specs.declared.calls.Call.TheVariants as asks;
 ghost use Rattle.sq_actions.specs.Performs.{CallFits, LeavesRecords};
@@ -226,39 +227,42 @@ impl<C: Clock + Drop, G: Gate + Drop, D: Ledger, T: Ledger> Serving<C, G, D, T, 
         tasks(self.call(rt, session, &Call::ListMessageMoveTasks(request)))
     }
 
-    /// SendMessageBatch: up to ten sends, each answered by itself.
+    /// SendMessageBatch: up to ten sends, each answered by itself; of a batch of sends.
     pub fn send_batch<R: Wait>(
         &self,
         rt: &R,
         session: &mut Session<D, T>,
         batch: Batch,
     ) -> Result<Listed<EntryResult>, Refusal>
+        requires sends { batch.kind ≡ kind.Send }
         ensures sections { CallDone (around (C.tells self.now.clock) (G.saw self.now.gate) self.now.per_queue (vec_len self.now.homes)) self.now.sample (asks.Batch batch) session.old (answered_as answer.Batch result) session.new }
         ensures leaves_records { LeavesRecords (CallFits (service_counts self.now.per_queue self.now.sample) (asks.Batch batch)) session.old.journal (answered_as answer.Batch result) session.new.journal }
     {
         entries(self.call(rt, session, &Call::Batch(batch)))
     }
 
-    /// DeleteMessageBatch: up to ten deletes, each answered by itself.
+    /// DeleteMessageBatch: up to ten deletes, each answered by itself; of a batch of deletes.
     pub fn delete_batch<R: Wait>(
         &self,
         rt: &R,
         session: &mut Session<D, T>,
         batch: Batch,
     ) -> Result<Listed<EntryResult>, Refusal>
+        requires deletes { batch.kind ≡ kind.Delete }
         ensures sections { CallDone (around (C.tells self.now.clock) (G.saw self.now.gate) self.now.per_queue (vec_len self.now.homes)) self.now.sample (asks.Batch batch) session.old (answered_as answer.Batch result) session.new }
         ensures leaves_records { LeavesRecords (CallFits (service_counts self.now.per_queue self.now.sample) (asks.Batch batch)) session.old.journal (answered_as answer.Batch result) session.new.journal }
     {
         entries(self.call(rt, session, &Call::Batch(batch)))
     }
 
-    /// ChangeMessageVisibilityBatch: up to ten changes, each answered by itself.
+    /// ChangeMessageVisibilityBatch: up to ten changes, each answered by itself; of a batch of changes.
     pub fn change_batch<R: Wait>(
         &self,
         rt: &R,
         session: &mut Session<D, T>,
         batch: Batch,
     ) -> Result<Listed<EntryResult>, Refusal>
+        requires changes { batch.kind ≡ kind.Change }
         ensures sections { CallDone (around (C.tells self.now.clock) (G.saw self.now.gate) self.now.per_queue (vec_len self.now.homes)) self.now.sample (asks.Batch batch) session.old (answered_as answer.Batch result) session.new }
         ensures leaves_records { LeavesRecords (CallFits (service_counts self.now.per_queue self.now.sample) (asks.Batch batch)) session.old.journal (answered_as answer.Batch result) session.new.journal }
     {

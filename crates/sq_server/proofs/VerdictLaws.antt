@@ -1,6 +1,6 @@
 -- What an audit of the parts that a service leaves says of the service.
 use Rattle.std.proofs.Common.{ℕ, List, Result, Ok, Err, refl, inl, inr}
-use Rattle.std.specs.Prelude.{◌≡◌, IfOk, IfErr}
+use Rattle.std.specs.Prelude.{◌≡◌, IfOk, IfErr, OnOk}
 use Rattle.sq_audit.specs.Faults.{FaultHolds}
 use Rattle.sq_audit.specs.HomeIds.{histories_of}
 use Rattle.sq_audit.specs.declared.check.AuditFault.{AuditFault}
@@ -10,8 +10,8 @@ use Rattle.sq_queue.specs.SessionValue.{SessionValue}
 use Rattle.sq_server.specs.Verdicts.{AreLeftBy, IsFaultLeft, IsFaultOf, IsOneRun, IsRunLeft}
 
 -- parts that are left, and are judged to be one run
-pub run_left : (homes : ℕ) (sessions : List SessionValue) (p : Parts) (told : Result Parts AuditFault) → AreLeftBy homes sessions p → IfOk told (λ run. run ≡ p) → IfOk told IsOneRun → IfOk told (IsRunLeft homes sessions)
-run_left homes sessions p (Ok run) left same is = (rw same left, is)
+pub run_left : (homes : ℕ) (sessions : List SessionValue) (p : Parts) (told : Result Parts AuditFault) → AreLeftBy homes sessions p → IfOk told (λ run. run ≡ p) → OnOk told (IsOneRun p) → IfOk told (IsRunLeft homes sessions)
+run_left homes sessions p (Ok run) left same is = rw same (left, is)
 run_left homes sessions p (Err fault) left same is = is
 
 -- parts that are left, and the fault that an audit found in them

@@ -6,7 +6,7 @@ ghost use Rattle.sq_model.specs.Policies.{nothing_given};
 ghost use Rattle.sq_queue.specs.Services.{service_counts};
 ghost use Rattle.sq_base.specs.declared.handle.Handle.{Handle as HandleValue};
 ghost use Rattle.sq_server.specs.Handles.{first_given};
-ghost use Rattle.sq_server.specs.inside.Races.{HasCalled, HasCalledAll, HasDeleted, HasMadeQueues, HasReceived, HasSent, receive_call};
+ghost use Rattle.sq_server.specs.inside.Races.{HasCalled, HasCalledAll, HasDeleted, HasMadeQueues, HasReceived, HasSent, dead_queue_call, delete_call, race_queue_call, receive_call, send_call};
 
 use crate::served::{Client, Served};
 use sq_base::handle::Handle;
@@ -68,6 +68,20 @@ pub fn create(name: QueueName, target: Option<QueueName>) -> Call
     Call::CreateQueue(CreateQueue { name, attributes })
 }
 
+// CreateQueue of the queue for dead letters.
+fn dead_queue_asked() -> Call
+    ensures { result ≡ dead_queue_call }
+{
+    create(dead_queue(), None)
+}
+
+// CreateQueue of the queue of a race, from which what was received twice goes to the other.
+fn race_queue_asked() -> Call
+    ensures { result ≡ race_queue_call }
+{
+    create(race_queue(), Some(dead_queue()))
+}
+
 /// Makes the queue of a race, from which what was received twice goes to another.
 pub(crate) fn make_queues<R: Clock + Wait, D: Ledger, T: Ledger>(
     service: &Served<'_, R, D, T, SlotStore>,
@@ -75,8 +89,8 @@ pub(crate) fn make_queues<R: Clock + Wait, D: Ledger, T: Ledger>(
 ) -> Result<(), Refusal>
     ensures { OnOk result (HasMadeQueues (service_counts service.now.service.value.per_queue service.now.service.value.sample) client.old.journal client.new.journal) }
 {
-    service.call(client, &create(dead_queue(), None))?;
-    service.call(client, &create(race_queue(), Some(dead_queue())))?;
+    service.call(client, &dead_queue_asked())?;
+    service.call(client, &race_queue_asked())?;
     Ok(())
 }
 
@@ -135,6 +149,21 @@ fn at_once() -> Call
     receive(race_queue(), Some(Timeout::of(0)))
 }
 
+// SendMessage to the queue of a race. Refused as NoMemory.
+fn race_send(alloc: Global) -> Result<Call, Refusal>
+    ensures call { IfOk result (λ call. call ≡ send_call) }
+    ensures refused { IfErr result (λ e. e ≡ Refusal.NoMemory) }
+{
+    send(alloc, race_queue())
+}
+
+// DeleteMessage at the queue of a race.
+fn race_delete(handle: Handle) -> Call
+    ensures { result ≡ delete_call handle }
+{
+    delete(race_queue(), handle)
+}
+
 // Whether a message was sent. What is refused is passed over.
 fn sends<R: Clock + Wait, D: Ledger, T: Ledger>(
     service: &Served<'_, R, D, T, SlotStore>,
@@ -142,7 +171,7 @@ fn sends<R: Clock + Wait, D: Ledger, T: Ledger>(
 ) -> bool
     ensures { HasSent (service_counts service.now.service.value.per_queue service.now.service.value.sample) client.old.journal result client.new.journal }
 {
-    match send(service.alloc, race_queue()) {
+    match race_send(service.alloc) {
         Ok(call) => service.call(client, &call).is_ok(),
         Err(_) => false,
     }
@@ -171,7 +200,7 @@ fn deletes<R: Clock + Wait, D: Ledger, T: Ledger>(
 {
     match given {
         Some(handle) => {
-            let _ = service.call(client, &delete(race_queue(), *handle));
+            let _ = service.call(client, &race_delete(*handle));
         }
         None => receives(service, client, given),
     }

@@ -1,5 +1,5 @@
 //! The verdict on what was done to a service, as a value, and the lines that tell it.
-ghost use Rattle.std.specs.Prelude.{◌≡◌, ◌≤◌, IfErr, IfOk, string_bytes};
+ghost use Rattle.std.specs.Prelude.{◌≡◌, ◌≤◌, IfErr, IfOk, OnOk, string_bytes};
 ghost use Rattle.sq_audit.specs.Faults.{FaultHolds};
 ghost use Rattle.sq_audit.specs.HomeIds.{histories_of};
 ghost use Rattle.sq_model.specs.Matches.{IsMatched, IsPaired};
@@ -33,15 +33,25 @@ impl Model for OneRun {
     ghost view = { λ r. r.parts.value };
 }
 
-/// Whether what was done to these parts, sorted by stamp, is one run that leaves them as they are. Refused with the fault, or as
+// Whether what was done to these parts, sorted by stamp, is one run that leaves them as they are.
+fn checked(alloc: Global, parts: &Parts) -> Result<(), AuditFault>
+    ensures run { OnOk result (IsOneRun parts.now) }
+    ensures fault { IfErr result (FaultHolds parts.now.directory.events parts.now.ledger.history.events (histories_of parts.now.homes.homes) parts.now.records) }
+    ensures out_of_memory { IfErr result (λ f. f ≡ AuditFault.NoMemory → IsMatched parts.now.directory.events parts.now.ledger.history.events (histories_of parts.now.homes.homes) parts.now.records × IsPaired parts.now.ledger.history.events (histories_of parts.now.homes.homes)) }
+{
+    let _run = merge(alloc, parts)?;
+    Ok(())
+}
+
+/// These parts, where what was done to them, sorted by stamp, is one run that leaves them as they are. Refused with the fault, or as
 /// NoMemory.
 pub fn judged(alloc: Global, parts: Box<Parts>) -> Result<OneRun, AuditFault>
     ensures of { IfOk result (λ run. run ≡ parts.value) }
-    ensures run { IfOk result IsOneRun }
+    ensures run { OnOk result (IsOneRun parts.value) }
     ensures fault { IfErr result (FaultHolds parts.value.directory.events parts.value.ledger.history.events (histories_of parts.value.homes.homes) parts.value.records) }
     ensures out_of_memory { IfErr result (λ f. f ≡ AuditFault.NoMemory → IsMatched parts.value.directory.events parts.value.ledger.history.events (histories_of parts.value.homes.homes) parts.value.records × IsPaired parts.value.ledger.history.events (histories_of parts.value.homes.homes)) }
 {
-    let _ = merge(alloc, &parts)?;
+    checked(alloc, &parts)?;
     Ok(OneRun { parts })
 }
 

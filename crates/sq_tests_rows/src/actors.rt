@@ -68,6 +68,14 @@ impl<D: Ledger, T: Ledger> Actor<D, T> {
         }
     }
 
+    // The walk that is kept for a task, or a new one.
+    fn walk_for(&self, task: TaskNo) -> Walk {
+        match &self.walk {
+            Some((of, walk)) => { if *of == task { *walk } else { Walk::new(task) } }
+            None => Walk::new(task),
+        }
+    }
+
     // Serves a task, by its walk; a task that is not there leaves the walk of another one.
     fn serve<R: Wait>(
         &mut self,
@@ -75,10 +83,7 @@ impl<D: Ledger, T: Ledger> Actor<D, T> {
         service: &Lined<'_, D, T>,
         task: TaskNo,
     ) -> Result<Turned, Refusal> {
-        let mut walk = match self.walk {
-            Some((of, walk)) if of == task => walk,
-            _ => Walk::new(task),
-        };
+        let mut walk = self.walk_for(task);
         let told = task_turn(service, rt, self.session.get_mut(), &mut walk);
         if told != Err(Refusal::ResourceNotFoundException) {
             self.walk = Some((task, walk));
@@ -97,7 +102,7 @@ impl<D: Ledger, T: Ledger> Actor<D, T> {
 }
 
 /// The actor of a number, with a new session where it has none yet.
-pub fn actor<'v, R: Wait, D: Ledger, T: Ledger>(
+pub fn actor_of<'v, R: Wait, D: Ledger, T: Ledger>(
     rt: &R,
     alloc: Global,
     service: &Lined<'_, D, T>,

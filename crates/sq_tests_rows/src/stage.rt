@@ -1,7 +1,7 @@
 //! A service that lines are answered by.
 ghost use Rattle.std.specs.Prelude.{◌≡◌};
 
-use crate::actors::{Actor, ByLines, Lined, actor};
+use crate::actors::{Actor, ByLines, Lined, actor_of};
 use crate::trial::Trial;
 use sq_audit::parts::Parts;
 use sq_base::refusal::Refusal;
@@ -75,8 +75,9 @@ impl<'a, R: Wait, D: Ledger, T: Ledger> Stage<'a, R, D, T, SlotStore> {
         &mut self,
         alloc: Global,
     ) -> Result<(&Lined<'a, D, T>, &mut Session<D, T>), Refusal> {
+        let rt = self.rt;
         let service = self.service.get();
-        let first = actor(self.rt, alloc, service, &mut self.actors, 0)?;
+        let first = actor_of(rt, alloc, service, &mut self.actors, 0)?;
         Ok((service, first.session()))
     }
 
@@ -91,15 +92,16 @@ impl<'a, R: Wait, D: Ledger, T: Ledger> Stage<'a, R, D, T, SlotStore> {
     // Does what was asked; none where it was stopped.
     fn done(&mut self, alloc: Global, request: &Request) -> Result<Option<Answered>, Refusal> {
         let steps = self.steps();
+        let rt = self.rt;
         let service = self.service.get();
-        let by = actor(self.rt, alloc, service, &mut self.actors, request.actor)?;
+        let by = actor_of(rt, alloc, service, &mut self.actors, request.actor)?;
         match &request.asked {
             Asked::Call(call) => {
-                let answer = by.call(self.rt, service, call, steps)?;
+                let answer = by.call(rt, service, call, steps)?;
                 Ok(answer.map(Answered::Call))
             }
             Asked::Turn(turn) => {
-                let turned = by.turn(self.rt, service, turn)?;
+                let turned = by.turn(rt, service, turn)?;
                 Ok(Some(Answered::Turn(turned)))
             }
         }

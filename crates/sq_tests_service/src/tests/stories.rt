@@ -289,6 +289,7 @@ impl Told {
             sessions: [1, 1],
             events,
             messages: Some(messages),
+            in_home: self.seen.in_home,
         };
         self.by[0] == digits && self.seen == seen
     }
