@@ -297,16 +297,13 @@ shared_may h l b now name id what e refused = elim refused [
 pub directory_may : (d : DirectoryHistory) (b : Journal) (now : ℕ) (call : DirectoryCall) (e : Refusal) → IsDirectoryStepRefused d b now call e → MayRefuse (AskDirectory call) e
 directory_may d b now call e refused = elim refused [
   | inl unready ↦ inl (not_ready b now e unready)
-  | inr step ↦ step_may e step.1 (λ clock. after_refused _ _ now e clock) (λ own. elim own.2 [
-    | inl memory ↦ inl (inl memory.0)
-    | inr unanswered ↦ elim unanswered [ inl memory ↦ inl (inl memory.0) | inr refusal ↦ directory_cases _ _ call e refusal ]
-  ])
+  | inr step ↦ step_may e step.1 (λ clock. after_refused _ _ now e clock) (λ own. directory_cases _ _ call e own.2)
 ]
 
 pub ledger_may : (l : LedgerHistory) (b : Journal) (now : ℕ) (what : TaskAct) (e : Refusal) → IsLedgerStepRefused l b now (task_call what) e → MayRefuse (AskLedger what) e
 ledger_may l b now what e refused = elim refused [
   | inl unready ↦ inl (not_ready b now e unready)
-  | inr step ↦ step_may e step.1 (λ clock. after_refused _ _ now e clock) (λ own. elim own.2 [ inl not ↦ own_cases _ _ what e not | inr out ↦ inl (inl out.0) ])
+  | inr step ↦ step_may e step.1 (λ clock. after_refused _ _ now e clock) (λ own. own_cases _ _ what e own.2)
 ]
 
 pub redriven_may : (d : Directory) (source : List ℕ) (destination : Option (List ℕ)) (e : Refusal) → can_redrive source destination d ≡ Err e → MayRefuse (Redriven source destination) e

@@ -26,9 +26,9 @@ abbrev pub is_handle_of : ℕ → ℕ → Handle → Bool
 is_handle_of homes queue handle = handle.queue == queue && nat_lt handle.home homes
 
 -- the handle, where it is one of this queue and of one of its homes
-abbrev pub handle_at : ℕ → ℕ → Option Handle → Option Handle
-handle_at homes queue None = None
-handle_at homes queue (Some handle) = if is_handle_of homes queue handle then Some handle else None
+abbrev pub handle_of_queue : ℕ → ℕ → Option Handle → Option Handle
+handle_of_queue homes queue None = None
+handle_of_queue homes queue (Some handle) = if is_handle_of homes queue handle then Some handle else None
 
 -- a count of messages is asked for
 abbrev pub asks_counts : AskedOfQueue → Bool

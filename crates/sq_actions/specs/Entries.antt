@@ -25,7 +25,7 @@ use Rattle.sq_calls.specs.declared.batches.EntryResult.{EntryResult}
 use Rattle.sq_calls.specs.declared.calls.Answer.{Answer}
 use Rattle.sq_calls.specs.declared.calls.Answer.TheVariants as answer
 use Rattle.sq_actions.specs.Asks.{AskHome, Done, MayRefuse}
-use Rattle.sq_actions.specs.Calls.{home_numbered, receipt_of, handle_at}
+use Rattle.sq_actions.specs.Calls.{home_numbered, receipt_of, handle_of_queue}
 use Rattle.sq_actions.specs.Steps.{home_step}
 
 -- One step at a home of a queue, whose reply makes what is told.
@@ -60,8 +60,8 @@ MakesDone by one = (by ≡ reply.Done) × (one ≡ entry.Done)
 -- a step on the message of a handle, at the handle's home
 abbrev pub HandleAt : ℕ → List ℕ → ℕ → Option Handle → (Receipt → HomeAct) → List Done → Result EntryAnswer Refusal → Type 0
 HandleAt homes name queue handle act trace told =
-    ((handle_at homes queue handle ≡ None) × (trace ≡ []) × (told ≡ Err ReceiptHandleIsInvalid))
-    ⊎ ((h : Handle) × (handle_at homes queue handle ≡ Some h) × OneStep name queue h.home (act (receipt_of h)) MakesDone trace told)
+    ((handle_of_queue homes queue handle ≡ None) × (trace ≡ []) × (told ≡ Err ReceiptHandleIsInvalid))
+    ⊎ ((h : Handle) × (handle_of_queue homes queue handle ≡ Some h) × OneStep name queue h.home (act (receipt_of h)) MakesDone trace told)
 
 -- What is asked of a queue that was found: one step at one of its homes, or none where it is refused before.
 abbrev pub EntryFits : ℕ → List ℕ → ℕ → EntryAsk → List Done → Result EntryAnswer Refusal → Type 0

@@ -6,6 +6,10 @@ use Rattle.sq_actions.specs.declared.walk.Walk.{Walk}
 abbrev pub new_walk : ℕ → Walk
 new_walk task = record { task = task; home = 0; nothings = 0 }
 
+-- the task that a walk is for
+abbrev pub task_walked : Walk → ℕ
+task_walked walk = walk.task
+
 -- from the last home to the first
 abbrev pub home_after : ℕ → ℕ → ℕ
 home_after homes home = if nat_lt (home + 1) homes then home + 1 else 0

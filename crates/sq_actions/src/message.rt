@@ -1,7 +1,7 @@
 //! What is done for one message of a queue that was found: by a call on it alone, or for an entry of a batch.
 ghost use Rattle.std.specs.Prelude.{◌≡◌, None, Some, IfOk, IfErr};
 ghost use Rattle.sq_actions.specs.inside.Messages.{act_of};
-ghost use Rattle.sq_actions.specs.Calls.{receipt_of, handle_at};
+ghost use Rattle.sq_actions.specs.Calls.{receipt_of, handle_of_queue};
 ghost use Rattle.sq_actions.specs.Entries.{PutAt, SendAt, HandleAt, EntryFits, one_answered};
 ghost use Rattle.sq_actions.specs.Performs.{Performs};
 
@@ -120,16 +120,20 @@ pub(crate) fn on_message<S: LockSteps>(
     ensures known { S.knows steps.new of.now.name of.now.number }
     ensures same_counts { S.counts steps.new ≡ S.counts steps.old }
 {
-    let handle = handle_at(steps.homes(), of.number, handle)?;
+    let handle = handle_of_queue(steps.homes(), of.number, handle)?;
     let act = what.act(&handle);
     steps.home_step(&NamedHome::found(of, handle.home), act)?;
     Ok(EntryAnswer::Done)
 }
 
 // The handle, where it is one of this queue and of one of its homes.
-fn handle_at(homes: HomeCount, queue: QueueNo, handle: &Option<Handle>) -> Result<Handle, Refusal>
-    ensures found { IfOk result (λ h. handle_at homes queue handle.now ≡ Some h) }
-    ensures lost { IfErr result (λ e. (handle_at homes queue handle.now ≡ None) × (e ≡ Refusal.ReceiptHandleIsInvalid)) }
+fn handle_of_queue(
+    homes: HomeCount,
+    queue: QueueNo,
+    handle: &Option<Handle>,
+) -> Result<Handle, Refusal>
+    ensures found { IfOk result (λ h. handle_of_queue homes queue handle.now ≡ Some h) }
+    ensures lost { IfErr result (λ e. (handle_of_queue homes queue handle.now ≡ None) × (e ≡ Refusal.ReceiptHandleIsInvalid)) }
 {
     match handle {
         Some(handle) if handle.queue == queue && (handle.home.get() as u32) < homes.get() => {

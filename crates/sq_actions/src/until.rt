@@ -28,14 +28,14 @@ use std::alloc::Global;
 
 /// Does so many steps. A step past them is not done, and refused as one that finds no memory.
 #[derive(Drop)]
-struct Until<'a, S> {
+struct LimitedSteps<'a, S> {
     steps: &'a mut S,
     left: u64,
     /// A step past the last was due.
     stopped: bool,
 }
 
-impl<'a, S: LockSteps> Until<'a, S> {
+impl<'a, S: LockSteps> LimitedSteps<'a, S> {
     // Counts a step; refused where none is left.
     fn count(&mut self) -> Result<(), Refusal>
         ensures same_reference { self.new.steps ≡ self.old.steps }
@@ -51,7 +51,7 @@ impl<'a, S: LockSteps> Until<'a, S> {
     }
 }
 
-impl<'a, S: LockSteps> LockSteps for Until<'a, S> {
+impl<'a, S: LockSteps> LockSteps for LimitedSteps<'a, S> {
     ghost use Rattle.sq_actions.specs.inside.StopLaws.{limited_leaves};
 
     ghost stepped = { λ s ask answered t.
@@ -141,25 +141,25 @@ pub fn call_until<S: LockSteps>(
     ensures answered { Performs S.stepped (UntilFits limit (CallFits (S.counts steps.old) call.now)) steps.old result steps.new }
     ensures leaves_records { LeavesRecords (UntilFits limit (CallFits (S.counts steps.old) call.now)) (S.journal steps.old) result (S.journal steps.new) }
 {
-    let mut until = Until {
+    let mut limited = LimitedSteps {
         steps,
         left: limit,
         stopped: false,
     };
-    call_within(&mut until, call)
+    call_within(&mut limited, call)
 }
 
 // Does a call within the steps that are left. It answers None where one more was due.
 fn call_within<S: LockSteps>(
-    until: &mut Until<'_, S>,
+    limited: &mut LimitedSteps<'_, S>,
     call: &Call,
 ) -> Result<Option<Answer>, Refusal>
-    requires { until.old.stopped ≡ false }
-    ensures same_reference { until.new.steps.ghost_name ≡ until.old.steps.ghost_name }
-    ensures answered { Performs S.stepped (UntilFits until.old.left (CallFits (S.counts until.old.steps.now) call.now)) until.old.steps.now result until.new.steps.now }
+    requires { limited.old.stopped ≡ false }
+    ensures same_reference { limited.new.steps.ghost_name ≡ limited.old.steps.ghost_name }
+    ensures answered { Performs S.stepped (UntilFits limited.old.left (CallFits (S.counts limited.old.steps.now) call.now)) limited.old.steps.now result limited.new.steps.now }
 {
-    let answered = client::call(until, call);
-    told_until(until.stopped, answered)
+    let answered = client::call(limited, call);
+    told_until(limited.stopped, answered)
 }
 
 // What is told of a call: nothing where a further step was due.

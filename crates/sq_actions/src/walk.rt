@@ -1,19 +1,20 @@
 //! The way of an actor over the homes that a task takes messages from.
 ghost use Rattle.std.specs.Prelude.{◌≡◌, ◌<◌};
-ghost use Rattle.sq_actions.specs.Walks.{after_nothing, after_other, home_after, new_walk, row_again};
+ghost use Rattle.sq_actions.specs.Walks.{after_nothing, after_other, home_after, new_walk, row_again, task_walked};
 
 use sq_base::ids::HomeNo;
 use sq_model::item::TaskNo;
 use sq_sample::sampler::HomeCount;
 
-/// How far the way of an actor is.
+/// How far the way of an actor is. Turns alone take it further: a task is finished where each home in a row had no message, and
+/// only who asked them may say so.
 #[derive(Clone, Copy, PartialEq, Eq, Debug)]
 pub struct Walk {
-    pub task: TaskNo,
-    /// The home that is asked next.
-    pub home: HomeNo,
-    /// How many homes in a row had no message.
-    pub nothings: u32,
+    pub(crate) task: TaskNo,
+    // The home that is asked next.
+    pub(crate) home: HomeNo,
+    // How many homes in a row had no message.
+    pub(crate) nothings: u32,
 }
 
 impl Walk {
@@ -26,6 +27,13 @@ impl Walk {
             home: HomeNo::first(),
             nothings: 0,
         }
+    }
+
+    /// The task that it is for.
+    pub fn task(&self) -> TaskNo
+        ensures { result ≡ task_walked self.now }
+    {
+        self.task
     }
 
     /// After a home that had no message.

@@ -22,7 +22,8 @@ use Rattle.sq_model.specs.Matches.{HomeHistory, IsHomeEvent, IsRecordAt, IsNamed
 use Rattle.sq_laws.proofs.PairLaws.{leaves_matched, items_matched}
 use Rattle.sq_history.specs.HistoryValue.{HistoryValue}
 use Rattle.sq_model.specs.Ledgers.{Ledger, LedgerEvent, LedgerStep, is_own}
-use Rattle.sq_audit.specs.HomeIds.{home_history, histories_of, home_id, IsNumbered, home_index}
+use Rattle.sq_history.specs.HomeIds.{home_id, IsNumbered, home_index}
+use Rattle.sq_audit.specs.HomeHistories.{home_history, histories_of}
 use Rattle.sq_steps.specs.Journals.{AreDistinct, RecordsRiseAt, is_of_actor}
 use Rattle.sq_audit.specs.declared.check.AuditFault.{AuditFault}
 use Rattle.sq_audit.specs.declared.check.AuditFault.TheVariants.{NoMemory, RecordMissing, RecordTwice, LeaveUnmatched, EnterUnmatched}
@@ -35,7 +36,7 @@ use Rattle.sq_history.specs.Events.{HasHomeEvent}
 use Rattle.sq_model.proofs.ElementLaws.{some_same, get_map, get_mapped, all_get}
 use Rattle.sq_steps.proofs.JournalListLaws.{journal_own, found_is, journal_once, same_place}
 use Rattle.sq_audit.proofs.ListLaws.{all_at}
-use Rattle.sq_audit.proofs.HomeIdLaws.{index_found, place_back, index_none}
+use Rattle.sq_history.proofs.HomeIdLaws.{index_found, place_back, index_none}
 
 differing : (j i : ℕ) → j ≢ i → (j < i) ⊎ (j ≡ i) ⊎ (i < j)
 differing j i ne = elim (leb_tells i j) as (λ _. (j < i) ⊎ (j ≡ i) ⊎ (i < j)) [ inl p ↦ inr (inr (let le : i ≤ j = p.1 in omega (arith, le, ne))) | inr p ↦ inl (omega (arith, p.1)) ]

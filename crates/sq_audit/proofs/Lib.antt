@@ -10,4 +10,3 @@ pub mod RunLaws
 pub mod CheckLaws
 pub mod OnePlaceLaws
 pub mod RecordOrderLaws
-pub mod HomeIdLaws

@@ -31,7 +31,8 @@ use Rattle.sq_directory.specs.DirectoryHistory.{DirectoryHistory}
 use Rattle.sq_directory.specs.DirectoryHistories.{IsDirectoryKept}
 use Rattle.sq_audit.specs.SystemNow.{system_now, events_of, opening_now, by_part, own_events}
 use Rattle.sq_audit.specs.Actors.{PartsRise}
-use Rattle.sq_audit.specs.HomeIds.{histories_of, IsNumbered}
+use Rattle.sq_history.specs.HomeIds.{IsNumbered}
+use Rattle.sq_audit.specs.HomeHistories.{histories_of}
 use Rattle.sq_audit.proofs.OrderLaws.{order_under, order_over, sorted_from, order_from, part_stays}
 use Rattle.sq_audit.proofs.RisingLaws.{Increasing, increases, increases_still}
 use Rattle.sq_audit.proofs.SharedLaws.{ledger_alone, ledger_is, run_parts_rise}

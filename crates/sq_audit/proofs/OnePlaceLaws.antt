@@ -7,9 +7,9 @@ use Rattle.sq_base.specs.declared.ids.HomeId.{HomeId}
 use Rattle.sq_model.specs.declared.place.Site.{Site}
 use Rattle.sq_model.specs.Systems.{same_home, IsOnePlace}
 use Rattle.sq_history.specs.HistoryValue.{HistoryValue}
-use Rattle.sq_audit.specs.HomeIds.{IsNumbered}
+use Rattle.sq_history.specs.HomeIds.{IsNumbered}
 use Rattle.sq_model.proofs.ElementLaws.{get_mapped}
-use Rattle.sq_audit.proofs.HomeIdLaws.{same_id}
+use Rattle.sq_history.proofs.HomeIdLaws.{same_id}
 use Rattle.sq_audit.proofs.CheckLaws.{home_id_once}
 
 -- each id stands at one place

@@ -12,7 +12,8 @@ use Rattle.sq_audit.specs.Actors.{event_actor, event_place, ActorsRise, PartsRis
 use Rattle.sq_audit.specs.inside.Actors.{PlacesAgree, PlacesApart}
 use Rattle.sq_steps.specs.Journals.{RecordsRiseAt, AreDistinct}
 use Rattle.sq_audit.specs.SystemNow.{events_of}
-use Rattle.sq_audit.specs.HomeIds.{home_history, histories_of, IsNumbered}
+use Rattle.sq_history.specs.HomeIds.{IsNumbered}
+use Rattle.sq_audit.specs.HomeHistories.{home_history, histories_of}
 use Rattle.sq_audit.proofs.ActorLaws.{all_rise, in_directory, in_home}
 use Rattle.sq_audit.proofs.CheckLaws.{nat_compare, records_rise, home_once, recorded_as}
 use Rattle.sq_audit.proofs.SharedLaws.{event_home, in_ledger}

@@ -19,7 +19,8 @@ use Rattle.sq_model.specs.Systems.{Tag, OfDirectory, OfLedger, OfHome, as_ledger
 use Rattle.sq_history.specs.HistoryValue.{HistoryValue}
 use Rattle.sq_history.specs.Histories.{IsKept}
 use Rattle.sq_audit.specs.Actors.{PartsRise}
-use Rattle.sq_audit.specs.HomeIds.{IsNumbered, histories_of, home_history}
+use Rattle.sq_history.specs.HomeIds.{IsNumbered}
+use Rattle.sq_audit.specs.HomeHistories.{histories_of, home_history}
 use Rattle.sq_audit.specs.SystemNow.{events_of, own_events}
 use Rattle.sq_model.proofs.ElementLaws.{all_get, get_map, get_mapped, some_same}
 use Rattle.sq_audit.proofs.ActorLaws.{in_home, less_first, same_number}

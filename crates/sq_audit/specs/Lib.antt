@@ -4,5 +4,6 @@ pub mod Actors
 pub mod RunLineages
 pub mod HomesValue
 pub mod Faults
-pub mod HomeIds
+pub mod HomeHistories
+pub mod Matched
 pub mod inside

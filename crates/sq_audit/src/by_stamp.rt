@@ -8,7 +8,8 @@ ghost use Rattle.sq_history.specs.HistoryValue.{all_events};
 ghost use Rattle.sq_ledger.specs.LedgerHistories.{IsLedgerKept};
 ghost use Rattle.sq_directory.specs.DirectoryHistories.{IsDirectoryKept};
 ghost use Rattle.sq_audit.specs.Actors.{PartsRise};
-ghost use Rattle.sq_audit.specs.HomeIds.{histories_of, IsNumbered};
+ghost use Rattle.sq_history.specs.HomeIds.{IsNumbered};
+ghost use Rattle.sq_audit.specs.HomeHistories.{histories_of};
 ghost use Rattle.sq_audit.specs.Tags.{tags_of};
 ghost use Rattle.sq_audit.specs.SystemNow.{by_part, events_of, own_events, system_now, opening_now};
 

@@ -9,17 +9,19 @@ ghost use Rattle.sq_model.specs.Replays.{HomeEvent};
 ghost use Rattle.sq_model.specs.Matches.{HasItsEvent, InHome, IsMatched, IsOfLedger, IsPaired, IsRecorded, is_shared_as};
 ghost use Rattle.sq_steps.specs.Records.{value_of_record};
 ghost use Rattle.sq_steps.specs.Journals.{RecordsRiseAt, AreDistinct};
-ghost use Rattle.sq_audit.specs.HomeIds.{histories_of, home_id};
+ghost use Rattle.sq_history.specs.HomeIds.{home_id};
+ghost use Rattle.sq_audit.specs.HomeHistories.{histories_of};
 ghost use Rattle.sq_audit.specs.Faults.{FaultHolds, IsWrong};
 ghost use Rattle.sq_audit.specs.inside.Faults.{RecordFits, DirectoryFits, LedgerFits, HomeFits, LedgerHas, HomeHas, IsWithoutPartner, unmatched, IsRecordFault, IsAt, IsPartThere, IsRecordedAt, IsEventFault, EventFits, HasEventFault, HasPartner};
 
-use crate::homes::{Homes, home_index};
+use crate::homes::Homes;
 use crate::names::has_name;
 use sq_base::ids::HomeId;
 use sq_base::stamp::Stamp;
 use sq_directory::directory::Directory;
 use sq_directory::events::has_directory_event;
 use sq_history::events::has_home_event;
+use sq_history::homes::home_index;
 use sq_history::record::LentHomeRecord;
 use sq_history::recorded::Home;
 use sq_ledger::events::{has_ledger_event, has_shared_event, is_alone, is_leave, is_shared_event};
@@ -75,7 +77,8 @@ pub(crate) struct Evidence<'a> {
 
 impl<'a> Model for Evidence<'a> {
     ghost use Rattle.sq_steps.specs.Journals.{AreDistinct};
-    ghost use Rattle.sq_audit.specs.HomeIds.{histories_of, IsNumbered};
+    ghost use Rattle.sq_history.specs.HomeIds.{IsNumbered};
+    ghost use Rattle.sq_audit.specs.HomeHistories.{histories_of};
     ghost use Rattle.sq_audit.specs.inside.EvidenceValue.{EvidenceValue};
 
     ghost Value = { EvidenceValue };

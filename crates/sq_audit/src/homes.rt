@@ -1,8 +1,7 @@
 //! The homes of all queues that may ever be made: those of the first queue first, each in the order of its number.
-ghost use Rattle.std.specs.Prelude.{◌≡◌, ◌*◌, ◌≤◌, ◌<◌, length};
-ghost use Rattle.sq_audit.specs.HomeIds.{IsNumbered, home_index};
+ghost use Rattle.std.specs.Prelude.{◌≡◌, ◌≤◌, length};
+ghost use Rattle.sq_history.specs.HomeIds.{IsNumbered};
 
-use sq_base::ids::HomeId;
 use sq_history::recorded::Home;
 use sq_sample::sampler::HomeCount;
 use std::marker::Model;
@@ -17,7 +16,7 @@ pub struct Homes {
 impl Model for Homes {
     ghost use Rattle.std.specs.Prelude.{◌≤◌, length};
     ghost use Rattle.sq_audit.specs.HomesValue.{HomesValue};
-    ghost use Rattle.sq_audit.specs.HomeIds.{IsNumbered};
+    ghost use Rattle.sq_history.specs.HomeIds.{IsNumbered};
 
     ghost Value = { HomesValue };
 
@@ -49,25 +48,5 @@ impl Homes {
         ensures few { length result.now ≤ 16384 }
     {
         self.table.as_slice()
-    }
-}
-
-/// Where a home stands among so many.
-pub fn home_index(per_queue: HomeCount, count: usize, id: &HomeId) -> Option<usize>
-    ensures index { result ≡ home_index per_queue count id.now }
-    ensures queue { 1 ≤ id.now.queue }
-    ensures homes { 1 ≤ per_queue }
-{
-    let homes = per_queue.get() as u64;
-    let queue = id.queue.get();
-    let number = id.home.get() as u64;
-    if number >= homes {
-        return None;
-    }
-    let index = (queue - 1) * homes + number;
-    if index < count as u64 {
-        Some(index as usize)
-    } else {
-        None
     }
 }

@@ -2,11 +2,10 @@
 ghost use Rattle.std.specs.Prelude.{◌≡◌, ◌<◌, length, map, IfOk, IfErr, OnOk};
 ghost use Rattle.sq_model.specs.Systems.{IsRun, IsOnePlace};
 ghost use Rattle.sq_model.specs.Merges.{IsMerged};
-ghost use Rattle.sq_model.specs.Matches.{IsMatched, IsPaired};
 ghost use Rattle.sq_audit.specs.Actors.{ActorsRise, PartsRise};
-ghost use Rattle.sq_audit.specs.Faults.{FaultHolds};
+ghost use Rattle.sq_audit.specs.Matched.{AreMatched, ArePaired, HasFault};
 ghost use Rattle.sq_audit.specs.SystemNow.{by_part, events_of, system_now, opening_now};
-ghost use Rattle.sq_audit.specs.HomeIds.{histories_of, IsNumbered};
+ghost use Rattle.sq_history.specs.HomeIds.{IsNumbered};
 
 use crate::by_stamp::by_stamp;
 use crate::check::{AuditFault, Evidence, check};
@@ -24,17 +23,17 @@ use std::alloc::Global;
 /// Refused for what is wrong with the records and the histories, and where nothing is and there is an event, as NoMemory; those
 /// that a world leaves are right.
 pub fn merge<'a>(alloc: Global, parts: &'a Parts) -> Result<Run<'a>, AuditFault>
-    ensures matched { OnOk result (IsMatched parts.now.directory.events parts.now.ledger.history.events (histories_of parts.now.homes.homes) parts.now.records) }
+    ensures matched { OnOk result (AreMatched parts.now) }
     ensures merged { IfOk result (λ run. IsMerged parts.now.directory.events parts.now.ledger.history.events (events_of parts.now.homes.homes) run) }
-    ensures paired { OnOk result (IsPaired parts.now.ledger.history.events (histories_of parts.now.homes.homes)) }
+    ensures paired { OnOk result (ArePaired parts.now) }
     ensures run { IfOk result (λ run. IsRun (opening_now parts.now.directory parts.now.ledger.history parts.now.homes.homes) run (system_now parts.now.directory parts.now.ledger.history parts.now.homes.homes)) }
     ensures actors { IfOk result (λ run. ActorsRise run) }
     ensures parts { IfOk result (λ run. PartsRise run) }
     ensures numbered { OnOk result (IsNumbered parts.now.homes.per_queue parts.now.homes.homes) }
     ensures one_place { OnOk result (IsOnePlace (map (λ h. h.site) parts.now.homes.homes)) }
-    ensures fault { IfErr result (FaultHolds parts.now.directory.events parts.now.ledger.history.events (histories_of parts.now.homes.homes) parts.now.records) }
-    ensures honest { IsMatched parts.now.directory.events parts.now.ledger.history.events (histories_of parts.now.homes.homes) parts.now.records → IsPaired parts.now.ledger.history.events (histories_of parts.now.homes.homes) → IfErr result (λ f. f ≡ AuditFault.NoMemory) }
-    ensures out_of_memory { IfErr result (λ f. f ≡ AuditFault.NoMemory → IsMatched parts.now.directory.events parts.now.ledger.history.events (histories_of parts.now.homes.homes) parts.now.records × IsPaired parts.now.ledger.history.events (histories_of parts.now.homes.homes)) }
+    ensures fault { IfErr result (HasFault parts.now) }
+    ensures honest { AreMatched parts.now → ArePaired parts.now → IfErr result (λ f. f ≡ AuditFault.NoMemory) }
+    ensures out_of_memory { IfErr result (λ f. f ≡ AuditFault.NoMemory → AreMatched parts.now × ArePaired parts.now) }
     ensures some_event { IfErr result (λ f. f ≡ AuditFault.NoMemory → 0 < length (by_part parts.now.directory.events parts.now.ledger.history.events (events_of parts.now.homes.homes))) }
 {
     let homes = parts.homes.as_slice();

@@ -1,6 +1,6 @@
 //! What is called.
 use sq_base::name::QueueName;
-use sq_opening::options::Options;
+use sq_model::options::Options;
 
 /// A queue has so many homes, of which a receive looks at two.
 pub fn options(homes: u64) -> Options {

@@ -1,5 +1,6 @@
 //! Threads that call one service.
 ghost use Rattle.std.specs.Prelude.{◌≡◌};
+ghost use Rattle.sq_queue.specs.Seats.{IsNamedBy};
 
 use crate::options::{options, queue_name};
 use crate::spent::{Spent, begin};
@@ -116,8 +117,8 @@ fn measure_at<
     D: Ledger + Send + Sync,
     T: Ledger + Send + Sync,
 >(rt: &R, alloc: Global, load: Load, blanks: Blanks) -> Option<Spent>
-    requires of_directory { (blanks.directory.name ≡ D.name) × (blanks.directory.parts ≡ D.parts) × (D.parts ≡ 4294967296) }
-    requires of_ledger { (blanks.ledger.name ≡ T.name) × (blanks.ledger.parts ≡ T.parts) × (T.parts ≡ 4294967296) }
+    requires of_directory { IsNamedBy D.name D.parts blanks.directory }
+    requires of_ledger { IsNamedBy T.name T.parts blanks.ledger }
 {
     let service: Served<'_, R, D, T, SlotStore> = Served::new(
         rt,

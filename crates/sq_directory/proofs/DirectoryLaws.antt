@@ -16,7 +16,7 @@ use Rattle.sq_model.specs.Systems.{DirectoryEvent, AreDirectory}
 use Rattle.sq_model.proofs.ReplayLaws.{replays_push}
 use Rattle.sq_directory.specs.DirectoryHistory.{DirectoryHistory}
 use Rattle.sq_model.specs.RecordValues.{DirectoryRecordValue}
-use Rattle.sq_directory.specs.DirectoryHistories.{DirectoryRecords, IsDirectoryKept, IsListing, directory_event}
+use Rattle.sq_directory.specs.DirectoryHistories.{DirectoryRecords, IsDirectoryKept, directory_event}
 
 creates_most : (d : Directory) (m : ℕ) (name : List ℕ) (given : Attributes) (found : Option Queue) (made : QueueSettings) (after : Directory) → Creates d m name given found made after → after.most ≡ d.most
 creates_most d m name given None made after h = ap (λ (x : Directory). x.most) h.2
@@ -51,16 +51,3 @@ directory_kept_more old new by now call its_record kept rising more =
       rising = rising;
       own = rw more.events (own_push old.events event kept.own refl);
     }
-
--- a step with a reply that lists queues changes nothing
-pub listing_stays : (d : Directory) (m : ℕ) (call : DirectoryCall) (reply : DirectoryReply) (after : Directory) → DirectoryStep d m call reply after → IsListing reply → after ≡ d
-unfolding DirectoryStep
-listing_stays d m (asks.List prefix) (answers.Listed names) after h listing = h.1
-listing_stays d m (asks.Sources name) (answers.Sources names) after h listing = h.1
-listing_stays d m (asks.Read name) (answers.Read attributes) after h listing = h.1
-listing_stays d m (asks.Create name given) (answers.Made made) after h listing = elim listing [ ]
-listing_stays d m (asks.Set name given) (answers.Changed changed) after h listing = elim listing [ ]
-listing_stays d m (asks.Remove name) (answers.Removed number) after h listing = elim listing [ ]
-listing_stays d m (asks.PurgeTicket name) (answers.Ticket number) after h listing = elim listing [ ]
-listing_stays d m (asks.Url name) (answers.Found number) after h listing = elim listing [ ]
-listing_stays d m call reply after h listing = elim h [ ]

@@ -1,5 +1,5 @@
 -- What a recorded step of the directory does, and what is true of the directory at all times.
-use Rattle.std.specs.Prelude.{◌≡◌, ◌⊎◌, ◌<◌, ℕ, Bool, true, false, [], ◌∷◌, ◌++◌, length, None, Some, Ok, Err}
+use Rattle.std.specs.Prelude.{◌≡◌, ◌⊎◌, ◌<◌, ℕ, Bool, true, false, [], ◌∷◌, ◌++◌, length, Some, Ok, Err}
 use Rattle.sq_base.specs.StampValue.{StampValue}
 use Rattle.sq_base.specs.Stamps.{start, after}
 use Rattle.sq_base.specs.declared.refusal.Refusal.{Refusal}
@@ -8,9 +8,9 @@ use Rattle.sq_model.specs.declared.place.Component.TheVariants as part
 use Rattle.sq_model.specs.declared.directory.DirectoryCall.{DirectoryCall}
 use Rattle.sq_model.specs.declared.directory.DirectoryCall.TheVariants as asks
 use Rattle.sq_model.specs.declared.directory.DirectoryReply.{DirectoryReply}
-use Rattle.sq_model.specs.declared.directory.DirectoryReply.TheVariants as answers
+use Rattle.sq_model.specs.declared.directory.Queue.{Queue}
 use Rattle.sq_model.specs.declared.event.Actor.{Actor}
-use Rattle.sq_model.specs.Directories.{Directory, DirectoryStep, directory_refusal, opening_directory, queue_of}
+use Rattle.sq_model.specs.Directories.{Directory, DirectoryStep, IsThere, directory_refusal, names_with, opening_directory, sources_of}
 use Rattle.sq_model.specs.Policies.{has_list, lists_queues}
 use Rattle.sq_model.specs.Replays.{Replays, StampsRise}
 use Rattle.sq_model.specs.Systems.{DirectoryEvent, AreDirectory}
@@ -37,36 +37,19 @@ gives_list (asks.Create name given) = has_list given.allow
 gives_list (asks.Set name given) = has_list given.allow
 gives_list other = false
 
--- a reply with a list of queues: names, or those of a policy
-abbrev pub IsListing : DirectoryReply → Type 0
-IsListing (answers.Listed names) = 0 < length names
-IsListing (answers.Sources names) = 0 < length names
-IsListing (answers.Read attributes) = lists_queues attributes.allow ≡ true
-IsListing other = ⊥
+-- a call that is answered with a list of queues: names, or those of a policy
+abbrev pub AnswersList : Directory → DirectoryCall → Type 0
+AnswersList d (asks.List prefix) = 0 < length (names_with prefix d.queues)
+AnswersList d (asks.Sources name) = (queue : Queue) × IsThere d name queue × (0 < length (sources_of queue.number d.queues))
+AnswersList d (asks.Read name) = (queue : Queue) × IsThere d name queue × (lists_queues queue.allow ≡ true)
+AnswersList d other = ⊥
 
--- a call with a list of queues, which a queue is to have from then on
-abbrev pub KeepsList : Directory → DirectoryCall → Type 0
-KeepsList d (asks.Create name given) = (has_list given.allow ≡ true) × (queue_of name d.queues ≡ None)
-KeepsList d (asks.Set name given) = has_list given.allow ≡ true
-KeepsList d other = ⊥
-
--- a call that is not refused, and has a list of queues to keep or to answer
-abbrev pub TakesMemory : Directory → ℕ → DirectoryCall → Type 0
-TakesMemory d m call =
-    (KeepsList d call × (directory_refusal d m call ≡ None))
-    ⊎ ((reply : DirectoryReply) × (after : Directory) × DirectoryStep d m call reply after × IsListing reply)
-
--- why the queues do not answer a call at m: no memory was found for a list of queues, or the first check that fails
-abbrev pub IsUnanswered : Directory → ℕ → DirectoryCall → Refusal → Type 0
-IsUnanswered d m call e = ((e ≡ NoMemory) × TakesMemory d m call) ⊎ (directory_refusal d m call ≡ Some e)
-
--- The first that fails, in order: memory for the event; the clock, and the counts; memory for the list that the call gives; the
--- directory's checks; and memory for a list that is kept or answered.
+-- The first that fails, in order: memory, where it has to be got; the clock, and the counts; and the directory's checks.
 abbrev pub IsDirectoryRefused : DirectoryHistory → Actor → ℕ → DirectoryCall → Refusal → Type 0
 IsDirectoryRefused old by now call e =
-    ((e ≡ NoMemory) × (old.room ≡ 0))
+    ((e ≡ NoMemory) × ((old.room ≡ 0) ⊎ (gives_list call ≡ true) ⊎ AnswersList old.directory call))
     ⊎ (after old.last by.seen now ≡ Err e)
-    ⊎ ((stamp : StampValue) × (after old.last by.seen now ≡ Ok stamp) × (((e ≡ NoMemory) × (gives_list call ≡ true)) ⊎ IsUnanswered old.directory stamp.moment call e))
+    ⊎ ((stamp : StampValue) × (after old.last by.seen now ≡ Ok stamp) × (directory_refusal old.directory stamp.moment call ≡ Some e))
 
 -- True at all times: the directory is the replay of its events, whose stamps rise, and each event is its own.
 pub record IsDirectoryKept (h : DirectoryHistory) : Type 0 where

@@ -1,3 +1,4 @@
+pub mod inside
 pub mod DirectoryHistory
 pub mod DirectoryHistories
 pub mod Makers

@@ -1,7 +1,8 @@
 //! Copies of what the directory is asked, and of what it answers.
 ghost use Rattle.std.specs.Prelude.{◌≡◌, true, IfOk, IfErr};
 ghost use Rattle.sq_model.specs.Policies.{lists_queues};
-ghost use Rattle.sq_directory.specs.DirectoryHistories.{IsListing, gives_list};
+ghost use Rattle.sq_directory.specs.DirectoryHistories.{gives_list};
+ghost use Rattle.sq_directory.specs.inside.Prepared.{IsListing};
 
 use sq_base::refusal::Refusal;
 use sq_model::directory::{DirectoryCall, DirectoryReply, QueueAttributes};
@@ -56,20 +57,6 @@ pub fn copy_reply(alloc: Global, reply: &DirectoryReply) -> Result<DirectoryRepl
             DirectoryReply::Read(copy_attributes(alloc, attributes)?)
         }
     })
-}
-
-/// The same reply twice: for the event, and for its record. Refused as a copy of it is.
-pub fn copy_twice(
-    alloc: Global,
-    reply: &DirectoryReply,
-) -> Result<(DirectoryReply, DirectoryReply), Refusal>
-    ensures kept { IfOk result (λ copies. copies.0 ≡ reply.now) }
-    ensures for_record { IfOk result (λ copies. copies.1 ≡ reply.now) }
-    ensures err { IfErr result (λ e. (e ≡ Refusal.NoMemory) × IsListing reply.now) }
-{
-    let kept = copy_reply(alloc, reply)?;
-    let for_record = copy_reply(alloc, reply)?;
-    Ok((kept, for_record))
 }
 
 fn copy_attributes(alloc: Global, attributes: &QueueAttributes) -> Result<QueueAttributes, Refusal>

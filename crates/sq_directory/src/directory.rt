@@ -6,7 +6,8 @@ ghost use Rattle.sq_policy.specs.Reading.{seen_as};
 ghost use Rattle.sq_directory.specs.MoveQueues.{as_ends};
 ghost use Rattle.sq_directory.specs.Makers.{IsMadeBy, IsAnsweredByName};
 
-use crate::copies::{copy_call, copy_twice};
+use crate::copies::copy_call;
+use crate::prepared::ThreeReplies;
 use crate::queues::Queues;
 use crate::record::DirectoryRecord;
 use sq_base::ids::QueueNo;
@@ -44,9 +45,10 @@ impl Model for Directory {
 impl Directory {
     ghost use Rattle.sq_directory.specs.DirectoryHistories.{DirectoryRecords, IsDirectoryRefused, IsDirectoryKept};
 
-    /// No queue, no event, and memory for so many queues. Refused where that is not found.
+    /// No queue, no event, and memory for so many queues. Refused where that is not found; none is got for no queue.
     pub fn new(alloc: Global, most: u32) -> Result<Directory, AllocError>
-        ensures { IfOk result (λ directory. directory ≡ record { directory = opening_directory most; last = start; events = []; room = 0 }) }
+        ensures opening { IfOk result (λ directory. directory ≡ record { directory = opening_directory most; last = start; events = []; room = 0 }) }
+        ensures refused { OnErr result (0 < most) }
     {
         Ok(Directory {
             queues: Queues::new(alloc, most)?,
@@ -101,10 +103,10 @@ impl Directory {
     }
 
     /// Does what one call asks, at its stamp. What it answers is what its record says.
-    /// Refused as NoMemory (the history has room for none), ClockRange, Worn, NoMemory (the call gives a list of queues), and
-    /// then as the call: QueueDoesNotExist; of Create QueueNameExists, QueueDeletedRecently, InvalidAttributeValue, TableFull;
-    /// of Set Worn, InvalidAttributeValue; of PurgeTicket PurgeQueueInProgress; and as NoMemory, where a list of queues is
-    /// kept or answered, or a policy is shown that has one.
+    /// Refused as NoMemory (the history has room for none, the call gives a list of queues or is answered with one, or with a
+    /// policy that has one), ClockRange, Worn, and then as the call: QueueDoesNotExist; of Create QueueNameExists,
+    /// QueueDeletedRecently, InvalidAttributeValue, TableFull; of Set Worn, InvalidAttributeValue; of PurgeTicket
+    /// PurgeQueueInProgress.
     pub fn step(
         &mut self,
         alloc: Global,
@@ -119,12 +121,17 @@ impl Directory {
         ensures refusal { IfErr result (IsDirectoryRefused self.old by.now now call.now) }
         ensures err { OnErr result (self.new ≡ self.old) }
     {
-        let stamp = self.log.begin(by, now)?;
+        self.log.reserve()?;
         let in_event = copy_call(alloc, call)?;
         let in_record = copy_call(alloc, call)?;
-        let answered = self.queues.answer(alloc, stamp.moment, call)?;
-        // Only a reply of a call that changes nothing takes memory.
-        let (kept, for_record) = copy_twice(alloc, &answered)?;
+        let prepared = self.queues.prepare(alloc, call)?;
+        // What follows takes no memory.
+        let stamp = self.log.next_stamp(by, now)?;
+        let ThreeReplies {
+            kept,
+            for_record,
+            answered,
+        } = self.queues.answer(stamp.moment, call, prepared)?;
         let part = Component::Directory;
         let step = self
             .log

@@ -6,6 +6,7 @@ pub mod copies;
 pub mod directory;
 pub mod events;
 pub mod listing;
+pub mod prepared;
 pub mod queues;
 pub mod record;
 pub mod stored;

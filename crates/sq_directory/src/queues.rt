@@ -1,17 +1,19 @@
 //! The queues of a service, and what each step does to them.
-ghost use Rattle.std.specs.Prelude.{◌≡◌, ◌⊎◌, ◌<◌, ◌++◌, ◌∷◌, ℕ, suc, [], true, None, Some, length, IfOk, IfErr, OnOk, OnErr};
-ghost use Rattle.sq_model.specs.Directories.{queue_of, number_named, all_named, can_redrive, move_from, new_queue, deleted_recently, is_recent, purged_recently, opening_directory, settings_at, attributes_at, last_version, IsThere, MayMake, DirectoryStep, create_refusal, directory_refusal};
+ghost use Rattle.std.specs.Prelude.{◌≡◌, ◌⊎◌, ◌<◌, ℕ, true, List, None, Some, length, IfOk, IfErr, OnErr};
+ghost use Rattle.sq_model.specs.Directories.{queue_of, number_named, all_named, can_redrive, move_from, deleted_recently, is_recent, purged_recently, opening_directory, settings_at, attributes_at, last_version, Directory as DirectoryValue, IsThere, DirectoryStep, directory_refusal};
 ghost use Rattle.sq_policy.specs.Reading.{seen_as};
 ghost use Rattle.sq_directory.specs.MoveQueues.{as_ends};
 ghost use Rattle.sq_directory.specs.Stored.{with_given};
 ghost use Rattle.sq_model.specs.declared.directory.DirectoryCall.TheVariants as asks;
 ghost use Rattle.sq_model.specs.declared.directory.Queue.{Queue as QueueValue};
-ghost use Rattle.sq_model.specs.Policies.{has_list, lists_queues};
-ghost use Rattle.sq_directory.specs.DirectoryHistories.{IsUnanswered};
+ghost use Rattle.sq_model.specs.Policies.{lists_queues};
+ghost use Rattle.sq_directory.specs.DirectoryHistories.{AnswersList};
+ghost use Rattle.sq_directory.specs.inside.Prepared.{IsChange, IsPreparedFor, KeepsList, short_reply};
 
 use crate::attributes::{agrees, given_redrive, may_have, new_queue};
 use crate::copies::copy_allow;
 use crate::listing::{Listing, all_named, as_named, listed_names};
+use crate::prepared::{Prepared, ShortReply, ThreeReplies};
 use crate::stored::{NamedQueues, given_settings};
 use sq_base::ids::QueueNo;
 use sq_base::name::QueueName;
@@ -52,9 +54,10 @@ impl Model for Queues {
 }
 
 impl Queues {
-    /// No queue, and memory for so many. Refused where that is not found.
+    /// No queue, and memory for so many. Refused where that is not found; none is got for no queue.
     pub fn new(alloc: Global, most: u32) -> Result<Queues, AllocError>
-        ensures { IfOk result (λ queues. queues ≡ opening_directory most) }
+        ensures opening { IfOk result (λ queues. queues ≡ opening_directory most) }
+        ensures refused { OnErr result (0 < most) }
     {
         let queues = NamedQueues::new(alloc, most)?;
         let mut deleted = Vec::new(alloc);
@@ -120,27 +123,63 @@ impl Queues {
         }
     }
 
-    /// What a call is answered at a moment in ms, and what it does. Refused as the call, and then as NoMemory, where a list
-    /// of queues is kept or answered, or a policy is shown that has one.
-    pub fn answer(
-        &mut self,
-        alloc: Global,
-        moment: u64,
-        call: &DirectoryCall,
-    ) -> Result<DirectoryReply, Refusal>
-        ensures step { IfOk result (λ reply. DirectoryStep self.old moment call.now reply self.new) }
-        ensures refusal { IfErr result (IsUnanswered self.old moment call.now) }
-        ensures err { OnErr result (self.new ≡ self.old) }
+    /// What is known of a call before its moment, with the memory for all that is kept or answered. Refused as NoMemory, where
+    /// a list of queues is kept or answered, or a policy is shown that has one.
+    pub fn prepare(&self, alloc: Global, call: &DirectoryCall) -> Result<Prepared, Refusal>
+        ensures prepared { IfOk result (IsPreparedFor self.now call.now) }
+        ensures refused { IfErr result (λ e. (e ≡ Refusal.NoMemory) × (KeepsList self.now call.now ⊎ AnswersList self.now call.now)) }
     {
         match call {
-            DirectoryCall::Create(name, given) => self.create(alloc, moment, name, given),
-            DirectoryCall::Set(name, given) => self.set(alloc, name, given),
-            DirectoryCall::Remove(name) => self.remove(moment, name),
-            DirectoryCall::PurgeTicket(name) => self.purge_ticket(moment, name),
-            DirectoryCall::Url(name) => self.url(name),
+            DirectoryCall::Create(name, given) => match self.queues.get(name) {
+                Some(queue) => Ok(found(queue, given)),
+                None => Ok(Prepared::Changes(Some(given.copy(alloc)?))),
+            },
+            DirectoryCall::Set(_, given) => Ok(Prepared::Changes(Some(given.copy(alloc)?))),
+            DirectoryCall::Remove(_) | DirectoryCall::PurgeTicket(_) => Ok(Prepared::Changes(None)),
+            DirectoryCall::Url(name) => Ok(self.url(name)),
             DirectoryCall::List(prefix) => self.list(alloc, prefix),
             DirectoryCall::Sources(name) => self.sources(alloc, name),
             DirectoryCall::Read(name) => self.read(alloc, name),
+        }
+    }
+
+    /// What a prepared call is answered at a moment in ms, and what it does. It takes no memory, and is refused as the call.
+    pub fn answer(
+        &mut self,
+        moment: u64,
+        call: &DirectoryCall,
+        prepared: Prepared,
+    ) -> Result<ThreeReplies, Refusal>
+        requires { IsPreparedFor self.old call.now prepared }
+        ensures step { IfOk result (λ reply. DirectoryStep self.old moment call.now reply self.new) }
+        ensures refusal { IfErr result (λ e. directory_refusal self.old moment call.now ≡ Some e) }
+        ensures err { OnErr result (self.new ≡ self.old) }
+    {
+        match prepared {
+            Prepared::Answered(replies) => Ok(replies),
+            Prepared::Refused(refusal) => Err(refusal),
+            Prepared::Changes(kept) => Ok(ThreeReplies::of(self.change(moment, call, kept)?)),
+        }
+    }
+
+    // What a call is answered that may change the queues, with the attributes that one of them is to have.
+    fn change(
+        &mut self,
+        moment: u64,
+        call: &DirectoryCall,
+        kept: Option<Attributes>,
+    ) -> Result<ShortReply, Refusal>
+        requires { IsChange self.old call.now kept }
+        ensures step { IfOk result (λ told. DirectoryStep self.old moment call.now (short_reply told) self.new) }
+        ensures refusal { IfErr result (λ e. directory_refusal self.old moment call.now ≡ Some e) }
+        ensures err { OnErr result (self.new ≡ self.old) }
+    {
+        match (call, kept) {
+            (DirectoryCall::Create(name, _), Some(given)) => self.make(moment, name, given),
+            (DirectoryCall::Set(name, _), Some(given)) => self.set(name, given),
+            (DirectoryCall::Remove(name), _) => self.remove(moment, name),
+            (DirectoryCall::PurgeTicket(name), _) => self.purge_ticket(moment, name),
+            _ => unreachable!(),
         }
     }
 }
@@ -148,42 +187,16 @@ impl Queues {
 // What each call does.
 #[tactic(auto, unfolding(sq_model::specs::Directories::DirectoryStep, sq_model::specs::Directories::directory_refusal))]
 impl Queues {
-    // Makes a queue of this name with these attributes, where there is none; else it must have them.
-    fn create(
+    // Puts a new queue of this name last, where there is none, within the memory that `new` got.
+    fn make(
         &mut self,
-        alloc: Global,
         moment: u64,
         name: &QueueName,
-        given: &Attributes,
-    ) -> Result<DirectoryReply, Refusal>
-        ensures step { IfOk result (λ reply. DirectoryStep self.old moment (asks.Create name.now given.now) reply self.new) }
-        ensures refusal { IfErr result (IsUnanswered self.old moment (asks.Create name.now given.now)) }
-        ensures err { OnErr result (self.new ≡ self.old) }
-    {
-        match self.queues.get(name) {
-            Some(queue) if !agrees(given, queue) => Err(Refusal::QueueNameExists),
-            Some(queue) => Ok(DirectoryReply::Made(settings_at(queue))),
-            None => {
-                let made = self.add(alloc, moment, name, given)?;
-                Ok(DirectoryReply::Made(made))
-            }
-        }
-    }
-
-    // Puts a new queue last, within the memory that `new` got.
-    #[tactic(auto, unfolding(sq_model::specs::Directories::directory_refusal))]
-    fn add(
-        &mut self,
-        alloc: Global,
-        moment: u64,
-        name: &QueueName,
-        given: &Attributes,
-    ) -> Result<QueueSettings, Refusal>
+        given: Attributes,
+    ) -> Result<ShortReply, Refusal>
         requires { queue_of name.now self.old.queues ≡ None }
-        ensures may_make { IfOk result (λ made. MayMake self.old moment name.now given.now) }
-        ensures made { IfOk result (λ made. made ≡ settings_at (new_queue self.old name.now given.now)) }
-        ensures added { OnOk result (self.new ≡ record self.old { queues = self.old.queues ++ new_queue self.old name.now given.now ∷ []; made = suc self.old.made }) }
-        ensures refusal { IfErr result (λ e. ((e ≡ Refusal.NoMemory) × (has_list given.now.allow ≡ true) × (create_refusal self.old moment name.now given.now None ≡ None)) ⊎ (create_refusal self.old moment name.now given.now None ≡ Some e)) }
+        ensures step { IfOk result (λ told. DirectoryStep self.old moment (asks.Create name.now given) (short_reply told) self.new) }
+        ensures refusal { IfErr result (λ e. directory_refusal self.old moment (asks.Create name.now given) ≡ Some e) }
         ensures err { OnErr result (self.new ≡ self.old) }
     {
         if self.was_deleted_recently(moment, name) {
@@ -195,12 +208,11 @@ impl Queues {
         if self.made >= self.most {
             return Err(Refusal::TableFull);
         }
-        let given = given.copy(alloc)?;
         let queue = new_queue(&self.queues, QueueNo::following(self.made), name, given);
         let made = settings_at(&queue);
         self.queues.push(queue);
         self.made += 1;
-        Ok(made)
+        Ok(ShortReply::Made(made))
     }
 
     // Whether a queue of this name was deleted less than 60,000 ms before.
@@ -212,14 +224,9 @@ impl Queues {
     }
 
     // Changes the attributes that are given.
-    fn set(
-        &mut self,
-        alloc: Global,
-        name: &QueueName,
-        given: &Attributes,
-    ) -> Result<DirectoryReply, Refusal>
-        ensures step { (m : ℕ) → IfOk result (λ reply. DirectoryStep self.old m (asks.Set name.now given.now) reply self.new) }
-        ensures refusal { (m : ℕ) → IfErr result (IsUnanswered self.old m (asks.Set name.now given.now)) }
+    fn set(&mut self, name: &QueueName, given: Attributes) -> Result<ShortReply, Refusal>
+        ensures step { (m : ℕ) → IfOk result (λ told. DirectoryStep self.old m (asks.Set name.now given) (short_reply told) self.new) }
+        ensures refusal { (m : ℕ) → IfErr result (λ e. directory_refusal self.old m (asks.Set name.now given) ≡ Some e) }
         ensures err { OnErr result (self.new ≡ self.old) }
     {
         let Some(queue) = self.queues.get(name) else {
@@ -231,17 +238,16 @@ impl Queues {
         if !may_have(&self.queues, name, &given.redrive) {
             return Err(Refusal::InvalidAttributeValue);
         }
-        let given = given.copy(alloc)?;
         let redrive = given_redrive(&self.queues, &given.redrive);
         let changed = settings_with(queue, &given, &redrive);
         self.queues.give(name, given, redrive);
-        Ok(DirectoryReply::Changed(changed))
+        Ok(ShortReply::Changed(changed))
     }
 
     // Takes a queue out; its name rests from this moment on.
-    fn remove(&mut self, moment: u64, name: &QueueName) -> Result<DirectoryReply, Refusal>
-        ensures step { IfOk result (λ reply. DirectoryStep self.old moment (asks.Remove name.now) reply self.new) }
-        ensures refusal { IfErr result (IsUnanswered self.old moment (asks.Remove name.now)) }
+    fn remove(&mut self, moment: u64, name: &QueueName) -> Result<ShortReply, Refusal>
+        ensures step { IfOk result (λ told. DirectoryStep self.old moment (asks.Remove name.now) (short_reply told) self.new) }
+        ensures refusal { IfErr result (λ e. directory_refusal self.old moment (asks.Remove name.now) ≡ Some e) }
         ensures err { OnErr result (self.new ≡ self.old) }
     {
         let number = self.number_of(name)?;
@@ -251,13 +257,13 @@ impl Queues {
             moment,
         };
         let _ = self.deleted.push(gone);
-        Ok(DirectoryReply::Removed(number))
+        Ok(ShortReply::Removed(number))
     }
 
     // Lets a queue be purged, where the last purge was 60,000 ms before or earlier.
-    fn purge_ticket(&mut self, moment: u64, name: &QueueName) -> Result<DirectoryReply, Refusal>
-        ensures step { IfOk result (λ reply. DirectoryStep self.old moment (asks.PurgeTicket name.now) reply self.new) }
-        ensures refusal { IfErr result (IsUnanswered self.old moment (asks.PurgeTicket name.now)) }
+    fn purge_ticket(&mut self, moment: u64, name: &QueueName) -> Result<ShortReply, Refusal>
+        ensures step { IfOk result (λ told. DirectoryStep self.old moment (asks.PurgeTicket name.now) (short_reply told) self.new) }
+        ensures refusal { IfErr result (λ e. directory_refusal self.old moment (asks.PurgeTicket name.now) ≡ Some e) }
         ensures err { OnErr result (self.new ≡ self.old) }
     {
         let Some(queue) = self.queues.get(name) else {
@@ -268,7 +274,7 @@ impl Queues {
         }
         let number = queue.number;
         self.queues.set_purge(name, moment);
-        Ok(DirectoryReply::Ticket(number))
+        Ok(ShortReply::Ticket(number))
     }
 
     // The number of a queue that is there.
@@ -283,42 +289,62 @@ impl Queues {
     }
 
     // Tells that a queue is there.
-    fn url(&self, name: &QueueName) -> Result<DirectoryReply, Refusal>
-        ensures step { (m : ℕ) → IfOk result (λ reply. DirectoryStep self.now m (asks.Url name.now) reply self.now) }
-        ensures refusal { (m : ℕ) → IfErr result (IsUnanswered self.now m (asks.Url name.now)) }
+    fn url(&self, name: &QueueName) -> Prepared
+        ensures { IsPreparedFor self.now (asks.Url name.now) result }
     {
-        let number = self.number_of(name)?;
-        Ok(DirectoryReply::Found(number))
+        match self.number_of(name) {
+            Ok(number) => Prepared::Answered(ThreeReplies::of(ShortReply::Found(number))),
+            Err(refusal) => Prepared::Refused(refusal),
+        }
     }
 
     // Lists the names that begin so.
-    fn list(&self, alloc: Global, prefix: &NamePrefix) -> Result<DirectoryReply, Refusal>
-        ensures step { (m : ℕ) → IfOk result (λ reply. DirectoryStep self.now m (asks.List prefix.now) reply self.now) }
-        ensures refusal { (m : ℕ) → IfErr result (IsUnanswered self.now m (asks.List prefix.now)) }
+    #[tactic(auto, unfolding(sq_model::specs::Directories::DirectoryStep), using(crate::proofs::ListingLaws::names_listed))]
+    fn list(&self, alloc: Global, prefix: &NamePrefix) -> Result<Prepared, Refusal>
+        ensures prepared { IfOk result (IsPreparedFor self.now (asks.List prefix.now)) }
+        ensures refused { IfErr result (λ e. (e ≡ Refusal.NoMemory) × AnswersList self.now (asks.List prefix.now)) }
     {
         let names = listed_names(alloc, &self.queues, &Listing::Begins(*prefix))?;
-        Ok(DirectoryReply::Listed(names))
+        let replies = ThreeReplies::copied(alloc, DirectoryReply::Listed(names))?;
+        Ok(Prepared::Answered(replies))
     }
 
     // Lists the queues that have this one for their dead letters.
-    fn sources(&self, alloc: Global, name: &QueueName) -> Result<DirectoryReply, Refusal>
-        ensures step { (m : ℕ) → IfOk result (λ reply. DirectoryStep self.now m (asks.Sources name.now) reply self.now) }
-        ensures refusal { (m : ℕ) → IfErr result (IsUnanswered self.now m (asks.Sources name.now)) }
+    fn sources(&self, alloc: Global, name: &QueueName) -> Result<Prepared, Refusal>
+        ensures prepared { IfOk result (IsPreparedFor self.now (asks.Sources name.now)) }
+        ensures refused { IfErr result (λ e. (e ≡ Refusal.NoMemory) × AnswersList self.now (asks.Sources name.now)) }
     {
-        let number = self.number_of(name)?;
-        let names = listed_names(alloc, &self.queues, &Listing::SourcesOf(number))?;
-        Ok(DirectoryReply::Sources(names))
+        let Some(target) = self.queues.get(name) else {
+            return Ok(Prepared::Refused(Refusal::QueueDoesNotExist));
+        };
+        let names = listed_names(alloc, &self.queues, &Listing::SourcesOf(target.number))?;
+        let replies = ThreeReplies::copied(alloc, DirectoryReply::Sources(names))?;
+        Ok(Prepared::Answered(replies))
     }
 
     // The attributes of a queue.
-    fn read(&self, alloc: Global, name: &QueueName) -> Result<DirectoryReply, Refusal>
-        ensures step { (m : ℕ) → IfOk result (λ reply. DirectoryStep self.now m (asks.Read name.now) reply self.now) }
-        ensures refusal { (m : ℕ) → IfErr result (IsUnanswered self.now m (asks.Read name.now)) }
+    fn read(&self, alloc: Global, name: &QueueName) -> Result<Prepared, Refusal>
+        ensures prepared { IfOk result (IsPreparedFor self.now (asks.Read name.now)) }
+        ensures refused { IfErr result (λ e. (e ≡ Refusal.NoMemory) × AnswersList self.now (asks.Read name.now)) }
     {
-        match self.queues.get(name) {
-            Some(queue) => Ok(DirectoryReply::Read(attributes_at(alloc, queue)?)),
-            None => Err(Refusal::QueueDoesNotExist),
-        }
+        let Some(shown) = self.queues.get(name) else {
+            return Ok(Prepared::Refused(Refusal::QueueDoesNotExist));
+        };
+        let attributes = attributes_at(alloc, shown)?;
+        let replies = ThreeReplies::copied(alloc, DirectoryReply::Read(attributes))?;
+        Ok(Prepared::Answered(replies))
+    }
+}
+
+// What a Create of a queue is told that is there, or why it is refused.
+#[tactic(auto, unfolding(sq_model::specs::Directories::DirectoryStep, sq_model::specs::Directories::directory_refusal))]
+fn found(queue: &Queue, given: &Attributes) -> Prepared
+    ensures { (d : DirectoryValue) (name : List ℕ) → IsThere d name queue.now → IsPreparedFor d (asks.Create name given.now) result }
+{
+    if agrees(given, queue) {
+        Prepared::Answered(ThreeReplies::of(ShortReply::Made(settings_at(queue))))
+    } else {
+        Prepared::Refused(Refusal::QueueNameExists)
     }
 }
 

@@ -1,5 +1,5 @@
 //! Queues by their names, in order of creation.
-ghost use Rattle.std.specs.Prelude.{◌≡◌, ◌+◌, ◌<◌, ◌≤◌, ◌++◌, ◌∷◌, [], None, Some, IfOk, length, option_map, slice_get};
+ghost use Rattle.std.specs.Prelude.{◌≡◌, ◌+◌, ◌<◌, ◌≤◌, ◌++◌, ◌∷◌, [], None, Some, IfOk, OnErr, length, option_map, slice_get};
 ghost use Rattle.sq_model.specs.declared.directory.Queue.{Queue as QueueValue};
 ghost use Rattle.std.specs.List.{list_any};
 ghost use Rattle.sq_model.specs.Directories.{queue_of, is_source_of, changed_queue, queues_without, last_version};
@@ -31,10 +31,11 @@ impl Model for NamedQueues {
 }
 
 impl NamedQueues {
-    /// No queue, and memory for so many.
+    /// No queue, and memory for so many; none is got for no queue.
     pub fn new(alloc: Global, most: u32) -> Result<NamedQueues, AllocError>
         ensures empty { IfOk result (λ named. named.queues ≡ []) }
         ensures room { IfOk result (λ named. most ≤ named.room) }
+        ensures refused { OnErr result (0 < most) }
     {
         let queues = IndexMap::with_capacity(alloc, most as usize)?;
         Ok(NamedQueues { queues })

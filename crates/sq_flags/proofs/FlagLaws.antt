@@ -2,8 +2,8 @@
 use Rattle.std.proofs.Common.{◌≡◌, ◌∙◌, ℕ, Bool, Option, Some, None, Result, Ok, Err, IfErr, true, refl, sym, subst, ap, min, codes}
 use Rattle.clap.specs.Words.{Text, is_simple, is_simple_and_free}
 use Rattle.clap.proofs.OnLiterals.{clap_on_literals}
-use Rattle.sq_opening.specs.declared.options.Options.{Options}
-use Rattle.sq_opening.specs.declared.options.TheConstants.{MOST_HOMES}
+use Rattle.sq_model.specs.declared.options.Options.{Options}
+use Rattle.sq_model.specs.declared.options.TheConstants.{MOST_HOMES}
 use Rattle.std.specs.declared.net.socket_addr.SocketAddr.{SocketAddr}
 use Rattle.sq_flags.specs.CommandLine.{program_app}
 use Rattle.sq_flags.specs.Flags.{IsScriptOf, IsServeOf, IsRaceOf}

@@ -4,8 +4,8 @@ use Rattle.std.specs.Str.Parse.{IsNumeral, digits_value, without_leading_plus}
 use Rattle.std.specs.Net.Grammar.{IsSocketText}
 use Rattle.std.specs.declared.net.socket_addr.SocketAddr.{SocketAddr}
 use Rattle.clap.specs.Words.{Text}
-use Rattle.sq_opening.specs.declared.options.Options.{Options}
-use Rattle.sq_opening.specs.declared.options.TheConstants.{MOST_HOMES, MOST_QUEUES, MOST_ROWS, MOST_FLIGHTS, MOST_TRANSIT}
+use Rattle.sq_model.specs.declared.options.Options.{Options}
+use Rattle.sq_model.specs.declared.options.TheConstants.{MOST_HOMES, MOST_QUEUES, MOST_ROWS, MOST_FLIGHTS, MOST_TRANSIT}
 
 -- a text is decimal digits, perhaps behind a plus, and n is their value
 pub record IsWholeNumber (text : List ℕ) (n : ℕ) : Type 0 where

@@ -8,7 +8,7 @@ use crate::texts::{AUDIT, FLAGS, LISTEN, OptionTexts, RACE, SCRIPT, SEED, SERVE,
 use crate::values::{MOST_CALLS, MOST_CLIENTS, MOST_CONNECTIONS, MOST_IDLE, MOST_MOVERS};
 use clap::builder::ValueParser;
 use clap::{Arg, ArgAction, Command};
-use sq_opening::options::{MOST_FLIGHTS, MOST_HOMES, MOST_QUEUES, MOST_ROWS, MOST_TRANSIT};
+use sq_model::options::{MOST_FLIGHTS, MOST_HOMES, MOST_QUEUES, MOST_ROWS, MOST_TRANSIT};
 use std::alloc::{AllocError, Global};
 
 // A flag that takes a whole number within bounds.

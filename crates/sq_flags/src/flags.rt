@@ -17,7 +17,7 @@ use crate::values::{
 };
 use clap::error::ErrorKind;
 use clap::{ArgMatches, Command, Error};
-use sq_opening::options::Options;
+use sq_model::options::Options;
 use std::alloc::{AllocError, Global};
 use std::net::SocketAddr;
 

@@ -3,7 +3,7 @@ use crate::values::{
     HOMES, IDLE, MOST_CALLS, MOST_CLIENTS, MOST_CONNECTIONS, MOST_IDLE, MOST_MOVERS, MOVERS,
     QUEUES, SAMPLE, TRANSIT,
 };
-use sq_opening::options::{MOST_FLIGHTS, MOST_HOMES, MOST_QUEUES, MOST_ROWS, MOST_TRANSIT};
+use sq_model::options::{MOST_FLIGHTS, MOST_HOMES, MOST_QUEUES, MOST_ROWS, MOST_TRANSIT};
 use std::alloc::{AllocError, Global};
 
 /// What help says of the flags whose bounds are options' bounds.

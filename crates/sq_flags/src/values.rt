@@ -2,13 +2,11 @@
 ghost use Rattle.std.specs.Prelude.{◌≡◌, ◌≤◌, IfOk, IfErr, IfSome, IfNone, None, Ok, ℕ, codes};
 ghost use Rattle.clap.specs.Words.{first_value, found_of};
 ghost use Rattle.std.specs.declared.net.socket_addr.SocketAddr.{SocketAddr as Address};
-ghost use Rattle.sq_opening.specs.declared.options.Options.{Options as OptionsValue};
+ghost use Rattle.sq_model.specs.declared.options.Options.{Options as OptionsValue};
 ghost use Rattle.sq_flags.specs.Values.{IsWholeNumber, IsNumberOf, IsGivenNumber, IsFlagOf, IsAddressIn, IsAddressOf, AreOptionsOf};
 
 use clap::ArgMatches;
-use sq_opening::options::{
-    MOST_FLIGHTS, MOST_HOMES, MOST_QUEUES, MOST_ROWS, MOST_TRANSIT, Options,
-};
+use sq_model::options::{MOST_FLIGHTS, MOST_HOMES, MOST_QUEUES, MOST_ROWS, MOST_TRANSIT, Options};
 use std::net::SocketAddr;
 
 /// Connections that are served, at the most.

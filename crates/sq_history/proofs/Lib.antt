@@ -1,3 +1,4 @@
 pub mod HistoryLaws
 pub mod HalfLaws
 pub mod TaskLaws
+pub mod HomeIdLaws

@@ -1,5 +1,6 @@
 pub mod Acts
 pub mod HistoryValue
+pub mod HomeIds
 pub mod Histories
 pub mod Records
 pub mod Halves

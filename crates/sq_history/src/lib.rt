@@ -4,6 +4,7 @@
 pub mod act;
 mod dead_leave;
 pub mod events;
+pub mod homes;
 pub mod record;
 pub mod recorded;
 pub mod sent_body;

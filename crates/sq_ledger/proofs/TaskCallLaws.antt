@@ -39,14 +39,6 @@ pub starts_as : (l : Ledger) (m : ℕ) (source : NamedQueue) (destination : Opti
 unfolding ledger_refusal
 starts_as l m source destination rate e h = h
 
-pub start_passes : (l : Ledger) (m : ℕ) (source : NamedQueue) (destination : Option NamedQueue) (rate : Option ℕ) → start_refusal source.number l ≡ None → ledger_refusal l m (asks.StartTask source destination rate) ≡ None
-unfolding ledger_refusal
-start_passes l m source destination rate h = h
-
-list_passes : (l : Ledger) (m source most : ℕ) → ledger_refusal l m (asks.ListTasks source most) ≡ None
-unfolding ledger_refusal
-list_passes l m source most = refl
-
 pub cancels_as : (l : Ledger) (m number : ℕ) (e : Refusal) → cancel_refusal (task_of number l) ≡ Some e → ledger_refusal l m (asks.CancelTask number) ≡ Some e
 unfolding ledger_refusal
 cancels_as l m number e h = h
@@ -107,11 +99,11 @@ recorded_as items next tasks changed limit log begun new by now stamp call reply
 -- it is refused where a check of it fails
 pub refused_as : (inside : LedgerHistory) (ledger : LedgerValue) (by : Actor) (now : ℕ) (call : LedgerCall) (stamp : StampValue) (e : Refusal) → inside ≡ ledger.history → after inside.last by.seen now ≡ Ok stamp → ledger_refusal inside.ledger stamp.moment call ≡ Some e
     → IsLedgerRefused ledger.history by now call e
-refused_as inside ledger by now call stamp e same stamped refused = rw (← same) (inr (inr (stamp, stamped, inl refused)))
+refused_as inside ledger by now call stamp e same stamped refused = rw (← same) (inr (inr (stamp, stamped, refused)))
 
 -- a list is out of memory where there are tasks to copy
-pub list_out : (h : LedgerHistory) (by : Actor) (now source most : ℕ) (stamp : StampValue) (e : Refusal) → after h.last by.seen now ≡ Ok stamp → e ≡ NoMemory → (newest source h.ledger.tasks ≢ None) → IsLedgerRefused h by now (asks.ListTasks source most) e
-list_out h by now source most stamp e stamped out some = inr (inr (stamp, stamped, inr (out, list_passes h.ledger stamp.moment source most, λ none. some (ap (option_map task_number) none))))
+pub list_out : (h : LedgerHistory) (by : Actor) (now source most : ℕ) (e : Refusal) → e ≡ NoMemory → (newest source h.ledger.tasks ≢ None) → IsLedgerRefused h by now (asks.ListTasks source most) e
+list_out h by now source most e out some = inl (out, inr (λ none. some (ap (option_map task_number) none)))
 
 -- ---- what may be done to a task
 

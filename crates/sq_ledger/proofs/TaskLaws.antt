@@ -3,8 +3,6 @@ use Rattle.std.proofs.Common.{◌≡◌, ℕ, zero, suc, ◌+◌, ◌-◌, ◌<�
 use Rattle.std.specs.Prelude.{◌⊎◌, ◌==◌, ◌&&◌, if◌then◌else◌, find, filter, reverse, option_map, slice_get}
 use Rattle.std.specs.Option.{option_or}
 use Rattle.std.specs.List.{ItemBy, slice_set}
-use Rattle.std.specs.BTreeMap.{BTreeMap, Updates, is_at}
-use Rattle.std.specs.Ordering.{nat_cmp}
 use Rattle.std.proofs.lemmas.Bool.{eqb-true}
 use Rattle.std.proofs.lemmas.Grind.{common_steps}
 use Rattle.std.proofs.lemmas.List.{append_assoc, map-append, reverse-append, take-append-le, append-nil}
@@ -241,13 +239,13 @@ falls true false o m n e = omega (arith, e)
 falls false b o m n e = let none = o refl in omega (arith, (rw none at e))
 
 -- there is one fewer that is active, where the task was and is not any more
-pub fell : (number : ℕ) (change : TaskChange) (rows : List TaskRow) (index : ℕ) (row : TaskRow) (last : BTreeMap ℕ ℕ) (old : ℕ) → AreTasks rows last old → index + 1 ≡ number → slice_get rows index ≡ Some row
+pub fell : (number : ℕ) (change : TaskChange) (rows : List TaskRow) (index : ℕ) (row : TaskRow) (last : ℕ → Option ℕ) (old : ℕ) → AreTasks rows last old → index + 1 ≡ number → slice_get rows index ≡ Some row
     → how_many_active (changed_task number (changed_by change) (tasks_in rows)) + cond (is_active row.task.status && not (is_active (changed_by change row.task).status)) 1 0 ≡ old
 fell number change rows index row last old kept is there =
     let count = active_changed number 1 (changed_by change) (tasks_in rows) index row.task kept.count (omega (arith, is)) (get_map rows index row there) in
     falls _ _ (stays_over change row.task) _ _ count ∙ sym kept.active
 
-pub tasks_kept : (number : ℕ) (change : TaskChange) (rows : List TaskRow) (index : ℕ) (row : TaskRow) (last : BTreeMap ℕ ℕ) (old new : ℕ) → AreTasks rows last old → index + 1 ≡ number → slice_get rows index ≡ Some row
+pub tasks_kept : (number : ℕ) (change : TaskChange) (rows : List TaskRow) (index : ℕ) (row : TaskRow) (last : ℕ → Option ℕ) (old new : ℕ) → AreTasks rows last old → index + 1 ≡ number → slice_get rows index ≡ Some row
     → new + cond (is_active row.task.status && not (is_active (changed_by change row.task).status)) 1 0 ≡ old
     → AreTasks (slice_set rows index (with_task row (changed_by change row.task))) last new
 tasks_kept number change rows index row last old new kept is there how =
@@ -272,7 +270,7 @@ pub as_many : (n : ℕ) (b : Bool) → false ≡ b → n + cond b 1 0 ≡ n
 as_many n true e = absurd cc
 as_many n false e = omega arith
 
-pub one_active : (number : ℕ) (change : TaskChange) (rows : List TaskRow) (index : ℕ) (row : TaskRow) (last : BTreeMap ℕ ℕ) (old : ℕ) → AreTasks rows last old → index + 1 ≡ number → slice_get rows index ≡ Some row
+pub one_active : (number : ℕ) (change : TaskChange) (rows : List TaskRow) (index : ℕ) (row : TaskRow) (last : ℕ → Option ℕ) (old : ℕ) → AreTasks rows last old → index + 1 ≡ number → slice_get rows index ≡ Some row
     → true ≡ (is_active row.task.status && not (is_active (changed_by change row.task).status)) → 1 ≤ old
 one_active number change rows index row last old kept is there ends =
     let fewer = fell number change rows index row last old kept is there in
@@ -315,17 +313,14 @@ no_row number rows index count is past =
 
 -- ---- a task starts
 
-at_source : (source key : ℕ) → is_at (nat_cmp key) source ≡ (key == source)
-at_source source key = grind (arith, common_steps)
-
-pub started : (rows : List TaskRow) (row : TaskRow) (last new : BTreeMap ℕ ℕ) (active number : ℕ) → AreTasks rows last active → row.task.number ≡ number → number ≡ length (tasks_in rows) + 1
-    → row.before ≡ newest row.task.source.number (tasks_in rows) → is_active row.task.status ≡ true → Updates nat_cmp last new row.task.source.number (Some number) → AreTasks (rows ++ row ∷ []) new (active + 1)
+pub started : (rows : List TaskRow) (row : TaskRow) (last new : ℕ → Option ℕ) (active number : ℕ) → AreTasks rows last active → row.task.number ≡ number → number ≡ length (tasks_in rows) + 1
+    → row.before ≡ newest row.task.source.number (tasks_in rows) → is_active row.task.status ≡ true → ((source : ℕ) → new source ≡ cond (row.task.source.number == source) (Some number) (last source)) → AreTasks (rows ++ row ∷ []) new (active + 1)
 started rows row last new active number kept is next before starts updates =
     let all = tasks_push rows row in
     record {
       count = rw all (tasks_append 1 (tasks_in rows) row.task kept.count (omega (arith, is, next)));
       before = before_push rows row before kept.before;
-      last = λ source. updates.0 source ∙ rw (at_source source row.task.source.number, kept.last source, ← is) refl ∙ sym (ap (λ (l : List Task). newest source l) all ∙ newest_push source (tasks_in rows) row.task);
+      last = λ source. updates source ∙ rw (kept.last source, ← is) refl ∙ sym (ap (λ (l : List Task). newest source l) all ∙ newest_push source (tasks_in rows) row.task);
       active = let count = count_append (λ (t : Task). is_active t.status) (tasks_in rows) row.task in let was = kept.active in rw (all, count, starts) (omega (arith, was));
     }
 
@@ -370,7 +365,7 @@ is_next source first number index rows count is le next =
     let a = r.is in let b = r.within in let c = as_many_rows rows in omega (arith, is, a, b, c)
 
 -- one more is listed, and the one before it is next
-pub goes_on : (source first number index : ℕ) (rows : List TaskRow) (row : TaskRow) (last : BTreeMap ℕ ℕ) (active : ℕ) (listed new : List Task) → AreTasks rows last active → index + 1 ≡ number → first ≤ length (tasks_in rows)
+pub goes_on : (source first number index : ℕ) (rows : List TaskRow) (row : TaskRow) (last : ℕ → Option ℕ) (active : ℕ) (listed new : List Task) → AreTasks rows last active → index + 1 ≡ number → first ≤ length (tasks_in rows)
     → newest source (take first (tasks_in rows)) ≡ Some number → slice_get rows index ≡ Some row → tasks_from source (tasks_in rows) ≡ listed ++ tasks_from source (take first (tasks_in rows)) → new ≡ listed ++ row.task ∷ []
     → (index ≤ length (tasks_in rows)) × (row.before ≡ newest source (take index (tasks_in rows))) × (tasks_from source (tasks_in rows) ≡ new ++ tasks_from source (take index (tasks_in rows)))
 goes_on source first number index rows row last active listed new kept is le next there all pushed =
@@ -391,13 +386,6 @@ pub pushed_length : (listed new : List Task) (task : Task) (n : ℕ) → length 
 pushed_length listed new task n is pushed = ap (λ (l : List Task). length l) pushed ∙ one_longer listed task ∙ ap (λ (k : ℕ). k + 1) is
 
 -- ---- the most recent task of a source
-
-is_none : (o : Option Task) → option_map task_number o ≡ None → o ≡ None
-is_none None h = refl
-is_none (Some t) h = absurd cc
-
-pub last_none : (source : ℕ) (tasks : List Task) → newest source tasks ≡ None → slice_get (tasks_from source tasks) 0 ≡ None
-last_none source tasks none = is_none (slice_get (tasks_from source tasks) 0) none
 
 pub last_found : (source number : ℕ) (tasks : List Task) → TasksCount 1 tasks → newest source tasks ≡ Some number → find (is_task number) tasks ≡ slice_get (tasks_from source tasks) 0
 last_found source number tasks count is =

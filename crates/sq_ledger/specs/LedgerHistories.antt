@@ -61,19 +61,18 @@ pub record LedgerRecords (old new : LedgerHistory) (by : Actor) (now : ℕ) (cal
   pub task_room : KeepsTaskRoom call old.task_room new.task_room
   pub record_is : its_record ≡ record_of (length old.events) (own_event its_record.stamp by call its_record.reply)
 
--- What a call takes memory for, beside its event: a task where there is room for none, or the first one of its source; and the tasks that are listed.
+-- what a call takes memory for, beside its event: a task where there is room for none, and the tasks that are listed
 abbrev pub LedgerTakesMemory : LedgerHistory → LedgerCall → Type 0
-LedgerTakesMemory h (asks.StartTask source destination rate) = (h.task_room ≡ 0) ⊎ (last_task source.number h.ledger ≡ None)
+LedgerTakesMemory h (asks.StartTask source destination rate) = h.task_room ≡ 0
 LedgerTakesMemory h (asks.ListTasks source most) = last_task source h.ledger ≢ None
 LedgerTakesMemory h other = ⊥
 
--- No memory was found for the event; or the first check in order that fails: the clock's, the counts', the ledger's; or, where none fails, no memory was found for what else is kept or copied.
+-- The first that fails, in order: memory, where it has to be got; the clock, and the counts; and the ledger's checks.
 abbrev pub IsLedgerRefused : LedgerHistory → Actor → ℕ → LedgerCall → Refusal → Type 0
 IsLedgerRefused old by now call e =
-    ((e ≡ NoMemory) × (old.room ≡ 0))
+    ((e ≡ NoMemory) × ((old.room ≡ 0) ⊎ LedgerTakesMemory old call))
     ⊎ (after old.last by.seen now ≡ Err e)
-    ⊎ ((stamp : StampValue) × (after old.last by.seen now ≡ Ok stamp)
-    × ((ledger_refusal old.ledger stamp.moment call ≡ Some e) ⊎ ((e ≡ NoMemory) × (ledger_refusal old.ledger stamp.moment call ≡ None) × LedgerTakesMemory old call)))
+    ⊎ ((stamp : StampValue) × (after old.last by.seen now ≡ Ok stamp) × (ledger_refusal old.ledger stamp.moment call ≡ Some e))
 
 -- there is memory for one event more
 abbrev pub IsPrepared : LedgerValue → Type 0

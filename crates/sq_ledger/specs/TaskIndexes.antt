@@ -1,7 +1,5 @@
 -- What contracts see of the tasks, how the tasks of a source are found, and what is done to one task.
 use Rattle.std.specs.Prelude.{◌≡◌, ℕ, ◌<◌, true, List, map, count_by, filter, find, reverse, take, Option, Some, None, option_map, slice_get}
-use Rattle.std.specs.BTreeMap.{BTreeMap, get}
-use Rattle.std.specs.Ordering.{nat_cmp}
 use Rattle.sq_model.specs.declared.item.Reason.{Reason}
 use Rattle.sq_model.specs.declared.item.Reason.TheVariants.{Task as ForTask}
 use Rattle.sq_model.specs.declared.task.Task.{Task}
@@ -37,10 +35,10 @@ abbrev pub NamesBefore : List TaskRow → Type 0
 NamesBefore rows = (index : ℕ) (row : TaskRow) → slice_get rows index ≡ Some row → row.before ≡ newest row.task.source.number (take index (tasks_in rows))
 
 -- Tasks are numbered from 1 on without a gap, and each names the one before it of its source; the map gives the most recent one of each source, and the number of active ones is kept.
-pub record AreTasks (rows : List TaskRow) (newest_of : BTreeMap ℕ ℕ) (how_many : ℕ) : Type 0 where
+pub record AreTasks (rows : List TaskRow) (newest_of : ℕ → Option ℕ) (how_many : ℕ) : Type 0 where
   pub count : TasksCount 1 (tasks_in rows)
   pub before : NamesBefore rows
-  pub last : (source : ℕ) → get nat_cmp newest_of source ≡ newest source (tasks_in rows)
+  pub last : (source : ℕ) → newest_of source ≡ newest source (tasks_in rows)
   pub active : how_many ≡ how_many_active (tasks_in rows)
 
 -- the task after a change

@@ -12,13 +12,13 @@ use std::alloc::Global;
 use std::collections::VecDeque;
 use std::marker::Model;
 
-/// Items in rising number, found by binary search. Where one is taken out, the shorter side moves up.
+/// The items in transit, in rising number, found by binary search. Where one is taken out, the shorter side moves up.
 #[derive(Drop)]
-pub struct Items {
+pub struct TransitItems {
     items: VecDeque<Item>,
 }
 
-impl Model for Items {
+impl Model for TransitItems {
     ghost use Rattle.std.specs.Prelude.{ℕ, ◌-◌};
     ghost use Rattle.std.specs.VecDeque.{deque_capacity, deque_len};
     ghost use Rattle.sq_model.specs.Ledgers.{ItemsRise};
@@ -31,12 +31,12 @@ impl Model for Items {
     ghost invariant = { λ i. (next : ℕ) × ItemsRise 1 i.items.items next };
 }
 
-impl Items {
+impl TransitItems {
     /// No item, and memory for none.
-    pub fn new(alloc: Global) -> Items
+    pub fn new(alloc: Global) -> TransitItems
         ensures { result.items ≡ [] }
     {
-        Items {
+        TransitItems {
             items: VecDeque::new(alloc),
         }
     }

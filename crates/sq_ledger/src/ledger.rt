@@ -10,7 +10,7 @@ ghost use Rattle.sq_log.specs.Rooms.{IsReady, KeepsRoom};
 ghost use Rattle.sq_ledger.specs.LedgerHistories.{DoesItem, IsLeaving, IsLedgerKept, IsNoneLeft, IsPrepared, LedgerShares, shared_event};
 ghost use Rattle.sq_ledger.specs.inside.ItemMoves.{change_by, tasks_without};
 
-use crate::items::Items;
+use crate::items::TransitItems;
 use crate::tasks::{TaskChange, Tasks};
 use sq_base::ids::HomeId;
 use sq_base::refusal::Refusal;
@@ -45,7 +45,7 @@ pub struct SharedEvent<'a> {
 /// an item is to come in; what follows takes no memory and is not refused.
 #[derive(Drop)]
 pub struct TransitLedger {
-    items: Items,
+    items: TransitItems,
     next: u64,
     pub(crate) tasks: Tasks,
     limit: u32,
@@ -69,7 +69,7 @@ impl TransitLedger {
         ensures { result.history ≡ record { ledger = opening_ledger limit; last = start; events = []; room = 0; task_room = 0 } }
     {
         TransitLedger {
-            items: Items::new(alloc),
+            items: TransitItems::new(alloc),
             next: 1,
             tasks: Tasks::new(alloc),
             limit,
@@ -108,7 +108,7 @@ impl TransitLedger {
 
     /// The number of the next item, where one more may come in, for which it then has memory. Refused as Worn (no number is
     /// left), OverLimit (as many items are in transit as may be), and then as NoMemory.
-    pub fn room(&mut self) -> Result<ItemNo, Refusal>
+    pub fn next_number(&mut self) -> Result<ItemNo, Refusal>
         ensures history { self.new.history ≡ self.old.history }
         ensures reserved { self.new.reserved ≡ self.old.reserved }
         ensures number { IfOk result (λ number. number ≡ self.old.history.ledger.next_item) }
@@ -188,7 +188,7 @@ impl TransitLedger {
 }
 
 // Why the item of a number was moved.
-fn reason_of(items: &Items, number: ItemNo) -> Reason
+fn reason_of(items: &TransitItems, number: ItemNo) -> Reason
     ensures { (item : Moved) → find (has_number number) items.now.items ≡ Some item → result ≡ item.reason }
 {
     match items.get(number.get()) {

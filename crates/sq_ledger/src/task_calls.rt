@@ -83,12 +83,12 @@ impl TransitLedger {
             number,
             task: self.taker(home, number),
             allowed: self.allows(number, moment),
-            item: self.room(),
+            item: self.next_number(),
         }
     }
 
     /// Starts a task, and gives its number.
-    /// Refused as NoMemory (there is room for no event or no task, or the source had no task), ClockRange, Worn,
+    /// Refused as NoMemory (there is room for no event or for no task, also where no task would start), ClockRange, Worn,
     /// UnsupportedOperation (a task of the source is active), OverLimit (100 tasks are active).
     pub fn start_task(
         &mut self,
@@ -102,16 +102,18 @@ impl TransitLedger {
         ensures item_reserved { self.new.item_reserved ≡ self.old.item_reserved }
         ensures err { OnErr result (self.new.history ≡ self.old.history) }
     {
-        let stamp = self.log.begin(by, now)?;
-        let number = self.next_task(asked.source.number)?;
+        self.log.reserve()?;
         self.tasks.reserve()?;
+        // What follows takes no memory.
+        let stamp = self.log.next_stamp(by, now)?;
+        let number = self.next_task(asked.source.number)?;
         self.tasks.start(
             number,
             asked.source,
             asked.destination,
             asked.rate,
             stamp.moment,
-        )?;
+        );
         let kept = (start_call(asked), LedgerReply::Started(number));
         let for_record = (start_call(asked), LedgerReply::Started(number));
         Ok((number, add_own(&mut self.log, by, stamp, kept, for_record)))
@@ -147,7 +149,7 @@ impl TransitLedger {
     }
 
     /// The tasks of a source, the most recent first, and so many at most.
-    /// Refused as NoMemory (there is room for no event, or tasks are copied), ClockRange, Worn.
+    /// Refused as NoMemory (there is room for no event, or tasks are listed), ClockRange, Worn.
     pub fn list_tasks(
         &mut self,
         alloc: Global,
@@ -162,10 +164,12 @@ impl TransitLedger {
         ensures item_reserved { self.new.item_reserved ≡ self.old.item_reserved }
         ensures err { OnErr result (self.new.history ≡ self.old.history) }
     {
-        let stamp = self.log.begin(by, now)?;
+        self.log.reserve()?;
         let listed = self.tasks.list(alloc, source, most)?;
         let in_event = self.tasks.list(alloc, source, most)?;
         let in_record = self.tasks.list(alloc, source, most)?;
+        // What follows takes no memory.
+        let stamp = self.log.next_stamp(by, now)?;
         let kept = (
             LedgerCall::ListTasks(source, most),
             LedgerReply::Listed(in_event),

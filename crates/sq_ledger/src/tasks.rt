@@ -1,11 +1,12 @@
 //! The tasks that move messages, in order of their start.
-ghost use Rattle.std.specs.Prelude.{◌≡◌, ◌≢◌, ◌+◌, ◌-◌, ◌<◌, ◌≤◌, ◌++◌, ◌∷◌, [], OnOk, OnErr, IfOk, IfErr, Some, None, find, length, not, option_map, slice_get, take, ◌&&◌};
+ghost use Rattle.std.specs.Prelude.{◌≡◌, ◌≢◌, ◌+◌, ◌-◌, ◌<◌, ◌≤◌, ◌++◌, ◌∷◌, [], OnOk, IfOk, IfErr, Some, None, find, length, not, option_map, slice_get, take, ◌&&◌};
 ghost use Rattle.sq_model.specs.declared.task.Task.{Task as TaskValue};
 ghost use Rattle.sq_model.specs.Ledgers.{changed_for, changed_task, is_task, TasksCount};
 ghost use Rattle.sq_model.specs.Tasks.{is_active, new_task};
 ghost use Rattle.sq_log.specs.Rooms.{IsReady, KeepsRoom};
 ghost use Rattle.sq_ledger.specs.TaskIndexes.{changed_by, how_many_active, newest, tasks_from, MayChange, MayChangeFor};
 
+use indexmap::IndexMap;
 use sq_base::ids::QueueNo;
 use sq_base::ranges::{MaxResults, Rate};
 use sq_base::refusal::Refusal;
@@ -14,7 +15,6 @@ use sq_model::listed::Listed;
 use sq_model::task::{FailureReason, NamedQueue, Task};
 use sq_task::task::MoveTask;
 use std::alloc::Global;
-use std::collections::BTreeMap;
 use std::marker::Model;
 
 /// What is done to one task.
@@ -42,26 +42,27 @@ struct TaskRow {
 
 /// Tasks in order of their start. One is found by its number, which is one more than its index; those of a source are
 /// found from its most recent one on, each by the one after it. They show for how many more there was memory when the
-/// last one started.
+/// last one started, be each the first one of its source.
 #[derive(Drop)]
 pub struct Tasks {
     rows: Vec<TaskRow>,
-    last: BTreeMap<QueueNo, TaskNo>,
+    last: IndexMap<u64, TaskNo>,
     active: usize,
     room: usize,
 }
 
 impl Model for Tasks {
-    ghost use Rattle.std.specs.Prelude.{◌-◌, ◌≤◌, vec_len, vec_capacity};
+    ghost use Rattle.std.specs.Prelude.{◌-◌, ◌==◌, ◌≤◌, min, vec_len, vec_capacity};
+    ghost use Rattle.indexmap.specs.IndexMap.{get, spare};
     ghost use Rattle.sq_model.specs.declared.task.Task.{Task as TaskValue};
     ghost use Rattle.sq_log.specs.Rooms.{GrowingValue};
     ghost use Rattle.sq_ledger.specs.TaskIndexes.{AreTasks, tasks_in};
 
     ghost Value = { GrowingValue TaskValue };
 
-    ghost view = { λ t. record { items = tasks_in t.rows.items; room = t.room; reserved = vec_capacity t.rows - vec_len t.rows } };
+    ghost view = { λ t. record { items = tasks_in t.rows.items; room = t.room; reserved = min (vec_capacity t.rows - vec_len t.rows) (spare t.last) } };
 
-    ghost invariant = { λ t. AreTasks t.rows.items t.last t.active × (t.room ≤ vec_capacity t.rows - vec_len t.rows) };
+    ghost invariant = { λ t. AreTasks t.rows.items (get (λ a b. a == b) t.last) t.active × (t.room ≤ min (vec_capacity t.rows - vec_len t.rows) (spare t.last)) };
 }
 
 impl Tasks {
@@ -72,7 +73,7 @@ impl Tasks {
     {
         Tasks {
             rows: Vec::new(alloc),
-            last: BTreeMap::new(alloc),
+            last: IndexMap::new(alloc),
             active: 0,
             room: 0,
         }
@@ -105,7 +106,7 @@ impl Tasks {
     pub fn last(&self, source: QueueNo) -> Option<&MoveTask>
         ensures { option_map (λ task. task.now) result ≡ slice_get (tasks_from source self.now.items) 0 }
     {
-        let number = self.last.get(&source).copied()?;
+        let number = self.last.get(&source.get()).copied()?;
         self.get(number)
     }
 
@@ -113,7 +114,7 @@ impl Tasks {
     pub fn last_of(&self, source: QueueNo) -> Option<TaskNo>
         ensures { result ≡ newest source self.now.items }
     {
-        self.last.get(&source).copied()
+        self.last.get(&source.get()).copied()
     }
 
     /// The tasks of a source, the most recent first, and so many at most. Refused only where memory is out for any.
@@ -153,12 +154,12 @@ impl Tasks {
     {
         if self.room == 0 {
             self.rows.try_reserve(4)?;
+            self.last.reserve(4)?;
         }
         Ok(())
     }
 
-    /// Starts a task, for which there is memory, with the number that is next. Refused only where memory is out: for a
-    /// source that had no task; nothing changed then.
+    /// Starts a task, for which there is memory, with the number that is next.
     pub fn start(
         &mut self,
         number: TaskNo,
@@ -166,23 +167,21 @@ impl Tasks {
         destination: Option<NamedQueue>,
         rate: Option<Rate>,
         moment: u64,
-    ) -> Result<(), Refusal>
+    )
         requires ready { IsReady self.old.room self.old.reserved }
         requires number { number ≡ length self.old.items + 1 }
-        ensures items { OnOk result (self.new.items ≡ self.old.items ++ new_task number source destination rate moment ∷ []) }
-        ensures shown { OnOk result (self.new.room ≡ self.new.reserved) }
-        ensures room { OnOk result (KeepsRoom self.old.room self.new.room) }
-        ensures refused { IfErr result (λ e. e ≡ Refusal.NoMemory) }
-        ensures first { IfErr result (λ _. newest source.number self.old.items ≡ None) }
-        ensures kept { OnErr result (self.new ≡ self.old) }
+        ensures items { self.new.items ≡ self.old.items ++ new_task number source destination rate moment ∷ [] }
+        ensures shown { self.new.room ≡ self.new.reserved }
+        ensures room { KeepsRoom self.old.room self.new.room }
     {
         let before = self.last_of(source.number);
-        self.last.insert(source.number, number)?;
+        // Memory for both was got.
+        let _ = self.last.insert(source.number.get(), number);
         let task = MoveTask::start(number, source, destination, rate, moment);
         let _ = self.rows.push(TaskRow { task, before });
         self.active += 1;
-        self.room = self.rows.capacity() - self.rows.len();
-        Ok(())
+        let sources = self.last.capacity() - self.last.len();
+        self.room = sources.min(self.rows.capacity() - self.rows.len());
     }
 
     /// Does this to the task that a message is moved for, if it is moved for one.

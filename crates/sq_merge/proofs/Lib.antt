@@ -2,6 +2,6 @@ pub mod WorldLaws
 pub mod ScheduleLaws
 pub mod StepLaws
 pub mod KnownLaws
-pub mod ActingLaws
+pub mod WorldStepLaws
 pub mod BorrowedLaws
 pub mod ProgressLaws

@@ -16,7 +16,7 @@ use Rattle.sq_actions.specs.Performs.{TurnFits, LeavesRecords, Performs}
 use Rattle.sq_actions.specs.Progresses.{no_progress}
 use Rattle.sq_model.specs.RecordValues.{Journal}
 use Rattle.sq_merge.specs.declared.progress.ActorProgress.{ActorProgress}
-use Rattle.sq_merge.specs.Acting.{ActorStepped, TurnStepped}
+use Rattle.sq_merge.specs.WorldSteps.{ActorStepped, TurnStepped}
 use Rattle.sq_merge.specs.Progresses.{is_progress_of, at_progress, progress_of, put_where, put_progress, added_where, with_progress}
 use Rattle.sq_merge.specs.inside.Progresses.{progress_place}
 use Rattle.sq_merge.specs.WorldValue.{WorldValue}

@@ -28,14 +28,16 @@ use Rattle.sq_history.specs.HistoryValue.{HistoryValue}
 use Rattle.sq_directory.specs.DirectoryHistory.{DirectoryHistory}
 use Rattle.sq_steps.specs.Journals.{is_of_actor, new_journal, journal_of, index_in, opened, having_seen, put_journal, with_record, last_place, HomeMoves, DirectoryMoves, LedgerMoves, IsNotReady}
 use Rattle.sq_merge.specs.WorldValue.{WorldValue}
-use Rattle.sq_audit.specs.HomeIds.{home_history, histories_of, IsNumbered, home_index}
+use Rattle.sq_history.specs.HomeIds.{IsNumbered, home_index}
+use Rattle.sq_audit.specs.HomeHistories.{home_history, histories_of}
 use Rattle.sq_merge.specs.Worlds.{IsHomeOf, IsKeptWorld, HomeStepped, SharedStepped, NothingLeaves, DirectoryStepped, DirectoryRefused, LedgerStepped, LedgerRefused, having_seen_at}
-use Rattle.sq_opening.specs.declared.options.Options.{Options}
+use Rattle.sq_model.specs.declared.options.Options.{Options}
 use Rattle.sq_merge.specs.Openings.{new_world}
-use Rattle.sq_opening.specs.Openings.{never_opened, never_opened_homes, limits_of, IsServed}
+use Rattle.sq_model.specs.Options.{limits_of, IsServed}
+use Rattle.sq_history.specs.HomeIds.{never_opened, never_opened_homes}
 use Rattle.sq_model.proofs.ElementLaws.{some_same, get_cases, get_mapped, get_within}
 use Rattle.sq_steps.proofs.JournalListLaws.{journal_own, lost_there, opened_put, opened_is, kept_front}
-use Rattle.sq_audit.proofs.HomeIdLaws.{index_found, index_none}
+use Rattle.sq_history.proofs.HomeIdLaws.{index_found, index_none}
 
 -- a world as its fields are
 abbrev pub as_fields : {fields w : WorldValue} → fields ≡ w → WorldValue

@@ -32,7 +32,8 @@ use Rattle.sq_directory.specs.DirectoryHistories.{directory_event}
 use Rattle.sq_steps.specs.Journals.{new_journal, journal_of, put_journal, with_record, having_seen}
 use Rattle.sq_merge.specs.WorldValue.{WorldValue}
 use Rattle.sq_merge.specs.declared.progress.ActorProgress.{ActorProgress}
-use Rattle.sq_audit.specs.HomeIds.{home_history, histories_of, home_id}
+use Rattle.sq_history.specs.HomeIds.{home_id}
+use Rattle.sq_audit.specs.HomeHistories.{home_history, histories_of}
 use Rattle.sq_merge.specs.Worlds.{IsKeptWorld, HomeStepped, SharedStepped, DirectoryStepped, LedgerStepped, having_seen_at}
 use Rattle.sq_merge.specs.inside.Worlds.{IsKnown}
 use Rattle.sq_directory.proofs.MakerLaws.{seen_below}

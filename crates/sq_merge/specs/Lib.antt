@@ -3,5 +3,5 @@ pub mod WorldValue
 pub mod Worlds
 pub mod Openings
 pub mod PartsValue
-pub mod Acting
+pub mod WorldSteps
 pub mod inside

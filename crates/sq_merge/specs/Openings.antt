@@ -2,8 +2,9 @@
 use Rattle.std.specs.Prelude.{◌*◌, []}
 use Rattle.sq_base.specs.Stamps.{start}
 use Rattle.sq_merge.specs.WorldValue.{WorldValue}
-use Rattle.sq_opening.specs.declared.options.Options.{Options}
-use Rattle.sq_opening.specs.Openings.{limits_of, never_opened_homes}
+use Rattle.sq_model.specs.declared.options.Options.{Options}
+use Rattle.sq_model.specs.Options.{limits_of}
+use Rattle.sq_history.specs.HomeIds.{never_opened_homes}
 use Rattle.sq_model.specs.Directories.{opening_directory}
 use Rattle.sq_model.specs.Ledgers.{opening_ledger}
 

@@ -35,7 +35,8 @@ use Rattle.sq_steps.specs.Journals.{is_of_actor, journal_of, put_journal, having
 use Rattle.sq_directory.specs.DirectoryHistory.{DirectoryHistory}
 use Rattle.sq_steps.specs.Reads.{next_of}
 use Rattle.sq_merge.specs.WorldValue.{WorldValue}
-use Rattle.sq_audit.specs.HomeIds.{histories_of, IsNumbered}
+use Rattle.sq_history.specs.HomeIds.{IsNumbered}
+use Rattle.sq_audit.specs.HomeHistories.{histories_of}
 
 -- a home of the system
 pub record IsHomeOf (w : WorldValue) (id : HomeId) (at : ℕ) (h : HistoryValue) : Type 0 where

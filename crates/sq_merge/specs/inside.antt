@@ -1,5 +1,5 @@
 -- What only the bodies of this crate need: no contract that others see rests on it.
-pub mod Acting
-pub mod ActingLaws
+pub mod WorldSteps
+pub mod WorldStepLaws
 pub mod Progresses
 pub mod Worlds

@@ -1,9 +1,9 @@
 //! The whole system from its parts: calls of clients, done by many actors at many homes.
 #![tactic(auto)]
 
-pub mod acting;
 pub mod progress;
 pub mod world;
+pub mod world_steps;
 
 pub use sq_audit::check::AuditFault;
 pub use sq_audit::merge::merge;

@@ -5,24 +5,22 @@ ghost use Rattle.sq_model.specs.Directories.{all_named, number_named};
 ghost use Rattle.sq_directory.specs.MoveQueues.{as_ends};
 ghost use Rattle.sq_directory.specs.Makers.{IsAnsweredByName};
 ghost use Rattle.sq_history.specs.Acts.{call_of};
-ghost use Rattle.sq_steps.specs.Journals.{journal_of};
+ghost use Rattle.sq_audit.specs.Matched.{AreMatched, ArePaired};
 ghost use Rattle.sq_merge.specs.Worlds.{SharedStepped, NothingLeaves, SharedRefused, having_peeked, ItemRead, LedgerStepped, LedgerRefused, IsUnread, NamesUnread, TaskRead, TaskUnread, EndsRead, EndsUnread, HomeStepped, HomeRefused, DirectoryStepped, DirectoryRefused, NameRefused, having_read_directory, having_seen_at, StepDone, StepRefused, Schedule, IsKeptWorld};
 ghost use Rattle.sq_steps.specs.Reads.{next_of};
-ghost use Rattle.sq_audit.specs.HomeIds.{histories_of};
-ghost use Rattle.sq_merge.specs.Acting.{world_counts, ActorStepped, TurnDone, UnlessNoRoom};
-ghost use Rattle.sq_merge.specs.inside.Acting.{IsKnownTo};
+ghost use Rattle.sq_merge.specs.WorldSteps.{world_counts, ActorLeaves, ActorStepped, TurnDone, UnlessNoRoom};
+ghost use Rattle.sq_merge.specs.inside.WorldSteps.{IsKnownTo};
 ghost use Rattle.sq_merge.specs.Progresses.{progress_of};
-ghost use Rattle.sq_actions.specs.Performs.{CallFits, TurnFits, UntilFits, LeavesRecords, Performs};
+ghost use Rattle.sq_actions.specs.Performs.{CallFits, TurnFits, UntilFits, Performs};
 ghost use Rattle.sq_merge.specs.Openings.{new_world};
-ghost use Rattle.sq_opening.specs.Openings.{IsServed};
+ghost use Rattle.sq_model.specs.Options.{IsServed};
 ghost use Rattle.sq_merge.specs.PartsValue.{ArePartsOf};
 ghost use Rattle.sq_model.specs.Ledgers.{last_task, peek};
-ghost use Rattle.sq_model.specs.Matches.{IsMatched, IsPaired};
 
-use crate::acting::{Acting, call_at, call_until_at, turn_at};
 use crate::progress::{ActorProgress, progress_index};
+use crate::world_steps::{WorldSteps, call_at, call_until_at, turn_at};
 use sq_actions::progress::Progress;
-use sq_audit::homes::{Homes, home_index};
+use sq_audit::homes::Homes;
 use sq_audit::parts::Parts;
 use sq_base::ids::{HomeId, HomeNo, QueueNo};
 use sq_base::name::QueueName;
@@ -31,16 +29,16 @@ use sq_base::stamp::Stamp;
 use sq_calls::calls::{Answer, Call};
 use sq_calls::turns::{Turn, Turned};
 use sq_directory::directory::Directory;
+use sq_history::homes::{home_index, never_opened_homes, no_such_home};
 use sq_history::recorded::Home;
 use sq_ledger::ledger::TransitLedger;
 use sq_model::directory::{DirectoryCall, DirectoryReply};
 use sq_model::item::TaskNo;
 use sq_model::ledger::LedgerReply;
 use sq_model::listed::Listed;
+use sq_model::options::Options;
 use sq_model::replies::HomeReply;
 use sq_model::task::{NamedQueue, Task};
-use sq_opening::homes::{never_opened_homes, no_such_home};
-use sq_opening::options::Options;
 use sq_sample::sampler::{HomeCount, Sampler};
 use sq_steps::act::{Act, HomeAct, NextItem, Outcome, SharedAct, Step, TaskAct};
 use sq_steps::journal::{Journal, directory_step, home_step, ledger_step};
@@ -92,11 +90,11 @@ impl World {
         let per_queue = HomeCount::of(options.homes);
         let limits = options.limits();
         Ok(World {
+            homes: never_opened_homes(alloc, options.queues, per_queue, &limits)?,
             directory: Directory::new(alloc, options.queues)?,
             ledger: TransitLedger::new(alloc, options.transit),
             per_queue,
             sample: HomeCount::of(options.sample),
-            homes: never_opened_homes(alloc, options.queues, per_queue, &limits)?,
             journals: Vec::new(alloc),
             progress: Vec::new(alloc),
             sampler: Sampler::new(options.seed),
@@ -180,10 +178,10 @@ impl World {
         call: &Call,
     ) -> Result<Answer, Refusal>
         ensures answered { Performs (ActorStepped actor now) (CallFits (world_counts self.old) call.now) self.old result self.new }
-        ensures leaves_records { LeavesRecords (CallFits (world_counts self.old) call.now) (journal_of actor self.old.journals) result (journal_of actor self.new.journals) }
+        ensures leaves_records { ActorLeaves actor (CallFits (world_counts self.old) call.now) self.old result self.new }
     {
-        let mut acting = Acting::new(alloc, self, actor, now);
-        call_at(&mut acting, call)
+        let mut world_steps = WorldSteps::new(alloc, self, actor, now);
+        call_at(&mut world_steps, call)
     }
 
     /// A call that ends early: so many of its steps, reads among them, and no more, as where a client's thread is stopped between
@@ -198,10 +196,10 @@ impl World {
         steps: u64,
     ) -> Result<Option<Answer>, Refusal>
         ensures answered { Performs (ActorStepped actor now) (UntilFits steps (CallFits (world_counts self.old) call.now)) self.old result self.new }
-        ensures leaves_records { LeavesRecords (UntilFits steps (CallFits (world_counts self.old) call.now)) (journal_of actor self.old.journals) result (journal_of actor self.new.journals) }
+        ensures leaves_records { ActorLeaves actor (UntilFits steps (CallFits (world_counts self.old) call.now)) self.old result self.new }
     {
-        let mut acting = Acting::new(alloc, self, actor, now);
-        call_until_at(&mut acting, call, steps)
+        let mut world_steps = WorldSteps::new(alloc, self, actor, now);
+        call_until_at(&mut world_steps, call, steps)
     }
 
     /// A turn of an actor at a clock reading in ms: one step of moving messages, beside reads. A dead letter leaves a home of
@@ -219,7 +217,7 @@ impl World {
         turn: &Turn,
     ) -> Result<Turned, Refusal>
         ensures answered { TurnDone actor now turn.now self.old result self.new }
-        ensures leaves_records { UnlessNoRoom actor self.old result self.new (LeavesRecords (TurnFits (world_counts self.old).homes turn.now (progress_of actor self.old.progress) (progress_of actor self.new.progress)) (journal_of actor self.old.journals) result (journal_of actor self.new.journals)) }
+        ensures leaves_records { UnlessNoRoom actor self.old result self.new (ActorLeaves actor (TurnFits (world_counts self.old).homes turn.now (progress_of actor self.old.progress) (progress_of actor self.new.progress)) self.old result self.new) }
     {
         let at = progress_index(&mut self.progress, actor)?;
         let mut progress = self.progress[at].progress;
@@ -239,10 +237,10 @@ impl World {
     ) -> Result<Turned, Refusal>
         ensures same_progress { self.new.progress ≡ self.old.progress }
         ensures answered { Performs (ActorStepped actor now) (TurnFits (world_counts self.old).homes turn.now progress.old progress.new) self.old result self.new }
-        ensures leaves_records { LeavesRecords (TurnFits (world_counts self.old).homes turn.now progress.old progress.new) (journal_of actor self.old.journals) result (journal_of actor self.new.journals) }
+        ensures leaves_records { ActorLeaves actor (TurnFits (world_counts self.old).homes turn.now progress.old progress.new) self.old result self.new }
     {
-        let mut acting = Acting::new(alloc, self, actor, now);
-        turn_at(&mut acting, progress, turn)
+        let mut world_steps = WorldSteps::new(alloc, self, actor, now);
+        turn_at(&mut world_steps, progress, turn)
     }
 
     /// One step after another, and how many were not refused. What is refused changes nothing.
@@ -265,8 +263,8 @@ impl World {
     /// Its parts with their histories, and the records of its actors: each record is of an event, each event has one.
     pub fn parts(self) -> Parts
         ensures parts { ArePartsOf self result }
-        ensures matched { IsMatched result.directory.events result.ledger.history.events (histories_of result.homes.homes) result.records }
-        ensures paired { IsPaired result.ledger.history.events (histories_of result.homes.homes) }
+        ensures matched { AreMatched result }
+        ensures paired { ArePaired result }
     {
         let World {
             directory,

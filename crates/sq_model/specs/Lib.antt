@@ -15,3 +15,4 @@ pub mod Places
 pub mod Merges
 pub mod RecordValues
 pub mod Matches
+pub mod Options

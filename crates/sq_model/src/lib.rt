@@ -8,6 +8,7 @@ pub mod held;
 pub mod item;
 pub mod ledger;
 pub mod listed;
+pub mod options;
 pub mod place;
 pub mod policy;
 pub mod replies;

@@ -13,17 +13,19 @@ use Rattle.sq_actions.specs.declared.walk.Walk.{Walk}
 use Rattle.sq_actions.specs.Asks.{IsOfAnyStep}
 use Rattle.sq_actions.specs.Performs.{TurnFits, LeavesRecords}
 use Rattle.sq_actions.specs.Progresses.{no_progress, with_item, with_walk}
-use Rattle.sq_queue.specs.LockedParts.{LockedPart}
+use Rattle.sq_directory.specs.DirectoryHistory.{DirectoryHistory}
+use Rattle.sq_queue.specs.LockedParts.{LockedPart, TheDirectory}
 use Rattle.sq_queue.specs.Sections.{Surroundings}
 use Rattle.sq_queue.specs.SessionValue.{SessionValue}
-use Rattle.sq_queue.specs.Services.{LastTaskRead, NamesRead}
+use Rattle.sq_queue.specs.Services.{LastTaskRead, NamesRead, TurnMade}
 use Rattle.sq_mover.specs.declared.mover.Stage.TheVariants.{Leave, Serve, Bring}
-use Rattle.sq_mover.specs.MoverValue.{MoverValue, sweeping, staged, brought, after_walk, walk_kept}
+use Rattle.sq_mover.specs.MoverValue.{MoverValue, WalksValue, sweeping, staged, brought, after_walk, counted, walk_kept}
 use Rattle.sq_mover.specs.Movers.{active_of}
 
--- This turn was made, by an actor that was so far before it and is so far after it. What it leaves with its session fits what it told.
-abbrev pub MakesTurn : Surroundings → Turn → Progress → Progress → SessionValue → Result Turned Refusal → SessionValue → Type 0
-MakesTurn at what before after s told t = LeavesRecords (TurnFits at.per_queue what before after) s.journal told t.journal
+-- This turn was made, by an actor that was so far before it and is so far after it. Each of its steps is one of a part that the gate saw, where a refusal has its cause; and what it leaves with its session fits what it told.
+pub record MakesTurn (at : Surroundings) (what : Turn) (before after : Progress) (s : SessionValue) (told : Result Turned Refusal) (t : SessionValue) : Type 0 where
+  pub sections : TurnMade at what before after s told t
+  pub leaves_records : LeavesRecords (TurnFits at.counts.homes what before after) s.journal told t.journal
 
 -- it was refused for want of memory, and nothing changed
 abbrev pub RunsOut : MoverValue → SessionValue → Result Turned Refusal → MoverValue → SessionValue → Type 0
@@ -37,12 +39,19 @@ DeadLeaves at name m s told n t = (n ≡ staged Serve m) × MakesTurn at (turn.D
 abbrev pub BringsNext : Surroundings → MoverValue → SessionValue → Result Turned Refusal → MoverValue → SessionValue → Type 0
 BringsNext at m s told n t = (n ≡ brought n.tried m) × MakesTurn at turn.EnterTurn (with_item m.tried no_progress) (with_item n.tried no_progress) s told t
 
--- A task is served by the walk that was kept for it in the last sweep, or by a new one, which is kept as the turn leaves it. There may be no memory for a walk more. Without a task the next item comes in.
+-- there is memory for no walk more of this sweep; or for one more, and for as many as before
+abbrev pub HasNoRoom : WalksValue → Type 0
+HasNoRoom walks = walks.room ≤ length walks.walks
+
+abbrev pub GetsRoom : WalksValue → ℕ → Type 0
+GetsRoom walks room = (length walks.walks < room) × (walks.room ≤ room)
+
+-- A task is served by the walk that was kept for it in the last sweep, or by a new one, which is kept as the turn leaves it. Where there is no room for a walk more, there may be no memory for it. Without a task the next item comes in.
 abbrev pub ServesFor : Surroundings → Option ℕ → MoverValue → SessionValue → Result Turned Refusal → MoverValue → SessionValue → Type 0
 ServesFor at None m s told n t = BringsNext at m s told n t
 ServesFor at (Some task) m s told n t =
-    RunsOut m s told n t
-    ⊎ ((walk : Walk) × (n ≡ after_walk walk m) × MakesTurn at (turn.TaskTurn (Some task)) (with_walk (walk_kept task m.last) no_progress) (with_walk walk no_progress) s told t)
+    (HasNoRoom m.this × RunsOut m s told n t)
+    ⊎ ((walk : Walk) × (room : ℕ) × GetsRoom m.this room × (n ≡ after_walk walk room m) × MakesTurn at (turn.TaskTurn (Some task)) (with_walk (walk_kept task m.last.walks) no_progress) (with_walk walk no_progress) s told t)
 
 -- the last task of a source is read, as the gate saw the ledger, and served where it is not over
 abbrev pub ServesSource : Surroundings → ℕ → MoverValue → SessionValue → Result Turned Refusal → MoverValue → SessionValue → Type 0
@@ -66,11 +75,15 @@ SweepsOn Saw m s n t =
     ((m.at < length m.queues) × (n ≡ m) × (t ≡ s))
     ⊎ ((queues : List NamedQueue) × (length m.queues ≤ m.at) × (n ≡ sweeping queues m) × NamesRead Saw s queues t)
 
--- A turn: at the queue that the sweep is at, which may be a new sweep. There may be no memory for the names of a new sweep.
+-- the gate saw a directory that has queues
+abbrev pub HasQueues : (LockedPart → Type 0) → Type 0
+HasQueues Saw = (part : DirectoryHistory) × Saw (TheDirectory part) × (0 < length part.directory.queues)
+
+-- A turn: at the queue that the sweep is at, which may be a new sweep. It counts where it moved a message or ended a task. Where there are queues, there may be no memory for the names of a new sweep.
 abbrev pub TakesTurn : Surroundings → MoverValue → SessionValue → Result Turned Refusal → MoverValue → SessionValue → Type 0
 TakesTurn at m s told n t =
-    ((length m.queues ≤ m.at) × RunsOut m s told n t)
-    ⊎ ((mid : MoverValue) × (read : SessionValue) × SweepsOn at.Saw m s mid read × TurnsAtAny at (slice_get mid.queues mid.at) mid read told n t)
+    ((length m.queues ≤ m.at) × HasQueues at.Saw × RunsOut m s told n t)
+    ⊎ ((mid : MoverValue) × (read : SessionValue) × (left : MoverValue) × SweepsOn at.Saw m s mid read × TurnsAtAny at (slice_get mid.queues mid.at) mid read told left t × (n ≡ counted told left))
 
 -- it told a word, or a refusal that no step may be refused as: such a one is passed over
 abbrev pub IsPassedOver : Result Turned Refusal → Type 0

@@ -1,10 +1,10 @@
 //! A mover, turn after turn, over all queues.
-ghost use Rattle.std.specs.Prelude.{◌≡◌, ◌≤◌, Err, IfErr, IfOk, OnErr, OnOk, length, slice_get, vec_len};
+ghost use Rattle.std.specs.Prelude.{◌≡◌, ◌≤◌, Err, IfErr, IfOk, OnErr, OnOk, length, slice_get};
 ghost use Rattle.sq_actions.specs.Asks.{IsOfAnyStep};
-ghost use Rattle.sq_queue.specs.Sections.{around};
+ghost use Rattle.sq_queue.specs.Around.{around};
 ghost use Rattle.sq_mover.specs.Movers.{GainsAtMost, active_of};
-ghost use Rattle.sq_mover.specs.MoverTurns.{EndsEarly, IsPassedOver, ServesFor, ServesSource, SweepsOn, TakesTurn, TakesTurns, TurnsAt};
-ghost use Rattle.sq_mover.specs.MoverValue.{brought, new_mover};
+ghost use Rattle.sq_mover.specs.MoverTurns.{EndsEarly, HasQueues, IsPassedOver, ServesFor, ServesSource, SweepsOn, TakesTurn, TakesTurns, TurnsAt, TurnsAtAny};
+ghost use Rattle.sq_mover.specs.MoverValue.{begun, brought, counted, has_moved, new_mover};
 
 use crate::turns::{dead_turn, enter_turn, task_turn};
 use crate::walks::Walks;
@@ -32,7 +32,8 @@ enum Stage {
     Bring,
 }
 
-/// How far a mover is: in its sweep over the queues, in what is in transit, and in the homes of each task's source.
+/// How far a mover is: in its sweep over the queues, in what is in transit, and in the homes of each task's source. It counts the
+/// turns of its last run that moved a message or ended a task.
 #[derive(Drop)]
 pub struct Mover {
     queues: Listed<NamedQueue>,
@@ -40,14 +41,15 @@ pub struct Mover {
     stage: Stage,
     tried: u64,
     walks: Walks,
+    moved: u64,
 }
 
 impl Model for Mover {
-    ghost use Rattle.sq_mover.specs.MoverValue.{MoverValue};
+    ghost use Rattle.sq_mover.specs.MoverValue.{MoverValue, walks_of};
 
     ghost Value = { MoverValue };
 
-    ghost view = { λ m. record { queues = m.queues; at = m.at; stage = m.stage; tried = m.tried; last = m.walks.last.items; this = m.walks.this.items } };
+    ghost view = { λ m. record { queues = m.queues; at = m.at; stage = m.stage; tried = m.tried; last = walks_of m.walks.last; this = walks_of m.walks.this; moved = m.moved } };
 }
 
 impl Mover {
@@ -61,10 +63,34 @@ impl Mover {
             stage: Stage::Leave,
             tried: 0,
             walks: Walks::new(alloc),
+            moved: 0,
         }
     }
 
-    // A new sweep begins where the last one is over, with the queues that are there now. Refused as NoMemory.
+    /// How many turns of its last run moved a message or ended a task.
+    pub fn moved(&self) -> u64
+        ensures { result ≡ self.now.moved }
+    {
+        self.moved
+    }
+
+    // A new run begins: none of its turns is made.
+    fn begin_run(&mut self)
+        ensures { self.new ≡ begun self.old }
+    {
+        self.moved = 0;
+    }
+
+    // Counts a turn, where it moved a message or ended a task.
+    fn count(&mut self, told: &Result<Turned, Refusal>)
+        ensures { self.new ≡ counted told.now self.old }
+    {
+        if matches!(told, Ok(word) if has_moved(word)) {
+            self.moved = self.moved.saturating_add(1);
+        }
+    }
+
+    // A new sweep begins where the last one is over, with the queues that are there now. Refused as NoMemory where there are some.
     fn begin_sweep<C: Clock + Drop, G: Gate + Drop, D: Ledger, T: Ledger, R: Wait>(
         &mut self,
         service: &Service<C, G, D, T>,
@@ -72,7 +98,7 @@ impl Mover {
         session: &mut Session<D, T>,
     ) -> Result<(), Refusal>
         ensures gains { GainsAtMost 0 session.old.journal session.new.journal }
-        ensures refused { IfErr result (λ e. e ≡ Refusal.NoMemory) }
+        ensures refused { IfErr result (λ e. (e ≡ Refusal.NoMemory) × HasQueues (G.saw service.now.gate)) }
         ensures ok { OnOk result (SweepsOn (G.saw service.now.gate) self.old session.old self.new session.new) }
         ensures over { OnErr result (length self.old.queues ≤ self.old.at) }
         ensures kept { OnErr result (self.new ≡ self.old) }
@@ -94,7 +120,7 @@ impl Mover {
         self.queues.as_slice().get(self.at).copied()
     }
 
-    // The next turn of the sweep; a sweep that finds no queue is one.
+    // The next turn of the sweep, which counts where it moved something.
     fn turn<C: Clock + Drop, G: Gate + Drop, D: Ledger, T: Ledger, R: Wait>(
         &mut self,
         service: &Service<C, G, D, T>,
@@ -102,9 +128,24 @@ impl Mover {
         session: &mut Session<D, T>,
     ) -> Result<Turned, Refusal>
         ensures gains { GainsAtMost 1 session.old.journal session.new.journal }
-        ensures takes { TakesTurn (around (C.tells service.now.clock) (G.saw service.now.gate) service.now.per_queue (vec_len service.now.homes)) self.old session.old result self.new session.new }
+        ensures takes { TakesTurn (around C.tells G.saw service.now) self.old session.old result self.new session.new }
     {
         self.begin_sweep(service, rt, session)?;
+        let told = self.turn_here(service, rt, session);
+        self.count(&told);
+        told
+    }
+
+    // The turn at the queue that the sweep is at; a sweep that found no queue has nothing to do.
+    fn turn_here<C: Clock + Drop, G: Gate + Drop, D: Ledger, T: Ledger, R: Wait>(
+        &mut self,
+        service: &Service<C, G, D, T>,
+        rt: &R,
+        session: &mut Session<D, T>,
+    ) -> Result<Turned, Refusal>
+        ensures gains { GainsAtMost 1 session.old.journal session.new.journal }
+        ensures turns { TurnsAtAny (around C.tells G.saw service.now) (slice_get self.old.queues self.old.at) self.old session.old result self.new session.new }
+    {
         match self.queue() {
             Some(queue) => self.turn_at(service, rt, session, &queue),
             None => Ok(Turned::Nothing),
@@ -120,7 +161,7 @@ impl Mover {
         queue: &NamedQueue,
     ) -> Result<Turned, Refusal>
         ensures gains { GainsAtMost 1 session.old.journal session.new.journal }
-        ensures turns { TurnsAt (around (C.tells service.now.clock) (G.saw service.now.gate) service.now.per_queue (vec_len service.now.homes)) queue.now self.old session.old result self.new session.new }
+        ensures turns { TurnsAt (around C.tells G.saw service.now) queue.now self.old session.old result self.new session.new }
     {
         match self.stage {
             Stage::Leave => {
@@ -147,13 +188,14 @@ impl Mover {
         source: QueueNo,
     ) -> Result<Turned, Refusal>
         ensures gains { GainsAtMost 1 session.old.journal session.new.journal }
-        ensures serves { ServesSource (around (C.tells service.now.clock) (G.saw service.now.gate) service.now.per_queue (vec_len service.now.homes)) source self.old session.old result self.new session.new }
+        ensures serves { ServesSource (around C.tells G.saw service.now) source self.old session.old result self.new session.new }
     {
         let task = service.last_task(rt, session, source);
         self.serve(service, rt, session, task)
     }
 
-    // A message leaves for a task, or it is to finish. Without one that is not over the next item comes in.
+    // A message leaves for a task, or it is to finish. Without one that is not over the next item comes in. Refused as NoMemory
+    // where there is no room for a walk more, and else as the turn.
     fn serve<C: Clock + Drop, G: Gate + Drop, D: Ledger, T: Ledger, R: Wait>(
         &mut self,
         service: &Service<C, G, D, T>,
@@ -162,7 +204,7 @@ impl Mover {
         task: Option<Task>,
     ) -> Result<Turned, Refusal>
         ensures gains { GainsAtMost 1 session.old.journal session.new.journal }
-        ensures serves { ServesFor (around (C.tells service.now.clock) (G.saw service.now.gate) service.now.per_queue (vec_len service.now.homes)) (active_of task) self.old session.old result self.new session.new }
+        ensures serves { ServesFor (around C.tells G.saw service.now) (active_of task) self.old session.old result self.new session.new }
     {
         let Some(task) = active(task) else {
             self.go_on();
@@ -197,6 +239,23 @@ fn active(task: Option<Task>) -> Option<TaskNo>
     }
 }
 
+// Whether a turn that told this word moved a message or ended a task.
+fn has_moved(word: &Turned) -> bool
+    ensures { result ≡ has_moved word.now }
+{
+    match word {
+        Turned::Left
+        | Turned::Entered
+        | Turned::Turned
+        | Turned::Back
+        | Turned::Dropped
+        | Turned::Failed
+        | Turned::Finished => true,
+        Turned::Nothing | Turned::Full | Turned::Throttled | Turned::Waiting | Turned::Ended =>
+            false,
+    }
+}
+
 // Whether a refusal ends a mover's run: memory, the clock, or a count at its end. Others are passed over.
 fn ends(told: &Result<Turned, Refusal>) -> Result<(), Refusal>
     ensures ends { IfErr result (λ e. IsOfAnyStep e × (told.now ≡ Err e)) }
@@ -212,7 +271,7 @@ fn ends(told: &Result<Turned, Refusal>) -> Result<(), Refusal>
 /// its end refuses one, which ends the run with that refusal. It makes one sweep over all queues after another: at each a dead
 /// letter leaves, the task that takes messages from it is served, and the next item in transit comes in where it goes to. What
 /// is refused otherwise, as at a queue that was deleted meanwhile, is passed over. A sweep that finds no queue is one turn. The
-/// next run goes on where this one ends.
+/// next run goes on where this one ends. The mover counts anew the turns that moved a message or ended a task.
 pub fn run_mover<C: Clock + Drop, G: Gate + Drop, D: Ledger, T: Ledger, R: Wait>(
     service: &Service<C, G, D, T>,
     rt: &R,
@@ -223,9 +282,10 @@ pub fn run_mover<C: Clock + Drop, G: Gate + Drop, D: Ledger, T: Ledger, R: Wait>
     ensures gains { GainsAtMost turns session.old.journal session.new.journal }
     ensures made { IfOk result (λ n. n ≡ turns) }
     ensures refused { IfErr result IsOfAnyStep }
-    ensures turns { OnOk result (TakesTurns (around (C.tells service.now.clock) (G.saw service.now.gate) service.now.per_queue (vec_len service.now.homes)) turns mover.old session.old mover.new session.new) }
-    ensures ended { IfErr result (λ e. EndsEarly (around (C.tells service.now.clock) (G.saw service.now.gate) service.now.per_queue (vec_len service.now.homes)) turns mover.old session.old e mover.new session.new) }
+    ensures turns { OnOk result (TakesTurns (around C.tells G.saw service.now) turns (begun mover.old) session.old mover.new session.new) }
+    ensures ended { IfErr result (λ e. EndsEarly (around C.tells G.saw service.now) turns (begun mover.old) session.old e mover.new session.new) }
 {
+    mover.begin_run();
     for _ in 0..turns {
         let told = mover.turn(service, rt, session);
         ends(&told)?;

@@ -3,6 +3,9 @@ ghost use Rattle.std.specs.Prelude.{Some};
 ghost use Rattle.sq_calls.specs.declared.turns.Turn.TheVariants as turn;
 ghost use Rattle.sq_actions.specs.Performs.{TurnFits, LeavesRecords};
 ghost use Rattle.sq_actions.specs.Progresses.{no_progress, with_item, with_walk};
+ghost use Rattle.sq_actions.specs.Walks.{task_walked};
+ghost use Rattle.sq_queue.specs.Around.{around};
+ghost use Rattle.sq_queue.specs.Services.{TurnMade};
 ghost use Rattle.sq_mover.specs.Movers.{GainsAtMost};
 
 use sq_actions::progress::Progress;
@@ -23,6 +26,7 @@ pub(crate) fn turn<C: Clock + Drop, G: Gate + Drop, D: Ledger, T: Ledger, R: Wai
     progress: &mut Progress,
     what: &Turn,
 ) -> Result<Turned, Refusal>
+    ensures sections { TurnMade (around C.tells G.saw service.now) what.now progress.old progress.new session.old result session.new }
     ensures leaves_records { LeavesRecords (TurnFits service.now.per_queue what.now progress.old progress.new) session.old.journal result session.new.journal }
     ensures at_most_one { GainsAtMost 1 session.old.journal session.new.journal }
 {
@@ -37,6 +41,7 @@ pub fn dead_turn<C: Clock + Drop, G: Gate + Drop, D: Ledger, T: Ledger, R: Wait>
     session: &mut Session<D, T>,
     queue: &QueueName,
 ) -> Result<Turned, Refusal>
+    ensures sections { TurnMade (around C.tells G.saw service.now) (turn.DeadTurn queue.now) no_progress no_progress session.old result session.new }
     ensures leaves_records { LeavesRecords (TurnFits service.now.per_queue (turn.DeadTurn queue.now) no_progress no_progress) session.old.journal result session.new.journal }
     ensures at_most_one { GainsAtMost 1 session.old.journal session.new.journal }
 {
@@ -57,6 +62,7 @@ pub fn enter_turn<C: Clock + Drop, G: Gate + Drop, D: Ledger, T: Ledger, R: Wait
     session: &mut Session<D, T>,
     tried: &mut u64,
 ) -> Result<Turned, Refusal>
+    ensures sections { TurnMade (around C.tells G.saw service.now) turn.EnterTurn (with_item tried.old no_progress) (with_item tried.new no_progress) session.old result session.new }
     ensures leaves_records { LeavesRecords (TurnFits service.now.per_queue turn.EnterTurn (with_item tried.old no_progress) (with_item tried.new no_progress)) session.old.journal result session.new.journal }
     ensures at_most_one { GainsAtMost 1 session.old.journal session.new.journal }
 {
@@ -77,7 +83,8 @@ pub fn task_turn<C: Clock + Drop, G: Gate + Drop, D: Ledger, T: Ledger, R: Wait>
     session: &mut Session<D, T>,
     walk: &mut Walk,
 ) -> Result<Turned, Refusal>
-    ensures leaves_records { LeavesRecords (TurnFits service.now.per_queue (turn.TaskTurn (Some walk.old.task)) (with_walk walk.old no_progress) (with_walk walk.new no_progress)) session.old.journal result session.new.journal }
+    ensures sections { TurnMade (around C.tells G.saw service.now) (turn.TaskTurn (Some (task_walked walk.old))) (with_walk walk.old no_progress) (with_walk walk.new no_progress) session.old result session.new }
+    ensures leaves_records { LeavesRecords (TurnFits service.now.per_queue (turn.TaskTurn (Some (task_walked walk.old))) (with_walk walk.old no_progress) (with_walk walk.new no_progress)) session.old.journal result session.new.journal }
     ensures at_most_one { GainsAtMost 1 session.old.journal session.new.journal }
 {
     let mut progress = Progress {
@@ -89,7 +96,7 @@ pub fn task_turn<C: Clock + Drop, G: Gate + Drop, D: Ledger, T: Ledger, R: Wait>
         rt,
         session,
         &mut progress,
-        &Turn::TaskTurn(Some(walk.task)),
+        &Turn::TaskTurn(Some(walk.task())),
     );
     if let Some(next) = progress.walk {
         *walk = next;

@@ -1,5 +1,6 @@
 //! The walks of a mover over the homes that tasks take messages from.
 ghost use Rattle.std.specs.Prelude.{◌≡◌, ◌<◌, ◌≤◌, [], ◌∷◌, ◌++◌, OnOk, OnErr, IfErr, vec_capacity, vec_len};
+ghost use Rattle.sq_actions.specs.Walks.{task_walked};
 ghost use Rattle.sq_mover.specs.MoverValue.{walk_kept};
 
 use sq_actions::walk::Walk;
@@ -18,8 +19,8 @@ pub(crate) struct Walks {
 
 impl Walks {
     pub(crate) fn new(alloc: Global) -> Walks
-        ensures last { result.last.items ≡ [] }
-        ensures this { result.this.items ≡ [] }
+        ensures last { (result.last.items ≡ []) × (vec_capacity result.last ≡ 0) }
+        ensures this { (result.this.items ≡ []) × (vec_capacity result.this ≡ 0) }
     {
         Walks {
             last: Vec::new(alloc),
@@ -30,10 +31,10 @@ impl Walks {
     /// The walk for a task: as the last sweep left it, or a new one.
     pub(crate) fn of(&self, task: TaskNo) -> Walk
         ensures kept { result ≡ walk_kept task self.now.last.items }
-        ensures task { result.task ≡ task }
+        ensures task { task_walked result ≡ task }
     {
         for walk in &self.last {
-            if walk.task == task {
+            if walk.task() == task {
                 return *walk;
             }
         }
@@ -45,8 +46,10 @@ impl Walks {
         ensures room { OnOk result (vec_len self.new.this < vec_capacity self.new.this) }
         ensures last { self.new.last ≡ self.old.last }
         ensures this { self.new.this.items ≡ self.old.this.items }
+        ensures more { vec_capacity self.old.this ≤ vec_capacity self.new.this }
         ensures refused { IfErr result (λ e. e ≡ Refusal.NoMemory) }
         ensures full { OnErr result (vec_capacity self.old.this ≤ vec_len self.old.this) }
+        ensures err { OnErr result (vec_capacity self.new.this ≡ vec_capacity self.old.this) }
     {
         self.this.try_reserve(1)?;
         Ok(())
@@ -57,14 +60,15 @@ impl Walks {
         requires { vec_len self.old.this < vec_capacity self.old.this }
         ensures last { self.new.last ≡ self.old.last }
         ensures this { self.new.this.items ≡ self.old.this.items ++ walk ∷ [] }
+        ensures capacity { vec_capacity self.new.this ≡ vec_capacity self.old.this }
     {
         self.this.push_reserved(walk);
     }
 
     /// The next sweep begins: the walks of this one are those of the last one then.
     pub(crate) fn next_sweep(&mut self)
-        ensures last { self.new.last.items ≡ self.old.this.items }
-        ensures this { self.new.this.items ≡ [] }
+        ensures last { self.new.last ≡ self.old.this }
+        ensures this { (self.new.this.items ≡ []) × (vec_capacity self.new.this ≡ vec_capacity self.old.last) }
     {
         mem::swap(&mut self.last, &mut self.this);
         self.this.clear();

@@ -3,9 +3,9 @@ use Rattle.std.proofs.Common.{◌≡◌, ◌⊎◌, ℕ, zero, suc, true, false,
 use Rattle.clap.specs.declared.error.Error.{Error}
 use Rattle.sq_lines.specs.declared.counted.Counted.{Counted}
 use Rattle.sq_merge.specs.Openings.{new_world}
-use Rattle.sq_opening.specs.Openings.{IsServed}
+use Rattle.sq_model.specs.Options.{IsServed}
 use Rattle.sq_merge.specs.WorldValue.{WorldValue}
-use Rattle.sq_opening.specs.declared.options.Options.{Options}
+use Rattle.sq_model.specs.declared.options.Options.{Options}
 use Rattle.sq_wire.specs.Runs.{Writes, StopsAt, IsOfCall}
 use Rattle.sq_wire.specs.declared.run.ServeFault.{ServeFault}
 use Rattle.sq_wire.specs.declared.run.ServeFault.TheVariants.{NoMemory}

@@ -4,9 +4,9 @@ use Rattle.clap.specs.Words.{Text}
 use Rattle.sq_lines.specs.Lines.{lines_left}
 use Rattle.sq_lines.specs.declared.counted.Counted.{Counted}
 use Rattle.sq_merge.specs.Openings.{new_world}
-use Rattle.sq_opening.specs.Openings.{IsServed}
+use Rattle.sq_model.specs.Options.{IsServed}
 use Rattle.sq_merge.specs.WorldValue.{WorldValue}
-use Rattle.sq_opening.specs.declared.options.Options.{Options}
+use Rattle.sq_model.specs.declared.options.Options.{Options}
 use Rattle.sq_wire.specs.Audits.{IsAudit}
 use Rattle.sq_wire.specs.Runs.{Writes, StopsAt, IsOfCall}
 use Rattle.sq_wire.specs.Scripts.{ScriptValue, script_at, LineReplies, LineUnanswered}

@@ -1,7 +1,7 @@
 //! The program as a function of its words, its input and its outputs.
 ghost use Rattle.std.specs.Prelude.{◌≡◌, ◌⊎◌, map, length, ◌<◌, IfOk, IfErr};
 ghost use Rattle.sq_merge.specs.Openings.{new_world};
-ghost use Rattle.sq_opening.specs.Openings.{IsServed};
+ghost use Rattle.sq_model.specs.Options.{IsServed};
 ghost use Rattle.sq_wire.specs.Audits.{IsAudit};
 ghost use Rattle.sq_program.specs.Streams.{stream, EndsWritten};
 ghost use Rattle.sq_program.specs.Endings.{EndsBy, EndsFor, Ends, HasStatus, IsHelp, IsAuditLine};
@@ -16,7 +16,7 @@ use sq_lines::counted::Counted;
 use sq_lines::put::{Unwritten, put_line, put_out};
 use sq_merge::AuditFault;
 use sq_merge::world::World;
-use sq_opening::options::Options;
+use sq_model::options::Options;
 use sq_replies::text::Text;
 use sq_wire::audit::audit_world;
 use sq_wire::run::{ServeFault, run_script};

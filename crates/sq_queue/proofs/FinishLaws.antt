@@ -10,11 +10,11 @@ use Rattle.sq_queue.specs.Evidence.{first_of_each, with_firsts, with_unfound}
 use Rattle.std.proofs.lemmas.Bool.{eqb-true}
 use Rattle.std.proofs.lemmas.List.{append-nil, length-map, map-append}
 use Rattle.sq_base.specs.declared.ids.HomeId.{HomeId}
-use Rattle.sq_audit.proofs.HomeIdLaws.{same_id}
+use Rattle.sq_history.proofs.HomeIdLaws.{same_id}
 use Rattle.std.proofs.lemmas.List.Sums.{sum_by-append}
 use Rattle.std.proofs.lemmas.List.Folds.{fold-map}
 use Rattle.sq_history.specs.HistoryValue.{HistoryValue}
-use Rattle.sq_audit.specs.HomeIds.{home_id, IsNumbered}
+use Rattle.sq_history.specs.HomeIds.{home_id, IsNumbered}
 use Rattle.sq_model.proofs.ElementLaws.{get_cases}
 
 summed : {S A : Type 0} (actor : S → A) (f : A → ℕ) (retired given : List S) (actors records : List A) (made left parts amount total : ℕ)

@@ -3,8 +3,8 @@ use Rattle.std.proofs.Common.{◌≡◌, ◌∙◌, ℕ, zero, suc, ◌≤◌, L
 use Rattle.std.proofs.lemmas.List.{map-append}
 use Rattle.sq_base.specs.declared.ids.HomeId.{HomeId}
 use Rattle.sq_model.proofs.ElementLaws.{get_cases}
-use Rattle.sq_audit.specs.HomeIds.{home_id, home_index}
-use Rattle.sq_audit.proofs.HomeIdLaws.{index_found}
+use Rattle.sq_history.specs.HomeIds.{home_id, home_index}
+use Rattle.sq_history.proofs.HomeIdLaws.{index_found}
 use Rattle.sq_queue.specs.LockedParts.{ArePlaced}
 
 mapped_at : {X Y : Type 0} (f : X → Y) (xs : List X) (k : ℕ) (x : X) → slice_get xs k ≡ Some x → slice_get (map f xs) k ≡ Some (f x)

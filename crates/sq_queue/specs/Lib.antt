@@ -4,5 +4,7 @@ pub mod Evidence
 pub mod LockedParts
 pub mod Services
 pub mod Named
+pub mod Around
+pub mod Seats
 pub mod Sections
 pub mod inside

@@ -4,7 +4,7 @@ use Rattle.sq_base.specs.declared.ids.HomeId.{HomeId}
 use Rattle.sq_history.specs.HistoryValue.{HistoryValue}
 use Rattle.sq_directory.specs.DirectoryHistory.{DirectoryHistory}
 use Rattle.sq_ledger.specs.LedgerHistory.{LedgerHistory}
-use Rattle.sq_audit.specs.HomeIds.{home_id}
+use Rattle.sq_history.specs.HomeIds.{home_id}
 
 -- What lies under the lock of the home of this id, the directory or the ledger, as it is at one moment.
 pub data LockedPart : Type 0 where

@@ -15,20 +15,17 @@ use Rattle.sq_steps.specs.Journals.{HomeMoves, DirectoryMoves, LedgerMoves, IsHo
 use Rattle.sq_steps.specs.Reads.{next_of}
 use Rattle.sq_steps.specs.SharedSteps.{SharedMoves, IsUnmoved, IsSharedRefused}
 use Rattle.sq_steps.specs.TaskActs.{task_call}
-use Rattle.sq_audit.specs.HomeIds.{home_index}
-use Rattle.sq_actions.specs.Asks.{Ask, Resolve, AskDirectory, AskHome, AskShared, Peek, Redriven, AskLedger, ReadTask, Gave, Found, Answered, Replied, Nothing, Peeked, Ends, Told, TaskFound}
+use Rattle.sq_history.specs.HomeIds.{home_index}
+use Rattle.sq_actions.specs.Asks.{HomeCounts, Ask, Resolve, AskDirectory, AskHome, AskShared, Peek, Redriven, AskLedger, ReadTask, Gave, Found, Answered, Replied, Nothing, Peeked, Ends, Told, TaskFound}
 use Rattle.sq_queue.specs.LockedParts.{LockedPart, AHome, TheDirectory, TheLedger}
 use Rattle.sq_queue.specs.SessionValue.{SessionValue, having_read}
 
--- What a session meets at a service: which readings its clock may give, what its gate saw under locks that were held, how many homes a queue has, and how many homes there are.
+-- What a session meets at a service: which readings its clock may give, what its gate saw under locks that were held, how many homes a queue has and a receive asks, and how many homes there are.
 pub record Surroundings : Type 1 where
   pub IsReading : ℕ → Type 0
   pub Saw : LockedPart → Type 0
-  pub per_queue : ℕ
+  pub counts : HomeCounts
   pub homes : ℕ
-
-abbrev pub around : (ℕ → Type 0) → (LockedPart → Type 0) → ℕ → ℕ → Surroundings
-around IsReading Saw per_queue homes = record { IsReading = IsReading; Saw = Saw; per_queue = per_queue; homes = homes }
 
 -- A section that is not refused: the gate saw its part so, and the step is one of that part.
 abbrev pub SectionDone : Surroundings → Ask → Gave → SessionValue → SessionValue → Type 0
@@ -53,7 +50,7 @@ SectionDone at ask gave before after = ⊥
 
 -- there is no lock for this home: the clock is looked at first
 abbrev pub HasNoLock : Surroundings → ℕ → HomeId → Refusal → Type 0
-HasNoLock at now id e = (home_index at.per_queue at.homes id ≡ None) × (e ≡ (if nat_le stamp_end now then ClockRange else QueueDoesNotExist))
+HasNoLock at now id e = (home_index at.counts.homes at.homes id ≡ None) × (e ≡ (if nat_le stamp_end now then ClockRange else QueueDoesNotExist))
 
 -- another home lies under the lock of this one, which never is
 abbrev pub IsOfAnother : Surroundings → HomeId → Refusal → Type 0

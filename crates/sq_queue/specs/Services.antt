@@ -13,15 +13,10 @@ use Rattle.sq_calls.specs.declared.calls.Call.{Call}
 use Rattle.sq_calls.specs.declared.turns.Turn.{Turn}
 use Rattle.sq_calls.specs.declared.turns.Turned.{Turned}
 use Rattle.sq_actions.specs.declared.progress.Progress.{Progress}
-use Rattle.sq_actions.specs.Asks.{HomeCounts}
 use Rattle.sq_actions.specs.Performs.{CallFits, Performs, TurnFits, UntilFits}
 use Rattle.sq_queue.specs.LockedParts.{LockedPart, TheDirectory, TheLedger}
 use Rattle.sq_queue.specs.Sections.{Surroundings, IsSection}
 use Rattle.sq_queue.specs.SessionValue.{SessionValue, having_read}
-
--- how many homes a queue of a service has, and how many of them a receive asks
-abbrev pub service_counts : ℕ → ℕ → HomeCounts
-service_counts homes sample = record { homes = homes; sample = sample }
 
 -- a session has read a part, whose last stamp it has seen then, and nothing else of it changed
 abbrev pub HasRead : SessionValue → SessionValue → Type 0
@@ -35,14 +30,14 @@ NamesRead Saw before names after = (part : DirectoryHistory) × Saw (TheDirector
 abbrev pub LastTaskRead : (LockedPart → Type 0) → SessionValue → ℕ → Option Task → SessionValue → Type 0
 LastTaskRead Saw before source task after = (part : LedgerHistory) × Saw (TheLedger part) × (task ≡ last_task source part.ledger) × (after ≡ having_read before part.last)
 
--- A session did a call at a service of which a receive asks so many homes: each of its steps is a section there, and they and what is told fit the call.
-abbrev pub CallDone : Surroundings → ℕ → Call → SessionValue → Result Answer Refusal → SessionValue → Type 0
-CallDone at sample call before told after = Performs (IsSection at) (CallFits (service_counts at.per_queue sample) call) before told after
+-- A session did a call at a service: each of its steps is a section there, and they and what is told fit the call.
+abbrev pub CallDone : Surroundings → Call → SessionValue → Result Answer Refusal → SessionValue → Type 0
+CallDone at call before told after = Performs (IsSection at) (CallFits at.counts call) before told after
 
 -- it did so many steps of a call, or all of it
-abbrev pub UntilDone : Surroundings → ℕ → ℕ → Call → SessionValue → Result (Option Answer) Refusal → SessionValue → Type 0
-UntilDone at sample steps call before told after = Performs (IsSection at) (UntilFits steps (CallFits (service_counts at.per_queue sample) call)) before told after
+abbrev pub UntilDone : Surroundings → ℕ → Call → SessionValue → Result (Option Answer) Refusal → SessionValue → Type 0
+UntilDone at steps call before told after = Performs (IsSection at) (UntilFits steps (CallFits at.counts call)) before told after
 
 -- it did a turn, and is so far before it and so far after it
 abbrev pub TurnMade : Surroundings → Turn → Progress → Progress → SessionValue → Result Turned Refusal → SessionValue → Type 0
-TurnMade at turn from to before told after = Performs (IsSection at) (TurnFits at.per_queue turn from to) before told after
+TurnMade at turn from to before told after = Performs (IsSection at) (TurnFits at.counts.homes turn from to) before told after

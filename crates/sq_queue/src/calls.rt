@@ -1,12 +1,11 @@
 //! The calls of a session.
-ghost use Rattle.std.specs.Prelude.{vec_len};
 ghost use Rattle.sq_actions.specs.Performs.{CallFits, TurnFits, UntilFits, LeavesRecords};
-ghost use Rattle.sq_queue.specs.Sections.{around};
-ghost use Rattle.sq_queue.specs.Services.{CallDone, TurnMade, UntilDone, service_counts};
+ghost use Rattle.sq_queue.specs.Around.{around, service_counts};
+ghost use Rattle.sq_queue.specs.Services.{CallDone, TurnMade, UntilDone};
 
-use crate::locked::{Locked, call_in, call_until_in, turn_in};
 use crate::service::{Clock, Gate, Serving};
 use crate::session::Session;
+use crate::session_steps::{SessionSteps, call_in, call_until_in, turn_in};
 use sq_actions::progress::Progress;
 use sq_base::refusal::Refusal;
 use sq_calls::calls::{Answer, Call};
@@ -26,11 +25,11 @@ impl<C: Clock + Drop, G: Gate + Drop, D: Ledger, T: Ledger> Serving<C, G, D, T, 
         session: &mut Session<D, T>,
         call: &Call,
     ) -> Result<Answer, Refusal>
-        ensures sections { CallDone (around (C.tells self.now.clock) (G.saw self.now.gate) self.now.per_queue (vec_len self.now.homes)) self.now.sample call.now session.old result session.new }
-        ensures leaves_records { LeavesRecords (CallFits (service_counts self.now.per_queue self.now.sample) call.now) session.old.journal result session.new.journal }
+        ensures sections { CallDone (around C.tells G.saw self.now) call.now session.old result session.new }
+        ensures leaves_records { LeavesRecords (CallFits (service_counts self.now) call.now) session.old.journal result session.new.journal }
     {
-        let mut locked = Locked::new(rt, self, session);
-        call_in(&mut locked, call)
+        let mut session_steps = SessionSteps::new(rt, self, session);
+        call_in(&mut session_steps, call)
     }
 
     /// A call that ends early, as `World::call_until` in `sq_merge`: so many of its steps, reads among them, and no more. It answers
@@ -42,11 +41,11 @@ impl<C: Clock + Drop, G: Gate + Drop, D: Ledger, T: Ledger> Serving<C, G, D, T, 
         call: &Call,
         steps: u64,
     ) -> Result<Option<Answer>, Refusal>
-        ensures sections { UntilDone (around (C.tells self.now.clock) (G.saw self.now.gate) self.now.per_queue (vec_len self.now.homes)) self.now.sample steps call.now session.old result session.new }
-        ensures leaves_records { LeavesRecords (UntilFits steps (CallFits (service_counts self.now.per_queue self.now.sample) call.now)) session.old.journal result session.new.journal }
+        ensures sections { UntilDone (around C.tells G.saw self.now) steps call.now session.old result session.new }
+        ensures leaves_records { LeavesRecords (UntilFits steps (CallFits (service_counts self.now) call.now)) session.old.journal result session.new.journal }
     {
-        let mut locked = Locked::new(rt, self, session);
-        call_until_in(&mut locked, call, steps)
+        let mut session_steps = SessionSteps::new(rt, self, session);
+        call_until_in(&mut session_steps, call, steps)
     }
 
     /// A turn of a mover that is so far: one step of moving messages, beside reads, as `World::turn` in `sq_merge`. How far it is
@@ -58,10 +57,10 @@ impl<C: Clock + Drop, G: Gate + Drop, D: Ledger, T: Ledger> Serving<C, G, D, T, 
         progress: &mut Progress,
         turn: &Turn,
     ) -> Result<Turned, Refusal>
-        ensures sections { TurnMade (around (C.tells self.now.clock) (G.saw self.now.gate) self.now.per_queue (vec_len self.now.homes)) turn.now progress.old progress.new session.old result session.new }
+        ensures sections { TurnMade (around C.tells G.saw self.now) turn.now progress.old progress.new session.old result session.new }
         ensures leaves_records { LeavesRecords (TurnFits self.now.per_queue turn.now progress.old progress.new) session.old.journal result session.new.journal }
     {
-        let mut locked = Locked::new(rt, self, session);
-        turn_in(&mut locked, progress, turn)
+        let mut session_steps = SessionSteps::new(rt, self, session);
+        turn_in(&mut session_steps, progress, turn)
     }
 }

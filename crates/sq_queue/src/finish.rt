@@ -1,8 +1,9 @@
 //! The end of a service: its parts are taken out of their locks, and its sessions apart.
 ghost use Rattle.std.specs.Prelude.{◌≡◌, ◌+◌, ◌≤◌, ◌<◌, ◌++◌, [], List, IfOk, IfErr, length, map, position, sum_by, vec_len, vec_capacity};
 ghost use Rattle.sq_model.specs.RecordValues.{Journal as JournalValue};
+ghost use Rattle.sq_queue.specs.Seats.{HasSeats};
 ghost use Rattle.sq_steps.specs.Journals.{is_of_actor, AreDistinct};
-ghost use Rattle.sq_audit.specs.HomeIds.{home_id, IsNumbered};
+ghost use Rattle.sq_history.specs.HomeIds.{home_id, IsNumbered};
 ghost use Rattle.sq_queue.specs.Evidence.{first_of_each, with_firsts, with_unfound};
 ghost use Rattle.sq_queue.specs.Tallies.{directory_records, ledger_records};
 
@@ -13,9 +14,9 @@ use crate::session::Session;
 use sq_audit::homes::Homes;
 use sq_audit::parts::Parts;
 use sq_base::refusal::Refusal;
+use sq_history::homes::{id_at, never_opened};
 use sq_history::recorded::Home;
 use sq_model::place::Limits;
-use sq_opening::homes::{id_at, never_opened};
 use sq_sample::sampler::HomeCount;
 use sq_steps::journal::Journal;
 use sq_steps::journals::{Journals, journal_at};
@@ -94,8 +95,8 @@ fn all_of<D: Ledger, T: Ledger>(
 ) -> Gathered<D, T>
     requires room { vec_len actors.retired + vec_len sessions ≤ vec_capacity journals }
     requires none { journals.items ≡ [] }
-    requires of_directory { D.parts ≡ 4294967296 }
-    requires of_ledger { T.parts ≡ 4294967296 }
+    requires of_directory { HasSeats D.parts }
+    requires of_ledger { HasSeats T.parts }
     ensures made { result.made ≡ actors.made }
     ensures journals { result.journals.items ≡ with_firsts (with_firsts [] (map (λ s. s.journal) sessions.items)) (map (λ s. s.journal) actors.retired.items) }
     ensures distinct { AreDistinct result.journals.items }
@@ -135,8 +136,8 @@ fn left_parts<D: Ledger, T: Ledger>(
 ) -> Parts
     requires room { vec_len actors.retired + vec_len sessions ≤ vec_capacity journals }
     requires none { journals.items ≡ [] }
-    requires of_directory { D.parts ≡ 4294967296 }
-    requires of_ledger { T.parts ≡ 4294967296 }
+    requires of_directory { HasSeats D.parts }
+    requires of_ledger { HasSeats T.parts }
     ensures records { result.records ≡ first_of_each (map (λ s. s.journal) sessions.items ++ map (λ s. s.journal) actors.retired.items) }
     ensures made { result.made ≡ actors.made }
     ensures fewer { length sessions.items + length actors.retired.items ≤ result.made }
@@ -240,8 +241,8 @@ impl<C: Drop, G: Drop, D: Ledger, T: Ledger> Serving<C, G, D, T, SlotStore> {
     /// first, though no two sessions of a service are of one actor. Where all sessions that were made are among them, each
     /// history has as many events as the tallies say. Refused for memory alone, and everything is handed back then.
     pub fn finish(self, sessions: Vec<Session<D, T>>) -> Result<Parts, Unfinished<C, G, D, T>>
-        requires of_directory { D.parts ≡ 4294967296 }
-        requires of_ledger { T.parts ≡ 4294967296 }
+        requires of_directory { HasSeats D.parts }
+        requires of_ledger { HasSeats T.parts }
         ensures records { IfOk result (λ p. (retired : List JournalValue) × (p.records ≡ first_of_each (map (λ s. s.journal) sessions.items ++ retired)) × (length sessions.items + length retired ≤ p.made)) }
         ensures made { IfOk result (λ p. p.made ≤ 4294967295) }
         ensures directory { IfOk result (λ p. length p.records ≡ p.made → length p.directory.events ≡ sum_by (λ a. directory_records a.records) p.records) }

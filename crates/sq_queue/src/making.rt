@@ -3,16 +3,18 @@ ghost use Rattle.std.specs.Prelude.{◌≡◌, ◌*◌, ◌≤◌, [], IfErr, If
 ghost use Rattle.sq_base.specs.Stamps.{start};
 ghost use Rattle.sq_model.specs.Directories.{opening_directory};
 ghost use Rattle.sq_model.specs.Ledgers.{opening_ledger};
-ghost use Rattle.sq_opening.specs.Openings.{IsServed, limits_of, never_opened_homes};
+ghost use Rattle.sq_model.specs.Options.{IsServed, limits_of};
+ghost use Rattle.sq_history.specs.HomeIds.{never_opened_homes};
+ghost use Rattle.sq_queue.specs.Seats.{IsNamedBy};
 
 use crate::actors::Actors;
 use crate::parts::{CountedDirectory, CountedLedger};
 use sq_base::refusal::Refusal;
 use sq_directory::directory::Directory;
+use sq_history::homes::never_opened_homes;
 use sq_history::recorded::Home;
 use sq_ledger::ledger::TransitLedger;
-use sq_opening::homes::never_opened_homes;
-use sq_opening::options::Options;
+use sq_model::options::Options;
 use sq_sample::sampler::HomeCount;
 use std::alloc::Global;
 use std::sync::ledger::{Blank, Ledger};
@@ -35,8 +37,8 @@ pub(crate) fn new_parts<D: Ledger, T: Ledger>(
     of_ledger: Blank,
 ) -> Result<NewParts<D, T>, Refusal>
     requires served { IsServed options.now }
-    requires of_directory { (of_directory.name ≡ D.name) × (of_directory.parts ≡ D.parts) × (D.parts ≡ 4294967296) }
-    requires of_ledger { (of_ledger.name ≡ T.name) × (of_ledger.parts ≡ T.parts) × (T.parts ≡ 4294967296) }
+    requires of_directory { IsNamedBy D.name D.parts of_directory }
+    requires of_ledger { IsNamedBy T.name T.parts of_ledger }
     ensures homes { IfOk result (λ m. m.homes.items ≡ never_opened_homes options.now.homes (limits_of options.now) (options.now.queues * options.now.homes)) }
     ensures many { IfOk result (λ m. length m.homes.items ≡ options.now.queues * options.now.homes) }
     ensures few { IfOk result (λ m. length m.homes.items ≤ 16384) }

@@ -1,12 +1,12 @@
 //! Each call of a session by its name, as `call` does it, with its own type of answers.
-ghost use Rattle.std.specs.Prelude.{◌≡◌, vec_len};
+ghost use Rattle.std.specs.Prelude.{◌≡◌};
 ghost use Rattle.sq_calls.specs.declared.batches.BatchKind.TheVariants as kind;
 ghost use Rattle.sq_calls.specs.declared.calls.Answer.TheVariants as answer;
 ghost use Rattle.sq_calls.specs.declared.calls.Call.TheVariants as asks;
 ghost use Rattle.sq_actions.specs.Performs.{CallFits, LeavesRecords};
+ghost use Rattle.sq_queue.specs.Around.{around, service_counts};
 ghost use Rattle.sq_queue.specs.Named.{answered_as, done_answer, sent_answer};
-ghost use Rattle.sq_queue.specs.Sections.{around};
-ghost use Rattle.sq_queue.specs.Services.{CallDone, service_counts};
+ghost use Rattle.sq_queue.specs.Services.{CallDone};
 
 use crate::answers::{
     SendMessageResult, attributes, cancelled, done, entries, queue, queues, received, sent,
@@ -39,8 +39,8 @@ impl<C: Clock + Drop, G: Gate + Drop, D: Ledger, T: Ledger> Serving<C, G, D, T, 
         session: &mut Session<D, T>,
         request: SendMessage,
     ) -> Result<SendMessageResult, Refusal>
-        ensures sections { CallDone (around (C.tells self.now.clock) (G.saw self.now.gate) self.now.per_queue (vec_len self.now.homes)) self.now.sample (asks.SendMessage request) session.old (answered_as sent_answer result) session.new }
-        ensures leaves_records { LeavesRecords (CallFits (service_counts self.now.per_queue self.now.sample) (asks.SendMessage request)) session.old.journal (answered_as sent_answer result) session.new.journal }
+        ensures sections { CallDone (around C.tells G.saw self.now) (asks.SendMessage request) session.old (answered_as sent_answer result) session.new }
+        ensures leaves_records { LeavesRecords (CallFits (service_counts self.now) (asks.SendMessage request)) session.old.journal (answered_as sent_answer result) session.new.journal }
     {
         sent(self.call(rt, session, &Call::SendMessage(request)))
     }
@@ -52,8 +52,8 @@ impl<C: Clock + Drop, G: Gate + Drop, D: Ledger, T: Ledger> Serving<C, G, D, T, 
         session: &mut Session<D, T>,
         request: ReceiveMessage,
     ) -> Result<ReceivedMessages, Refusal>
-        ensures sections { CallDone (around (C.tells self.now.clock) (G.saw self.now.gate) self.now.per_queue (vec_len self.now.homes)) self.now.sample (asks.ReceiveMessage request) session.old (answered_as answer.Received result) session.new }
-        ensures leaves_records { LeavesRecords (CallFits (service_counts self.now.per_queue self.now.sample) (asks.ReceiveMessage request)) session.old.journal (answered_as answer.Received result) session.new.journal }
+        ensures sections { CallDone (around C.tells G.saw self.now) (asks.ReceiveMessage request) session.old (answered_as answer.Received result) session.new }
+        ensures leaves_records { LeavesRecords (CallFits (service_counts self.now) (asks.ReceiveMessage request)) session.old.journal (answered_as answer.Received result) session.new.journal }
     {
         received(self.call(rt, session, &Call::ReceiveMessage(request)))
     }
@@ -65,8 +65,8 @@ impl<C: Clock + Drop, G: Gate + Drop, D: Ledger, T: Ledger> Serving<C, G, D, T, 
         session: &mut Session<D, T>,
         request: DeleteMessage,
     ) -> Result<(), Refusal>
-        ensures sections { CallDone (around (C.tells self.now.clock) (G.saw self.now.gate) self.now.per_queue (vec_len self.now.homes)) self.now.sample (asks.DeleteMessage request) session.old (answered_as done_answer result) session.new }
-        ensures leaves_records { LeavesRecords (CallFits (service_counts self.now.per_queue self.now.sample) (asks.DeleteMessage request)) session.old.journal (answered_as done_answer result) session.new.journal }
+        ensures sections { CallDone (around C.tells G.saw self.now) (asks.DeleteMessage request) session.old (answered_as done_answer result) session.new }
+        ensures leaves_records { LeavesRecords (CallFits (service_counts self.now) (asks.DeleteMessage request)) session.old.journal (answered_as done_answer result) session.new.journal }
     {
         done(self.call(rt, session, &Call::DeleteMessage(request)))
     }
@@ -78,8 +78,8 @@ impl<C: Clock + Drop, G: Gate + Drop, D: Ledger, T: Ledger> Serving<C, G, D, T, 
         session: &mut Session<D, T>,
         request: ChangeMessageVisibility,
     ) -> Result<(), Refusal>
-        ensures sections { CallDone (around (C.tells self.now.clock) (G.saw self.now.gate) self.now.per_queue (vec_len self.now.homes)) self.now.sample (asks.ChangeMessageVisibility request) session.old (answered_as done_answer result) session.new }
-        ensures leaves_records { LeavesRecords (CallFits (service_counts self.now.per_queue self.now.sample) (asks.ChangeMessageVisibility request)) session.old.journal (answered_as done_answer result) session.new.journal }
+        ensures sections { CallDone (around C.tells G.saw self.now) (asks.ChangeMessageVisibility request) session.old (answered_as done_answer result) session.new }
+        ensures leaves_records { LeavesRecords (CallFits (service_counts self.now) (asks.ChangeMessageVisibility request)) session.old.journal (answered_as done_answer result) session.new.journal }
     {
         done(self.call(rt, session, &Call::ChangeMessageVisibility(request)))
     }
@@ -91,8 +91,8 @@ impl<C: Clock + Drop, G: Gate + Drop, D: Ledger, T: Ledger> Serving<C, G, D, T, 
         session: &mut Session<D, T>,
         request: CreateQueue,
     ) -> Result<QueueName, Refusal>
-        ensures sections { CallDone (around (C.tells self.now.clock) (G.saw self.now.gate) self.now.per_queue (vec_len self.now.homes)) self.now.sample (asks.CreateQueue request) session.old (answered_as answer.Queue result) session.new }
-        ensures leaves_records { LeavesRecords (CallFits (service_counts self.now.per_queue self.now.sample) (asks.CreateQueue request)) session.old.journal (answered_as answer.Queue result) session.new.journal }
+        ensures sections { CallDone (around C.tells G.saw self.now) (asks.CreateQueue request) session.old (answered_as answer.Queue result) session.new }
+        ensures leaves_records { LeavesRecords (CallFits (service_counts self.now) (asks.CreateQueue request)) session.old.journal (answered_as answer.Queue result) session.new.journal }
     {
         queue(self.call(rt, session, &Call::CreateQueue(request)))
     }
@@ -104,8 +104,8 @@ impl<C: Clock + Drop, G: Gate + Drop, D: Ledger, T: Ledger> Serving<C, G, D, T, 
         session: &mut Session<D, T>,
         request: SetQueueAttributes,
     ) -> Result<(), Refusal>
-        ensures sections { CallDone (around (C.tells self.now.clock) (G.saw self.now.gate) self.now.per_queue (vec_len self.now.homes)) self.now.sample (asks.SetQueueAttributes request) session.old (answered_as done_answer result) session.new }
-        ensures leaves_records { LeavesRecords (CallFits (service_counts self.now.per_queue self.now.sample) (asks.SetQueueAttributes request)) session.old.journal (answered_as done_answer result) session.new.journal }
+        ensures sections { CallDone (around C.tells G.saw self.now) (asks.SetQueueAttributes request) session.old (answered_as done_answer result) session.new }
+        ensures leaves_records { LeavesRecords (CallFits (service_counts self.now) (asks.SetQueueAttributes request)) session.old.journal (answered_as done_answer result) session.new.journal }
     {
         done(self.call(rt, session, &Call::SetQueueAttributes(request)))
     }
@@ -117,8 +117,8 @@ impl<C: Clock + Drop, G: Gate + Drop, D: Ledger, T: Ledger> Serving<C, G, D, T, 
         session: &mut Session<D, T>,
         request: GetQueueAttributes,
     ) -> Result<ShownAttributes, Refusal>
-        ensures sections { CallDone (around (C.tells self.now.clock) (G.saw self.now.gate) self.now.per_queue (vec_len self.now.homes)) self.now.sample (asks.GetQueueAttributes request) session.old (answered_as answer.Attributes result) session.new }
-        ensures leaves_records { LeavesRecords (CallFits (service_counts self.now.per_queue self.now.sample) (asks.GetQueueAttributes request)) session.old.journal (answered_as answer.Attributes result) session.new.journal }
+        ensures sections { CallDone (around C.tells G.saw self.now) (asks.GetQueueAttributes request) session.old (answered_as answer.Attributes result) session.new }
+        ensures leaves_records { LeavesRecords (CallFits (service_counts self.now) (asks.GetQueueAttributes request)) session.old.journal (answered_as answer.Attributes result) session.new.journal }
     {
         attributes(self.call(rt, session, &Call::GetQueueAttributes(request)))
     }
@@ -130,8 +130,8 @@ impl<C: Clock + Drop, G: Gate + Drop, D: Ledger, T: Ledger> Serving<C, G, D, T, 
         session: &mut Session<D, T>,
         name: QueueName,
     ) -> Result<QueueName, Refusal>
-        ensures sections { CallDone (around (C.tells self.now.clock) (G.saw self.now.gate) self.now.per_queue (vec_len self.now.homes)) self.now.sample (asks.GetQueueUrl name) session.old (answered_as answer.Queue result) session.new }
-        ensures leaves_records { LeavesRecords (CallFits (service_counts self.now.per_queue self.now.sample) (asks.GetQueueUrl name)) session.old.journal (answered_as answer.Queue result) session.new.journal }
+        ensures sections { CallDone (around C.tells G.saw self.now) (asks.GetQueueUrl name) session.old (answered_as answer.Queue result) session.new }
+        ensures leaves_records { LeavesRecords (CallFits (service_counts self.now) (asks.GetQueueUrl name)) session.old.journal (answered_as answer.Queue result) session.new.journal }
     {
         queue(self.call(rt, session, &Call::GetQueueUrl(name)))
     }
@@ -143,8 +143,8 @@ impl<C: Clock + Drop, G: Gate + Drop, D: Ledger, T: Ledger> Serving<C, G, D, T, 
         session: &mut Session<D, T>,
         prefix: NamePrefix,
     ) -> Result<Listed<QueueName>, Refusal>
-        ensures sections { CallDone (around (C.tells self.now.clock) (G.saw self.now.gate) self.now.per_queue (vec_len self.now.homes)) self.now.sample (asks.ListQueues prefix) session.old (answered_as answer.Queues result) session.new }
-        ensures leaves_records { LeavesRecords (CallFits (service_counts self.now.per_queue self.now.sample) (asks.ListQueues prefix)) session.old.journal (answered_as answer.Queues result) session.new.journal }
+        ensures sections { CallDone (around C.tells G.saw self.now) (asks.ListQueues prefix) session.old (answered_as answer.Queues result) session.new }
+        ensures leaves_records { LeavesRecords (CallFits (service_counts self.now) (asks.ListQueues prefix)) session.old.journal (answered_as answer.Queues result) session.new.journal }
     {
         queues(self.call(rt, session, &Call::ListQueues(prefix)))
     }
@@ -156,8 +156,8 @@ impl<C: Clock + Drop, G: Gate + Drop, D: Ledger, T: Ledger> Serving<C, G, D, T, 
         session: &mut Session<D, T>,
         name: QueueName,
     ) -> Result<(), Refusal>
-        ensures sections { CallDone (around (C.tells self.now.clock) (G.saw self.now.gate) self.now.per_queue (vec_len self.now.homes)) self.now.sample (asks.PurgeQueue name) session.old (answered_as done_answer result) session.new }
-        ensures leaves_records { LeavesRecords (CallFits (service_counts self.now.per_queue self.now.sample) (asks.PurgeQueue name)) session.old.journal (answered_as done_answer result) session.new.journal }
+        ensures sections { CallDone (around C.tells G.saw self.now) (asks.PurgeQueue name) session.old (answered_as done_answer result) session.new }
+        ensures leaves_records { LeavesRecords (CallFits (service_counts self.now) (asks.PurgeQueue name)) session.old.journal (answered_as done_answer result) session.new.journal }
     {
         done(self.call(rt, session, &Call::PurgeQueue(name)))
     }
@@ -169,8 +169,8 @@ impl<C: Clock + Drop, G: Gate + Drop, D: Ledger, T: Ledger> Serving<C, G, D, T, 
         session: &mut Session<D, T>,
         name: QueueName,
     ) -> Result<(), Refusal>
-        ensures sections { CallDone (around (C.tells self.now.clock) (G.saw self.now.gate) self.now.per_queue (vec_len self.now.homes)) self.now.sample (asks.DeleteQueue name) session.old (answered_as done_answer result) session.new }
-        ensures leaves_records { LeavesRecords (CallFits (service_counts self.now.per_queue self.now.sample) (asks.DeleteQueue name)) session.old.journal (answered_as done_answer result) session.new.journal }
+        ensures sections { CallDone (around C.tells G.saw self.now) (asks.DeleteQueue name) session.old (answered_as done_answer result) session.new }
+        ensures leaves_records { LeavesRecords (CallFits (service_counts self.now) (asks.DeleteQueue name)) session.old.journal (answered_as done_answer result) session.new.journal }
     {
         done(self.call(rt, session, &Call::DeleteQueue(name)))
     }
@@ -182,8 +182,8 @@ impl<C: Clock + Drop, G: Gate + Drop, D: Ledger, T: Ledger> Serving<C, G, D, T, 
         session: &mut Session<D, T>,
         name: QueueName,
     ) -> Result<Listed<QueueName>, Refusal>
-        ensures sections { CallDone (around (C.tells self.now.clock) (G.saw self.now.gate) self.now.per_queue (vec_len self.now.homes)) self.now.sample (asks.ListDeadLetterSourceQueues name) session.old (answered_as answer.Sources result) session.new }
-        ensures leaves_records { LeavesRecords (CallFits (service_counts self.now.per_queue self.now.sample) (asks.ListDeadLetterSourceQueues name)) session.old.journal (answered_as answer.Sources result) session.new.journal }
+        ensures sections { CallDone (around C.tells G.saw self.now) (asks.ListDeadLetterSourceQueues name) session.old (answered_as answer.Sources result) session.new }
+        ensures leaves_records { LeavesRecords (CallFits (service_counts self.now) (asks.ListDeadLetterSourceQueues name)) session.old.journal (answered_as answer.Sources result) session.new.journal }
     {
         sources(self.call(rt, session, &Call::ListDeadLetterSourceQueues(name)))
     }
@@ -195,8 +195,8 @@ impl<C: Clock + Drop, G: Gate + Drop, D: Ledger, T: Ledger> Serving<C, G, D, T, 
         session: &mut Session<D, T>,
         request: StartMessageMoveTask,
     ) -> Result<TaskNo, Refusal>
-        ensures sections { CallDone (around (C.tells self.now.clock) (G.saw self.now.gate) self.now.per_queue (vec_len self.now.homes)) self.now.sample (asks.StartMessageMoveTask request) session.old (answered_as answer.Started result) session.new }
-        ensures leaves_records { LeavesRecords (CallFits (service_counts self.now.per_queue self.now.sample) (asks.StartMessageMoveTask request)) session.old.journal (answered_as answer.Started result) session.new.journal }
+        ensures sections { CallDone (around C.tells G.saw self.now) (asks.StartMessageMoveTask request) session.old (answered_as answer.Started result) session.new }
+        ensures leaves_records { LeavesRecords (CallFits (service_counts self.now) (asks.StartMessageMoveTask request)) session.old.journal (answered_as answer.Started result) session.new.journal }
     {
         started(self.call(rt, session, &Call::StartMessageMoveTask(request)))
     }
@@ -208,8 +208,8 @@ impl<C: Clock + Drop, G: Gate + Drop, D: Ledger, T: Ledger> Serving<C, G, D, T, 
         session: &mut Session<D, T>,
         task: Option<TaskNo>,
     ) -> Result<u64, Refusal>
-        ensures sections { CallDone (around (C.tells self.now.clock) (G.saw self.now.gate) self.now.per_queue (vec_len self.now.homes)) self.now.sample (asks.CancelMessageMoveTask task) session.old (answered_as answer.Cancelled result) session.new }
-        ensures leaves_records { LeavesRecords (CallFits (service_counts self.now.per_queue self.now.sample) (asks.CancelMessageMoveTask task)) session.old.journal (answered_as answer.Cancelled result) session.new.journal }
+        ensures sections { CallDone (around C.tells G.saw self.now) (asks.CancelMessageMoveTask task) session.old (answered_as answer.Cancelled result) session.new }
+        ensures leaves_records { LeavesRecords (CallFits (service_counts self.now) (asks.CancelMessageMoveTask task)) session.old.journal (answered_as answer.Cancelled result) session.new.journal }
     {
         cancelled(self.call(rt, session, &Call::CancelMessageMoveTask(task)))
     }
@@ -221,8 +221,8 @@ impl<C: Clock + Drop, G: Gate + Drop, D: Ledger, T: Ledger> Serving<C, G, D, T, 
         session: &mut Session<D, T>,
         request: ListMessageMoveTasks,
     ) -> Result<Listed<Task>, Refusal>
-        ensures sections { CallDone (around (C.tells self.now.clock) (G.saw self.now.gate) self.now.per_queue (vec_len self.now.homes)) self.now.sample (asks.ListMessageMoveTasks request) session.old (answered_as answer.Tasks result) session.new }
-        ensures leaves_records { LeavesRecords (CallFits (service_counts self.now.per_queue self.now.sample) (asks.ListMessageMoveTasks request)) session.old.journal (answered_as answer.Tasks result) session.new.journal }
+        ensures sections { CallDone (around C.tells G.saw self.now) (asks.ListMessageMoveTasks request) session.old (answered_as answer.Tasks result) session.new }
+        ensures leaves_records { LeavesRecords (CallFits (service_counts self.now) (asks.ListMessageMoveTasks request)) session.old.journal (answered_as answer.Tasks result) session.new.journal }
     {
         tasks(self.call(rt, session, &Call::ListMessageMoveTasks(request)))
     }
@@ -235,8 +235,8 @@ impl<C: Clock + Drop, G: Gate + Drop, D: Ledger, T: Ledger> Serving<C, G, D, T, 
         batch: Batch,
     ) -> Result<Listed<EntryResult>, Refusal>
         requires sends { batch.kind ≡ kind.Send }
-        ensures sections { CallDone (around (C.tells self.now.clock) (G.saw self.now.gate) self.now.per_queue (vec_len self.now.homes)) self.now.sample (asks.Batch batch) session.old (answered_as answer.Batch result) session.new }
-        ensures leaves_records { LeavesRecords (CallFits (service_counts self.now.per_queue self.now.sample) (asks.Batch batch)) session.old.journal (answered_as answer.Batch result) session.new.journal }
+        ensures sections { CallDone (around C.tells G.saw self.now) (asks.Batch batch) session.old (answered_as answer.Batch result) session.new }
+        ensures leaves_records { LeavesRecords (CallFits (service_counts self.now) (asks.Batch batch)) session.old.journal (answered_as answer.Batch result) session.new.journal }
     {
         entries(self.call(rt, session, &Call::Batch(batch)))
     }
@@ -249,8 +249,8 @@ impl<C: Clock + Drop, G: Gate + Drop, D: Ledger, T: Ledger> Serving<C, G, D, T, 
         batch: Batch,
     ) -> Result<Listed<EntryResult>, Refusal>
         requires deletes { batch.kind ≡ kind.Delete }
-        ensures sections { CallDone (around (C.tells self.now.clock) (G.saw self.now.gate) self.now.per_queue (vec_len self.now.homes)) self.now.sample (asks.Batch batch) session.old (answered_as answer.Batch result) session.new }
-        ensures leaves_records { LeavesRecords (CallFits (service_counts self.now.per_queue self.now.sample) (asks.Batch batch)) session.old.journal (answered_as answer.Batch result) session.new.journal }
+        ensures sections { CallDone (around C.tells G.saw self.now) (asks.Batch batch) session.old (answered_as answer.Batch result) session.new }
+        ensures leaves_records { LeavesRecords (CallFits (service_counts self.now) (asks.Batch batch)) session.old.journal (answered_as answer.Batch result) session.new.journal }
     {
         entries(self.call(rt, session, &Call::Batch(batch)))
     }
@@ -263,8 +263,8 @@ impl<C: Clock + Drop, G: Gate + Drop, D: Ledger, T: Ledger> Serving<C, G, D, T, 
         batch: Batch,
     ) -> Result<Listed<EntryResult>, Refusal>
         requires changes { batch.kind ≡ kind.Change }
-        ensures sections { CallDone (around (C.tells self.now.clock) (G.saw self.now.gate) self.now.per_queue (vec_len self.now.homes)) self.now.sample (asks.Batch batch) session.old (answered_as answer.Batch result) session.new }
-        ensures leaves_records { LeavesRecords (CallFits (service_counts self.now.per_queue self.now.sample) (asks.Batch batch)) session.old.journal (answered_as answer.Batch result) session.new.journal }
+        ensures sections { CallDone (around C.tells G.saw self.now) (asks.Batch batch) session.old (answered_as answer.Batch result) session.new }
+        ensures leaves_records { LeavesRecords (CallFits (service_counts self.now) (asks.Batch batch)) session.old.journal (answered_as answer.Batch result) session.new.journal }
     {
         entries(self.call(rt, session, &Call::Batch(batch)))
     }

@@ -1,8 +1,9 @@
 //! A service whose parts lie under locks.
 ghost use Rattle.std.specs.Prelude.{◌≡◌, ◌⊎◌, ◌*◌, ◌<◌, ◌≤◌, ℕ, None, IfOk, IfErr, IfNone, IfSome, OnOk, length, map, vec_len};
-ghost use Rattle.sq_audit.specs.HomeIds.{home_index};
-ghost use Rattle.sq_opening.specs.Openings.{IsServed};
+ghost use Rattle.sq_history.specs.HomeIds.{home_index};
+ghost use Rattle.sq_model.specs.Options.{IsServed};
 ghost use Rattle.sq_queue.specs.LockedParts.{LockedPart, AHome, TheDirectory, TheLedger, ArePlaced};
+ghost use Rattle.sq_queue.specs.Seats.{IsNamedBy};
 ghost use Rattle.sq_queue.specs.SessionValue.{new_session};
 
 use crate::actors::Actors;
@@ -10,14 +11,13 @@ use crate::making::{NewParts, new_parts};
 use crate::parts::{CountedDirectory, CountedLedger, Placed};
 use crate::session::Session;
 use crossbeam_utils::CachePadded;
-use sq_audit::homes::home_index;
 use sq_base::ids::HomeId;
 use sq_base::refusal::Refusal;
 use sq_directory::directory::Directory;
+use sq_history::homes::{home_index, id_at};
 use sq_history::recorded::Home;
 use sq_ledger::ledger::TransitLedger;
-use sq_opening::homes::id_at;
-use sq_opening::options::Options;
+use sq_model::options::Options;
 use sq_sample::sampler::HomeCount;
 use sq_store::slots::SlotStore;
 use sq_store::store::Store;
@@ -147,8 +147,8 @@ impl<C: Clock + Drop, G: Gate + Drop, D: Ledger, T: Ledger> Serving<C, G, D, T, 
         of_directory: Blank,
         of_ledger: Blank,
     ) -> Result<Service<C, G, D, T>, Refusal>
-        requires of_directory { (of_directory.name ≡ D.name) × (of_directory.parts ≡ D.parts) × (D.parts ≡ 4294967296) }
-        requires of_ledger { (of_ledger.name ≡ T.name) × (of_ledger.parts ≡ T.parts) × (T.parts ≡ 4294967296) }
+        requires of_directory { IsNamedBy D.name D.parts of_directory }
+        requires of_ledger { IsNamedBy T.name T.parts of_ledger }
         ensures counts { IfOk result (λ s. (s.per_queue ≡ options.homes) × (s.sample ≡ options.sample) × (vec_len s.homes ≡ options.queues * options.homes)) }
         ensures served { OnOk result (IsServed options) }
         ensures refused { IfErr result (λ e. ((e ≡ Refusal.NoMemory) × IsServed options) ⊎ ((e ≡ Refusal.InvalidParameterValue) × (¬ IsServed options))) }

@@ -67,8 +67,8 @@ is_known_text (Some name) = bytes_eq name (codes "All") || is_settable name || i
 unfoldable pub is_known : Data → Bool
 is_known d = is_known_text (as_str d)
 
-unfoldable pub shown_of : Items → AskedOfQueue
-shown_of names = record {
+unfoldable pub attributes_asked : Items → AskedOfQueue
+attributes_asked names = record {
   visible = any_item (asks (codes "ApproximateNumberOfMessages")) names;
   delayed = any_item (asks (codes "ApproximateNumberOfMessagesDelayed")) names;
   in_flight = any_item (asks (codes "ApproximateNumberOfMessagesNotVisible")) names;
@@ -82,4 +82,4 @@ shown_of names = record {
 }
 
 unfoldable pub asked_of_queue : Items → Result AskedOfQueue Refusal
-asked_of_queue names = if all_items is_known names then Ok (shown_of names) else Err InvalidAttributeName
+asked_of_queue names = if all_items is_known names then Ok (attributes_asked names) else Err InvalidAttributeName

@@ -66,8 +66,8 @@ plain_call_of action d =
     else Err UnsupportedOperation
 
 -- what the entries of a batch do, where the action is one
-unfoldable pub kind_of : List ℕ → Option BatchKind
-kind_of action =
+unfoldable pub batch_kind : List ℕ → Option BatchKind
+batch_kind action =
     if bytes_eq action (codes "SendMessageBatch") then Some kind.Send
     else if bytes_eq action (codes "DeleteMessageBatch") then Some kind.Delete
     else if bytes_eq action (codes "ChangeMessageVisibilityBatch") then Some kind.Change
@@ -77,12 +77,12 @@ abbrev pub batch_or : Option BatchKind → List ℕ → Data → Result Call Ref
 batch_or (Some kind) action d = batch_of kind d
 batch_or None action d = plain_call_of action d
 
-unfoldable pub call_of : List ℕ → Data → Result Call Refusal
-call_of action d =
+unfoldable pub asked_call : List ℕ → Data → Result Call Refusal
+asked_call action d =
     if bytes_eq action (codes "CreateQueue") then create_of d
     else if bytes_eq action (codes "SetQueueAttributes") then set_of d
     else if bytes_eq action (codes "SendMessage") then send_of d
-    else batch_or (kind_of action) action d
+    else batch_or (batch_kind action) action d
 
 -- the turn that an action names, if it names one; an EnterTurn asks nothing of its line
 unfoldable pub turn_of : List ℕ → Data → Option (Result Turn Refusal)
@@ -98,7 +98,7 @@ turn_or (Some turn) call = seen_as asked.Turn turn
 turn_or None call = seen_as asked.Call call
 
 unfoldable pub call_or_turn_of : List ℕ → Data → Result Asked Refusal
-call_or_turn_of action d = turn_or (turn_of action d) (call_of action d)
+call_or_turn_of action d = turn_or (turn_of action d) (asked_call action d)
 
 abbrev pub request_in : Data → Result Request Refusal
 request_in d = do

@@ -4,7 +4,7 @@ ghost use Rattle.serde_json.specs.Data.{no_items};
 ghost use Rattle.sq_json.specs.View.{view, items_view};
 ghost use Rattle.sq_policy.specs.Reading.{seen_as};
 ghost use Rattle.sq_requests.specs.Lists.{listed_if, any_item, all_items};
-ghost use Rattle.sq_requests.specs.Asked.{is_text, names_at, asks, asked_of, either, asked_at, is_only_read, is_known, shown_of, asked_of_queue};
+ghost use Rattle.sq_requests.specs.Asked.{is_text, names_at, asks, asked_of, either, asked_at, is_only_read, is_known, attributes_asked, asked_of_queue};
 
 use crate::attributes::is_settable;
 use sq_base::refusal::Refusal;
@@ -156,9 +156,9 @@ fn are_known(names: &Option<Value<'_, '_>>) -> bool
     }
 }
 
-#[tactic(auto, unfolding(crate::specs::Asked::shown_of))]
-fn shown_of(names: &Option<Value<'_, '_>>) -> AskedOfQueue
-    ensures { result ≡ shown_of (listed_if names.now) }
+#[tactic(auto, unfolding(crate::specs::Asked::attributes_asked))]
+fn attributes_asked(names: &Option<Value<'_, '_>>) -> AskedOfQueue
+    ensures { result ≡ attributes_asked (listed_if names.now) }
 {
     AskedOfQueue {
         visible: is_asked(names, "ApproximateNumberOfMessages"),
@@ -181,7 +181,7 @@ pub fn asked_of_queue(names: &Option<Value<'_, '_>>) -> Result<AskedOfQueue, Ref
     ensures { result ≡ asked_of_queue (listed_if names.now) }
 {
     if are_known(names) {
-        Ok(shown_of(names))
+        Ok(attributes_asked(names))
     } else {
         Err(Refusal::InvalidAttributeName)
     }

@@ -1,23 +1,25 @@
 //! What the actions on several messages ask.
-ghost use Rattle.std.specs.Prelude.{◌≡◌, ◌≢◌, ◌⊎◌, ◌<◌, ◌≤◌, false, is_ok, nat_lt, true, length, if◌then◌else◌, None, Some, Ok, Err, IfOk, IfErr, IfSome, OnOk};
-ghost use Rattle.sq_json.specs.View.{view};
-ghost use Rattle.sq_policy.specs.Reading.{seen_as, Reads};
+ghost use Rattle.std.specs.Prelude.{◌≡◌, ◌≢◌, false, is_ok, nat_lt, true, map, IfOk, IfErr};
+ghost use Rattle.std.specs.List.{list_all, list_any};
+ghost use Rattle.std.specs.Str.{bytes_eq};
+ghost use Rattle.sq_base.specs.Names.{is_name};
 ghost use Rattle.sq_calls.specs.BodyTexts.{body_limit};
-ghost use Rattle.sq_requests.specs.Memory.{ReadsAsking};
-ghost use Rattle.sq_requests.specs.Lists.{listed_items, all_items, any_item};
-ghost use Rattle.sq_requests.specs.Members.{receipt_handle_at};
-ghost use Rattle.sq_requests.specs.Batches.{as_ask, send_ask, change_ask, send_of_entry, change_of_entry, ask_of, how_many, entry_id, is_entry, has_id, have_same_id, repeat_an_id, body_length, bodies_length, items_at, batch_check, entry_of, entries_of, batch_of};
-ghost use Rattle.sq_requests.specs.inside.Batches.{ask_asks, entry_asks, behind};
+ghost use Rattle.sq_json.specs.View.{items_view, view};
+ghost use Rattle.sq_policy.specs.Reading.{seen_as, Reads};
+ghost use Rattle.sq_requests.specs.Lists.{all_items};
+ghost use Rattle.sq_requests.specs.Batches.{as_ask, send_ask, change_ask, send_of_entry, delete_of_entry, change_of_entry, ask_of, is_entry, body_length, items_at, entry_of, batch_of};
+ghost use Rattle.sq_requests.specs.inside.Batches.{ask_by, has_body, entry_by, length_by, lengths_of, are_distinct, check_by, IsRead};
 
 use crate::actions::has_attributes_at;
-use crate::members::{amount_at, amount_if_at, receipt_handle_at, text_at, url_at};
+use crate::members::{amount_at, amount_if_at, text_at, url_at};
+use arrayvec::ArrayVec;
 use sq_base::body::BODY_LIMIT;
-use sq_base::handle::Handle;
+use sq_base::handle::{Handle, read_handle};
 use sq_base::refusal::Refusal;
 use sq_calls::batches::{Batch, BatchKind, Entry, EntryAsk, EntryId, MOST_ENTRIES};
 use sq_calls::body_text::BodyText;
 use sq_calls::calls::Call;
-use sq_json::value::Value;
+use sq_json::value::{Items, Value};
 use sq_model::listed::Listed;
 use sq_policy::amount::{Amount, in_range, in_range_if};
 use std::alloc::Global;
@@ -58,183 +60,160 @@ fn change_ask(handle: Option<Handle>, amount: Amount) -> Result<EntryAsk, Refusa
     Ok(EntryAsk::Change(handle, timeout))
 }
 
-fn send_of_entry(alloc: Global, value: &Value<'_, '_>) -> Result<EntryAsk, Refusal>
-    ensures { ReadsAsking (ask_asks BatchKind.Send (view value.now)) result (send_of_entry (view value.now)) }
+// The members of an entry that say what it asks.
+#[derive(Clone, Copy)]
+enum AskMembers<'a> {
+    // A body, a delay, and whether there are message attributes.
+    Send(&'a str, Option<Amount>, bool),
+    // The text of a receipt handle.
+    Delete(&'a str),
+    // The text of a receipt handle, and a timeout.
+    Change(&'a str, Amount),
+}
+
+// The members of an entry: the text of its id, and what it asks.
+#[derive(Clone, Copy)]
+struct EntryMembers<'a> {
+    id: &'a str,
+    asked: AskMembers<'a>,
+}
+
+// What a place holds that no entry was read into.
+impl Default for EntryMembers<'_> {
+    fn default() -> Self {
+        EntryMembers {
+            id: "",
+            asked: AskMembers::Delete(""),
+        }
+    }
+}
+
+// The members of the first ten entries of a batch, and whether it has more.
+#[derive(Drop)]
+struct ReadEntries<'a> {
+    first: ArrayVec<EntryMembers<'a>, MOST_ENTRIES>,
+    has_more: bool,
+}
+
+// The members of a send as an entry.
+#[tactic(auto, unfolding(crate::specs::Batches::send_of_entry, crate::specs::Batches::body_length))]
+fn send_of_entry<'a>(value: &Value<'_, 'a>) -> Result<AskMembers<'a>, Refusal>
+    ensures ask { seen_as ask_by result ≡ send_of_entry (view value.now) }
+    ensures length { IfOk result (λ members. length_by members ≡ body_length BatchKind.Send (view value.now)) }
 {
     let body = text_at(value, "MessageBody")?;
     let delay = amount_if_at(value, "DelaySeconds")?;
     let has_attributes = has_attributes_at(value)?;
-    as_ask(send_ask(alloc, has_attributes, delay, body))
+    Ok(AskMembers::Send(body, delay, has_attributes))
 }
 
-#[tactic(auto, unfolding(crate::specs::Batches::change_of_entry))]
-fn change_of_entry(value: &Value<'_, '_>) -> Result<EntryAsk, Refusal>
-    ensures { result ≡ change_of_entry (view value.now) }
+// The members of a delete as an entry.
+#[tactic(auto, unfolding(crate::specs::Batches::delete_of_entry, crate::specs::Batches::body_length, crate::specs::Members::receipt_handle_at))]
+fn delete_of_entry<'a>(value: &Value<'_, 'a>) -> Result<AskMembers<'a>, Refusal>
+    ensures ask { seen_as ask_by result ≡ delete_of_entry (view value.now) }
+    ensures length { IfOk result (λ members. length_by members ≡ body_length BatchKind.Delete (view value.now)) }
 {
-    let handle = receipt_handle_at(value)?;
-    let amount = amount_at(value, "VisibilityTimeout")?;
-    as_ask(change_ask(handle, amount))
+    let handle = text_at(value, "ReceiptHandle")?;
+    Ok(AskMembers::Delete(handle))
 }
 
-// What an entry asks.
-#[tactic(auto, unfolding(crate::specs::Batches::delete_of_entry))]
-fn ask_of(alloc: Global, kind: BatchKind, value: &Value<'_, '_>) -> Result<EntryAsk, Refusal>
-    ensures { ReadsAsking (ask_asks kind (view value.now)) result (ask_of kind (view value.now)) }
+// The members of a change as an entry.
+#[tactic(auto, unfolding(crate::specs::Batches::change_of_entry, crate::specs::Batches::body_length, crate::specs::Members::receipt_handle_at))]
+fn change_of_entry<'a>(value: &Value<'_, 'a>) -> Result<AskMembers<'a>, Refusal>
+    ensures ask { seen_as ask_by result ≡ change_of_entry (view value.now) }
+    ensures length { IfOk result (λ members. length_by members ≡ body_length BatchKind.Change (view value.now)) }
+{
+    let handle = text_at(value, "ReceiptHandle")?;
+    let timeout = amount_at(value, "VisibilityTimeout")?;
+    Ok(AskMembers::Change(handle, timeout))
+}
+
+// The members that say what an entry asks.
+fn ask_members<'a>(kind: BatchKind, value: &Value<'_, 'a>) -> Result<AskMembers<'a>, Refusal>
+    ensures ask { seen_as ask_by result ≡ ask_of kind (view value.now) }
+    ensures length { IfOk result (λ members. length_by members ≡ body_length kind (view value.now)) }
 {
     match kind {
-        BatchKind::Send => send_of_entry(alloc, value),
-        BatchKind::Delete => Ok(EntryAsk::Delete(receipt_handle_at(value)?)),
+        BatchKind::Send => send_of_entry(value),
+        BatchKind::Delete => delete_of_entry(value),
         BatchKind::Change => change_of_entry(value),
     }
 }
 
-// The text of an entry's id.
-#[tactic(auto, unfolding(crate::specs::Batches::entry_id))]
-fn entry_id<'a>(value: &Value<'_, 'a>) -> Result<&'a str, Refusal>
-    ensures { seen_as (λ t. t.now) result ≡ entry_id (view value.now) }
+// The members of an entry, each looked up once.
+#[tactic(auto, unfolding(crate::specs::Batches::entry_of, crate::specs::Batches::entry_id))]
+fn entry_members<'a>(kind: BatchKind, value: &Value<'_, 'a>) -> Result<EntryMembers<'a>, Refusal>
+    ensures entry { seen_as entry_by result ≡ entry_of kind (view value.now) }
+    ensures is_entry { is_ok result ≡ is_entry kind (view value.now) }
+    ensures length { IfOk result (λ members. length_by members.asked ≡ body_length kind (view value.now)) }
 {
-    text_at(value, "Id")
+    let id = text_at(value, "Id")?;
+    let asked = ask_members(kind, value)?;
+    Ok(EntryMembers { id, asked })
 }
 
-// Whether the text of a receipt handle is there.
-#[tactic(auto, unfolding(crate::specs::Members::receipt_handle_at))]
-fn has_handle(value: &Value<'_, '_>) -> bool
-    ensures { result ≡ is_ok (receipt_handle_at (view value.now)) }
+// The members of the entries, where each has its own: all are read, ten are kept.
+fn read_entries<'a>(kind: BatchKind, items: Items<'_, 'a>) -> Result<ReadEntries<'a>, Refusal>
+    ensures ok { IfOk result (λ read. IsRead kind (items_view items.entry) read) }
+    ensures err { IfErr result (λ e. (e ≡ Refusal.InvalidRequest) × (all_items (is_entry kind) (items_view items.entry) ≡ false)) }
 {
-    text_at(value, "ReceiptHandle").is_ok()
-}
-
-// Whether what an entry asks is there, each member with its type.
-#[tactic(auto, unfolding(crate::specs::Batches::send_of_entry, crate::specs::Batches::delete_of_entry, crate::specs::Batches::change_of_entry))]
-fn has_members_of(kind: BatchKind, value: &Value<'_, '_>) -> bool
-    ensures { result ≡ is_ok (ask_of kind (view value.now)) }
-{
-    match kind {
-        BatchKind::Send => {
-            text_at(value, "MessageBody").is_ok()
-                && amount_if_at(value, "DelaySeconds").is_ok()
-                && has_attributes_at(value).is_ok()
-        }
-        BatchKind::Delete => has_handle(value),
-        BatchKind::Change => has_handle(value) && amount_at(value, "VisibilityTimeout").is_ok(),
-    }
-}
-
-fn is_entry(kind: BatchKind, value: &Value<'_, '_>) -> bool
-    ensures { result ≡ is_entry kind (view value.now) }
-{
-    entry_id(value).is_ok() && has_members_of(kind, value)
-}
-
-// Whether each of these is one.
-fn are_entries(kind: BatchKind, entries: &Value<'_, '_>) -> bool
-    ensures { result ≡ all_items (is_entry kind) (listed_items entries.now) }
-{
-    let Some(mut items) = entries.items() else {
-        return true;
-    };
+    let mut items = items;
+    let mut first = ArrayVec::new();
+    let mut has_more = false;
     'items: while let Some(entry) = items.next() {
-        if !is_entry(kind, &entry) {
-            return false;
-        }
-    }
-    true
-}
-
-// Whether the id of an entry is one.
-fn has_id(value: &Value<'_, '_>) -> bool
-    ensures { result ≡ has_id (view value.now) }
-{
-    match entry_id(value) {
-        Ok(text) => EntryId::new(text.as_bytes()).is_some(),
-        Err(_) => false,
-    }
-}
-
-fn have_ids(entries: &Value<'_, '_>) -> bool
-    ensures { result ≡ all_items has_id (listed_items entries.now) }
-{
-    let Some(mut items) = entries.items() else {
-        return true;
-    };
-    'items: while let Some(entry) = items.next() {
-        if !has_id(&entry) {
-            return false;
-        }
-    }
-    true
-}
-
-fn have_same_id(one: &Value<'_, '_>, other: &Value<'_, '_>) -> bool
-    ensures { result ≡ have_same_id (view one.now) (view other.now) }
-{
-    match (entry_id(one), entry_id(other)) {
-        (Ok(one), Ok(other)) => one == other,
-        _ => false,
-    }
-}
-
-// Whether an entry has the same id as one of those behind the first `passed`.
-fn is_repeated(one: &Value<'_, '_>, entries: &Value<'_, '_>, passed: usize) -> bool
-    ensures { result ≡ any_item (have_same_id (view one.now)) (behind passed (listed_items entries.now)) }
-{
-    let Some(mut items) = entries.items() else {
-        return false;
-    };
-    let mut to_pass = passed;
-    'items: while let Some(other) = items.next() {
-        if to_pass > 0 {
-            to_pass -= 1;
-        } else if have_same_id(one, &other) {
-            return true;
-        }
-    }
-    false
-}
-
-// Whether two of so many entries have the same id.
-fn repeat_an_id(entries: &Value<'_, '_>, count: usize) -> bool
-    requires { count ≡ how_many (listed_items entries.now) }
-    ensures { result ≡ repeat_an_id (listed_items entries.now) }
-{
-    let Some(mut items) = entries.items() else {
-        return false;
-    };
-    for passed in 0..count {
-        let Some(one) = items.next() else {
-            return false;
+        let Ok(members) = entry_members(kind, &entry) else {
+            return Err(Refusal::InvalidRequest);
         };
-        if is_repeated(&one, entries, passed + 1) {
-            return true;
-        }
+        has_more = first.try_push(members).is_err();
     }
-    false
+    Ok(ReadEntries { first, has_more })
 }
 
-// How many bytes the body of an entry has; 0 where there is none.
-#[tactic(auto, unfolding(crate::specs::Batches::body_length))]
-fn body_length(kind: BatchKind, value: &Value<'_, '_>) -> usize
-    ensures { result ≡ body_length kind (view value.now) }
+// Whether the id of each entry is one.
+fn have_ids(entries: &[EntryMembers<'_>]) -> bool
+    ensures { result ≡ list_all (λ entry. is_name entry.id.now) entries.now }
 {
-    match kind {
-        BatchKind::Send => match text_at(value, "MessageBody") {
-            Ok(body) => body.len(),
-            Err(_) => 0,
-        },
+    entries
+        .iter()
+        .all(|entry| EntryId::new(entry.id.as_bytes()).is_some())
+}
+
+// Whether one of these entries has this id; case counts.
+fn have_id(id: &str, entries: &[EntryMembers<'_>]) -> bool
+    ensures { result ≡ list_any (λ entry. bytes_eq id.now entry.id.now) entries.now }
+{
+    entries.iter().any(|entry| id == entry.id)
+}
+
+// Whether no two of these entries have one id.
+fn are_distinct(entries: &[EntryMembers<'_>]) -> bool
+    ensures { result ≡ are_distinct entries.now }
+{
+    for index in 0..entries.len() {
+        if have_id(entries[index].id, &entries[index + 1..]) {
+            return false;
+        }
+    }
+    true
+}
+
+// How many bytes a body has; 0 where there is none.
+fn body_length(members: &AskMembers<'_>) -> usize
+    ensures { result ≡ length_by members.now }
+{
+    match members {
+        AskMembers::Send(body, _, _) => body.len(),
         _ => 0,
     }
 }
 
 // Whether the bodies have more bytes together than one may have.
-fn are_too_long(kind: BatchKind, entries: &Value<'_, '_>) -> bool
-    ensures { result ≡ nat_lt body_limit (bodies_length kind (listed_items entries.now)) }
+fn are_too_long(entries: &[EntryMembers<'_>]) -> bool
+    ensures { result ≡ nat_lt body_limit (lengths_of entries.now) }
 {
-    let Some(mut items) = entries.items() else {
-        return false;
-    };
     let mut room = BODY_LIMIT;
-    'items: while let Some(entry) = items.next() {
-        let length = body_length(kind, &entry);
+    for entry in entries {
+        let length = body_length(&entry.asked);
         if length > room {
             return true;
         }
@@ -243,96 +222,78 @@ fn are_too_long(kind: BatchKind, entries: &Value<'_, '_>) -> bool
     false
 }
 
-// The list of a member that must be there.
+// The items of a list that must be there.
 #[tactic(auto, unfolding(crate::specs::Batches::items_at))]
-fn items_at<'t, 'a>(value: &Value<'t, 'a>, name: &str) -> Result<Value<'t, 'a>, Refusal>
-    ensures { seen_as listed_items result ≡ items_at name.now (view value.now) }
+fn items_at<'t, 'a>(value: &Value<'t, 'a>, name: &str) -> Result<Items<'t, 'a>, Refusal>
+    ensures { seen_as items_view result ≡ items_at name.now (view value.now) }
 {
-    let Some(member) = value.get(name) else {
-        return Err(Refusal::InvalidRequest);
-    };
-    if member.is_array() {
-        Ok(member)
-    } else {
-        Err(Refusal::InvalidRequest)
+    match value.get(name) {
+        Some(member) => member.items().ok_or(Refusal::InvalidRequest),
+        None => Err(Refusal::InvalidRequest),
     }
 }
 
-// How many entries there are, where there are ten at most.
-fn count_of(entries: &Value<'_, '_>) -> Option<usize>
-    ensures count { let count = how_many (listed_items entries.now) in
-        result ≡ (if nat_lt 10 count then None else Some count) }
-    ensures few { IfSome result (λ count. count ≤ 10) }
+// The first reason in order why a batch of these entries is refused.
+fn batch_check(read: &ReadEntries<'_>) -> Result<(), Refusal>
+    ensures { result ≡ check_by read.now }
 {
-    let Some(mut items) = entries.items() else {
-        return Some(0);
-    };
-    for count in 0..MOST_ENTRIES + 1 {
-        if items.next().is_none() {
-            return Some(count);
-        }
-    }
-    None
-}
-
-// How many entries a batch has, or the first reason in order why it is refused.
-#[tactic(auto, unfolding(crate::specs::Batches::batch_check))]
-fn batch_check(kind: BatchKind, entries: &Value<'_, '_>) -> Result<usize, Refusal>
-    ensures check { seen_as (λ count. tt) result ≡ batch_check kind (listed_items entries.now) }
-    ensures count { IfOk result (λ count. count ≡ how_many (listed_items entries.now)) }
-    ensures some { IfOk result (λ count. 0 < count) }
-    ensures few { IfOk result (λ count. count ≤ 10) }
-    ensures distinct { OnOk result (repeat_an_id (listed_items entries.now) ≡ false) }
-{
-    let Some(count) = count_of(entries) else {
+    let entries = read.first.as_slice();
+    if read.has_more {
         return Err(Refusal::TooManyEntriesInBatchRequest);
-    };
-    if count == 0 {
+    }
+    if entries.is_empty() {
         return Err(Refusal::EmptyBatchRequest);
     }
     if !have_ids(entries) {
         return Err(Refusal::InvalidBatchEntryId);
     }
-    if repeat_an_id(entries, count) {
+    if !are_distinct(entries) {
         return Err(Refusal::BatchEntryIdsNotDistinct);
     }
-    if are_too_long(kind, entries) {
+    if are_too_long(entries) {
         return Err(Refusal::BatchRequestTooLong);
     }
-    Ok(count)
+    Ok(())
 }
 
-// An entry, whose id was checked.
-#[tactic(auto, unfolding(crate::specs::Batches::entry_of))]
-fn entry_of(alloc: Global, kind: BatchKind, value: &Value<'_, '_>) -> Result<Entry, Refusal>
-    requires { has_id (view value.now) ≡ true }
-    ensures { ReadsAsking (entry_asks kind (view value.now)) result (entry_of kind (view value.now)) }
+// What an entry of these members asks. Memory is asked for the body of a send that nothing refuses.
+fn ask_of(alloc: Global, members: &AskMembers<'_>) -> Result<EntryAsk, Refusal>
+    ensures ok { IfOk result (λ ask. ask ≡ ask_by members.now) }
+    ensures err { IfErr result (λ e. (e ≡ Refusal.NoMemory) × (has_body (ask_by members.now) ≡ true)) }
 {
-    let id = EntryId::new(entry_id(value)?.as_bytes()).ok_or(Refusal::InvalidBatchEntryId)?;
-    let ask = ask_of(alloc, kind, value)?;
+    match *members {
+        AskMembers::Send(body, delay, has_attributes) => {
+            as_ask(send_ask(alloc, has_attributes, delay, body))
+        }
+        AskMembers::Delete(handle) => Ok(EntryAsk::Delete(read_handle(handle.as_bytes()))),
+        AskMembers::Change(handle, timeout) => {
+            as_ask(change_ask(read_handle(handle.as_bytes()), timeout))
+        }
+    }
+}
+
+// The entry of these members, whose id was checked.
+fn entry_of(alloc: Global, members: &EntryMembers<'_>) -> Result<Entry, Refusal>
+    requires { is_name members.now.id.now ≡ true }
+    ensures ok { IfOk result (λ entry. entry ≡ entry_by members.now) }
+    ensures err { IfErr result (λ e. (e ≡ Refusal.NoMemory) × (has_body (entry_by members.now).ask ≡ true)) }
+{
+    let id = EntryId::new(members.id.as_bytes()).ok_or(Refusal::InvalidBatchEntryId)?;
+    let ask = ask_of(alloc, &members.asked)?;
     Ok(Entry { id, ask })
 }
 
-// So many entries, in memory that is got for all of them first.
-fn entries_of(
-    alloc: Global,
-    kind: BatchKind,
-    entries: &Value<'_, '_>,
-    count: usize,
-) -> Result<Listed<Entry>, Refusal>
-    requires count { count ≡ how_many (listed_items entries.now) }
-    requires ids { all_items has_id (listed_items entries.now) ≡ true }
-    ensures ok { IfOk result (λ read. entries_of kind (listed_items entries.now) ≡ Ok read) }
-    ensures err { IfErr result (λ e. (e ≡ Refusal.NoMemory) ⊎ (entries_of kind (listed_items entries.now) ≡ Err e)) }
+// The entries of these members, in memory that is got for all of them first.
+fn entries_of(alloc: Global, read: &[EntryMembers<'_>]) -> Result<Listed<Entry>, Refusal>
+    requires { list_all (λ entry. is_name entry.id.now) read.now ≡ true }
+    ensures ok { IfOk result (λ entries. entries ≡ map entry_by read.now) }
+    ensures err { IfErr result (λ e. e ≡ Refusal.NoMemory) }
 {
-    let mut read = Vec::with_capacity(alloc, count)?;
-    let Some(mut items) = entries.items() else {
-        return Ok(Listed::of(read));
-    };
-    'items: while let Some(entry) = items.next() {
-        read.push_reserved(entry_of(alloc, kind, &entry)?);
+    let mut entries = Vec::with_capacity(alloc, read.len())?;
+    for members in read {
+        entries.push_reserved(entry_of(alloc, members)?);
     }
-    Ok(Listed::of(read))
+    Ok(Listed::of(entries))
 }
 
 /// SendMessageBatch, DeleteMessageBatch or ChangeMessageVisibilityBatch. Refused in order as InvalidRequest (a member of the
@@ -344,13 +305,11 @@ pub fn batch_of(alloc: Global, value: &Value<'_, '_>, kind: BatchKind) -> Result
     ensures { Reads result (batch_of kind (view value.now)) }
 {
     let url = url_at(value)?;
-    let entries = items_at(value, "Entries")?;
-    if !are_entries(kind, &entries) {
-        return Err(Refusal::InvalidRequest);
-    }
+    let items = items_at(value, "Entries")?;
+    let read = read_entries(kind, items)?;
     let queue = url.ok_or(Refusal::InvalidAddress)?;
-    let count = batch_check(kind, &entries)?;
-    let entries = entries_of(alloc, kind, &entries, count)?;
+    batch_check(&read)?;
+    let entries = entries_of(alloc, read.first.as_slice())?;
     match Batch::new(queue, kind, entries) {
         Some(batch) => Ok(Call::Batch(batch)),
         None => unreachable!(),

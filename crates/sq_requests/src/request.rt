@@ -3,7 +3,7 @@ ghost use Rattle.std.specs.Prelude.{◌≡◌};
 ghost use Rattle.serde_json.specs.Find.{get};
 ghost use Rattle.sq_json.specs.View.{view};
 ghost use Rattle.sq_requests.specs.Memory.{ReadsAsking};
-ghost use Rattle.sq_requests.specs.Requests.{reading, actor_at, call_of, call_or_turn_of, request_of, line_request, ReadsLine, plain_call_of, kind_of, turn_of};
+ghost use Rattle.sq_requests.specs.Requests.{reading, actor_at, asked_call, call_or_turn_of, request_of, line_request, ReadsLine, plain_call_of, batch_kind, turn_of};
 ghost use Rattle.sq_requests.specs.inside.Requests.{call_asks, call_or_turn_asks, request_asks};
 
 use crate::actions::{change_of, delete_of, receive_of, send_of};
@@ -74,9 +74,9 @@ fn plain_call_of(value: &Value<'_, '_>, action: &str) -> Result<Call, Refusal>
 }
 
 // What the entries of a batch do, where the action is one.
-#[tactic(auto, unfolding(crate::specs::Requests::kind_of))]
-fn kind_of(action: &str) -> Option<BatchKind>
-    ensures { result ≡ kind_of action.now }
+#[tactic(auto, unfolding(crate::specs::Requests::batch_kind))]
+fn batch_kind(action: &str) -> Option<BatchKind>
+    ensures { result ≡ batch_kind action.now }
 {
     match action {
         "SendMessageBatch" => Some(BatchKind::Send),
@@ -87,15 +87,15 @@ fn kind_of(action: &str) -> Option<BatchKind>
 }
 
 #[tactic(auto, using(crate::proofs::CallLaws::reads_create, crate::proofs::CallLaws::reads_set, crate::proofs::CallLaws::reads_send))]
-fn call_of(alloc: Global, value: &Value<'_, '_>, action: &str) -> Result<Call, Refusal>
+fn asked_call(alloc: Global, value: &Value<'_, '_>, action: &str) -> Result<Call, Refusal>
     ensures { let d = view value.now in
-        ReadsAsking (call_asks action.now d) result (call_of action.now d) }
+        ReadsAsking (call_asks action.now d) result (asked_call action.now d) }
 {
     match action {
         "CreateQueue" => create_of(alloc, value),
         "SetQueueAttributes" => set_of(alloc, value),
         "SendMessage" => send_of(alloc, value),
-        _ => match kind_of(action) {
+        _ => match batch_kind(action) {
             Some(kind) => batch_of(alloc, value, kind),
             None => plain_call_of(value, action),
         },
@@ -123,7 +123,7 @@ fn call_or_turn_of(alloc: Global, value: &Value<'_, '_>, action: &str) -> Result
 {
     match turn_of(value, action) {
         Some(turn) => Ok(Asked::Turn(turn?)),
-        None => Ok(Asked::Call(call_of(alloc, value, action)?)),
+        None => Ok(Asked::Call(asked_call(alloc, value, action)?)),
     }
 }
 

@@ -1,2 +1,3 @@
 pub mod OutcomeLaws
+pub mod RoundLaws
 pub mod VerdictLaws

@@ -1,8 +1,7 @@
 -- What an audit of the parts that a service leaves says of the service.
 use Rattle.std.proofs.Common.{ℕ, List, Result, Ok, Err, refl, inl, inr}
 use Rattle.std.specs.Prelude.{◌≡◌, IfOk, IfErr, OnOk}
-use Rattle.sq_audit.specs.Faults.{FaultHolds}
-use Rattle.sq_audit.specs.HomeIds.{histories_of}
+use Rattle.sq_audit.specs.Matched.{HasFault}
 use Rattle.sq_audit.specs.declared.check.AuditFault.{AuditFault}
 use Rattle.sq_audit.specs.declared.check.AuditFault.TheVariants.{NoMemory, RecordMissing, RecordTwice, LeaveUnmatched, EnterUnmatched}
 use Rattle.sq_audit.specs.declared.parts.Parts.{Parts}
@@ -16,7 +15,7 @@ run_left homes sessions p (Err fault) left same is = is
 
 -- parts that are left, and the fault that an audit found in them
 pub fault_left : {A : Type 0} (homes : ℕ) (sessions : List SessionValue) (p : Parts) (told : Result A AuditFault) → AreLeftBy homes sessions p
-    → IfErr told (FaultHolds p.directory.events p.ledger.history.events (histories_of p.homes.homes) p.records) → IfErr told (IsFaultLeft homes sessions)
+    → IfErr told (HasFault p) → IfErr told (IsFaultLeft homes sessions)
 fault_left homes sessions p (Ok run) left holds = holds
 fault_left homes sessions p (Err NoMemory) left holds = inl refl
 fault_left homes sessions p (Err (RecordMissing actor place)) left holds = inr (p, left, holds)

@@ -3,7 +3,7 @@ use Rattle.std.specs.Prelude.{ℕ, zero, suc, ◌-◌, ◌*◌, ◌^◌, min, �
 use Rattle.std.specs.declared.net.socket_addr.SocketAddr.{SocketAddr}
 use Rattle.sq_flags.specs.declared.flags.RaceMode.{RaceMode}
 use Rattle.sq_flags.specs.declared.flags.ServeMode.{ServeMode}
-use Rattle.sq_opening.specs.declared.options.Options.{Options}
+use Rattle.sq_model.specs.declared.options.Options.{Options}
 use Rattle.sq_program.specs.Results.{line_of, listening_text, race_text, verdict_text}
 use Rattle.sq_program.specs.Streams.{Stream, IsUntouched, PutsOut, WrittenInPart, WrittenWhole}
 use Rattle.sq_program.specs.declared.program.Next.{Next}

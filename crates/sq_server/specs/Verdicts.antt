@@ -1,12 +1,12 @@
 -- What a verdict on a service says, and the parts that it is of.
 use Rattle.std.specs.Prelude.{ℕ, List, ◌≡◌, ◌≢◌, ◌⊎◌, ◌+◌, ◌≤◌, ◌++◌, length, map, sum_by}
-use Rattle.sq_model.specs.Matches.{IsMatched, IsPaired}
 use Rattle.sq_model.specs.Merges.{IsMerged}
 use Rattle.sq_model.specs.RecordValues.{Journal}
 use Rattle.sq_model.specs.Systems.{IsOnePlace, IsRun, Tag}
 use Rattle.sq_audit.specs.Actors.{ActorsRise, PartsRise}
 use Rattle.sq_audit.specs.Faults.{IsWrong}
-use Rattle.sq_audit.specs.HomeIds.{histories_of}
+use Rattle.sq_audit.specs.HomeHistories.{histories_of}
+use Rattle.sq_audit.specs.Matched.{AreMatched, ArePaired}
 use Rattle.sq_audit.specs.SystemNow.{events_of, system_now, opening_now}
 use Rattle.sq_audit.specs.declared.check.AuditFault.{AuditFault}
 use Rattle.sq_audit.specs.declared.check.AuditFault.TheVariants.{NoMemory}
@@ -21,8 +21,8 @@ pub record IsOneRun (p : Parts) : Type 0 where
   pub run : List Tag
   pub merged : IsMerged p.directory.events p.ledger.history.events (events_of p.homes.homes) run
   pub leaves : IsRun (opening_now p.directory p.ledger.history p.homes.homes) run (system_now p.directory p.ledger.history p.homes.homes)
-  pub matched : IsMatched p.directory.events p.ledger.history.events (histories_of p.homes.homes) p.records
-  pub paired : IsPaired p.ledger.history.events (histories_of p.homes.homes)
+  pub matched : AreMatched p
+  pub paired : ArePaired p
   pub actors : ActorsRise run
   pub parts : PartsRise run
   pub one_place : IsOnePlace (map (λ h. h.site) p.homes.homes)

@@ -2,4 +2,5 @@
 pub mod Clocks
 pub mod Crews
 pub mod Outcomes
+pub mod Permits
 pub mod Races

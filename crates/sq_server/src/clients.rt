@@ -3,7 +3,7 @@ ghost use Rattle.std.specs.Prelude.{◌≡◌, ◌+◌, ◌*◌, ◌%◌, ◌≤
 ghost use Rattle.sq_base.specs.Names.{is_name};
 ghost use Rattle.sq_calls.specs.declared.calls.Call.TheVariants as asks;
 ghost use Rattle.sq_model.specs.Policies.{nothing_given};
-ghost use Rattle.sq_queue.specs.Services.{service_counts};
+ghost use Rattle.sq_queue.specs.Around.{service_counts};
 ghost use Rattle.sq_base.specs.declared.handle.Handle.{Handle as HandleValue};
 ghost use Rattle.sq_server.specs.Handles.{first_given};
 ghost use Rattle.sq_server.specs.inside.Races.{HasCalled, HasCalledAll, HasDeleted, HasMadeQueues, HasReceived, HasSent, dead_queue_call, delete_call, race_queue_call, receive_call, send_call};
@@ -87,7 +87,7 @@ pub(crate) fn make_queues<R: Clock + Wait, D: Ledger, T: Ledger>(
     service: &Served<'_, R, D, T, SlotStore>,
     client: &mut Client<D, T>,
 ) -> Result<(), Refusal>
-    ensures { OnOk result (HasMadeQueues (service_counts service.now.service.value.per_queue service.now.service.value.sample) client.old.journal client.new.journal) }
+    ensures { OnOk result (HasMadeQueues (service_counts service.now.service.value) client.old.journal client.new.journal) }
 {
     service.call(client, &dead_queue_asked())?;
     service.call(client, &race_queue_asked())?;
@@ -169,7 +169,7 @@ fn sends<R: Clock + Wait, D: Ledger, T: Ledger>(
     service: &Served<'_, R, D, T, SlotStore>,
     client: &mut Client<D, T>,
 ) -> bool
-    ensures { HasSent (service_counts service.now.service.value.per_queue service.now.service.value.sample) client.old.journal result client.new.journal }
+    ensures { HasSent (service_counts service.now.service.value) client.old.journal result client.new.journal }
 {
     match race_send(service.alloc) {
         Ok(call) => service.call(client, &call).is_ok(),
@@ -183,7 +183,7 @@ fn receives<R: Clock + Wait, D: Ledger, T: Ledger>(
     client: &mut Client<D, T>,
     given: &mut Option<Handle>,
 )
-    ensures { HasReceived (service_counts service.now.service.value.per_queue service.now.service.value.sample) given.old client.old.journal given.new client.new.journal }
+    ensures { HasReceived (service_counts service.now.service.value) given.old client.old.journal given.new client.new.journal }
 {
     if let Ok(answer) = service.call(client, &at_once()) {
         *given = first_handle(&answer);
@@ -196,7 +196,7 @@ fn deletes<R: Clock + Wait, D: Ledger, T: Ledger>(
     client: &mut Client<D, T>,
     given: &mut Option<Handle>,
 )
-    ensures { HasDeleted (service_counts service.now.service.value.per_queue service.now.service.value.sample) given.old client.old.journal given.new client.new.journal }
+    ensures { HasDeleted (service_counts service.now.service.value) given.old client.old.journal given.new client.new.journal }
 {
     match given {
         Some(handle) => {
@@ -213,7 +213,7 @@ fn make_call<R: Clock + Wait, D: Ledger, T: Ledger>(
     number: u64,
     given: &mut Option<Handle>,
 ) -> bool
-    ensures called { HasCalled (service_counts service.now.service.value.per_queue service.now.service.value.sample) number given.old client.old.journal result given.new client.new.journal }
+    ensures called { HasCalled (service_counts service.now.service.value) number given.old client.old.journal result given.new client.new.journal }
     ensures a_third { result ≡ true → number % 3 ≡ 0 }
 {
     match number % 3 {
@@ -235,7 +235,7 @@ pub(crate) fn make_calls<R: Clock + Wait, D: Ledger, T: Ledger>(
     client: &mut Client<D, T>,
     calls: u64,
 ) -> u64
-    ensures called { (given : Option HandleValue) × HasCalledAll (service_counts service.now.service.value.per_queue service.now.service.value.sample) calls client.old.journal result given client.new.journal }
+    ensures called { (given : Option HandleValue) × HasCalledAll (service_counts service.now.service.value) calls client.old.journal result given client.new.journal }
     ensures a_third { 3 * result ≤ calls + 2 }
 {
     let mut given = None;

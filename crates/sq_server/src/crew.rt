@@ -1,5 +1,6 @@
 //! The threads of a server or of a race: each has a session, and calls for clients or moves messages.
 ghost use Rattle.std.specs.Prelude.{◌≡◌, ◌⊎◌, ◌++◌, ◌-◌, ◌^◌, IfErr, IfOk, OnOk, map, min, replicate, sum_by, vec_len};
+ghost use Rattle.sq_queue.specs.Seats.{HasSeats};
 ghost use Rattle.sq_server.specs.inside.Crews.{roles_of};
 ghost use Rattle.sq_server.specs.Verdicts.{IsFaultLeft, IsRunLeft};
 
@@ -91,8 +92,8 @@ pub(crate) fn conclude<R: Clock + Wait, D: Ledger, T: Ledger>(
     service: Served<'_, R, D, T, SlotStore>,
     crew: Vec<Member<D, T>>,
 ) -> Result<(OneRun, u64), AuditFault>
-    requires of_directory { D.parts ≡ 4294967296 }
-    requires of_ledger { T.parts ≡ 4294967296 }
+    requires of_directory { HasSeats D.parts }
+    requires of_ledger { HasSeats T.parts }
     ensures count { IfOk result (λ r. r.1 ≡ min (sum_by (λ m. m.count) crew.items) (2 ^ 64 - 1)) }
     ensures run { IfOk result (λ r. IsRunLeft (vec_len service.entry.service.value.homes) (map (λ m. m.client) crew.items) r.0) }
     ensures fault { IfErr result (IsFaultLeft (vec_len service.entry.service.value.homes) (map (λ m. m.client) crew.items)) }

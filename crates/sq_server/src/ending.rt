@@ -1,5 +1,6 @@
 //! How a service ends: its parts are gathered with the records of its sessions, and whether all that was done is one run.
 ghost use Rattle.std.specs.Prelude.{◌≡◌, IfErr, IfOk, IfSome, vec_len};
+ghost use Rattle.sq_queue.specs.Seats.{HasSeats};
 ghost use Rattle.sq_server.specs.Verdicts.{AreLeftBy, IsFaultLeft, IsRunLeft};
 
 use crate::clock::SystemClock;
@@ -35,8 +36,8 @@ fn gathered<R: Clock + Wait, D: Ledger, T: Ledger>(
     service: Serving<SystemClock<'_, R>, Open, D, T, SlotStore>,
     sessions: Vec<Session<D, T>>,
 ) -> Option<Parts>
-    requires of_directory { D.parts ≡ 4294967296 }
-    requires of_ledger { T.parts ≡ 4294967296 }
+    requires of_directory { HasSeats D.parts }
+    requires of_ledger { HasSeats T.parts }
     ensures { IfSome result (AreLeftBy (vec_len service.entry.homes) sessions.items) }
 {
     let mut service = service;
@@ -58,12 +59,14 @@ fn parts_of<R: Clock + Wait, D: Ledger, T: Ledger>(
     service: Served<'_, R, D, T, SlotStore>,
     clients: Vec<Client<D, T>>,
 ) -> Option<Box<Parts>>
-    requires of_directory { D.parts ≡ 4294967296 }
-    requires of_ledger { T.parts ≡ 4294967296 }
+    requires of_directory { HasSeats D.parts }
+    requires of_ledger { HasSeats T.parts }
     ensures { IfSome result (λ parts. AreLeftBy (vec_len service.entry.service.value.homes) clients.items parts.value) }
 {
     let alloc = service.alloc;
-    let sessions = sessions_of(alloc, clients).ok()?;
+    let Ok(sessions) = sessions_of(alloc, clients) else {
+        return None;
+    };
     let parts = gathered(Box::into_inner(service.service), sessions)?;
     Box::new(alloc, parts).ok()
 }
@@ -73,8 +76,8 @@ pub fn end<R: Clock + Wait, D: Ledger, T: Ledger>(
     service: Served<'_, R, D, T, SlotStore>,
     clients: Vec<Client<D, T>>,
 ) -> Result<OneRun, AuditFault>
-    requires of_directory { D.parts ≡ 4294967296 }
-    requires of_ledger { T.parts ≡ 4294967296 }
+    requires of_directory { HasSeats D.parts }
+    requires of_ledger { HasSeats T.parts }
     ensures run { IfOk result (IsRunLeft (vec_len service.entry.service.value.homes) clients.items) }
     ensures fault { IfErr result (IsFaultLeft (vec_len service.entry.service.value.homes) clients.items) }
 {

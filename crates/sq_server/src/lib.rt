@@ -7,6 +7,7 @@ mod crew;
 pub mod ending;
 pub mod host;
 mod movers;
+mod permits;
 pub mod race;
 pub mod serve;
 pub mod served;

@@ -1,9 +1,12 @@
 //! A race of clients and movers at one queue.
 ghost use Rattle.std.specs.Prelude.{◌≡◌, ◌+◌, ◌*◌, ◌≤◌, IfErr, IfOk, IfSome, map, sum_by, vec_len};
 ghost use Rattle.sq_program.specs.Streams.{stream};
+ghost use Rattle.sq_queue.specs.Seats.{HasSeats, IsNamedBy};
 ghost use Rattle.sq_server.specs.inside.Crews.{roles_of};
 ghost use Rattle.sq_server.specs.Outcomes.{HasRaced, homes_in_all};
 ghost use Rattle.sq_server.specs.inside.Outcomes.{HasToldRace};
+ghost use Rattle.sq_server.specs.Around.{around_all};
+ghost use Rattle.sq_server.specs.Rounds.{MovesForRace};
 ghost use Rattle.sq_server.specs.Verdicts.{IsFaultOf, IsRunOf};
 
 use crate::clients::{make_calls, make_queues};
@@ -35,6 +38,7 @@ fn run<R: Clock + Wait, D: Ledger, T: Ledger>(
 )
     ensures role { racer.new.role ≡ racer.old.role }
     ensures mover { racer.old.role ≡ Role.Move → racer.new.count ≡ racer.old.count }
+    ensures turns { racer.old.role ≡ Role.Move → MovesForRace (around_all service.now.service.value) racer.old.client racer.new.client }
     ensures client { racer.old.role ≡ Role.Call → 3 * racer.new.count ≤ calls + 2 }
 {
     match racer.role {
@@ -80,8 +84,8 @@ fn race_at<R: Threads + Wait + Clock + Sync, D: Ledger + Send + Sync, T: Ledger 
     racers: Vec<Member<D, T>>,
     calls: u64,
 ) -> Result<(OneRun, u64), AuditFault>
-    requires of_directory { D.parts ≡ 4294967296 }
-    requires of_ledger { T.parts ≡ 4294967296 }
+    requires of_directory { HasSeats D.parts }
+    requires of_ledger { HasSeats T.parts }
     ensures run { IfOk result (λ r. IsRunOf (vec_len service.entry.service.value.homes) r.0) }
     ensures fault { IfErr result (IsFaultOf (vec_len service.entry.service.value.homes)) }
 {
@@ -97,8 +101,8 @@ fn raced<R: Threads + Wait + Clock + Sync, D: Ledger + Send + Sync, T: Ledger + 
     mode: &RaceMode,
     blanks: Blanks,
 ) -> Option<Result<(OneRun, u64), AuditFault>>
-    requires of_directory { (blanks.directory.name ≡ D.name) × (blanks.directory.parts ≡ D.parts) × (D.parts ≡ 4294967296) }
-    requires of_ledger { (blanks.ledger.name ≡ T.name) × (blanks.ledger.parts ≡ T.parts) × (T.parts ≡ 4294967296) }
+    requires of_directory { IsNamedBy D.name D.parts blanks.directory }
+    requires of_ledger { IsNamedBy T.name T.parts blanks.ledger }
     ensures run { IfSome result (λ ended. IfOk ended (λ r. IsRunOf (homes_in_all mode.now.options) r.0)) }
     ensures fault { IfSome result (λ ended. IfErr ended (IsFaultOf (homes_in_all mode.now.options))) }
 {

@@ -1,6 +1,7 @@
 //! A server over sockets: a thread and a session for each connection, and movers beside them.
 ghost use Rattle.std.specs.Prelude.{◌≡◌, ◌==◌, IfErr, IfOk, IfSome, None, is_some, map, sum_by, true, vec_len};
 ghost use Rattle.sq_program.specs.Streams.{stream};
+ghost use Rattle.sq_queue.specs.Seats.{HasSeats, IsNamedBy};
 ghost use Rattle.sq_server.specs.inside.Crews.{roles_of};
 ghost use Rattle.sq_server.specs.Outcomes.{HasServed, homes_in_all};
 ghost use Rattle.sq_server.specs.inside.Outcomes.{HasToldEnd};
@@ -8,7 +9,8 @@ ghost use Rattle.sq_server.specs.Verdicts.{IsFaultOf, IsRunOf};
 
 use crate::crew::{Member, Role, conclude, crew};
 use crate::movers::move_while_open;
-use crate::served::{Blanks, Served};
+use crate::permits::ByPermit;
+use crate::served::{Blanks, Client, Served};
 use crate::threads::threads_for;
 use crate::verdict::{OneRun, tell_verdict};
 use sq_audit::check::AuditFault;
@@ -56,8 +58,20 @@ fn timed(stream: TcpStream, idle: u32) -> Option<TcpStream>
     Some(stream)
 }
 
-// Answers the lines of a connection that was taken, until its end or a fault, which ends it alone. One that could not be taken
-// is counted.
+// Answers the lines of a connection, until its end or a fault, which ends it alone.
+fn talk<R: Clock + Wait, D: Ledger, T: Ledger>(
+    service: &Served<'_, R, D, T, SlotStore>,
+    stream: &TcpStream,
+    client: &mut Client<D, T>,
+) {
+    // Without it a reply may wait for the peer's delayed acknowledgement; where it is not to be had, replies come later.
+    let _ = stream.set_nodelay(true);
+    let mut reader = Counted::new(ByPermit::new(service.rt, &service.permits, stream));
+    let mut writer = Counted::new(stream);
+    let _ = service.answer(client, &mut reader, &mut writer);
+}
+
+// Serves a connection that was taken. One that could not be taken is counted.
 fn connection<R: Clock + Wait, D: Ledger, T: Ledger>(
     service: &Served<'_, R, D, T, SlotStore>,
     taken: Option<TcpStream>,
@@ -71,11 +85,7 @@ fn connection<R: Clock + Wait, D: Ledger, T: Ledger>(
         worker.count = 1;
         return;
     };
-    // Without it a reply may wait for the peer's delayed acknowledgement; where it is not to be had, replies come later.
-    let _ = stream.set_nodelay(true);
-    let mut reader = Counted::new(&stream);
-    let mut writer = Counted::new(&stream);
-    let _ = service.answer(&mut worker.client, &mut reader, &mut writer);
+    talk(service, &stream, &mut worker.client);
 }
 
 // What one of the threads does.
@@ -130,8 +140,8 @@ fn ended<R: Clock + Wait, D: Ledger, T: Ledger>(
     service: Served<'_, R, D, T, SlotStore>,
     workers: Vec<Member<D, T>>,
 ) -> Result<Option<OneRun>, AuditFault>
-    requires of_directory { D.parts ≡ 4294967296 }
-    requires of_ledger { T.parts ≡ 4294967296 }
+    requires of_directory { HasSeats D.parts }
+    requires of_ledger { HasSeats T.parts }
     ensures taken { IfOk result (λ run. is_some run ≡ (sum_by (λ m. m.count) workers.items == 0)) }
     ensures run { IfOk result (λ run. IfSome run (IsRunOf (vec_len service.entry.service.value.homes))) }
     ensures fault { IfErr result (IsFaultOf (vec_len service.entry.service.value.homes)) }
@@ -147,8 +157,8 @@ fn serve_at<R: Threads + Wait + Clock + Sync, D: Ledger + Send + Sync, T: Ledger
     listener: &TcpListener,
     mode: &ServeMode,
 ) -> Result<Option<OneRun>, AuditFault>
-    requires of_directory { D.parts ≡ 4294967296 }
-    requires of_ledger { T.parts ≡ 4294967296 }
+    requires of_directory { HasSeats D.parts }
+    requires of_ledger { HasSeats T.parts }
     ensures run { IfOk result (λ run. IfSome run (IsRunOf (vec_len service.entry.service.value.homes))) }
     ensures fault { IfErr result (IsFaultOf (vec_len service.entry.service.value.homes)) }
 {
@@ -189,8 +199,8 @@ fn ready<'a, R: Clock + Wait, D: Ledger, T: Ledger>(
     mode: &ServeMode,
     blanks: Blanks,
 ) -> Option<(Served<'a, R, D, T, SlotStore>, Vec<Member<D, T>>)>
-    requires of_directory { (blanks.directory.name ≡ D.name) × (blanks.directory.parts ≡ D.parts) × (D.parts ≡ 4294967296) }
-    requires of_ledger { (blanks.ledger.name ≡ T.name) × (blanks.ledger.parts ≡ T.parts) × (T.parts ≡ 4294967296) }
+    requires of_directory { IsNamedBy D.name D.parts blanks.directory }
+    requires of_ledger { IsNamedBy T.name T.parts blanks.ledger }
     ensures homes { IfSome result (λ r. (r.0.service.value.per_queue ≡ mode.now.options.homes) × (r.0.service.value.sample ≡ mode.now.options.sample)) }
     ensures many { IfSome result (λ r. vec_len r.0.service.value.homes ≡ homes_in_all mode.now.options) }
     ensures roles { IfSome result (λ r. map (λ w. w.role) r.1.items ≡ roles_of mode.now.connections mode.now.movers) }
@@ -221,8 +231,8 @@ fn serve_named<
     errors: &mut E,
     blanks: Blanks,
 ) -> u8
-    requires of_directory { (blanks.directory.name ≡ D.name) × (blanks.directory.parts ≡ D.parts) × (D.parts ≡ 4294967296) }
-    requires of_ledger { (blanks.ledger.name ≡ T.name) × (blanks.ledger.parts ≡ T.parts) × (T.parts ≡ 4294967296) }
+    requires of_directory { IsNamedBy D.name D.parts blanks.directory }
+    requires of_ledger { IsNamedBy T.name T.parts blanks.ledger }
     ensures { HasServed mode.now (stream W.contents output.old output.new) result }
 {
     let made = ready::<R, D, T>(rt, alloc, mode, blanks);

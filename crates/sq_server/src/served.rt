@@ -1,21 +1,24 @@
 //! A service in a box, and its sessions: a function that has one on its own stack is proved with all that it is made of.
-ghost use Rattle.std.specs.Prelude.{◌≡◌, ◌⊎◌, ◌<◌, [], ℕ, IfErr, IfOk, IfSome, IsTrue, OnOk, length, vec_len};
+ghost use Rattle.std.specs.Prelude.{◌≡◌, ◌⊎◌, [], ℕ, IfErr, IfOk, IfSome, OnOk, length, vec_len};
 ghost use Rattle.sq_actions.specs.Performs.{CallFits, LeavesRecords};
-ghost use Rattle.sq_lines.specs.Lines.{lines_left};
 ghost use Rattle.sq_mover.specs.Movers.{GainsAtMost};
-ghost use Rattle.sq_opening.specs.Openings.{IsServed};
-ghost use Rattle.sq_queue.specs.Services.{service_counts};
+ghost use Rattle.sq_model.specs.Options.{IsServed};
+ghost use Rattle.sq_queue.specs.Around.{service_counts};
+ghost use Rattle.sq_queue.specs.Seats.{HasSeats, IsNamedBy};
 ghost use Rattle.sq_queue.specs.SessionValue.{new_session};
 ghost use Rattle.sq_server.specs.Outcomes.{homes_in_all};
-ghost use Rattle.sq_wire.specs.Runs.{IsOfCall, StopsAt, Writes};
-ghost use Rattle.sq_wire.specs.Serves.{ServedReplies, ServedUnanswered};
+ghost use Rattle.sq_server.specs.Around.{around_all};
+ghost use Rattle.sq_server.specs.Rounds.{HasRunMover};
+ghost use Rattle.sq_wire.specs.Runs.{IsOfCall};
+ghost use Rattle.sq_wire.specs.Serves.{AllServed, ServedTo};
 
 use crate::clock::SystemClock;
+use crate::permits::Permits;
 use sq_base::refusal::Refusal;
 use sq_calls::calls::{Answer, Call};
 use sq_lines::counted::Counted;
+use sq_model::options::Options;
 use sq_mover::mover::{Mover, run_mover};
-use sq_opening::options::Options;
 use sq_queue::actors::SEATS;
 use sq_queue::service::{Open, Service, Serving};
 use sq_queue::session::Session;
@@ -43,8 +46,8 @@ pub struct Blanks {
 
 impl Blanks {
     pub fn new() -> Blanks
-        ensures directory { result.directory.parts ≡ 4294967296 }
-        ensures ledger { result.ledger.parts ≡ 4294967296 }
+        ensures directory { HasSeats result.directory.parts }
+        ensures ledger { HasSeats result.ledger.parts }
     {
         Blanks {
             directory: Blank::new(SEATS),
@@ -60,6 +63,7 @@ pub struct Served<'a, R, D: Ledger, T: Ledger, S: Store> {
     pub alloc: Global,
     pub(crate) service: Box<Serving<SystemClock<'a, R>, Open, D, T, S>>,
     pub(crate) long_lines: LongLines,
+    pub(crate) permits: Permits,
 }
 
 /// A session of it.
@@ -84,8 +88,8 @@ impl<'a, R: Clock + Wait, D: Ledger, T: Ledger> Served<'a, R, D, T, SlotStore> {
         options: Options,
         blanks: Blanks,
     ) -> Result<Served<'a, R, D, T, SlotStore>, Refusal>
-        requires of_directory { (blanks.directory.name ≡ D.name) × (blanks.directory.parts ≡ D.parts) × (D.parts ≡ 4294967296) }
-        requires of_ledger { (blanks.ledger.name ≡ T.name) × (blanks.ledger.parts ≡ T.parts) × (T.parts ≡ 4294967296) }
+        requires of_directory { IsNamedBy D.name D.parts blanks.directory }
+        requires of_ledger { IsNamedBy T.name T.parts blanks.ledger }
         ensures counts { IfOk result (λ s. (s.service.value.per_queue ≡ options.homes) × (s.service.value.sample ≡ options.sample)) }
         ensures homes { IfOk result (λ s. vec_len s.service.value.homes ≡ homes_in_all options) }
         ensures served { OnOk result (IsServed options) }
@@ -104,6 +108,7 @@ impl<'a, R: Clock + Wait, D: Ledger, T: Ledger> Served<'a, R, D, T, SlotStore> {
             alloc,
             service: Box::new(alloc, service)?,
             long_lines: LongLines::new(alloc)?,
+            permits: Permits::new(),
         })
     }
 
@@ -135,7 +140,7 @@ impl<'a, R: Clock + Wait, D: Ledger, T: Ledger> Served<'a, R, D, T, SlotStore> {
 
     /// Does what a client asks.
     pub fn call(&self, client: &mut Client<D, T>, call: &Call) -> Result<Answer, Refusal>
-        ensures leaves_records { LeavesRecords (CallFits (service_counts self.now.service.value.per_queue self.now.service.value.sample) call.now) client.old.journal result client.new.journal }
+        ensures leaves_records { LeavesRecords (CallFits (service_counts self.now.service.value) call.now) client.old.journal result client.new.journal }
     {
         self.service.call(self.rt, &mut client.session, call)
     }
@@ -147,11 +152,8 @@ impl<'a, R: Clock + Wait, D: Ledger, T: Ledger> Served<'a, R, D, T, SlotStore> {
         reader: &mut Counted<I>,
         writer: &mut Counted<O>,
     ) -> Result<u64, ServeFault>
-        ensures ok { IfOk result (λ n. IfSome (lines_left [] (I.remaining reader.old.inner)) (λ lines.
-            (n ≡ length lines) × Writes (ServedReplies (service_counts self.now.service.value.per_queue self.now.service.value.sample)) (O.contents writer.old.inner) (O.contents writer.new.inner) client.old.journal lines client.new.journal)) }
-        ensures err { IfErr result (λ f. ((f ≡ ServeFault.NoMemory 0) × (reader.new ≡ reader.old) × (writer.new ≡ writer.old) × (client.new ≡ client.old))
-            ⊎ IfSome (lines_left [] (I.remaining reader.old.inner)) (λ lines.
-            StopsAt (ServedReplies (service_counts self.now.service.value.per_queue self.now.service.value.sample)) (ServedUnanswered (service_counts self.now.service.value.per_queue self.now.service.value.sample)) f lines (I.remaining reader.new.inner) (O.contents writer.old.inner) (O.contents writer.new.inner) client.old.journal client.new.journal)) }
+        ensures ok { IfOk result (AllServed (around_all self.now.service.value) (I.remaining reader.old.inner) (O.contents writer.old.inner) (O.contents writer.new.inner) client.old client.new) }
+        ensures err { IfErr result (ServedTo (around_all self.now.service.value) I.remaining reader.old reader.new O.contents writer.old writer.new client.old client.new) }
         ensures no_failure { OnOk result ((reader.new.failed ≡ reader.old.failed) × (writer.new.failed ≡ writer.old.failed)) }
         ensures count { IfErr result (λ f. IsOfCall f reader.old.failed reader.new.failed writer.old.failed writer.new.failed) }
     {
@@ -166,13 +168,13 @@ impl<'a, R: Clock + Wait, D: Ledger, T: Ledger> Served<'a, R, D, T, SlotStore> {
         )
     }
 
-    /// Makes so many turns of a mover, and tells whether it was not refused and has a record more.
+    /// Makes so many turns of a mover, and tells whether no turn was refused for memory, the clock or a count at its end, and one
+    /// moved a message or ended a task.
     pub fn turns(&self, client: &mut Client<D, T>, mover: &mut Mover, turns: u64) -> bool
         ensures gains { GainsAtMost turns client.old.journal client.new.journal }
-        ensures moved { IsTrue result → length client.old.journal.records < length client.new.journal.records }
+        ensures run { HasRunMover (around_all self.now.service.value) turns mover.old client.old result mover.new client.new }
     {
-        let before = client.session.len();
         let made = run_mover(&*self.service, self.rt, &mut client.session, mover, turns);
-        made.is_ok() && before < client.session.len()
+        made.is_ok() && mover.moved() > 0
     }
 }

@@ -1,8 +1,6 @@
 //! The verdict on what was done to a service, as a value, and the lines that tell it.
 ghost use Rattle.std.specs.Prelude.{◌≡◌, ◌≤◌, IfErr, IfOk, OnOk, string_bytes};
-ghost use Rattle.sq_audit.specs.Faults.{FaultHolds};
-ghost use Rattle.sq_audit.specs.HomeIds.{histories_of};
-ghost use Rattle.sq_model.specs.Matches.{IsMatched, IsPaired};
+ghost use Rattle.sq_audit.specs.Matched.{AreMatched, ArePaired, HasFault};
 ghost use Rattle.sq_program.specs.Results.{line_of, race_text, verdict_text};
 ghost use Rattle.sq_program.specs.Streams.{stream, EndsWritten};
 ghost use Rattle.sq_server.specs.Verdicts.{IsOneRun};
@@ -36,8 +34,8 @@ impl Model for OneRun {
 // Whether what was done to these parts, sorted by stamp, is one run that leaves them as they are.
 fn checked(alloc: Global, parts: &Parts) -> Result<(), AuditFault>
     ensures run { OnOk result (IsOneRun parts.now) }
-    ensures fault { IfErr result (FaultHolds parts.now.directory.events parts.now.ledger.history.events (histories_of parts.now.homes.homes) parts.now.records) }
-    ensures out_of_memory { IfErr result (λ f. f ≡ AuditFault.NoMemory → IsMatched parts.now.directory.events parts.now.ledger.history.events (histories_of parts.now.homes.homes) parts.now.records × IsPaired parts.now.ledger.history.events (histories_of parts.now.homes.homes)) }
+    ensures fault { IfErr result (HasFault parts.now) }
+    ensures out_of_memory { IfErr result (λ f. f ≡ AuditFault.NoMemory → AreMatched parts.now × ArePaired parts.now) }
 {
     let _run = merge(alloc, parts)?;
     Ok(())
@@ -48,8 +46,8 @@ fn checked(alloc: Global, parts: &Parts) -> Result<(), AuditFault>
 pub fn judged(alloc: Global, parts: Box<Parts>) -> Result<OneRun, AuditFault>
     ensures of { IfOk result (λ run. run ≡ parts.value) }
     ensures run { OnOk result (IsOneRun parts.value) }
-    ensures fault { IfErr result (FaultHolds parts.value.directory.events parts.value.ledger.history.events (histories_of parts.value.homes.homes) parts.value.records) }
-    ensures out_of_memory { IfErr result (λ f. f ≡ AuditFault.NoMemory → IsMatched parts.value.directory.events parts.value.ledger.history.events (histories_of parts.value.homes.homes) parts.value.records × IsPaired parts.value.ledger.history.events (histories_of parts.value.homes.homes)) }
+    ensures fault { IfErr result (HasFault parts.value) }
+    ensures out_of_memory { IfErr result (λ f. f ≡ AuditFault.NoMemory → AreMatched parts.value × ArePaired parts.value) }
 {
     checked(alloc, &parts)?;
     Ok(OneRun { parts })

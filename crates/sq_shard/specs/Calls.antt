@@ -1,11 +1,12 @@
 -- Calls of a home, each done or refused: those that give nothing back, and those by which an item comes in.
-use Rattle.std.specs.Prelude.{◌≡◌, ◌≤◌, ◌+◌, ℕ, Some, Result, IfErr, IfOk, OnErr, OnOk}
+use Rattle.std.specs.Prelude.{◌≡◌, ℕ, Some, Result, IfErr, IfOk, OnErr, OnOk}
 use Rattle.sq_base.specs.declared.refusal.Refusal.{Refusal}
 use Rattle.sq_base.specs.declared.refusal.Refusal.TheVariants.{NoMemory}
 use Rattle.sq_model.specs.declared.calls.HomeCall.{HomeCall}
 use Rattle.sq_model.specs.declared.replies.EnteredRow.{EnteredRow}
 use Rattle.sq_model.specs.declared.replies.HomeReply.TheVariants.{Done, Entered}
 use Rattle.sq_model.specs.Homes.{HomeStep, home_refusal}
+use Rattle.sq_shard.specs.Moves.{UsesRowRoom}
 use Rattle.sq_shard.specs.ShardValue.{ShardValue}
 
 -- it is done as a step of the home, or refused for the home's reason, which changes nothing
@@ -20,6 +21,6 @@ pub record IsDoneOrRefused (call : HomeCall) (m : ℕ) (old new : ShardValue) (s
 pub record HasComeIn (call : HomeCall) (m : ℕ) (old new : ShardValue) (said : Result EnteredRow Refusal) : Type 0 where
   pub step : IfOk said (λ entered. HomeStep old.site old.home m call (Entered entered) new.home)
   pub site : new.site ≡ old.site
-  pub room : old.room ≤ new.room + 1
+  pub room : OnOk said (UsesRowRoom old.room new.room)
   pub refused : IfErr said (λ e. (e ≡ NoMemory) × (old.room ≡ 0))
   pub err : OnErr said (new ≡ old)

@@ -64,11 +64,16 @@ GoesWithout (Serving its) m row after = (rest : List Row) × Takes row (unexpire
 GoesWithout Unopened m row after = ⊥
 GoesWithout Closed m row after = ⊥
 
--- a row that comes in uses memory for one, and no other call does
+-- one row more uses room for one; where there was none, there is room for three more
+pub record UsesRowRoom (old new : ℕ) : Type 0 where
+  pub used : old ≤ new + 1
+  pub got : old ≡ 0 → 3 ≤ new
+
+-- a row that comes in uses room, and no other call does
 abbrev pub KeepsRowRoom : HomeCall → ℕ → ℕ → Type 0
-KeepsRowRoom (Send body delay) old new = old ≤ new + 1
-KeepsRowRoom (call.Enter item) old new = old ≤ new + 1
-KeepsRowRoom (call.GiveBack item) old new = old ≤ new + 1
+KeepsRowRoom (Send body delay) old new = UsesRowRoom old new
+KeepsRowRoom (call.Enter item) old new = UsesRowRoom old new
+KeepsRowRoom (call.GiveBack item) old new = UsesRowRoom old new
 KeepsRowRoom other old new = new ≡ old
 
 -- a row comes in

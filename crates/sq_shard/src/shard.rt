@@ -8,7 +8,7 @@ ghost use Rattle.sq_model.specs.declared.replies.HomeReply.TheVariants.{Sent, Co
 ghost use Rattle.sq_base.specs.declared.refusal.Refusal.{Refusal as Refused};
 ghost use Rattle.sq_shard.specs.Calls.{IsDoneOrRefused};
 ghost use Rattle.sq_shard.specs.Looks.{look_reply, look_after, GivesAny, GivesRows, MayBeGiven};
-ghost use Rattle.sq_shard.specs.Moves.{coming_refusal};
+ghost use Rattle.sq_shard.specs.Moves.{UsesRowRoom, coming_refusal};
 ghost use Rattle.sq_shard.specs.inside.Moves.{IsPut};
 ghost use Rattle.sq_model.specs.Rows.{ms};
 
@@ -35,11 +35,12 @@ fn after_seconds(moment: u64, seconds: u32) -> u64
     moment + seconds as u64 * 1000
 }
 
-// Gets memory for one row more, where a store shows room for none. Refused as NoMemory.
+// Gets memory for four rows more, where a home shows room for none. Refused as NoMemory.
 fn make_room<S: Store>(store: &mut S, room: usize) -> Result<(), Refusal>
     requires { room ≤ S.reserved store.old }
     ensures rows { S.rows store.new ≡ S.rows store.old }
     ensures ready { OnOk result (0 < S.reserved store.new) }
+    ensures got { OnOk result (room ≡ 0 → 4 ≤ S.reserved store.new) }
     ensures kept { room ≤ S.reserved store.new }
     ensures refused { IfErr result (λ e. (e ≡ Refusal.NoMemory) × (room ≡ 0)) }
 {
@@ -59,7 +60,7 @@ pub(crate) enum Status {
 /// One home of a queue, over a store of its rows. Moments are in ms, below 2^62.
 ///
 /// A call that is refused leaves the home as it was, and drops nothing that has expired. It shows for how many rows more there was
-/// memory when the last one came in, at least.
+/// memory when the last one came in, at least. A row for which it shows no room gets memory for four.
 #[derive(Drop)]
 pub struct Shard<S: Store> {
     pub(crate) site: Site,
@@ -157,7 +158,7 @@ impl<S: Store> Shard<S> {
         requires { moment < stamp_end }
         ensures step { IfOk result (λ sent. HomeStep self.old.site self.old.home moment (Send body delay) (Sent sent) self.new.home) }
         ensures site { self.new.site ≡ self.old.site }
-        ensures room { self.old.room ≤ self.new.room + 1 }
+        ensures room { OnOk result (UsesRowRoom self.old.room self.new.room) }
         ensures refusal { IfErr result (λ e. ((e ≡ Refusal.NoMemory) × (home_refusal self.old.site self.old.home moment (Send body delay) ≡ None) × (self.old.room ≡ 0)) ⊎ (home_refusal self.old.site self.old.home moment (Send body delay) ≡ Some e)) }
         ensures err { OnErr result (self.new ≡ self.old) }
     {
@@ -195,7 +196,7 @@ impl<S: Store> Shard<S> {
         requires { coming_refusal self.old.site self.old.home moment None ≡ None }
         ensures put { IfOk result (λ entered. IsPut self.old.site self.old.home moment row entered self.new.home) }
         ensures site { self.new.site ≡ self.old.site }
-        ensures room { self.old.room ≤ self.new.room + 1 }
+        ensures room { OnOk result (UsesRowRoom self.old.room self.new.room) }
         ensures refused { IfErr result (λ e. (e ≡ Refusal.NoMemory) × (self.old.room ≡ 0)) }
         ensures err { OnErr result (self.new ≡ self.old) }
     {
@@ -241,12 +242,12 @@ impl<S: Store> Shard<S> {
             return Ok(Some(Rows::none()));
         }
         let in_flight = self.store.count_in_flight(&at);
-        let room = (self.site.limits.flights as usize).saturating_sub(in_flight);
-        if room == 0 {
+        let flights_left = (self.site.limits.flights as usize).saturating_sub(in_flight);
+        if flights_left == 0 {
             return Ok(None);
         }
         let until = after_seconds(moment, timeout.unwrap_or(self.settings.timeout).get());
-        let most = room.min(max.get() as usize);
+        let most = flights_left.min(max.get() as usize);
         let picked = self.store.pick(alloc, &at, until, most)?;
         Ok(Some(Rows::of(alloc, picked)?))
     }

@@ -55,16 +55,17 @@ impl SlotTable {
         self.rows.len()
     }
 
-    /// Gets memory for one row more, in a slot below 2^32. Refused as NoMemory where there was none.
+    /// Gets memory for four rows more, in slots below 2^32. Refused as NoMemory where there was not so much. If the memory that was
+    /// found would give slots past 2^32, it is refused too, and there is memory for none from then on.
     pub fn reserve(&mut self) -> Result<(), Refusal>
         ensures rows { self.new.rows ≡ self.old.rows }
         ensures next { self.new.next ≡ self.old.next }
-        ensures reserved { self.old.reserved ≤ self.new.reserved }
-        ensures ready { OnOk result (0 < self.new.reserved) }
+        ensures reserved { OnOk result (self.old.reserved ≤ self.new.reserved) }
+        ensures ready { OnOk result (4 ≤ self.new.reserved) }
         ensures few { OnOk result (length self.new.rows < 4294967296) }
-        ensures refused { IfErr result (λ e. (e ≡ Refusal.NoMemory) × (self.old.reserved ≡ 0)) }
+        ensures refused { IfErr result (λ e. (e ≡ Refusal.NoMemory) × (self.old.reserved < 4)) }
     {
-        self.rows.reserve(1)?;
+        self.rows.reserve(4)?;
         if self.rows.capacity() > 4_294_967_296 {
             return Err(Refusal::NoMemory);
         }

@@ -161,8 +161,8 @@ pub fn home_step(
 }
 
 /// A step of the directory that is lent, by an actor that is lent; all that grows does so before it. A clock reading is
-/// in ms. Refused as NoMemory (the actor's records or the directory's history have room for none), ClockRange, Worn, NoMemory
-/// (the call gives a list of queues), as the directory's call, and as NoMemory (a list of queues is kept or answered).
+/// in ms. Refused as NoMemory (the actor's records or the directory's history have room for none, the call gives a list of queues
+/// or is answered with one, or with a policy that has one), ClockRange, Worn, and then as the directory's call.
 pub fn directory_step(
     alloc: Global,
     directory: &mut Directory,
@@ -218,8 +218,8 @@ fn task_step(
 }
 
 /// A step of the ledger alone, which is lent, by an actor that is lent; all that grows does so before it. A clock reading is
-/// in ms. Refused as NoMemory (the actor's records, the ledger's history or its tasks have room for none, a task is the first
-/// one of its source, or tasks are copied), ClockRange, Worn, and then as the ledger's call.
+/// in ms. Refused as NoMemory (the actor's records or the ledger's history have room for none, of a start its tasks too, or tasks
+/// are listed), ClockRange, Worn, and then as the ledger's call.
 pub fn ledger_step(
     alloc: Global,
     ledger: &mut TransitLedger,

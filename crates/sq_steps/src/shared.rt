@@ -73,7 +73,7 @@ fn leave_dead(
     requires { IsPairReady home.old ledger.old step.by step.stamp }
     ensures { PairEnds home.old home.new ledger.old.history ledger.new.history step.by step.stamp step.name asks.LeaveDead result }
 {
-    let number = ledger.room();
+    let number = ledger.next_number();
     let Some((half, item)) = home.leave_dead(&step, number)? else {
         return Ok(None);
     };

@@ -218,7 +218,7 @@ impl Store for PlainStore {
     }
 
     fn reserve(&mut self) -> Result<(), Refusal> {
-        self.rows.try_reserve(1)?;
+        self.rows.try_reserve(4)?;
         Ok(())
     }
 

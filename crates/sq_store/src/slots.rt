@@ -179,7 +179,7 @@ impl Store for SlotStore {
     // In the table and in every list, in time by the memory that it lacks.
     fn reserve(&mut self) -> Result<(), Refusal> {
         self.table.reserve()?;
-        let count = self.table.len() + 1;
+        let count = self.table.len() + 4;
         self.visible.reserve(count)?;
         self.ages.reserve(count.saturating_sub(self.ages.len()))
     }

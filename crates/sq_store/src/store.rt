@@ -79,11 +79,11 @@ pub trait Store: Drop {
     fn spare(&self) -> usize
         ensures { result ≡ reserved self.now };
 
-    /// Makes room for one more row. Refused as NoMemory, only where there is room for none.
+    /// Makes room for four rows more. Refused as NoMemory, only where there is room for fewer.
     fn reserve(&mut self) -> Result<(), Refusal>
         ensures rows { rows self.new ≡ rows self.old }
-        ensures reserved { OnOk result (0 < reserved self.new) }
-        ensures full { OnErr result (reserved self.old ≡ 0) }
+        ensures reserved { OnOk result (4 ≤ reserved self.new) }
+        ensures full { OnErr result (reserved self.old < 4) }
         ensures err { IfErr result (λ e. e ≡ Refusal.NoMemory) };
 
     /// Leaves out the rows past their retention.

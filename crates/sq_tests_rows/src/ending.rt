@@ -1,5 +1,6 @@
 //! How the lines are answered, and what is told at the end.
 ghost use Rattle.std.specs.Prelude.{◌≡◌};
+ghost use Rattle.sq_queue.specs.Seats.{IsNamedBy};
 
 use crate::memory::serve_from_memory;
 use crate::stage::Stage;
@@ -88,8 +89,8 @@ pub fn answer_all<R: Wait, I: Read, W: Write, E: Write, D: Ledger, T: Ledger>(
     output: &mut Counted<W>,
     errors: &mut E,
 ) -> u8
-    requires of_directory { (blanks.directory.name ≡ D.name) × (blanks.directory.parts ≡ D.parts) × (D.parts ≡ 4294967296) }
-    requires of_ledger { (blanks.ledger.name ≡ T.name) × (blanks.ledger.parts ≡ T.parts) × (T.parts ≡ 4294967296) }
+    requires of_directory { IsNamedBy D.name D.parts blanks.directory }
+    requires of_ledger { IsNamedBy T.name T.parts blanks.ledger }
 {
     let time = AtomicU64::new(0);
     let made: Result<Stage<'_, R, D, T, SlotStore>, Refusal> = Stage::new(

@@ -1,5 +1,6 @@
 //! A service that lines are answered by.
 ghost use Rattle.std.specs.Prelude.{◌≡◌};
+ghost use Rattle.sq_queue.specs.Seats.{HasSeats, IsNamedBy};
 
 use crate::actors::{Actor, ByLines, Lined, actor_of};
 use crate::trial::Trial;
@@ -7,7 +8,7 @@ use sq_audit::parts::Parts;
 use sq_base::refusal::Refusal;
 use sq_calls::calls::{Answered, Asked};
 use sq_json::Scratch;
-use sq_opening::options::Options;
+use sq_model::options::Options;
 use sq_queue::service::{Open, Service, Serving};
 use sq_queue::session::Session;
 use sq_replies::reply::reply_text;
@@ -48,8 +49,8 @@ impl<'a, R: Wait, D: Ledger, T: Ledger> Stage<'a, R, D, T, SlotStore> {
         time: &'a AtomicU64,
         blanks: Blanks,
     ) -> Result<Stage<'a, R, D, T, SlotStore>, Refusal>
-        requires of_directory { (blanks.directory.name ≡ D.name) × (blanks.directory.parts ≡ D.parts) × (D.parts ≡ 4294967296) }
-        requires of_ledger { (blanks.ledger.name ≡ T.name) × (blanks.ledger.parts ≡ T.parts) × (T.parts ≡ 4294967296) }
+        requires of_directory { IsNamedBy D.name D.parts blanks.directory }
+        requires of_ledger { IsNamedBy T.name T.parts blanks.ledger }
     {
         let service: Lined<'a, D, T> = Service::new(
             alloc,
@@ -119,8 +120,8 @@ impl<'a, R: Wait, D: Ledger, T: Ledger> Stage<'a, R, D, T, SlotStore> {
 
     /// Ends the service, with the sessions of all actors. None for want of memory.
     pub fn finish(self, alloc: Global) -> Option<Box<Parts>>
-        requires of_directory { D.parts ≡ 4294967296 }
-        requires of_ledger { T.parts ≡ 4294967296 }
+        requires of_directory { HasSeats D.parts }
+        requires of_ledger { HasSeats T.parts }
     {
         let Stage {
             service,

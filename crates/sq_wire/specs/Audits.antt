@@ -16,7 +16,8 @@ use Rattle.sq_model.specs.Systems.{Tag, stamp_of, opening, IsRun, IsOnePlace}
 use Rattle.sq_audit.specs.Actors.{ActorsRise, PartsRise}
 use Rattle.sq_audit.specs.SystemNow.{events_of, system_now, opening_now}
 use Rattle.sq_merge.specs.WorldValue.{WorldValue}
-use Rattle.sq_audit.specs.HomeIds.{histories_of, IsNumbered}
+use Rattle.sq_history.specs.HomeIds.{IsNumbered}
+use Rattle.sq_audit.specs.HomeHistories.{histories_of}
 use Rattle.sq_places.specs.AllPlaces.{ArePlaces}
 use Rattle.sq_replies.specs.Replies.{id_text}
 

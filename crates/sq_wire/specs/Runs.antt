@@ -1,8 +1,9 @@
 -- Somebody who is asked line after line, whatever answers a line: `Replies` says which text a line may have for its reply, and what it leaves.
-use Rattle.std.specs.Prelude.{ℕ, suc, List, [], ◌∷◌, ◌≡◌, ◌<◌, ◌≤◌, ◌⊎◌, false, length, take, drop, Option, slice_get, Some}
+use Rattle.std.specs.Prelude.{ℕ, suc, List, [], ◌∷◌, ◌≡◌, ◌<◌, ◌≤◌, ◌⊎◌, false, length, take, drop, Option, slice_get, IfSome, Some}
 use Rattle.std.specs.Io.KnownBytes.{Appends}
 use Rattle.sq_lines.specs.Lines.{LinesValue, read_of, lines_of, lines_left, with_feeds, OneMore, FirstIsOver, FirstIsWithin, GoesOn, has_feed}
 use Rattle.sq_lines.specs.Replies.{PutsPart}
+use Rattle.sq_lines.specs.declared.counted.Counted.{Counted}
 use Rattle.sq_lines.specs.declared.lines.TheConstants.{LIMIT}
 use Rattle.sq_wire.specs.declared.run.ServeFault.{ServeFault}
 use Rattle.sq_wire.specs.declared.run.ServeFault.TheVariants.{Read, Write, NoMemory, TooLong}
@@ -70,6 +71,16 @@ StopsAt Replies Unanswered (Read n) lines coming old new state after = Writes Re
 StopsAt Replies Unanswered (TooLong n) lines coming old new state after = Writes Replies old new state (take n lines) after × FirstIsOver LIMIT (drop n lines)
 StopsAt Replies Unanswered (NoMemory n) lines coming old new state after = WritesNoMore Replies Unanswered old new state lines coming n after
 StopsAt Replies Unanswered (Write n) lines coming old new state after = WritesPart Replies Unanswered old new state lines coming n after
+
+-- all lines that come, so many, were answered, and nothing else went out
+abbrev pub AllAnswered : {S : Type 0} → (S → List ℕ → List ℕ → S → Type 0) → Option (List ℕ) → Option (List ℕ) → Option (List ℕ) → S → S → ℕ → Type 0
+AllAnswered Replies coming old new before after n = IfSome (lines_left [] coming) (λ lines. (n ≡ length lines) × Writes Replies old new before lines after)
+
+-- lines were answered up to a fault; or there was no memory to begin, and nothing was touched
+abbrev pub AnsweredTo : {S R W : Type 0} → (S → List ℕ → List ℕ → S → Type 0) → (S → List ℕ → S → Type 0) → (R → Option (List ℕ)) → Counted R → Counted R → (W → Option (List ℕ)) → Counted W → Counted W → S → S → ServeFault → Type 0
+AnsweredTo Replies Unanswered remaining reader reader_after contents writer writer_after before after fault =
+    ((fault ≡ NoMemory 0) × (reader_after ≡ reader) × (writer_after ≡ writer) × (after ≡ before))
+    ⊎ IfSome (lines_left [] (remaining reader.inner)) (λ lines. StopsAt Replies Unanswered fault lines (remaining reader_after.inner) (contents writer.inner) (contents writer_after.inner) before after)
 
 -- a fault of reading or writing is one failed call, but for one of reading after all lines that are answered at most; no other call failed
 abbrev pub IsOfCall : ServeFault → ℕ → ℕ → ℕ → ℕ → Type 0

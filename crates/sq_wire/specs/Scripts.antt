@@ -1,10 +1,12 @@
 -- What a line does to a world, and its answer.
-use Rattle.std.specs.Prelude.{◌≡◌, ◌⊎◌, ◌<◌, ℕ, List, length, Result, Ok, Err, unwrap_or}
+use Rattle.std.specs.Prelude.{◌≡◌, ◌⊎◌, ◌<◌, ℕ, List, [], length, Option, IfSome, Result, Ok, Err, unwrap_or}
+use Rattle.sq_lines.specs.Lines.{lines_left}
+use Rattle.sq_lines.specs.declared.counted.Counted.{Counted}
 use Rattle.sq_base.specs.declared.refusal.Refusal.{Refusal}
 use Rattle.sq_base.specs.declared.refusal.Refusal.TheVariants.{NoMemory}
 use Rattle.sq_merge.specs.WorldValue.{WorldValue}
 use Rattle.sq_requests.specs.Requests.{line_request}
-use Rattle.sq_merge.specs.Acting.{world_counts, ActorStepped, TurnDone}
+use Rattle.sq_merge.specs.WorldSteps.{world_counts, ActorStepped, TurnDone}
 use Rattle.sq_actions.specs.Performs.{CallFits, Performs}
 use Rattle.sq_replies.specs.Replies.{reply_text_of}
 use Rattle.sq_calls.specs.declared.calls.Answer.{Answer}
@@ -14,6 +16,9 @@ use Rattle.sq_calls.specs.declared.calls.Asked.{Asked}
 use Rattle.sq_calls.specs.declared.calls.Asked.TheVariants as asked
 use Rattle.sq_calls.specs.declared.turns.Turned.{Turned}
 use Rattle.sq_requests.specs.declared.request.Request.{Request}
+use Rattle.sq_wire.specs.Runs.{StopsAt, Writes}
+use Rattle.sq_wire.specs.declared.run.ServeFault.{ServeFault}
+use Rattle.sq_wire.specs.declared.run.ServeFault.TheVariants as why
 
 -- a world, and the clock reading of the last line that was read as a request
 pub record ScriptValue : Type 0 where
@@ -51,3 +56,13 @@ LineReplies s line text after = (answered : Result Answered Refusal) × LineAnsw
 -- a line's call was done and leaves this, and there was no memory for the text of its answer; the word of a turn takes none
 unfoldable pub LineUnanswered : ScriptValue → List ℕ → ScriptValue → Type 0
 LineUnanswered s line after = (answer : Answer) × LineAnswered s line (Ok (answered.Call answer)) after
+
+-- all lines of a script that come, so many, were answered over a world; before them the last clock reading was this
+abbrev pub ScriptDone : Option (List ℕ) → Option (List ℕ) → Option (List ℕ) → ℕ → WorldValue → WorldValue → ℕ → Type 0
+ScriptDone coming old new clock before after n = IfSome (lines_left [] coming) (λ lines. (last : ℕ) × (n ≡ length lines) × Writes LineReplies old new (script_at before clock) lines (script_at after last))
+
+-- lines of a script were answered up to a fault; or there was no memory to begin, and nothing was touched
+abbrev pub ScriptDoneTo : {R W : Type 0} → (R → Option (List ℕ)) → Counted R → Counted R → (W → Option (List ℕ)) → Counted W → Counted W → ℕ → WorldValue → WorldValue → ServeFault → Type 0
+ScriptDoneTo remaining reader reader_after contents writer writer_after clock before after fault =
+    ((fault ≡ why.NoMemory 0) × (reader_after ≡ reader) × (writer_after ≡ writer) × (after ≡ before))
+    ⊎ IfSome (lines_left [] (remaining reader.inner)) (λ lines. (last : ℕ) × StopsAt LineReplies LineUnanswered fault lines (remaining reader_after.inner) (contents writer.inner) (contents writer_after.inner) (script_at before clock) (script_at after last))

@@ -1,8 +1,7 @@
 //! A reply for each line.
-ghost use Rattle.std.specs.Prelude.{◌≡◌, ◌⊎◌, ℕ, [], OnOk, IfOk, IfErr, IfSome, length};
-ghost use Rattle.sq_lines.specs.Lines.{lines_left};
-ghost use Rattle.sq_wire.specs.Scripts.{script_at, LineReplies, LineUnanswered};
-ghost use Rattle.sq_wire.specs.Runs.{Writes, StopsAt, IsOfCall};
+ghost use Rattle.std.specs.Prelude.{◌≡◌, OnOk, IfOk, IfErr};
+ghost use Rattle.sq_wire.specs.Scripts.{ScriptDone, ScriptDoneTo};
+ghost use Rattle.sq_wire.specs.Runs.{AllAnswered, AnsweredTo, IsOfCall};
 
 use crate::answering::Answering;
 use crate::owed::{ended, owe, put_owed};
@@ -41,12 +40,9 @@ pub fn answer_lines<R: Read, W: Write, A: Answering>(
 ) -> Result<u64, ServeFault>
     ensures kept { A.keeps answering.old answering.new }
     // For each line in order a text that it may have for its reply, and nothing else.
-    ensures ok { IfOk result (λ n. IfSome (lines_left [] (R.remaining reader.old.inner)) (λ lines.
-        (n ≡ length lines) × Writes A.replies (W.contents writer.old.inner) (W.contents writer.new.inner) answering.old lines answering.new)) }
+    ensures ok { IfOk result (AllAnswered A.replies (R.remaining reader.old.inner) (W.contents writer.old.inner) (W.contents writer.new.inner) answering.old answering.new) }
     // Up to a fault; or there was no memory to begin, and nothing was touched.
-    ensures err { IfErr result (λ f. ((f ≡ ServeFault.NoMemory 0) × (reader.new ≡ reader.old) × (writer.new ≡ writer.old) × (answering.new ≡ answering.old))
-        ⊎ IfSome (lines_left [] (R.remaining reader.old.inner)) (λ lines.
-        StopsAt A.replies A.unanswered f lines (R.remaining reader.new.inner) (W.contents writer.old.inner) (W.contents writer.new.inner) answering.old answering.new)) }
+    ensures err { IfErr result (AnsweredTo A.replies A.unanswered R.remaining reader.old reader.new W.contents writer.old writer.new answering.old answering.new) }
     // No failed call goes unnoticed.
     ensures no_failure { OnOk result ((reader.new.failed ≡ reader.old.failed) × (writer.new.failed ≡ writer.old.failed)) }
     // A fault of reading or writing is one failed call.
@@ -92,11 +88,8 @@ fn run_at<R: Read, W: Write>(
     scripted: &mut Scripted<'_>,
 ) -> Result<u64, ServeFault>
     ensures same_reference { scripted.new.world.ghost_name ≡ scripted.old.world.ghost_name }
-    ensures ok { IfOk result (λ n. IfSome (lines_left [] (R.remaining reader.old.inner)) (λ lines.
-        (clock : ℕ) × (n ≡ length lines) × Writes LineReplies (W.contents writer.old.inner) (W.contents writer.new.inner) (script_at scripted.old.world.now scripted.old.clock) lines (script_at scripted.new.world.now clock))) }
-    ensures err { IfErr result (λ f. ((f ≡ ServeFault.NoMemory 0) × (reader.new ≡ reader.old) × (writer.new ≡ writer.old) × (scripted.new.world.now ≡ scripted.old.world.now))
-        ⊎ IfSome (lines_left [] (R.remaining reader.old.inner)) (λ lines.
-        (clock : ℕ) × StopsAt LineReplies LineUnanswered f lines (R.remaining reader.new.inner) (W.contents writer.old.inner) (W.contents writer.new.inner) (script_at scripted.old.world.now scripted.old.clock) (script_at scripted.new.world.now clock))) }
+    ensures ok { IfOk result (ScriptDone (R.remaining reader.old.inner) (W.contents writer.old.inner) (W.contents writer.new.inner) scripted.old.clock scripted.old.world.now scripted.new.world.now) }
+    ensures err { IfErr result (ScriptDoneTo R.remaining reader.old reader.new W.contents writer.old writer.new scripted.old.clock scripted.old.world.now scripted.new.world.now) }
     ensures no_failure { OnOk result ((reader.new.failed ≡ reader.old.failed) × (writer.new.failed ≡ writer.old.failed)) }
     ensures count { IfErr result (λ f. IsOfCall f reader.old.failed reader.new.failed writer.old.failed writer.new.failed) }
 {
@@ -111,12 +104,9 @@ pub fn run_script<R: Read, W: Write>(
     world: &mut World,
 ) -> Result<u64, ServeFault>
     // For each line in order the text of a call on it, and nothing else.
-    ensures ok { IfOk result (λ n. IfSome (lines_left [] (R.remaining reader.old.inner)) (λ lines.
-        (clock : ℕ) × (n ≡ length lines) × Writes LineReplies (W.contents writer.old.inner) (W.contents writer.new.inner) (script_at world.old 0) lines (script_at world.new clock))) }
+    ensures ok { IfOk result (ScriptDone (R.remaining reader.old.inner) (W.contents writer.old.inner) (W.contents writer.new.inner) 0 world.old world.new) }
     // Up to a fault; or there was no memory to begin, and nothing was touched.
-    ensures err { IfErr result (λ f. ((f ≡ ServeFault.NoMemory 0) × (reader.new ≡ reader.old) × (writer.new ≡ writer.old) × (world.new ≡ world.old))
-        ⊎ IfSome (lines_left [] (R.remaining reader.old.inner)) (λ lines.
-        (clock : ℕ) × StopsAt LineReplies LineUnanswered f lines (R.remaining reader.new.inner) (W.contents writer.old.inner) (W.contents writer.new.inner) (script_at world.old 0) (script_at world.new clock))) }
+    ensures err { IfErr result (ScriptDoneTo R.remaining reader.old reader.new W.contents writer.old writer.new 0 world.old world.new) }
     // No failed call goes unnoticed.
     ensures no_failure { OnOk result ((reader.new.failed ≡ reader.old.failed) × (writer.new.failed ≡ writer.old.failed)) }
     // A fault of reading or writing is one failed call.

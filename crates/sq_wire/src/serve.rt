@@ -1,10 +1,9 @@
 //! Lines of a client, answered by a session of a service.
 ghost use Rattle.std.proofs.Common.{◌∙◌};
-ghost use Rattle.std.specs.Prelude.{◌≡◌, ◌⊎◌, [], refl, OnOk, OnErr, IfOk, IfErr, IfSome, length, Err};
-ghost use Rattle.sq_lines.specs.Lines.{lines_left};
-ghost use Rattle.sq_queue.specs.Services.{service_counts};
-ghost use Rattle.sq_wire.specs.Runs.{Writes, StopsAt, IsOfCall};
-ghost use Rattle.sq_wire.specs.Serves.{CallServed, ServedReplies, ServedUnanswered};
+ghost use Rattle.std.specs.Prelude.{◌≡◌, refl, OnOk, OnErr, IfOk, IfErr, Err};
+ghost use Rattle.sq_queue.specs.Around.{around};
+ghost use Rattle.sq_wire.specs.Runs.{IsOfCall};
+ghost use Rattle.sq_wire.specs.Serves.{AllServed, CallServed, ServedReplies, ServedTo, ServedUnanswered};
 
 use crate::answering::Answering;
 use crate::long_lines::LongLines;
@@ -25,7 +24,7 @@ use std::sync::ledger::Ledger;
 
 /// A session at the service that made it, asked by the lines of a client.
 #[derive(Drop)]
-struct Served<'a, C, G, D: Ledger, T: Ledger, X> {
+struct LineSession<'a, C, G, D: Ledger, T: Ledger, X> {
     rt: &'a X,
     service: &'a Service<C, G, D, T>,
     session: &'a mut Session<D, T>,
@@ -40,8 +39,8 @@ fn do_read<C: Clock + Drop, G: Gate + Drop, D: Ledger, T: Ledger, X: Wait>(
     session: &mut Session<D, T>,
     read: Result<Request, Refusal>,
 ) -> Result<Answered, Refusal>
-    ensures ok { IfOk read (λ request. CallServed (service_counts service.now.per_queue service.now.sample) session.old.journal request.asked result session.new.journal) }
-    ensures err { IfErr read (λ e. (result ≡ Err e) × (session.new.journal ≡ session.old.journal)) }
+    ensures ok { IfOk read (λ request. CallServed (around C.tells G.saw service.now) session.old request.asked result session.new) }
+    ensures err { IfErr read (λ e. (result ≡ Err e) × (session.new ≡ session.old)) }
 {
     let request = read?;
     match &request.asked {
@@ -65,8 +64,8 @@ fn answer<C: Clock + Drop, G: Gate + Drop, D: Ledger, T: Ledger, X: Wait>(
     session: &mut Session<D, T>,
     line: &[u8],
 ) -> Result<Text, AllocError>
-    ensures ok { IfOk result (λ text. ServedReplies (service_counts service.now.per_queue service.now.sample) session.old.journal line.now text session.new.journal) }
-    ensures err { OnErr result (ServedUnanswered (service_counts service.now.per_queue service.now.sample) session.old.journal line.now session.new.journal) }
+    ensures ok { IfOk result (λ text. ServedReplies (around C.tells G.saw service.now) session.old line.now text session.new) }
+    ensures err { OnErr result (ServedUnanswered (around C.tells G.saw service.now) session.old line.now session.new) }
 {
     let read = long_lines.read(rt, alloc, scratch, line);
     let answered = do_read(rt, service, session, read);
@@ -74,12 +73,12 @@ fn answer<C: Clock + Drop, G: Gate + Drop, D: Ledger, T: Ledger, X: Wait>(
 }
 
 impl<'a, C: Clock + Drop, G: Gate + Drop, D: Ledger, T: Ledger, X: Wait> Answering
-    for Served<'a, C, G, D, T, X> {
+    for LineSession<'a, C, G, D, T, X> {
     ghost replies = { λ s line text t.
-        ServedReplies (service_counts s.service.now.per_queue s.service.now.sample) s.session.now.journal line text t.session.now.journal × (service_counts t.service.now.per_queue t.service.now.sample ≡ service_counts s.service.now.per_queue s.service.now.sample) };
+        ServedReplies (around C.tells G.saw s.service.now) s.session.now line text t.session.now × (t.service ≡ s.service) };
 
     ghost unanswered = { λ s line t.
-        ServedUnanswered (service_counts s.service.now.per_queue s.service.now.sample) s.session.now.journal line t.session.now.journal × (service_counts t.service.now.per_queue t.service.now.sample ≡ service_counts s.service.now.per_queue s.service.now.sample) };
+        ServedUnanswered (around C.tells G.saw s.service.now) s.session.now line t.session.now × (t.service ≡ s.service) };
 
     ghost keeps = { λ s t. t.session.ghost_name ≡ s.session.ghost_name };
 
@@ -105,14 +104,11 @@ fn serve_at<R: Read, W: Write, C: Clock + Drop, G: Gate + Drop, D: Ledger, T: Le
     alloc: Global,
     reader: &mut Counted<R>,
     writer: &mut Counted<W>,
-    served: &mut Served<'_, C, G, D, T, X>,
+    served: &mut LineSession<'_, C, G, D, T, X>,
 ) -> Result<u64, ServeFault>
     ensures same_reference { served.new.session.ghost_name ≡ served.old.session.ghost_name }
-    ensures ok { IfOk result (λ n. IfSome (lines_left [] (R.remaining reader.old.inner)) (λ lines.
-        (n ≡ length lines) × Writes (ServedReplies (service_counts served.old.service.now.per_queue served.old.service.now.sample)) (W.contents writer.old.inner) (W.contents writer.new.inner) served.old.session.now.journal lines served.new.session.now.journal)) }
-    ensures err { IfErr result (λ f. ((f ≡ ServeFault.NoMemory 0) × (reader.new ≡ reader.old) × (writer.new ≡ writer.old) × (served.new.session.now ≡ served.old.session.now))
-        ⊎ IfSome (lines_left [] (R.remaining reader.old.inner)) (λ lines.
-        StopsAt (ServedReplies (service_counts served.old.service.now.per_queue served.old.service.now.sample)) (ServedUnanswered (service_counts served.old.service.now.per_queue served.old.service.now.sample)) f lines (R.remaining reader.new.inner) (W.contents writer.old.inner) (W.contents writer.new.inner) served.old.session.now.journal served.new.session.now.journal)) }
+    ensures ok { IfOk result (AllServed (around C.tells G.saw served.old.service.now) (R.remaining reader.old.inner) (W.contents writer.old.inner) (W.contents writer.new.inner) served.old.session.now served.new.session.now) }
+    ensures err { IfErr result (ServedTo (around C.tells G.saw served.old.service.now) R.remaining reader.old reader.new W.contents writer.old writer.new served.old.session.now served.new.session.now) }
     ensures no_failure { OnOk result ((reader.new.failed ≡ reader.old.failed) × (writer.new.failed ≡ writer.old.failed)) }
     ensures count { IfErr result (λ f. IsOfCall f reader.old.failed reader.new.failed writer.old.failed writer.new.failed) }
 {
@@ -130,13 +126,11 @@ pub fn serve<R: Read, W: Write, C: Clock + Drop, G: Gate + Drop, D: Ledger, T: L
     session: &mut Session<D, T>,
     long_lines: &LongLines,
 ) -> Result<u64, ServeFault>
-    // For each line in order one reply, made of the next of the session's new records, and nothing else.
-    ensures ok { IfOk result (λ n. IfSome (lines_left [] (R.remaining reader.old.inner)) (λ lines.
-        (n ≡ length lines) × Writes (ServedReplies (service_counts service.now.per_queue service.now.sample)) (W.contents writer.old.inner) (W.contents writer.new.inner) session.old.journal lines session.new.journal)) }
+    // For each line in order one reply, and nothing else: that of a call whose steps are each one of a part that the gate saw, with
+    // its records and no others; and where one is refused, the cause was there.
+    ensures ok { IfOk result (AllServed (around C.tells G.saw service.now) (R.remaining reader.old.inner) (W.contents writer.old.inner) (W.contents writer.new.inner) session.old session.new) }
     // Up to a fault; or there was no memory to begin, and nothing was touched.
-    ensures err { IfErr result (λ f. ((f ≡ ServeFault.NoMemory 0) × (reader.new ≡ reader.old) × (writer.new ≡ writer.old) × (session.new ≡ session.old))
-        ⊎ IfSome (lines_left [] (R.remaining reader.old.inner)) (λ lines.
-        StopsAt (ServedReplies (service_counts service.now.per_queue service.now.sample)) (ServedUnanswered (service_counts service.now.per_queue service.now.sample)) f lines (R.remaining reader.new.inner) (W.contents writer.old.inner) (W.contents writer.new.inner) session.old.journal session.new.journal)) }
+    ensures err { IfErr result (ServedTo (around C.tells G.saw service.now) R.remaining reader.old reader.new W.contents writer.old writer.new session.old session.new) }
     // No failed call goes unnoticed.
     ensures no_failure { OnOk result ((reader.new.failed ≡ reader.old.failed) × (writer.new.failed ≡ writer.old.failed)) }
     // A fault of reading or writing is one failed call.
@@ -145,7 +139,7 @@ pub fn serve<R: Read, W: Write, C: Clock + Drop, G: Gate + Drop, D: Ledger, T: L
     let Ok(mut scratch) = Box::new(alloc, Scratch::new(alloc)) else {
         return Err(ServeFault::NoMemory(0));
     };
-    let mut served = Served {
+    let mut served = LineSession {
         rt,
         service,
         session,

@@ -11,7 +11,7 @@ use Rattle.sq_model.specs.Replays.{HomeEvent}
 use Rattle.sq_model.specs.Systems.{DirectoryEvent}
 use Rattle.sq_model.specs.RecordValues.{RecordValue, OfDirectory, OfLedger, OfHome, place_of_record, Journal}
 use Rattle.sq_model.specs.Matches.{HomeHistory, IsHomeEvent, IsRecordAt, HasItsEvent, IsRecorded, IsOfDirectory, IsOfLedger, IsOfHome, InLedger as IsInLedger, InHome as IsInHome}
-use Rattle.sq_audit.specs.HomeIds.{home_id}
+use Rattle.sq_history.specs.HomeIds.{home_id}
 use Rattle.sq_audit.specs.declared.check.AuditFault.{AuditFault}
 use Rattle.sq_audit.specs.declared.check.AuditFault.TheVariants.{RecordMissing, RecordTwice, LeaveUnmatched, EnterUnmatched}
 use Rattle.sq_audit.specs.declared.check.Part.{Part}

@@ -1,5 +1,6 @@
 //! Two threads share a service; an audit of all that they did says that it is one run.
 ghost use Rattle.std.specs.Prelude.{◌≡◌};
+ghost use Rattle.sq_queue.specs.Seats.{HasSeats, IsNamedBy};
 
 use super::clients::{Client, create, receive, send};
 use super::worlds::options;
@@ -113,8 +114,8 @@ fn open<D: Ledger, T: Ledger>(
     of_directory: Blank,
     of_ledger: Blank,
 ) -> Shop<D, T, SlotStore>
-    requires of_directory { (of_directory.name ≡ D.name) × (of_directory.parts ≡ D.parts) × (D.parts ≡ 4294967296) }
-    requires of_ledger { (of_ledger.name ≡ T.name) × (of_ledger.parts ≡ T.parts) × (T.parts ≡ 4294967296) }
+    requires of_directory { IsNamedBy D.name D.parts of_directory }
+    requires of_ledger { IsNamedBy T.name T.parts of_ledger }
 {
     let service: Service<Stopped, Open, D, T> = Service::new(
         alloc,
@@ -136,8 +137,8 @@ fn close<D: Ledger, T: Ledger>(
     shop: Shop<D, T, SlotStore>,
     sessions: Vec<Session<D, T>>,
 ) -> Box<Parts>
-    requires of_directory { D.parts ≡ 4294967296 }
-    requires of_ledger { T.parts ≡ 4294967296 }
+    requires of_directory { HasSeats D.parts }
+    requires of_ledger { HasSeats T.parts }
 {
     match Box::into_inner(shop.service).finish(sessions) {
         Ok(parts) => Box::new(alloc, parts).expect(rt, "memory"),
@@ -158,8 +159,8 @@ fn share<R: Threads + Wait + Abort + Sync, D: Ledger + Send + Sync, T: Ledger + 
     of_directory: Blank,
     of_ledger: Blank,
 ) -> ([u64; 2], usize)
-    requires of_directory { (of_directory.name ≡ D.name) × (of_directory.parts ≡ D.parts) × (D.parts ≡ 4294967296) }
-    requires of_ledger { (of_ledger.name ≡ T.name) × (of_ledger.parts ≡ T.parts) × (T.parts ≡ 4294967296) }
+    requires of_directory { IsNamedBy D.name D.parts of_directory }
+    requires of_ledger { IsNamedBy T.name T.parts of_ledger }
 {
     let orders = QueueName::new(b"orders").expect(rt, "a name");
     let shop: Shop<D, T, SlotStore> = open(rt, alloc, of_directory, of_ledger);

@@ -1,6 +1,6 @@
 -- How the program ends, by its exit status or by what is left to do, over what its words ask for and what becomes of its input and its output.
 use Rattle.std.specs.Prelude.{zero, suc, ◌≡◌, None, Some}
-use Rattle.sq_opening.specs.Openings.{IsServed}
+use Rattle.sq_model.specs.Options.{IsServed}
 use Rattle.sq_flags.specs.declared.flags.Mode.TheVariants.{Serve, Race}
 use Rattle.sq_flags.specs.declared.flags.ServeMode.{ServeMode}
 use Rattle.sq_flags.specs.declared.flags.RaceMode.{RaceMode}

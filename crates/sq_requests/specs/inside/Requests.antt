@@ -9,17 +9,14 @@ use Rattle.sq_policy.specs.Reading.{◌>>=◌}
 use Rattle.sq_calls.specs.declared.turns.Turn.{Turn}
 use Rattle.sq_requests.specs.Members.{text_at}
 use Rattle.sq_requests.specs.Queues.{create_asks, set_asks}
-use Rattle.sq_calls.specs.declared.batches.BatchKind.TheVariants as kind
-use Rattle.sq_calls.specs.declared.calls.Asked.TheVariants as asked
-use Rattle.sq_calls.specs.declared.calls.Call.TheVariants as call
-use Rattle.sq_requests.specs.Requests.{clock_at, actor_at, call_of, kind_of, turn_of}
+use Rattle.sq_requests.specs.Requests.{clock_at, actor_at, asked_call, batch_kind, turn_of}
 
 -- memory is asked for the text of a policy, for a body, and for the entries of a batch
 unfoldable pub call_asks : List ℕ → Data → Result Bool Refusal
 call_asks action d =
     if bytes_eq action (codes "CreateQueue") then create_asks d
     else if bytes_eq action (codes "SetQueueAttributes") then set_asks d
-    else call_of action d >>= λ call. Ok (bytes_eq action (codes "SendMessage") || is_some (kind_of action))
+    else asked_call action d >>= λ call. Ok (bytes_eq action (codes "SendMessage") || is_some (batch_kind action))
 
 -- no memory is asked for a turn
 abbrev pub asks_or : Option (Result Turn Refusal) → Result Bool Refusal → Result Bool Refusal

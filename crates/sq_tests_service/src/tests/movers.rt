@@ -14,20 +14,25 @@ use std::sync::Wait;
 use std::sync::ledger::Ledger;
 use std::thread::Threads;
 
-/// Makes so many turns of a mover, and tells whether they were made.
-pub fn turns<D: Ledger, T: Ledger, R: Wait + Abort>(
+/// Makes so many turns of a mover, and tells how many of them moved a message or ended a task; None where they are not made.
+pub fn moved<D: Ledger, T: Ledger, R: Wait + Abort>(
     at: &Scene<'_, '_, D, T, R>,
     client: &mut Client<D, T>,
     number: u64,
-) -> bool {
+) -> Option<u64> {
     let mut mover = Mover::new(at.alloc);
-    run_mover(
+    let made = run_mover(
         at.service.service(),
         at.rt,
         client.session(),
         &mut mover,
         number,
-    ) == Ok(number)
+    );
+    if made == Ok(number) {
+        Some(mover.moved())
+    } else {
+        None
+    }
 }
 
 const BRING: &[Deed] = &[Deed::Turns(100), Deed::Receive(b'd')];
@@ -39,6 +44,52 @@ fn a_mover_brings_a_dead_letter(rt: HostRuntime) {
         &rt,
         &told,
         told.by[0] == 11 && told.seen.messages == Some(1),
+    );
+}
+
+// A leave and an entry of the dead letter; then those of the task that takes it back, and its end.
+const COUNT: &[Deed] = &[
+    Deed::Moves(100),
+    Deed::Ask(Ask::Start(b'd', None)),
+    Deed::Moves(100),
+    Deed::Moves(100),
+];
+
+#[test]
+fn a_mover_counts_what_moved(rt: HostRuntime) {
+    let told = tell(&rt, rt.alloc(), Setting::of(DEAD_LETTER, 1), &[COUNT]);
+    must(
+        &rt,
+        &told,
+        told.by[0] == 2130 && told.seen.messages == Some(1),
+    );
+}
+
+// Queue r is full, so that a task's message cannot come in there until one is deleted.
+const FULL: &[Deed] = &[
+    Deed::Ask(Ask::Create(b'r', None)),
+    Deed::Ask(Ask::Send(b'r')),
+    Deed::Ask(Ask::Send(b'r')),
+    Deed::Moves(100),
+    Deed::Ask(Ask::Start(b'd', Some(b'r'))),
+    Deed::Moves(100),
+    Deed::Moves(100),
+    Deed::ReceiveAndDelete(b'r'),
+    Deed::Moves(100),
+    Deed::Moves(100),
+];
+
+#[test]
+fn a_task_that_waits_for_room_moves_nothing(rt: HostRuntime) {
+    let setting = Setting {
+        rows: 2,
+        ..Setting::of(DEAD_LETTER, 1)
+    };
+    let told = tell(&rt, rt.alloc(), setting, &[FULL]);
+    must(
+        &rt,
+        &told,
+        told.by[0] == 1_112_110_120 && told.seen.messages == Some(3),
     );
 }
 

@@ -1,5 +1,6 @@
 //! A service under test and its sessions, each hidden.
 ghost use Rattle.std.specs.Prelude.{◌≡◌};
+ghost use Rattle.sq_queue.specs.Seats.{HasSeats, IsNamedBy};
 
 use super::asks::Ask;
 use super::evidence::Evidence;
@@ -8,7 +9,7 @@ use sq_base::ids::HomeId;
 use sq_directory::directory::Directory;
 use sq_history::recorded::Home;
 use sq_ledger::ledger::TransitLedger;
-use sq_opening::options::Options;
+use sq_model::options::Options;
 use sq_queue::service::{Clock, Gate, Service, Serving};
 use sq_queue::session::Session;
 use sq_store::slots::SlotStore;
@@ -115,6 +116,8 @@ pub struct Setting {
     pub begin: Start,
     /// Homes of each queue, all of which are asked.
     pub homes: u32,
+    /// How many rows a home may have.
+    pub rows: u32,
     /// The number of the queue inside whose homes a thread is held until the sign; 0 where none is.
     pub queue: u64,
     /// The number of the item after whose leave its mover is held; 0 where none is.
@@ -127,6 +130,7 @@ impl Setting {
         Setting {
             begin,
             homes,
+            rows: 100_000,
             queue: 0,
             item: 0,
         }
@@ -181,13 +185,13 @@ impl<'a> Gate for Door<'a> {
     }
 }
 
-// Queues of so many homes, all of which are asked.
-fn options(homes: u32) -> Options {
+// Queues of so many homes, all of which are asked, and of so many rows each.
+fn options(homes: u32, rows: u32) -> Options {
     Options {
         homes,
         sample: homes,
         queues: 64,
-        rows: 100_000,
+        rows,
         flights: 100_000,
         transit: 1000,
         seed: 7,
@@ -226,18 +230,19 @@ impl<'a, D: Ledger, T: Ledger> Shared<'a, D, T, SlotStore> {
         of_directory: Blank,
         of_ledger: Blank,
     ) -> Shared<'a, D, T, SlotStore>
-        requires of_directory { (of_directory.name ≡ D.name) × (of_directory.parts ≡ D.parts) × (D.parts ≡ 4294967296) }
-        requires of_ledger { (of_ledger.name ≡ T.name) × (of_ledger.parts ≡ T.parts) × (T.parts ≡ 4294967296) }
+        requires of_directory { IsNamedBy D.name D.parts of_directory }
+        requires of_ledger { IsNamedBy T.name T.parts of_ledger }
     {
         let Setting {
             homes,
+            rows,
             queue,
             item,
             ..
         } = setting;
         let service: Service<Hand<'a>, Door<'a>, D, T> = Service::new(
             alloc,
-            options(homes),
+            options(homes, rows),
             Hand(&signs.time),
             Door { queue, item, signs },
             of_directory,
@@ -272,8 +277,8 @@ impl<'a, D: Ledger, T: Ledger> Shared<'a, D, T, SlotStore> {
 
     /// Ends it, with these sessions.
     pub fn finish(self, rt: &impl Abort, alloc: Global, sessions: Vec<Session<D, T>>) -> Evidence
-        requires of_directory { D.parts ≡ 4294967296 }
-        requires of_ledger { T.parts ≡ 4294967296 }
+        requires of_directory { HasSeats D.parts }
+        requires of_ledger { HasSeats T.parts }
     {
         match self.service.into_inner().finish(sessions) {
             Ok(parts) => Evidence::new(rt, alloc, parts),

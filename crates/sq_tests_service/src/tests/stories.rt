@@ -1,10 +1,11 @@
 //! Stories of clients, each told at a service of its own: what each client does, and how a service is made, shared by threads and
 //! ended.
 ghost use Rattle.std.specs.Prelude.{◌≡◌};
+ghost use Rattle.sq_queue.specs.Seats.{IsNamedBy};
 
 use super::asks::{Ask, Heard, call_of, delete, heard_of};
 use super::evidence::Seen;
-use super::movers::{turns, words};
+use super::movers::{moved, words};
 use super::named::is_done_by_name;
 use super::shared::{Client, Setting, Shared, Signs, is_set};
 use super::threads::random;
@@ -38,6 +39,8 @@ pub enum Deed {
     SendOfSteps(u64),
     /// Turns of a mover: 1 where they are made.
     Turns(u64),
+    /// Turns of a mover: how many of them moved a message or ended a task; 9 where they are not made.
+    Moves(u64),
     /// What the turns of a mover say that brings a dead letter to its queue and back, as digits.
     Words,
     /// Calls and turns at random, while the clock goes on: how many messages were sent.
@@ -127,7 +130,8 @@ impl<'s, 'a, D: Ledger, T: Ledger, R: Wait + Abort> Scene<'s, 'a, D, T, R> {
             Deed::ReceiveAndDelete(name) => self.receive_and_delete(client, name) as u64,
             Deed::Sends(times) => self.sends(client, times),
             Deed::SendOfSteps(steps) => self.send_is_stopped(client, steps) as u64,
-            Deed::Turns(number) => turns(self, client, number) as u64,
+            Deed::Turns(number) => moved(self, client, number).is_some() as u64,
+            Deed::Moves(number) => moved(self, client, number).unwrap_or(9),
             Deed::Words => words(self, client),
             Deed::Random(calls) => random(self, client, calls),
             _ => show(self.signs, deed),
@@ -254,8 +258,8 @@ fn told_by<D: Ledger + Send + Sync, T: Ledger + Send + Sync, R: Threads + Wait +
     of_directory: Blank,
     of_ledger: Blank,
 ) -> Told
-    requires of_directory { (of_directory.name ≡ D.name) × (of_directory.parts ≡ D.parts) × (D.parts ≡ 4294967296) }
-    requires of_ledger { (of_ledger.name ≡ T.name) × (of_ledger.parts ≡ T.parts) × (T.parts ≡ 4294967296) }
+    requires of_directory { IsNamedBy D.name D.parts of_directory }
+    requires of_ledger { IsNamedBy T.name T.parts of_ledger }
 {
     let signs = Signs::new();
     let service: Shared<'_, D, T, SlotStore> = Shared::new(

@@ -3,7 +3,7 @@ use super::cues::{Asked, Cue, Move, play, played, wrong_at};
 use super::evidence::{Evidence, Fault, Mix, NO_FAULT, missing, must};
 use super::stage::{Stage, options};
 use sq_base::refusal::Refusal;
-use sq_opening::options::Options;
+use sq_model::options::Options;
 use sq_tests_kit::asks::Answers;
 use sq_tests_kit::setup::CLOCK_END;
 use std::alloc::Global;

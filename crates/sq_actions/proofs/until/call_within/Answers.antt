@@ -10,5 +10,5 @@ returns g c =
     let inside = path_inside _ (λ n. LimitedStep g.S.LockSteps.stepped) (λ u. record { steps = u.steps.now; left = u.left; stopped = u.stopped }) (λ u. u.steps.ghost_name) (λ s t ask gave h. h) _ _ told.trace told.path in
     record {
       same_reference = inside.1;
-      answered = until_fits g.S.LockSteps.stepped (CallFits (g.S.LockSteps.counts c.args.until.now.steps.now) c.args.call.now) _ _ told.trace c.call-answered.result c.told_until.result c.requires c.told_until.ensures inside.0 told.fits;
+      answered = until_fits g.S.LockSteps.stepped (CallFits (g.S.LockSteps.counts c.args.limited.now.steps.now) c.args.call.now) _ _ told.trace c.call-answered.result c.told_until.result c.requires c.told_until.ensures inside.0 told.fits;
     }

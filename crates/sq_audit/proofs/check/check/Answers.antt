@@ -1,4 +1,4 @@
-use Rattle.sq_audit.specs.HomeIds.{histories_of}
+use Rattle.sq_audit.specs.HomeHistories.{histories_of}
 use Rattle.sq_audit.proofs.CheckLaws.{fits_match, wrong_refutes}
 use Rattle.sq_audit.proofs.check.check.Goals as goal
 

@@ -1,5 +1,5 @@
 use Rattle.std.proofs.lemmas.Result.{on_ok_weaker, IfErr-weaker}
-use Rattle.sq_audit.specs.HomeIds.{histories_of}
+use Rattle.sq_audit.specs.HomeHistories.{histories_of}
 use Rattle.sq_audit.specs.declared.check.Part.TheVariants.{Directory}
 use Rattle.sq_audit.specs.Faults.{IsWrong}
 use Rattle.sq_audit.specs.inside.Faults.{HasEventFault}

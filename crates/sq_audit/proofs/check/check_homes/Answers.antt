@@ -1,5 +1,5 @@
 use Rattle.std.proofs.Common.{rules, ◌≡◌, ◌<◌, ℕ, length, Err, subst, sym}
-use Rattle.sq_audit.specs.HomeIds.{home_history, histories_of}
+use Rattle.sq_audit.specs.HomeHistories.{home_history, histories_of}
 use Rattle.sq_audit.specs.inside.EvidenceValue.{EvidenceValue}
 use Rattle.sq_audit.specs.declared.check.Part.TheVariants.{Home}
 use Rattle.sq_audit.specs.inside.Faults.{HomeFits, HasEventFault}

@@ -2,7 +2,7 @@ use Rattle.std.proofs.Common.{rules, ◌≡◌, ◌<◌, length, Err, refl}
 use Rattle.sq_model.specs.RecordValues.{RecordsRise}
 use Rattle.sq_model.specs.Matches.{IsRecordAt, HasItsEvent}
 use Rattle.sq_steps.specs.Records.{value_of_record}
-use Rattle.sq_audit.specs.HomeIds.{histories_of}
+use Rattle.sq_audit.specs.HomeHistories.{histories_of}
 use Rattle.sq_audit.specs.inside.Faults.{RecordFits, IsRecordFault}
 use Rattle.sq_model.proofs.ElementLaws.{below_more}
 use Rattle.sq_audit.proofs.CheckLaws.{read_record, record_wrong, record_fits, all_records, rise_at}

@@ -1,7 +1,7 @@
 use Rattle.std.proofs.Common.{◌≡◌, Some, slice_get, true}
 use Rattle.std.proofs.lemmas.Result.{on_ok_weaker, IfErr-weaker}
 use Rattle.sq_model.specs.Ledgers.{is_own}
-use Rattle.sq_audit.specs.HomeIds.{histories_of}
+use Rattle.sq_audit.specs.HomeHistories.{histories_of}
 use Rattle.sq_audit.specs.declared.check.Part.TheVariants.{Ledger}
 use Rattle.sq_audit.specs.Faults.{IsWrong}
 use Rattle.sq_audit.specs.inside.Faults.{IsEventFault}

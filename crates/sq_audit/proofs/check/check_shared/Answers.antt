@@ -1,5 +1,5 @@
 use Rattle.std.proofs.Common.{rules, ◌≡◌, ◌<◌, ℕ, length, Err, Some, slice_get}
-use Rattle.sq_audit.specs.HomeIds.{home_history, histories_of}
+use Rattle.sq_audit.specs.HomeHistories.{home_history, histories_of}
 use Rattle.sq_audit.specs.inside.Faults.{LedgerHas}
 use Rattle.sq_model.proofs.ElementLaws.{below_more}
 use Rattle.sq_audit.proofs.CheckLaws.{all_partners, ledger_has, ledger_lacks, read_home}

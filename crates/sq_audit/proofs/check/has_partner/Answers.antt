@@ -2,7 +2,7 @@ use Rattle.std.proofs.Common.{rules, ◌≡◌, length, None, Some, subst, sym, 
 use Rattle.sq_model.specs.Matches.{InHome}
 use Rattle.sq_model.specs.Systems.{as_ledger}
 use Rattle.sq_log.specs.Events.{IsEventAt}
-use Rattle.sq_audit.specs.HomeIds.{home_index}
+use Rattle.sq_history.specs.HomeIds.{home_index}
 use Rattle.sq_audit.specs.inside.EvidenceValue.{EvidenceValue}
 use Rattle.sq_audit.proofs.CheckLaws.{found_there, home_has, no_home_has}
 use Rattle.sq_audit.proofs.check.has_partner.Goals as goal

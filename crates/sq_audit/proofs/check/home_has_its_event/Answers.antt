@@ -1,7 +1,7 @@
 use Rattle.std.proofs.Common.{rules, ◌≡◌, length, None, Some, true, subst, sym}
 use Rattle.sq_model.specs.RecordValues.{OfHome}
 use Rattle.sq_model.specs.Matches.{HasItsEvent}
-use Rattle.sq_audit.specs.HomeIds.{home_index}
+use Rattle.sq_history.specs.HomeIds.{home_index}
 use Rattle.sq_audit.specs.inside.EvidenceValue.{EvidenceValue}
 use Rattle.sq_audit.proofs.CheckLaws.{no_event_found, did_happen, finds_its_event}
 use Rattle.sq_audit.proofs.check.home_has_its_event.Goals as goal

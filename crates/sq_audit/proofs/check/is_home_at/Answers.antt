@@ -1,7 +1,8 @@
 use Rattle.std.proofs.Common.{rules, ◌≡◌, ◌<◌, length, Some, subst, sym}
 use Rattle.std.proofs.lemmas.List.{length-map}
 use Rattle.sq_audit.specs.inside.EvidenceValue.{EvidenceValue}
-use Rattle.sq_audit.specs.HomeIds.{home_history, home_id, home_index}
+use Rattle.sq_history.specs.HomeIds.{home_id, home_index}
+use Rattle.sq_audit.specs.HomeHistories.{home_history}
 use Rattle.sq_audit.proofs.CheckLaws.{home_test}
 use Rattle.sq_audit.proofs.check.is_home_at.Goals as goal
 

@@ -2,7 +2,7 @@ use Rattle.std.proofs.Common.{ℕ, subst}
 use Rattle.sq_model.specs.Matches.{IsMatched}
 use Rattle.sq_steps.specs.Journals.{RecordsRiseAt}
 use Rattle.sq_audit.specs.inside.EvidenceValue.{EvidenceValue}
-use Rattle.sq_audit.specs.HomeIds.{histories_of}
+use Rattle.sq_audit.specs.HomeHistories.{histories_of}
 use Rattle.sq_audit.proofs.RecordOrderLaws.{matched_rise}
 use Rattle.sq_audit.proofs.OnePlaceLaws.{sites_once}
 use Rattle.sq_audit.proofs.merge.merge.Goals as goal

@@ -1,6 +1,6 @@
 use Rattle.std.proofs.Common.{rules, ◌≡◌, ◌∙◌, ap, length, map}
 use Rattle.std.proofs.lemmas.List.{length-map}
-use Rattle.sq_audit.specs.HomeIds.{home_id}
+use Rattle.sq_history.specs.HomeIds.{home_id}
 use Rattle.sq_queue.proofs.PlaceLaws.{placed_more}
 use Rattle.sq_queue.proofs.service.each_under_lock.Goals as goal
 

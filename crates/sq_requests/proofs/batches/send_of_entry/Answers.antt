@@ -1,29 +1,29 @@
 use Rattle.std.proofs.Common.{◌≡◌, rules, refl, Err}
-use Rattle.sq_requests.specs.Batches.{send_of_entry}
-use Rattle.sq_requests.proofs.BatchLaws.{reads_ask}
-use Rattle.sq_requests.proofs.RequestLaws.{asks_refused}
+use Rattle.sq_requests.specs.Batches.{body_length, send_of_entry}
 use Rattle.sq_requests.proofs.batches.send_of_entry.Goals as goal
 
-pub returns-in_err-body : goal.returns-in_err-body
+pub returns-in_err-body-clause-ask : goal.returns-in_err-body-clause-ask
 unfolding send_of_entry
-returns-in_err-body c =
+returns-in_err-body-clause-ask c =
     let refused : c.from_residual.result ≡ Err c.in_err-body.field-0.0 = search rules in
-    rw refused (asks_refused c.in_err-body.field-0.0 _ _ (rw (← c.in_err-body.ensures) refl) (rw (← c.in_err-body.ensures) refl))
+    rw (refused, ← c.in_err-body.ensures) refl
 
-pub returns-in_err-delay : goal.returns-in_err-delay
+pub returns-in_err-delay-clause-ask : goal.returns-in_err-delay-clause-ask
 unfolding send_of_entry
-returns-in_err-delay c =
+returns-in_err-delay-clause-ask c =
     let refused : c.from_residual-in_err-delay.result ≡ Err c.in_err-delay.field-0.0 = search rules in
-    rw refused (asks_refused c.in_err-delay.field-0.0 _ _ (rw (← c.in_ok-body.ensures, ← c.in_err-delay.ensures) refl) (rw (← c.in_ok-body.ensures, ← c.in_err-delay.ensures) refl))
+    rw (refused, ← c.in_ok-body.ensures, ← c.in_err-delay.ensures) refl
 
-pub returns-in_err-has_attributes : goal.returns-in_err-has_attributes
+pub returns-in_err-has_attributes-clause-ask : goal.returns-in_err-has_attributes-clause-ask
 unfolding send_of_entry
-returns-in_err-has_attributes c =
+returns-in_err-has_attributes-clause-ask c =
     let refused : c.from_residual-in_err-has_attributes.result ≡ Err c.in_err-has_attributes.field-0.0 = search rules in
-    rw refused (asks_refused c.in_err-has_attributes.field-0.0 _ _ (rw (← c.in_ok-body.ensures, ← c.in_ok-delay.ensures, ← c.in_err-has_attributes.ensures) refl) (rw (← c.in_ok-body.ensures, ← c.in_ok-delay.ensures, ← c.in_err-has_attributes.ensures) refl))
+    rw (refused, ← c.in_ok-body.ensures, ← c.in_ok-delay.ensures, ← c.in_err-has_attributes.ensures) refl
 
-pub returns : goal.returns
+pub returns-clause-ask : goal.returns-clause-ask
 unfolding send_of_entry
-returns c =
-    rw (← c.in_ok-body.ensures, ← c.in_ok-delay.ensures, ← c.in_ok-has_attributes.ensures)
-    (reads_ask c.in_ok-has_attributes.has_attributes c.in_ok-delay.delay c.in_ok-body.body.now c.send_ask.result c.as_ask.result c.send_ask.ensures c.as_ask.ensures.ok c.as_ask.ensures.err)
+returns-clause-ask c = rw (← c.in_ok-body.ensures, ← c.in_ok-delay.ensures, ← c.in_ok-has_attributes.ensures) refl
+
+pub returns-clause-length : goal.returns-clause-length
+unfolding body_length
+returns-clause-length c = rw (← c.in_ok-body.ensures) refl

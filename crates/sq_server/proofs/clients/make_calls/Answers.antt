@@ -1,14 +1,14 @@
 use Rattle.std.proofs.Common.{◌≡◌, ◌+◌, ◌*◌, ◌≤◌, ℕ, arith, refl, sym, subst}
 use Rattle.std.proofs.Math.Numerals.{add-one}
 use Rattle.std.specs.Prelude.{if◌then◌else◌}
-use Rattle.sq_queue.specs.Services.{service_counts}
+use Rattle.sq_queue.specs.Around.{service_counts}
 use Rattle.sq_server.specs.inside.Races.{HasCalledAll}
 use Rattle.sq_server.proofs.clients.make_calls.Goals as goal
 use Rattle.sq_server.proofs.clients.make_calls.Goals.{then-make_call, else-make_call}
 
 pub loop-number-preserved : goal.loop-number-preserved
 loop-number-preserved g c =
-    let counts = service_counts c.args.service.now.service.value.per_queue c.args.service.now.service.value.sample in
+    let counts = service_counts c.args.service.now.service.value in
     let n = c.loop-number.number in
     let sent : c.if-make_call.sent ≡ (if c.make_call.result then c.loop-number.sent + 1 else c.loop-number.sent) = elim c.if-make_call.branch [
       | then-make_call w ↦ rw (w.sent-is, w.if-make_call.true) refl

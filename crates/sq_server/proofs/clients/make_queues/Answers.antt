@@ -1,12 +1,12 @@
 use Rattle.std.proofs.Common.{subst, Ok}
 use Rattle.sq_calls.specs.declared.calls.Call.{Call}
-use Rattle.sq_queue.specs.Services.{service_counts}
+use Rattle.sq_queue.specs.Around.{service_counts}
 use Rattle.sq_server.specs.inside.Races.{HasMade}
 use Rattle.sq_server.proofs.clients.make_queues.Goals as goal
 
 pub returns : goal.returns
 returns g c =
-    let counts = service_counts c.args.service.now.service.value.per_queue c.args.service.now.service.value.sample in (
+    let counts = service_counts c.args.service.now.service.value in (
       c.call.new.client.journal,
       c.in_ok-call.field-0,
       c.in_ok-call-2.field-0,

@@ -3,7 +3,7 @@ use Rattle.sq_model.specs.Matches.{IsMatched, IsPaired}
 use Rattle.sq_model.specs.Merges.{IsMerged}
 use Rattle.sq_model.specs.Systems.{IsRun, IsOnePlace}
 use Rattle.sq_audit.specs.SystemNow.{events_of, system_now, opening_now}
-use Rattle.sq_audit.specs.HomeIds.{histories_of}
+use Rattle.sq_audit.specs.HomeHistories.{histories_of}
 use Rattle.sq_wire.proofs.audit.audit_world.Goals as goal
 
 pub returns-in-Ok-clause-listed : goal.returns-in-Ok-clause-listed

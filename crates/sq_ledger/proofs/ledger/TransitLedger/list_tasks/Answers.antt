@@ -1,4 +1,5 @@
-use Rattle.std.proofs.Common.{rules, ◌≡◌, ◌∙◌, None, refl, sym}
+use Rattle.std.proofs.Common.{rules, ◌≡◌, ◌∙◌, None, Ok, refl, sym}
+use Rattle.sq_base.specs.Stamps.{after}
 use Rattle.std.specs.Prelude.{◌≢◌}
 use Rattle.sq_base.specs.declared.refusal.Refusal.{Refusal}
 use Rattle.sq_base.specs.declared.refusal.Refusal.TheVariants.{NoMemory}
@@ -17,7 +18,8 @@ returns-clause-recorded c =
     let t = c.self.inside in
     let step = listed t.items.items t.next t.tasks.items t.limit c.in_ok-stamp.stamp.moment c.args.source c.args.most c.in_ok-in_event.in_event c.in_ok-in_event.ensures.listed in
     let same = c.in_ok-in_record.ensures.listed ∙ sym c.in_ok-in_event.ensures.listed in
-    rw (← c.self.view_is) (recorded_as t.items.items t.next t.tasks t.tasks t.limit t.log c.begin.new.self c.add_own.new.log c.args.by.now c.args.now c.in_ok-stamp.stamp (asks.ListTasks c.args.source c.args.most) (answers.Listed c.in_ok-in_event.in_event) c.add_own.result c.in_ok-stamp.ensures.stamped step c.begin.ensures.events c.begin.ensures.room c.add_own.ensures.last c.add_own.ensures.events c.add_own.ensures.room refl (rw same at c.add_own.ensures.for_record))
+    let stamped : after t.log.last c.args.by.now.seen c.args.now ≡ Ok c.in_ok-stamp.stamp = search rules in
+    rw (← c.self.view_is) (recorded_as t.items.items t.next t.tasks t.tasks t.limit t.log c.reserve.new.self c.add_own.new.log c.args.by.now c.args.now c.in_ok-stamp.stamp (asks.ListTasks c.args.source c.args.most) (answers.Listed c.in_ok-in_event.in_event) c.add_own.result stamped step c.reserve.ensures.events c.reserve.ensures.room c.add_own.ensures.last c.add_own.ensures.events c.add_own.ensures.room refl (rw same at c.add_own.ensures.for_record))
 
 pub invariant_of-self-2 : goal.invariant_of-self-2
 invariant_of-self-2 c = own_kept _ _ c.args.by.now c.args.now (asks.ListTasks c.args.source c.args.most) c.add_own.result c.self.invariant refl refl c.add_own.ensures.rising (rw (← c.self.view_is) at (returns-clause-recorded c))
@@ -26,7 +28,7 @@ invariant_of-self-2 c = own_kept _ _ c.args.by.now c.args.now (asks.ListTasks c.
 out : (c : After-list) → (e : Refusal) → (e ≡ NoMemory) × (newest c.args.source c.self.inside.tasks.items ≢ None) → IsLedgerRefused c.args.self.now.history c.args.by.now c.args.now (asks.ListTasks c.args.source c.args.most) e
 out c e is =
     let t = c.self.inside in
-    rw (← c.self.view_is) (list_out (history_of t.items.items t.next t.tasks t.limit t.log) c.args.by.now c.args.now c.args.source c.args.most c.in_ok-stamp.stamp e c.in_ok-stamp.ensures.stamped is.0 is.1)
+    rw (← c.self.view_is) (list_out (history_of t.items.items t.next t.tasks t.limit t.log) c.args.by.now c.args.now c.args.source c.args.most e is.0 is.1)
 
 pub returns-in_err-listed-clause-refusal : goal.returns-in_err-listed-clause-refusal
 returns-in_err-listed-clause-refusal c = search (rules, out (goal.at.returns-in_err-listed-clause-refusal c).After-list c.in_err-listed.field-0.0 c.in_err-listed.ensures.refused)

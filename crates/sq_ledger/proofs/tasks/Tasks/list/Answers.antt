@@ -1,5 +1,6 @@
 use Rattle.std.proofs.Common.{rules, ◌≡◌, ◌∙◌, ◌<◌, ◌≤◌, ◌++◌, ◌∷◌, [], None, Some, length, refl, sym, arith}
-use Rattle.std.specs.Prelude.{slice_get}
+use Rattle.std.specs.Prelude.{◌==◌, slice_get}
+use Rattle.indexmap.specs.IndexMap.{get}
 use Rattle.std.proofs.lemmas.Option.{slice_get_read}
 use Rattle.sq_ledger.specs.TaskIndexes.{tasks_in}
 use Rattle.sq_ledger.proofs.TaskLaws.{goes_on, is_next, listed_all, listed_most, pushed_length}
@@ -14,7 +15,7 @@ loop-preserved c =
     let below : c.index_of.result < length c.deref.result.now = search rules in
     let read : slice_get c.deref.result.now c.index_of.result ≡ Some row = slice_get_read c.deref.result.now (length c.deref.result.now) c.index_of.result row refl below c.in-Some-get.ensures.lookup.1 in
     let pushed : c.push.new.self ≡ c.loop.listed ++ row.task ∷ [] = rw c.task.ensures.task at c.in_ok-push.ensures.ok in
-    let on = goes_on c.args.source i.0 c.in-Some.number c.index_of.result rows row c.self.inside.last c.self.inside.active c.loop.listed c.push.new.self c.self.invariant.0 c.index_of.ensures i.1 (sym i.2 ∙ c.in-Some.is) (rw c.deref.ensures.value at read) i.3 pushed in
+    let on = goes_on c.args.source i.0 c.in-Some.number c.index_of.result rows row (get (λ a b. a == b) c.self.inside.last) c.self.inside.active c.loop.listed c.push.new.self c.self.invariant.0 c.index_of.ensures i.1 (sym i.2 ∙ c.in-Some.is) (rw c.deref.ensures.value at read) i.3 pushed in
     (c.index_of.result, on.0, on.1, on.2, pushed_length c.loop.listed c.push.new.self row.task c.loop.counter i.4 pushed, λ none. let k : Some c.in-Some.number ≡ None = sym c.in-Some.is ∙ i.5 none in cc)
 
 pub returns-clause-listed : goal.returns-clause-listed

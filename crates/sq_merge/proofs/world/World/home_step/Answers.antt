@@ -3,7 +3,7 @@ use Rattle.std.proofs.lemmas.List.{length-set}
 use Rattle.sq_base.specs.declared.refusal.Refusal.TheVariants.{NoMemory}
 use Rattle.sq_history.specs.Acts.{call_of}
 use Rattle.sq_steps.specs.Journals.{IsHomeRefused}
-use Rattle.sq_merge.specs.inside.Acting.{IsKnownTo}
+use Rattle.sq_merge.specs.inside.WorldSteps.{IsKnownTo}
 use Rattle.sq_merge.proofs.StepLaws.{IsOpened, as_fields, opened_here, stepped_opened, closed_opened, refused_nowhere, refused_opened, refused_unmade}
 use Rattle.sq_merge.proofs.WorldLaws.{kept_home}
 use Rattle.sq_merge.proofs.world.World.home_step.Goals.{After-home_step, After-truncate}

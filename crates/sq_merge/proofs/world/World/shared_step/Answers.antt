@@ -3,7 +3,7 @@ use Rattle.std.proofs.lemmas.List.{length-set}
 use Rattle.sq_base.specs.declared.refusal.Refusal.TheVariants.{NoMemory}
 use Rattle.sq_steps.specs.Journals.{index_in, opened}
 use Rattle.sq_steps.specs.SharedSteps.{IsSharedRefused}
-use Rattle.sq_merge.specs.inside.Acting.{IsKnownTo}
+use Rattle.sq_merge.specs.inside.WorldSteps.{IsKnownTo}
 use Rattle.sq_merge.proofs.StepLaws.{IsOpened, as_fields, opened_here, shared_opened, nothing_opened, closed_opened, refused_nowhere, refused_opened, refused_unmade}
 use Rattle.sq_merge.proofs.WorldLaws.{kept_shared}
 use Rattle.sq_merge.proofs.world.World.shared_step.Goals.{After-shared_step}

@@ -1,5 +1,5 @@
 use Rattle.std.proofs.Common.{rules, ◌≡◌, length, None, Some, Err, inl, inr}
-use Rattle.sq_audit.specs.HomeIds.{home_index}
+use Rattle.sq_history.specs.HomeIds.{home_index}
 use Rattle.sq_history.specs.Acts.{call_of}
 use Rattle.sq_steps.specs.Journals.{IsHomeRefused}
 use Rattle.sq_merge.proofs.StepLaws.{as_fields, home_there, refused_nowhere}

@@ -1,9 +1,9 @@
-use Rattle.sq_queue.specs.Services.{service_counts}
+use Rattle.sq_queue.specs.Around.{service_counts}
 use Rattle.sq_queue.proofs.AnswerLaws.{change_tells, leaves_as, performs_as}
 use Rattle.sq_queue.proofs.named.Serving+C+G+D+T+SlotStore.change.Goals as goal
 
 pub done-requires : goal.done-requires
-done-requires g c = change_tells (service_counts c.args.self.now.per_queue c.args.self.now.sample) c.args.request c.call.ensures.sections.trace c.call.result c.call.ensures.sections.fits
+done-requires g c = change_tells (service_counts c.args.self.now) c.args.request c.call.ensures.sections.trace c.call.result c.call.ensures.sections.fits
 
 pub returns-clause-sections : goal.returns-clause-sections
 returns-clause-sections g c = performs_as _ _ c.done.ensures c.call.ensures.sections

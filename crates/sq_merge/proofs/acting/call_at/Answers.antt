@@ -1,9 +1,0 @@
-use Rattle.sq_merge.specs.Acting.{world_counts}
-use Rattle.sq_actions.specs.Fits.{CallFits}
-use Rattle.sq_merge.proofs.BorrowedLaws.{at_world}
-use Rattle.sq_merge.proofs.acting.call_at.Goals as goal
-
-pub returns : goal.returns
-returns c =
-    let at = at_world (CallFits (world_counts c.args.acting.now.world.now) c.args.call.now) c.args.acting.now c.call.new.steps c.call.result c.call.ensures.answered c.call.ensures.leaves_records in
-    record { same_reference = at.0; answered = at.2; leaves_records = at.3 }

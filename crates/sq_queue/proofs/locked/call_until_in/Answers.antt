@@ -1,9 +1,0 @@
-use Rattle.std.specs.Prelude.{vec_len}
-use Rattle.sq_queue.specs.Sections.{IsSection, around}
-use Rattle.sq_queue.proofs.LockLaws.{at_session}
-use Rattle.sq_queue.proofs.locked.call_until_in.Goals as goal
-
-pub returns : goal.returns
-returns g c =
-    let at = at_session (λ n. IsSection (around (g.C.Clock.tells n.now.clock) (g.G.Gate.saw n.now.gate) n.now.per_queue (vec_len n.now.homes))) (λ u. u.service) (λ u. u.session.now) (λ u. u.session.ghost_name) _ _ _ _ c.call_until.ensures.answered in
-    record { same_reference = at.1; sections = at.0; leaves_records = c.call_until.ensures.leaves_records }
