@@ -24,7 +24,7 @@ use Rattle.sq_model.specs.declared.directory.Queue.{Queue}
 use Rattle.sq_model.specs.Rows.{ms, is_dead, is_held, is_late, is_live}
 use Rattle.sq_model.specs.declared.task.Task.{Task}
 use Rattle.sq_model.specs.Tasks.{is_running}
-use Rattle.sq_model.specs.Ledgers.{Ledger, LedgerStep, cancel_refusal, finish_refusal, in_transit, is_of_source, item_of, last_number, ledger_refusal, room_refusal, task_of}
+use Rattle.sq_model.specs.Ledgers.{Ledger, LedgerStep, cancel_refusal, finish_refusal, in_transit, is_of_source, item_of, last_number, ledger_refusal, transit_refusal, task_of}
 use Rattle.sq_model.specs.Shared.{after_given, is_entering, is_returning, is_throttled, shared_refusal, task_refusal}
 use Rattle.sq_model.specs.declared.shared.SharedAct.{SharedAct}
 use Rattle.sq_model.specs.declared.shared.SharedAct.TheVariants as move
@@ -139,11 +139,11 @@ not_ready : (journal : Journal) (now : ℕ) (e : Refusal) → IsNotReady journal
 not_ready journal now e h = elim h [ inl worn ↦ worn_refused now e worn.1 | inr full ↦ inl full.1 ]
 
 -- why a step of a home and the ledger is refused
-room_cases : (l : Ledger) (e : Refusal) → room_refusal l ≡ Some e → IsOfAnyStep e ⊎ (e ≡ OverLimit)
-room_cases l e h = elim (two_cases (nat_le last_number l.next_item) (nat_le l.limit (length l.items)) Worn OverLimit e h) [ inl worn ↦ inl (inr (inr worn)) | inr over ↦ inr over ]
+transit_cases : (l : Ledger) (e : Refusal) → transit_refusal l ≡ Some e → IsOfAnyStep e ⊎ (e ≡ OverLimit)
+transit_cases l e h = elim (two_cases (nat_le last_number l.next_item) (nat_le l.limit (length l.items)) Worn OverLimit e h) [ inl worn ↦ inl (inr (inr worn)) | inr over ↦ inr over ]
 
-dead_cases : (l : Ledger) (test : Bool) (e : Refusal) → (if test then room_refusal l else None) ≡ Some e → IsOfAnyStep e ⊎ (e ≡ OverLimit)
-dead_cases l true e h = room_cases l e h
+dead_cases : (l : Ledger) (test : Bool) (e : Refusal) → (if test then transit_refusal l else None) ≡ Some e → IsOfAnyStep e ⊎ (e ≡ OverLimit)
+dead_cases l true e h = transit_cases l e h
 dead_cases l false e h = absurd (no_refusal e h)
 
 -- why a leave for a task is refused, where its own checks come first

@@ -5,7 +5,7 @@ use Rattle.sq_base.specs.Bodies.{body_check}
 use Rattle.sq_base.specs.declared.handle.Handle.{Handle}
 use Rattle.sq_base.specs.declared.refusal.Refusal.{Refusal}
 use Rattle.sq_base.specs.declared.refusal.Refusal.TheVariants.{InvalidMessageContents, NoMemory}
-use Rattle.sq_calls.specs.BodyTexts.{is_too_small_or_large}
+use Rattle.sq_calls.specs.BodyTexts.{body_limit, is_too_small_or_large}
 use Rattle.sq_calls.specs.BatchValue.{BatchValue}
 use Rattle.sq_calls.specs.declared.batches.Entry.{Entry}
 use Rattle.sq_calls.specs.declared.batches.EntryAnswer.{EntryAnswer}
@@ -26,14 +26,14 @@ use Rattle.sq_actions.proofs.PathLaws.{path_append}
 abbrev by_characters : Bool → Result (Unit {0}) Refusal
 by_characters allowed = if allowed then Ok tt else Err InvalidMessageContents
 
-checked_so : (body : List ℕ) → is_too_small_or_large body ≡ false → body_check body 262144 ≡ by_characters (are_allowed body)
+checked_so : (body : List ℕ) → is_too_small_or_large body ≡ false → body_check body body_limit ≡ by_characters (are_allowed body)
 checked_so body in_bounds = rw in_bounds refl
 
 ok_so : (allowed : Bool) → by_characters allowed ≡ Ok tt → allowed ≡ true
 ok_so true h = refl
 ok_so false h = absurd cc
 
-pub body_allowed : (body : List ℕ) → is_too_small_or_large body ≡ false → body_check body 262144 ≡ Ok tt → are_allowed body ≡ true
+pub body_allowed : (body : List ℕ) → is_too_small_or_large body ≡ false → body_check body body_limit ≡ Ok tt → are_allowed body ≡ true
 body_allowed body in_bounds ok = ok_so (are_allowed body) (sym (checked_so body in_bounds) ∙ ok)
 
 -- a body that was not made: its characters, or memory
@@ -43,7 +43,7 @@ refused_so homes name queue body delay e true in_bounds is memory = (in_bounds, 
 refused_so homes name queue body delay e false in_bounds is same = (in_bounds, inl (is, refl, ap Err same))
 
 pub body_refused : (homes : ℕ) (name : List ℕ) (queue : ℕ) (body : List ℕ) (delay : Option ℕ) (e : Refusal) → is_too_small_or_large body ≡ false
-    → MatchResult (body_check body 262144) (λ u. e ≡ NoMemory) (λ f. e ≡ f) → SendAt homes name queue body delay [] (Err e)
+    → MatchResult (body_check body body_limit) (λ u. e ≡ NoMemory) (λ f. e ≡ f) → SendAt homes name queue body delay [] (Err e)
 body_refused homes name queue body delay e in_bounds refused = refused_so homes name queue body delay e (are_allowed body) in_bounds refl (rw (checked_so body in_bounds) at refused)
 
 -- ---- calls on one message

@@ -18,7 +18,7 @@ use Rattle.sq_laws.proofs.LedgerLists.{found_number}
 use Rattle.sq_history.specs.declared.act.HomeAct.{HomeAct}
 use Rattle.sq_history.specs.Acts.{call_of}
 use Rattle.sq_history.specs.HistoryValue.{HistoryValue}
-use Rattle.sq_log.specs.Rooms.{KeepsRoom}
+use Rattle.sq_log.specs.Spares.{KeepsSpare}
 use Rattle.sq_directory.specs.DirectoryHistory.{DirectoryHistory}
 use Rattle.sq_ledger.specs.LedgerHistory.{LedgerHistory}
 use Rattle.sq_steps.specs.Journals.{with_record, HomeMoves, DirectoryMoves, LedgerMoves}
@@ -36,12 +36,12 @@ call_is l (move.TurnBack number) call h = (h.0, found_number (λ i. i.number) nu
 call_is l (move.GiveBack number) call h = (h.0, found_number (λ i. i.number) number l.items h.0 h.1, h.2)
 call_is l (move.Drop number) call h = (h.0, found_number (λ i. i.number) number l.items h.0 h.1, h.2)
 
-next_is : (a b : Journal) (n : RecordValue) → place_of_record n ≡ a.next → Below a.seen (record_stamp n) → b ≡ with_record a n b.room → KeepsRoom a.room b.room → IsNext a n b
-next_is a b n place above more room = (place, above, more, room)
+next_is : (a b : Journal) (n : RecordValue) → place_of_record n ≡ a.next → Below a.seen (record_stamp n) → b ≡ with_record a n b.spare → KeepsSpare a.spare b.spare → IsNext a n b
+next_is a b n place above more spare = (place, above, more, spare)
 
 -- the same of a record at a new stamp
-next_at : (a b : Journal) (n : RecordValue) (last : StampValue) (now : ℕ) → place_of_record n ≡ a.next → after last a.seen now ≡ Ok (record_stamp n) → b ≡ with_record a n b.room → KeepsRoom a.room b.room → IsNext a n b
-next_at a b n last now place stamped more room = next_is a b n place (after_above_second last a.seen now (record_stamp n) stamped) more room
+next_at : (a b : Journal) (n : RecordValue) (last : StampValue) (now : ℕ) → place_of_record n ≡ a.next → after last a.seen now ≡ Ok (record_stamp n) → b ≡ with_record a n b.spare → KeepsSpare a.spare b.spare → IsNext a n b
+next_at a b n last now place stamped more spare = next_is a b n place (after_above_second last a.seen now (record_stamp n) stamped) more spare
 
 pub home_leaves : (old new : HistoryValue) (a b : Journal) (now : ℕ) (name : Option (List ℕ)) (id : HomeId) (what : HomeAct) (by : HomeReply)
     → old.site.home ≡ id → HomeMoves old new a b now name (call_of what) by → LeavesOf (AskHome name id what) (Ok (Replied by)) a b
@@ -57,7 +57,7 @@ home_leaves old new a b now name id what by at moves =
         replied = moves.answered;
         by_name = ap (λ (m : HomeRecordValue). m.name) is;
       },
-      next_at a b (OfHome n) old.last now (ap (λ (m : HomeRecordValue). m.place) is) moves.does.stamped moves.recorded_as moves.room,
+      next_at a b (OfHome n) old.last now (ap (λ (m : HomeRecordValue). m.place) is) moves.does.stamped moves.recorded_as moves.spare,
     )
 
 pub shared_leaves : (old new : HistoryValue) (l m : LedgerHistory) (a b : Journal) (now : ℕ) (name : Option (List ℕ)) (id : HomeId) (what : SharedAct) (by : HomeReply)
@@ -74,7 +74,7 @@ shared_leaves old new l m a b now name id what by at moves =
         replied = moves.both.answered;
         by_name = ap (λ (m : HomeRecordValue). m.name) is;
       },
-      next_is a b (OfHome n) (ap (λ (m : HomeRecordValue). m.place) is) moves.both.at_home.above_seen moves.recorded_as moves.room,
+      next_is a b (OfHome n) (ap (λ (m : HomeRecordValue). m.place) is) moves.both.at_home.above_seen moves.recorded_as moves.spare,
     )
 
 pub directory_leaves : (old new : DirectoryHistory) (a b : Journal) (now : ℕ) (call : DirectoryCall) (by : DirectoryReply) → DirectoryMoves old new a b now call by → LeavesOf (AskDirectory call) (Ok (Answered by)) a b
@@ -82,7 +82,7 @@ directory_leaves old new a b now call by moves =
     let n = moves.its_record in (
       OfDirectory n,
       record { its_record = n; value = refl; asked = ap (λ (m : DirectoryRecordValue). m.call) moves.does.record_is; replied = moves.answered },
-      next_at a b (OfDirectory n) old.last now (ap (λ (m : DirectoryRecordValue). m.place) moves.does.record_is) moves.does.stamped moves.recorded_as moves.room,
+      next_at a b (OfDirectory n) old.last now (ap (λ (m : DirectoryRecordValue). m.place) moves.does.record_is) moves.does.stamped moves.recorded_as moves.spare,
     )
 
 pub ledger_leaves : (old new : LedgerHistory) (a b : Journal) (now : ℕ) (what : TaskAct) (by : LedgerReply) → LedgerMoves old new a b now (task_call what) by → LeavesOf (AskLedger what) (Ok (Told by)) a b
@@ -90,5 +90,5 @@ ledger_leaves old new a b now what by moves =
     let n = moves.its_record in (
       OfLedger n,
       record { its_record = n; value = refl; asked = ap (λ (m : LedgerRecordValue). m.call) moves.does.record_is; replied = moves.answered },
-      next_at a b (OfLedger n) old.last now (ap (λ (m : LedgerRecordValue). m.place) moves.does.record_is) moves.does.stamped moves.recorded_as moves.room,
+      next_at a b (OfLedger n) old.last now (ap (λ (m : LedgerRecordValue). m.place) moves.does.record_is) moves.does.stamped moves.recorded_as moves.spare,
     )

@@ -24,7 +24,7 @@ use Rattle.sq_history.specs.declared.act.HomeAct.{HomeAct}
 use Rattle.sq_history.specs.declared.act.HomeAct.TheVariants as act
 use Rattle.sq_history.specs.Acts.{call_of}
 use Rattle.sq_directory.specs.Makers.{IsSeen}
-use Rattle.sq_log.specs.Rooms.{KeepsRoom}
+use Rattle.sq_log.specs.Spares.{KeepsSpare}
 use Rattle.sq_steps.specs.Journals.{having_seen, with_record}
 use Rattle.sq_model.specs.declared.shared.SharedAct.{SharedAct}
 use Rattle.sq_model.specs.declared.shared.SharedAct.TheVariants as move
@@ -235,7 +235,7 @@ AreOf (d ∷ ds) ns = (front : List RecordValue) × (rest : List RecordValue) ×
 
 -- a record is the actor's next one: it has the next number, and a stamp above all that the actor had seen, which it has seen then
 abbrev pub IsNext : Journal → RecordValue → Journal → Type 0
-IsNext before n after = (place_of_record n ≡ before.next) × Below before.seen (record_stamp n) × (after ≡ with_record before n after.room) × KeepsRoom before.room after.room
+IsNext before n after = (place_of_record n ≡ before.next) × Below before.seen (record_stamp n) × (after ≡ with_record before n after.spare) × KeepsSpare before.spare after.spare
 
 -- A step leaves its one record with its actor; a read leaves none, and raises what the actor has seen; what is refused, or is no step since nothing was there to leave, changes nothing.
 abbrev pub LeavesOf : Ask → Result Gave Refusal → Journal → Journal → Type 0

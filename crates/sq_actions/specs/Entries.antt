@@ -46,7 +46,7 @@ PutAt homes name queue body delay trace told = (home : ℕ) × (home < homes) ×
 abbrev pub are_allowed : List ℕ → Bool
 are_allowed body = list_all allowed (chars body)
 
--- a message of 1 to 262144 bytes is sent to a queue: its characters are checked, memory is got for its body, and it is put
+-- a message of 1 to `body_limit` bytes is sent to a queue: its characters are checked, memory is got for its body, and it is put
 abbrev pub SendAt : ℕ → List ℕ → ℕ → List ℕ → Option ℕ → List Done → Result EntryAnswer Refusal → Type 0
 SendAt homes name queue body delay trace told =
     (is_too_small_or_large body ≡ false)

@@ -58,7 +58,7 @@ fn collect<'a>(
     ensures homes { OnOk result (All IsKept homes.now) }
     ensures some { OnErr result (0 < length (by_part directory.now.events ledger.now.history.events (events_of homes.now))) }
 {
-    // Room for all is made at once, and none where there is no event.
+    // Memory for all is got at once, and none where there is no event.
     let count = count(directory, ledger, homes);
     let mut all = Vec::with_capacity(alloc, count)?;
     if count == 0 {

@@ -1,12 +1,13 @@
 -- What is read of a handle is spelled so, and what is spelled so is read.
-use Rattle.std.proofs.Common.{◌≡◌, ℕ, ◌<◌, ◌^◌, Bool, true, false, cond, List, [], ◌∷◌, ◌++◌, length, take, Option, Some, None, refl, sym, ap, subst, ◌∙◌, append_assoc, arith}
+use Rattle.std.proofs.Common.{◌≡◌, ◌⊎◌, inl, inr, ℕ, ◌<◌, ◌^◌, ◌/◌, ◌%◌, Bool, true, false, cond, List, [], ◌∷◌, ◌++◌, length, take, Option, Some, None, refl, sym, ap, subst, ◌∙◌, append_assoc, arith}
 use Rattle.std.specs.Prelude.{nat_lt, nat_le, ◌&&◌, ◌==◌}
+use Rattle.std.proofs.lemmas.Grind.{common_steps}
 use Rattle.std.proofs.lemmas.Bool.{le-leb, lt-ltb, eqb-true}
 use Rattle.std.proofs.lemmas.List.{append-nil, nil_from_length}
 use Rattle.std.proofs.Math.Seq.{take-length}
 use Rattle.sq_base.specs.declared.handle.Handle.{Handle}
-use Rattle.sq_base.specs.Fields.{field, ◌>>=◌, field_at, dash_at, part_at}
-use Rattle.sq_base.specs.Handles.{handle_text, Fits, in_range, handle_at}
+use Rattle.sq_base.specs.Fields.{digit, field, ◌>>=◌, field_at, dash_at, part_at}
+use Rattle.sq_base.specs.Handles.{numbers_text, handle_text, numbers_at, after_version, handle_at, Fits, IsHandleText, in_range}
 use Rattle.sq_base.proofs.FieldLaws.{bind_some, some_is, test_some, field_takes, field_again, dash_takes}
 
 part_takes : (w : ℕ) (bytes : List ℕ) (n : ℕ) (rest : List ℕ) → part_at w bytes ≡ Some (n, rest) → bytes ≡ field w n ++ (45 ∷ rest)
@@ -49,10 +50,10 @@ joined b0 b1 b2 b3 b4 f0 f1 f2 f3 f4 e0 e1 e2 e3 e4 = cc (e0, e1, e2, e3, e4)
 last_takes : (w : ℕ) (bytes : List ℕ) (n : ℕ) (rest : List ℕ) → field_at w bytes ≡ Some (n, rest) → rest ≡ [] → bytes ≡ field w n
 last_takes w bytes n rest e nothing = field_takes w bytes n rest e ∙ ap (λ (x : List ℕ). field w n ++ x) nothing ∙ append-nil (field w n)
 
--- what is read is spelled so
-pub handle_takes : (bytes : List ℕ) (h : Handle) → handle_at bytes ≡ Some h → bytes ≡ handle_text h
-unfolding handle_at handle_text
-handle_takes bytes h e =
+-- numbers that are read are spelled so
+numbers_take : (bytes : List ℕ) (h : Handle) → numbers_at bytes ≡ Some h → bytes ≡ numbers_text h
+unfolding numbers_at numbers_text
+numbers_take bytes h e =
     let q = bind_some (part_at 12 bytes) (λ queue. part_at 3 queue.1 >>= λ home. part_at 8 home.1 >>= λ slot. part_at 16 slot.1 >>= λ serial. field_at 8 serial.1 >>= λ receive. ended queue home slot serial receive) h e in
     let m = bind_some (part_at 3 q.0.1) (λ home. part_at 8 home.1 >>= λ slot. part_at 16 slot.1 >>= λ serial. field_at 8 serial.1 >>= λ receive. ended q.0 home slot serial receive) h q.2 in
     let s = bind_some (part_at 8 m.0.1) (λ slot. part_at 16 slot.1 >>= λ serial. field_at 8 serial.1 >>= λ receive. ended q.0 m.0 slot serial receive) h m.2 in
@@ -79,12 +80,55 @@ in_range_again h f =
     let k : nat_le h.receive 4294967295 ≡ true = le-leb _ _ f.receive.1 in
     rw (a, b, c, d, g, k) refl
 
--- what is spelled so is read
-pub handle_again : (h : Handle) → Fits h → handle_at (handle_text h) ≡ Some h
-unfolding handle_at handle_text
-handle_again h f =
+-- numbers that are spelled so are read
+numbers_again : (h : Handle) → Fits h → numbers_at (numbers_text h) ≡ Some h
+unfolding numbers_at numbers_text
+numbers_again h f =
     let last : field_at 8 (field 8 h.receive) ≡ Some (h.receive, []) = ap (field_at 8) (sym (append-nil (field 8 h.receive))) ∙ field_again 8 h.receive [] (omega (arith, f.receive)) in
     rw (part_again 12 h.queue _ (omega (arith, f.queue)), part_again 3 h.home _ (omega (arith, f.home)), part_again 8 h.slot _ (omega (arith, f.slot)), part_again 16 h.serial _ (omega (arith, f.serial)), last) (in_range_again h f)
+
+by_version : (p q : Bool) (b c : ℕ) (rest : List ℕ) → (b == 50) ≡ p → (c == 45) ≡ q
+    → (b ∷ c ∷ rest ≡ 50 ∷ 45 ∷ after_version (b ∷ c ∷ rest)) ⊎ (b ∷ c ∷ rest ≡ after_version (b ∷ c ∷ rest))
+by_version true true b c rest e f = inl (rw (e, f) (cc (eqb-true b 50 e, eqb-true c 45 f)))
+by_version true false b c rest e f = inr (rw (e, f) refl)
+by_version false q b c rest e f = inr (rw e refl)
+
+-- a text is of version 2, or nothing stands before its numbers
+version_of : (bytes : List ℕ) → (bytes ≡ 50 ∷ 45 ∷ after_version bytes) ⊎ (bytes ≡ after_version bytes)
+version_of [] = inr refl
+version_of (b ∷ []) = inr refl
+version_of (b ∷ c ∷ rest) = by_version (b == 50) (c == 45) b c rest refl refl
+
+spelled : (bytes numbers : List ℕ) (h : Handle) → (bytes ≡ 50 ∷ 45 ∷ numbers) ⊎ (bytes ≡ numbers) → numbers ≡ numbers_text h → IsHandleText h bytes
+unfolding handle_text
+spelled bytes numbers h (inl e) same = inl (cc (e, same))
+spelled bytes numbers h (inr e) same = inr (cc (e, same))
+
+-- what is read is spelled so, in one of the versions
+pub handle_takes : (bytes : List ℕ) (h : Handle) → handle_at bytes ≡ Some h → IsHandleText h bytes
+unfolding handle_at
+handle_takes bytes h e = spelled bytes (after_version bytes) h (version_of bytes) (numbers_take (after_version bytes) h e)
+
+-- a digit is no `-`
+digit_is_no_dash : (d : ℕ) → d < 16 → (digit d == 45) ≡ false
+digit_is_no_dash d below = grind (arith, common_steps)
+
+passed : {A : Type 0} (p q : Bool) (x y : A) → q ≡ false → cond (p && q) x y ≡ y
+passed true q x y e = rw e refl
+passed false q x y e = refl
+
+-- numbers stand in a text of version 1 with nothing before them
+numbers_stand : (h : Handle) → after_version (numbers_text h) ≡ numbers_text h
+unfolding numbers_text field
+numbers_stand h =
+    let second = h.queue / 16 / 16 / 16 / 16 / 16 / 16 / 16 / 16 / 16 / 16 % 16 in
+    passed _ _ _ _ (digit_is_no_dash second (omega arith))
+
+-- what is spelled so is read, in both versions
+pub handle_again : (bytes : List ℕ) (h : Handle) → Fits h → IsHandleText h bytes → handle_at bytes ≡ Some h
+unfolding handle_at handle_text
+handle_again bytes h fits (inl e) = ap (λ (x : List ℕ). numbers_at (after_version x)) e ∙ numbers_again h fits
+handle_again bytes h fits (inr e) = ap (λ (x : List ℕ). numbers_at (after_version x)) e ∙ ap numbers_at (numbers_stand h) ∙ numbers_again h fits
 
 -- pieces written one after another, with a `-` between
 pub written : (o a0 d0 a1 d1 a2 d2 a3 d3 a4 f0 f1 f2 f3 f4 : List ℕ)

@@ -18,7 +18,7 @@ use std::sync::Arc;
 
 /// How many bytes a body may have where its queue says nothing less
 /// (SQS API Reference, SetQueueAttributes, MaximumMessageSize).
-pub const BODY_LIMIT: usize = 262_144;
+pub const BODY_LIMIT: usize = 1_048_576;
 
 #[derive(Drop)]
 struct Digested {

@@ -1,6 +1,6 @@
-//! The handle of a received message, and its text.
-ghost use Rattle.std.specs.Prelude.{◌≡◌, IfSome, Some};
-ghost use Rattle.sq_base.specs.Handles.{handle_text, handle_at, Fits};
+//! The handle of a received message, and its texts.
+ghost use Rattle.std.specs.Prelude.{◌≡◌, IfSome, Some, length};
+ghost use Rattle.sq_base.specs.Handles.{after_version, handle_at, handle_text, numbers_at, numbers_text, Fits, IsHandleText};
 
 use crate::fields::{put_at, put_dash, take_field, take_part};
 use crate::ids::{HomeNo, QueueNo, Serial};
@@ -35,14 +35,25 @@ impl Handle {
     }
 }
 
-/// How many bytes the text of a handle has.
-pub const HANDLE_LENGTH: usize = 51;
+/// How many bytes the text of a handle has that is written.
+pub const HANDLE_LENGTH: usize = 53;
 
-/// Writes the text of a handle: queue, home, slot, serial and receive number in 12, 3, 8, 16 and 8
-/// digits of `0-9a-f`, with a `-` between.
+/// Writes the text of a handle in version 2: `2-`, and then queue, home, slot, serial and receive number in 12, 3, 8, 16
+/// and 8 digits of `0-9a-f`, with a `-` between.
 #[tactic(auto, unfolding(crate::specs::Handles::handle_text))]
 pub fn write_handle(h: &Handle, out: &mut [u8; HANDLE_LENGTH])
     ensures { out.new ≡ handle_text h.now }
+{
+    out[0] = b'2';
+    out[1] = b'-';
+    put_numbers(h, &mut out[2..]);
+}
+
+// Writes the numbers of a handle, with a `-` between.
+#[tactic(auto, unfolding(crate::specs::Handles::numbers_text))]
+fn put_numbers(h: &Handle, out: &mut [u8])
+    requires { length out.old ≡ 51 }
+    ensures { out.new ≡ numbers_text h.now }
 {
     put_at(out, 0, 12, h.queue.get());
     put_dash(out, 12);
@@ -55,9 +66,10 @@ pub fn write_handle(h: &Handle, out: &mut [u8; HANDLE_LENGTH])
     put_at(out, 43, 8, h.receive.get() as u64);
 }
 
-#[tactic(auto, unfolding(crate::specs::Handles::handle_at))]
-fn handle_of(b: &[u8]) -> Option<Handle>
-    ensures { result ≡ handle_at b.now }
+// The handle whose numbers these bytes spell.
+#[tactic(auto, unfolding(crate::specs::Handles::numbers_at))]
+fn numbers_of(b: &[u8]) -> Option<Handle>
+    ensures { result ≡ numbers_at b.now }
 {
     let (queue, rest) = take_part(b, 12)?;
     let (home, rest) = take_part(rest, 3)?;
@@ -76,12 +88,29 @@ fn handle_of(b: &[u8]) -> Option<Handle>
     })
 }
 
-/// The handle whose text this is, none where it is the text of none: where its length is not `HANDLE_LENGTH`, a
-/// digit is not of `0-9a-f`, or a number is out of its range.
+// What follows the `2-` of version 2, or the whole text.
+fn after_version(b: &[u8]) -> &[u8]
+    ensures { result.now ≡ after_version b.now }
+{
+    match b {
+        [b'2', b'-', rest @ ..] => rest,
+        _ => b,
+    }
+}
+
+#[tactic(auto, unfolding(crate::specs::Handles::handle_at))]
+fn handle_of(b: &[u8]) -> Option<Handle>
+    ensures { result ≡ handle_at b.now }
+{
+    numbers_of(after_version(b))
+}
+
+/// The handle that a text of 51 bytes spells in version 1, or one of 53 bytes in version 2, which begins with `2-`. None where
+/// it is the text of none: where it has another length or beginning, a digit is not of `0-9a-f`, or a number is out of its range.
 pub fn read_handle(b: &[u8]) -> Option<Handle>
     ensures value { result ≡ handle_at b.now }
-    ensures found { IfSome result (λ h. b.now ≡ handle_text h) }
-    ensures only { (h : Handle) → Fits h → b.now ≡ handle_text h → result ≡ Some h }
+    ensures found { IfSome result (λ h. IsHandleText h b.now) }
+    ensures only { (h : Handle) → Fits h → IsHandleText h b.now → result ≡ Some h }
 {
     handle_of(b)
 }

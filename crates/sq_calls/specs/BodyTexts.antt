@@ -3,7 +3,7 @@ use Rattle.std.specs.Prelude.{ℕ, List, length, Bool, ◌||◌, ◌==◌, nat_l
 
 -- the most bytes of a body, and of the bodies of a batch together (own)
 abbrev pub body_limit : ℕ
-body_limit = 262144
+body_limit = 1048576
 
 -- no byte, or more than a body may have
 abbrev pub is_too_small_or_large : List ℕ → Bool

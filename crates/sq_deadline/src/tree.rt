@@ -129,7 +129,7 @@ fn levelled(node: Box<Node>, left: Tree, deadline: Deadline, right: Tree) -> Tre
 fn joined(node: Box<Node>, left: Tree, right: Tree, spare: &mut Vec<Box<Node>>) -> Tree
     requires sides { AreSides left right }
     requires level { IsLevel left right }
-    requires room { vec_len spare.old < vec_capacity spare.old }
+    requires has_spare { vec_len spare.old < vec_capacity spare.old }
     ensures listed { listed result ≡ listed left ++ listed right }
     ensures kept { is_kept result ≡ true }
     ensures spare { vec_len spare.new ≡ vec_len spare.old + 1 }
@@ -209,7 +209,7 @@ impl Tree {
     pub(crate) fn remove(&mut self, index: usize, spare: &mut Vec<Box<Node>>)
         requires kept { is_kept self.old ≡ true }
         requires within { index < length (listed self.old) }
-        requires room { vec_len spare.old < vec_capacity spare.old }
+        requires has_spare { vec_len spare.old < vec_capacity spare.old }
         ensures listed { listed self.new ≡ remove (listed self.old) index }
         ensures kept { is_kept self.new ≡ true }
         ensures spare { vec_len spare.new ≡ vec_len spare.old + 1 }
@@ -220,7 +220,7 @@ impl Tree {
 
     /// Takes all out, and keeps the memory of their nodes.
     pub(crate) fn clear(&mut self, spare: &mut Vec<Box<Node>>)
-        requires room { vec_len spare.old + length (listed self.old) ≤ vec_capacity spare.old }
+        requires has_spare { vec_len spare.old + length (listed self.old) ≤ vec_capacity spare.old }
         ensures empty { listed self.new ≡ [] }
         ensures kept { is_kept self.new ≡ true }
         ensures spare { vec_len spare.new ≡ vec_len spare.old + length (listed self.old) }
@@ -285,7 +285,7 @@ impl Tree {
     fn without(self, index: usize, spare: &mut Vec<Box<Node>>) -> Tree
         requires kept { is_kept self ≡ true }
         requires within { index < length (listed self) }
-        requires room { vec_len spare.old < vec_capacity spare.old }
+        requires has_spare { vec_len spare.old < vec_capacity spare.old }
         ensures listed { listed result ≡ remove (listed self) index }
         ensures kept { is_kept result ≡ true }
         ensures spare { vec_len spare.new ≡ vec_len spare.old + 1 }
@@ -308,7 +308,7 @@ impl Tree {
     fn first_out(self, spare: &mut Vec<Box<Node>>) -> (Deadline, Tree)
         requires kept { is_kept self ≡ true }
         requires some { 0 < length (listed self) }
-        requires room { vec_len spare.old < vec_capacity spare.old }
+        requires has_spare { vec_len spare.old < vec_capacity spare.old }
         ensures listed { listed self ≡ result.0 ∷ listed result.1 }
         ensures kept { is_kept result.1 ≡ true }
         ensures spare { vec_len spare.new ≡ vec_len spare.old + 1 }
@@ -325,7 +325,7 @@ impl Tree {
 
     // Gives all up. The memory of their nodes is kept.
     fn given_up(self, spare: &mut Vec<Box<Node>>)
-        requires room { vec_len spare.old + length (listed self) ≤ vec_capacity spare.old }
+        requires has_spare { vec_len spare.old + length (listed self) ≤ vec_capacity spare.old }
         ensures spare { vec_len spare.new ≡ vec_len spare.old + length (listed self) }
         ensures capacity { vec_capacity spare.old ≤ vec_capacity spare.new }
     {

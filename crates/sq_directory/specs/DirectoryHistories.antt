@@ -15,7 +15,7 @@ use Rattle.sq_model.specs.Policies.{has_list, lists_queues}
 use Rattle.sq_model.specs.Replays.{Replays, StampsRise}
 use Rattle.sq_model.specs.Systems.{DirectoryEvent, AreDirectory}
 use Rattle.sq_model.specs.RecordValues.{DirectoryRecordValue, directory_record_of}
-use Rattle.sq_log.specs.Rooms.{KeepsRoom}
+use Rattle.sq_log.specs.Spares.{KeepsSpare}
 use Rattle.sq_log.specs.Logs.{event_by}
 use Rattle.sq_directory.specs.DirectoryHistory.{DirectoryHistory}
 
@@ -28,7 +28,7 @@ pub record DirectoryRecords (old new : DirectoryHistory) (by : Actor) (now : ℕ
   pub step : DirectoryStep old.directory its_record.stamp.moment call its_record.reply new.directory
   pub last : new.last ≡ its_record.stamp
   pub events : new.events ≡ old.events ++ directory_event its_record.stamp by call its_record.reply ∷ []
-  pub room : KeepsRoom old.room new.room
+  pub spare : KeepsSpare old.spare new.spare
   pub record_is : its_record ≡ directory_record_of (length old.events) (directory_event its_record.stamp by call its_record.reply)
 
 -- a call with a list of queues, in the policy that it gives
@@ -47,7 +47,7 @@ AnswersList d other = ⊥
 -- The first that fails, in order: memory, where it has to be got; the clock, and the counts; and the directory's checks.
 abbrev pub IsDirectoryRefused : DirectoryHistory → Actor → ℕ → DirectoryCall → Refusal → Type 0
 IsDirectoryRefused old by now call e =
-    ((e ≡ NoMemory) × ((old.room ≡ 0) ⊎ (gives_list call ≡ true) ⊎ AnswersList old.directory call))
+    ((e ≡ NoMemory) × ((old.spare ≡ 0) ⊎ (gives_list call ≡ true) ⊎ AnswersList old.directory call))
     ⊎ (after old.last by.seen now ≡ Err e)
     ⊎ ((stamp : StampValue) × (after old.last by.seen now ≡ Ok stamp) × (directory_refusal old.directory stamp.moment call ≡ Some e))
 

@@ -9,4 +9,4 @@ pub record DirectoryHistory : Type 0 where
   pub last : StampValue
   pub events : List DirectoryEvent
   -- for how many events more there was memory when the last one was added
-  pub room : ℕ
+  pub spare : ℕ

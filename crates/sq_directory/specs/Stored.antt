@@ -9,7 +9,7 @@ use Rattle.sq_model.specs.declared.directory.Queue.{Queue}
 -- what contracts see of them: the queues in order of creation, and for how many more there is memory
 pub record StoredQueues : Type 0 where
   pub queues : List Queue
-  pub room : ℕ
+  pub spare : ℕ
 
 -- each queue stands under its own name
 abbrev pub AreNamed : List (List ℕ × Queue) → Type 0

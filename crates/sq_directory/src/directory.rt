@@ -37,9 +37,9 @@ impl Model for Directory {
 
     ghost Value = { DirectoryHistory };
 
-    ghost view = { λ d. record { directory = d.queues; last = d.log.last; events = d.log.events; room = d.log.room } };
+    ghost view = { λ d. record { directory = d.queues; last = d.log.last; events = d.log.events; spare = d.log.spare } };
 
-    ghost invariant = { λ d. IsDirectoryKept (record { directory = d.queues; last = d.log.last; events = d.log.events; room = d.log.room }) };
+    ghost invariant = { λ d. IsDirectoryKept (record { directory = d.queues; last = d.log.last; events = d.log.events; spare = d.log.spare }) };
 }
 
 impl Directory {
@@ -47,7 +47,7 @@ impl Directory {
 
     /// No queue, no event, and memory for so many queues. Refused where that is not found; none is got for no queue.
     pub fn new(alloc: Global, most: u32) -> Result<Directory, AllocError>
-        ensures opening { IfOk result (λ directory. directory ≡ record { directory = opening_directory most; last = start; events = []; room = 0 }) }
+        ensures opening { IfOk result (λ directory. directory ≡ record { directory = opening_directory most; last = start; events = []; spare = 0 }) }
         ensures refused { OnErr result (0 < most) }
     {
         Ok(Directory {
@@ -103,7 +103,7 @@ impl Directory {
     }
 
     /// Does what one call asks, at its stamp. What it answers is what its record says.
-    /// Refused as NoMemory (the history has room for none, the call gives a list of queues or is answered with one, or with a
+    /// Refused as NoMemory (the history has no spare memory, the call gives a list of queues or is answered with one, or with a
     /// policy that has one), ClockRange, Worn, and then as the call: QueueDoesNotExist; of Create QueueNameExists,
     /// QueueDeletedRecently, InvalidAttributeValue, TableFull; of Set Worn, InvalidAttributeValue; of PurgeTicket
     /// PurgeQueueInProgress.

@@ -48,8 +48,8 @@ impl Model for Queues {
     ghost invariant = { λ q. record {
       counted : length q.queues.queues + length q.deleted.items ≡ q.made;
       within : q.made ≤ q.most;
-      room : q.most ≤ q.made + q.queues.room;
-      room_deleted : q.most ≤ vec_capacity q.deleted;
+      spare : q.most ≤ q.made + q.queues.spare;
+      spare_deleted : q.most ≤ vec_capacity q.deleted;
     } };
 }
 

@@ -25,7 +25,7 @@ impl Model for NamedQueues {
 
     ghost Value = { StoredQueues };
 
-    ghost view = { λ n. record { queues = values n.queues; room = spare n.queues } };
+    ghost view = { λ n. record { queues = values n.queues; spare = spare n.queues } };
 
     ghost invariant = { λ n. AreNamed n.queues.entries };
 }
@@ -34,7 +34,7 @@ impl NamedQueues {
     /// No queue, and memory for so many; none is got for no queue.
     pub fn new(alloc: Global, most: u32) -> Result<NamedQueues, AllocError>
         ensures empty { IfOk result (λ named. named.queues ≡ []) }
-        ensures room { IfOk result (λ named. most ≤ named.room) }
+        ensures spare { IfOk result (λ named. most ≤ named.spare) }
         ensures refused { OnErr result (0 < most) }
     {
         let queues = IndexMap::with_capacity(alloc, most as usize)?;
@@ -89,9 +89,9 @@ impl NamedQueues {
     /// Puts a queue last, of whose name none is there.
     pub fn push(&mut self, queue: Queue)
         requires other { queue_of queue.name self.old.queues ≡ None }
-        requires room { 0 < self.old.room }
+        requires spare { 0 < self.old.spare }
         ensures queues { self.new.queues ≡ self.old.queues ++ queue ∷ [] }
-        ensures room { self.old.room ≤ self.new.room + 1 }
+        ensures spare { self.old.spare ≤ self.new.spare + 1 }
     {
         let _ = self.queues.insert(queue.name, queue);
     }
@@ -100,7 +100,7 @@ impl NamedQueues {
     pub fn remove(&mut self, name: &QueueName)
         ensures queues { self.new.queues ≡ queues_without name.now self.old.queues }
         ensures shorter { (queue : QueueValue) → queue_of name.now self.old.queues ≡ Some queue → length self.new.queues + 1 ≡ length self.old.queues }
-        ensures room { self.old.room ≤ self.new.room }
+        ensures spare { self.old.spare ≤ self.new.spare }
     {
         // That names differ is known to the prover once the map is read.
         let _ = self.queues.len();
@@ -112,7 +112,7 @@ impl NamedQueues {
     pub fn give(&mut self, name: &QueueName, given: Attributes, redrive: Option<Option<Redrive>>)
         requires { (queue : QueueValue) → queue_of name.now self.old.queues ≡ Some queue → queue.version < last_version }
         ensures queues { self.new.queues ≡ changed_queue name.now (with_given given redrive) self.old.queues }
-        ensures room { self.new.room ≡ self.old.room }
+        ensures spare { self.new.spare ≡ self.old.spare }
     {
         if let Some(queue) = self.queues.get_mut(name) {
             give(queue, given, redrive);
@@ -122,7 +122,7 @@ impl NamedQueues {
     /// The queue of a name was purged at this moment, in ms.
     pub fn set_purge(&mut self, name: &QueueName, moment: u64)
         ensures queues { self.new.queues ≡ changed_queue name.now (with_purge moment) self.old.queues }
-        ensures room { self.new.room ≡ self.old.room }
+        ensures spare { self.new.spare ≡ self.old.spare }
     {
         if let Some(queue) = self.queues.get_mut(name) {
             queue.last_purge = Some(moment);

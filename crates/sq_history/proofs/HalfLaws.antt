@@ -20,8 +20,8 @@ use Rattle.sq_model.specs.ItemActs.{call_with}
 use Rattle.sq_model.specs.Passages.{is_alone}
 use Rattle.sq_model.specs.RecordValues.{HomeRecordValue}
 use Rattle.sq_model.specs.Rows.{is_dead}
-use Rattle.sq_log.specs.Rooms.{KeepsRoom}
-use Rattle.sq_shard.specs.Moves.{IsDeadAt, GoesWithout, HasRow, KeepsRowRoom, target_at}
+use Rattle.sq_log.specs.Spares.{KeepsSpare}
+use Rattle.sq_shard.specs.Moves.{IsDeadAt, GoesWithout, HasRow, KeepsSpareRows, target_at}
 use Rattle.sq_history.specs.Halves.{DoesHalf, HasDead}
 use Rattle.sq_history.specs.Histories.{RecordsShared, new_event, new_record}
 use Rattle.sq_history.specs.HistoryValue.{HistoryValue}
@@ -55,9 +55,9 @@ shared_act act item = elim act as (λ a. is_alone (call_with a item) ≡ false) 
 -- at the stamp that was given, it is one event that is shared
 pub item_shared : (old new : HistoryValue) (by : Actor) (given : Result StampValue Refusal) (stamp : StampValue) (name : Option (List ℕ)) (act : ItemAct) (item : Item) (reply : HomeReply) (its_record : HomeRecordValue)
     → IfOk given (Below old.last) → IfOk given (Below by.seen) → given ≡ Ok stamp → HomeStep old.site old.home stamp.moment (call_with act item) reply new.home → new.site ≡ old.site → new.last ≡ stamp
-    → new.events ≡ old.events ++ new_event stamp by old.site.home (call_with act item) reply ∷ [] → KeepsRoom old.room new.room → KeepsRowRoom (call_with act item) old.row_room new.row_room
+    → new.events ≡ old.events ++ new_event stamp by old.site.home (call_with act item) reply ∷ [] → KeepsSpare old.spare new.spare → KeepsSpareRows (call_with act item) old.spare_rows new.spare_rows
     → its_record ≡ new_record stamp by old.site.home (length old.events) (call_with act item) reply name → RecordsShared old new by stamp name (call_with act item) its_record
-item_shared old new by given stamp name act item reply its_record last seen at step site new_last events room row_room is =
+item_shared old new by given stamp name act item reply its_record last seen at step site new_last events spare spare_rows is =
     let same : reply ≡ its_record.reply = sym (ap (λ (r : HomeRecordValue). r.reply) is) in
     record {
       shared = shared_act act item;
@@ -67,8 +67,8 @@ item_shared old new by given stamp name act item reply its_record last seen at s
       site = site;
       last = new_last;
       events = subst (λ (r : HomeReply). new.events ≡ old.events ++ new_event stamp by old.site.home (call_with act item) r ∷ []) same events;
-      room = room;
-      row_room = row_room;
+      spare = spare;
+      spare_rows = spare_rows;
       record_is = subst (λ (r : HomeReply). its_record ≡ new_record stamp by old.site.home (length old.events) (call_with act item) r name) same is;
     }
 

@@ -34,8 +34,8 @@ abbrev pub HoldsAny : HomeCall → Type 0
 HoldsAny (call.Configure settings version) = Unit {0}
 HoldsAny other = ⊥
 
--- memory is got for its row, or for what it is answered, where it is done at this home at this moment: a message that is put, where nothing refuses it and there is room for no row; rows that may be given. What is shared with the ledger is not done so.
+-- memory is got for its row, or for what it is answered, where it is done at this home at this moment: a message that is put, where nothing refuses it and there is spare memory for no row; rows that may be given. What is shared with the ledger is not done so.
 abbrev pub CopiesBytes : Site → Home → ℕ → ℕ → HomeCall → Type 0
-CopiesBytes site home row_room m (call.Send body delay) = (home_refusal site home m (call.Send body delay) ≡ None) × (row_room ≡ 0)
-CopiesBytes site home row_room m (call.Look max timeout) = GivesAny site home m
-CopiesBytes site home row_room m other = ⊥
+CopiesBytes site home spare_rows m (call.Send body delay) = (home_refusal site home m (call.Send body delay) ≡ None) × (spare_rows ≡ 0)
+CopiesBytes site home spare_rows m (call.Look max timeout) = GivesAny site home m
+CopiesBytes site home spare_rows m other = ⊥

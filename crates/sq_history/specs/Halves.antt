@@ -38,7 +38,7 @@ IsWithout given reason = (stamp : StampValue) × (given ≡ Ok stamp) × reason 
 -- Why a half is not done: no memory was found for the event, or for what else is got before the clock; no stamp was given; or, at its moment, the home does not do it.
 abbrev pub IsHalfRefused : HistoryValue → Type 0 → Result StampValue Refusal → (ℕ → Refusal → Type 0) → Refusal → Type 0
 IsHalfRefused old copies given refused e =
-    ((e ≡ NoMemory) × ((old.room ≡ 0) ⊎ copies))
+    ((e ≡ NoMemory) × ((old.spare ≡ 0) ⊎ copies))
     ⊎ (given ≡ Err e)
     ⊎ ((stamp : StampValue) × (given ≡ Ok stamp) × refused stamp.moment e)
 
@@ -59,9 +59,9 @@ IsDeadRefused site home m number e =
 abbrev pub HasItem : Option Item → Type 0
 HasItem item = (it : Item) × (item ≡ Some it)
 
--- Why an item is not done with by a home's rows: the first check that fails; or, where none does and its row comes in, no memory was found where the home shows room for none.
+-- Why an item is not done with by a home's rows: the first check that fails; or, where none does and its row comes in, no memory was found where the home shows no spare memory.
 abbrev pub IsActRefused : ItemAct → ℕ → Option Refusal → Refusal → Type 0
-IsActRefused act row_room first e = ((e ≡ NoMemory) × (first ≡ None) × PutsRow act × (row_room ≡ 0)) ⊎ (first ≡ Some e)
+IsActRefused act spare_rows first e = ((e ≡ NoMemory) × (first ≡ None) × PutsRow act × (spare_rows ≡ 0)) ⊎ (first ≡ Some e)
 
 -- the task takes messages of this home, as the ledger says
 abbrev pub IsTaker : TaskLeave → Task → Type 0

@@ -14,10 +14,10 @@ use Rattle.sq_model.specs.Homes.{Unopened, HomeStep, home_refusal}
 use Rattle.sq_model.specs.Replays.{HomeEvent, Replays, StampsRise}
 use Rattle.sq_model.specs.Systems.{is_alone}
 use Rattle.sq_model.specs.RecordValues.{HomeRecordValue}
-use Rattle.sq_shard.specs.Moves.{KeepsRowRoom}
+use Rattle.sq_shard.specs.Moves.{KeepsSpareRows}
 use Rattle.sq_history.specs.Acts.{CopiesBytes, HoldsAny}
 use Rattle.sq_log.specs.Logs.{event_by}
-use Rattle.sq_log.specs.Rooms.{KeepsRoom}
+use Rattle.sq_log.specs.Spares.{KeepsSpare}
 use Rattle.sq_history.specs.HistoryValue.{HistoryValue}
 
 abbrev pub new_event : StampValue → Actor → HomeId → HomeCall → HomeReply → HomeEvent
@@ -34,8 +34,8 @@ pub record RecordsStep (old new : HistoryValue) (by : Actor) (now : ℕ) (name :
   pub site : new.site ≡ old.site
   pub last : new.last ≡ its_record.stamp
   pub events : new.events ≡ old.events ++ new_event its_record.stamp by old.site.home call its_record.reply ∷ []
-  pub room : KeepsRoom old.room new.room
-  pub row_room : KeepsRowRoom call old.row_room new.row_room
+  pub spare : KeepsSpare old.spare new.spare
+  pub spare_rows : KeepsSpareRows call old.spare_rows new.spare_rows
   pub record_is : its_record ≡ new_record its_record.stamp by old.site.home (length old.events) call its_record.reply name
 
 -- Exactly one event was added: a step that the home shares with the ledger, at a stamp that was drawn before, above the home's last and above what the actor had seen. The record is its own.
@@ -47,17 +47,17 @@ pub record RecordsShared (old new : HistoryValue) (by : Actor) (stamp : StampVal
   pub site : new.site ≡ old.site
   pub last : new.last ≡ stamp
   pub events : new.events ≡ old.events ++ new_event stamp by old.site.home call its_record.reply ∷ []
-  pub room : KeepsRoom old.room new.room
-  pub row_room : KeepsRowRoom call old.row_room new.row_room
+  pub spare : KeepsSpare old.spare new.spare
+  pub spare_rows : KeepsSpareRows call old.spare_rows new.spare_rows
   pub record_is : its_record ≡ new_record stamp by old.site.home (length old.events) call its_record.reply name
 
 -- No memory was found for the event or for what it holds, or the clock's or the counts' check fails; then no memory was found for copies, or the home's first check that fails.
 abbrev pub IsRefused : HistoryValue → Actor → ℕ → HomeCall → Refusal → Type 0
 IsRefused old by now call e =
-    ((e ≡ NoMemory) × ((old.room ≡ 0) ⊎ HoldsAny call))
+    ((e ≡ NoMemory) × ((old.spare ≡ 0) ⊎ HoldsAny call))
     ⊎ (after old.last by.seen now ≡ Err e)
     ⊎ ((stamp : StampValue) × (after old.last by.seen now ≡ Ok stamp)
-    × (((e ≡ NoMemory) × CopiesBytes old.site old.home old.row_room stamp.moment call) ⊎ (home_refusal old.site old.home stamp.moment call ≡ Some e)))
+    × (((e ≡ NoMemory) × CopiesBytes old.site old.home old.spare_rows stamp.moment call) ⊎ (home_refusal old.site old.home stamp.moment call ≡ Some e)))
 
 -- True of every recorded home: it is the replay of its events, whose stamps rise, and each event is one of it.
 pub record IsKept (h : HistoryValue) : Type 0 where

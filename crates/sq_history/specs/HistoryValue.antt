@@ -11,9 +11,9 @@ pub record HistoryValue : Type 0 where
   pub last : StampValue
   pub events : List HomeEvent
   -- for how many events more there was memory when the last one was added
-  pub room : ℕ
+  pub spare : ℕ
   -- for how many rows more there was memory when the last one came in
-  pub row_room : ℕ
+  pub spare_rows : ℕ
 
 -- all that was done at a home, the first first
 abbrev pub all_events : HistoryValue → List HomeEvent

@@ -21,7 +21,7 @@ home_index per_queue count id =
 
 -- a home that was never opened
 abbrev pub never_opened : ℕ → Limits → ℕ → HistoryValue
-never_opened per_queue limits at = record { site = record { home = home_id per_queue at; limits = limits }; home = Unopened; last = start; events = []; room = 0; row_room = 0 }
+never_opened per_queue limits at = record { site = record { home = home_id per_queue at; limits = limits }; home = Unopened; last = start; events = []; spare = 0; spare_rows = 0 }
 
 -- so many homes that were never opened
 abbrev pub never_opened_homes : ℕ → Limits → ℕ → List HistoryValue

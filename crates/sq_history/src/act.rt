@@ -5,7 +5,7 @@ ghost use Rattle.sq_model.specs.Homes.{HomeStep, home_refusal};
 ghost use Rattle.sq_model.specs.declared.calls.HomeCall.TheVariants.{Configure as AsConfigure, Look as AsLook};
 ghost use Rattle.sq_model.specs.Passages.{is_alone};
 ghost use Rattle.sq_shard.specs.Looks.{look_reply, GivesAny, GivesRows};
-ghost use Rattle.sq_shard.specs.Moves.{KeepsRowRoom};
+ghost use Rattle.sq_shard.specs.Moves.{KeepsSpareRows};
 ghost use Rattle.sq_history.specs.Acts.{call_of, CopiesBytes, HasBytes, HoldsAny};
 ghost use Rattle.sq_history.specs.inside.Acts.{small_reply};
 
@@ -94,7 +94,7 @@ impl HomeAct {
 }
 
 /// Asks a home's rows this at a moment in ms. Refused as the home's call; and where nothing refuses it as NoMemory (a send
-/// where there is room for no row, and a look that gives messages).
+/// where there is spare memory for no row, and a look that gives messages).
 pub(crate) fn ask<S: Store>(
     alloc: Global,
     shard: &mut Shard<S>,
@@ -105,8 +105,8 @@ pub(crate) fn ask<S: Store>(
     requires alone { is_alone call ≡ true }
     ensures step { IfOk result (λ reply. HomeStep shard.old.site shard.old.home moment call reply shard.new.home) }
     ensures site { shard.new.site ≡ shard.old.site }
-    ensures room { OnOk result (KeepsRowRoom call shard.old.room shard.new.room) }
-    ensures refusal { IfErr result (λ e. ((e ≡ Refusal.NoMemory) × CopiesBytes shard.old.site shard.old.home shard.old.room moment call) ⊎ (home_refusal shard.old.site shard.old.home moment call ≡ Some e)) }
+    ensures spare { OnOk result (KeepsSpareRows call shard.old.spare shard.new.spare) }
+    ensures refusal { IfErr result (λ e. ((e ≡ Refusal.NoMemory) × CopiesBytes shard.old.site shard.old.home shard.old.spare moment call) ⊎ (home_refusal shard.old.site shard.old.home moment call ≡ Some e)) }
     ensures err { OnErr result (shard.new ≡ shard.old) }
 {
     let told = match call {
@@ -239,7 +239,7 @@ fn look<S: Store>(
     requires { moment < stamp_end }
     ensures step { IfOk result (λ reply. HomeStep shard.old.site shard.old.home moment (AsLook max timeout.now) reply shard.new.home) }
     ensures site { shard.new.site ≡ shard.old.site }
-    ensures room { shard.new.room ≡ shard.old.room }
+    ensures spare { shard.new.spare ≡ shard.old.spare }
     ensures refusal { IfErr result (λ e. ((e ≡ Refusal.NoMemory) × GivesAny shard.old.site shard.old.home moment) ⊎ (home_refusal shard.old.site shard.old.home moment (AsLook max timeout.now) ≡ Some e)) }
     ensures err { OnErr result (shard.new ≡ shard.old) }
 {

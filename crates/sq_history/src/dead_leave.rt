@@ -77,7 +77,7 @@ pub(crate) fn leave_dead<S: Store>(
     ensures number { IfOk result (λ told. IfSome told (λ t. number ≡ Ok t.0.number)) }
     ensures none { IfOk result (λ told. IfNone told (IsIdle shard.old.home moment LeaveDead × (shard.new ≡ shard.old))) }
     ensures site { shard.new.site ≡ shard.old.site }
-    ensures room { shard.new.room ≡ shard.old.room }
+    ensures spare { shard.new.spare ≡ shard.old.spare }
     ensures refusal { IfErr result (IsDeadRefused shard.old.site shard.old.home moment number) }
     ensures err { OnErr result (shard.new ≡ shard.old) }
 {

@@ -7,7 +7,7 @@ ghost use Rattle.sq_history.specs.Acts.{call_of};
 ghost use Rattle.sq_history.specs.HistoryValue.{all_events};
 ghost use Rattle.sq_history.specs.Histories.{new_event, new_record};
 ghost use Rattle.sq_history.specs.inside.Histories.{IsUnbegun};
-ghost use Rattle.sq_log.specs.Rooms.{IsReady, KeepsRoom};
+ghost use Rattle.sq_log.specs.Spares.{IsReady, KeepsSpare};
 
 use crate::act::{Answer, HomeAct, ask};
 use crate::record::HomeRecord;
@@ -46,9 +46,9 @@ impl<S: Store> Model for Recorded<S> {
 
     ghost Value = { HistoryValue };
 
-    ghost view = { λ a. record { site = a.shard.site; home = a.shard.home; last = a.log.last; events = a.log.events; room = a.log.room; row_room = a.shard.room } };
+    ghost view = { λ a. record { site = a.shard.site; home = a.shard.home; last = a.log.last; events = a.log.events; spare = a.log.spare; spare_rows = a.shard.spare } };
 
-    ghost invariant = { λ a. IsKept (record { site = a.shard.site; home = a.shard.home; last = a.log.last; events = a.log.events; room = a.log.room; row_room = a.shard.room }) };
+    ghost invariant = { λ a. IsKept (record { site = a.shard.site; home = a.shard.home; last = a.log.last; events = a.log.events; spare = a.log.spare; spare_rows = a.shard.spare }) };
 }
 
 impl<S: Store> Recorded<S> {
@@ -57,7 +57,7 @@ impl<S: Store> Recorded<S> {
     /// A home that was never opened, with no event.
     pub fn unopened(alloc: Global, shard: Shard<S>) -> Recorded<S>
         requires { shard.home ≡ Never }
-        ensures { result ≡ record { site = shard.site; home = Never; last = start; events = []; room = 0; row_room = shard.room } }
+        ensures { result ≡ record { site = shard.site; home = Never; last = start; events = []; spare = 0; spare_rows = shard.spare } }
     {
         Recorded {
             shard,
@@ -81,8 +81,8 @@ impl<S: Store> Recorded<S> {
     }
 
     /// Does one act, at its stamp. What it tells is what its record says.
-    /// Refused as NoMemory (the history has room for none, or settings are held), ClockRange, Worn, and then as the
-    /// home's call, or as NoMemory for a send's row (it shows room for none) and the rows that a look gives: QueueDoesNotExist (not serving; closed already, where
+    /// Refused as NoMemory (the history has no spare memory, or settings are held), ClockRange, Worn, and then as the
+    /// home's call, or as NoMemory for a send's row (it shows no spare memory) and the rows that a look gives: QueueDoesNotExist (not serving; closed already, where
     /// it is configured or closed), Worn and OverLimit (a send, for want of serials or full), ReceiptHandleIsInvalid (a
     /// serial that was never given), MessageNotInflight (a change, with no row in flight on which slot, serial and
     /// receive number agree), InvalidParameterValue (a change, later than 12 hours after the last receive).
@@ -114,7 +114,7 @@ impl<S: Store> Recorded<S> {
 }
 
 // Begins a step that does this: its stamp, what the rows are asked, and its call for the event and for the record.
-// Refused as NoMemory (the history has room for none, or settings are held), ClockRange, Worn.
+// Refused as NoMemory (the history has no spare memory, or settings are held), ClockRange, Worn.
 fn begin(
     alloc: Global,
     log: &mut Log<HomeCall, HomeReply>,
@@ -124,8 +124,8 @@ fn begin(
 ) -> Result<(Stamp, HomeCall, (HomeCall, HomeCall)), Refusal>
     ensures last { log.new.last ≡ log.old.last }
     ensures events { log.new.events ≡ log.old.events }
-    ensures room { log.new.room ≡ log.old.room }
-    ensures ready { OnOk result (IsReady log.new.room log.new.reserved) }
+    ensures spare { log.new.spare ≡ log.old.spare }
+    ensures ready { OnOk result (IsReady log.new.spare log.new.reserved) }
     ensures stamped { IfOk result (λ begun. after log.old.last by.now.seen now ≡ Ok begun.0) }
     ensures above { IfOk result (λ begun. Below log.old.last begun.0) }
     ensures asked { IfOk result (λ begun. begun.1 ≡ call_of act) }
@@ -149,12 +149,12 @@ pub(crate) fn add_step(
     calls: (HomeCall, HomeCall),
     answer: Answer,
 ) -> (HomeReply, HomeRecord)
-    requires ready { IsReady log.old.room log.old.reserved }
+    requires ready { IsReady log.old.spare log.old.reserved }
     requires above { Below log.old.last stamp }
     ensures last { log.new.last ≡ stamp }
     ensures events { log.new.events ≡ log.old.events ++ new_event stamp by.now home.now calls.0 answer ∷ [] }
     ensures rising { StampsRise start log.new.events log.new.last }
-    ensures room { KeepsRoom log.old.room log.new.room }
+    ensures spare { KeepsSpare log.old.spare log.new.spare }
     ensures its_record { result.1 ≡ new_record stamp by.now home.now (length log.old.events) calls.1 answer name }
     ensures answered { result.0 ≡ answer }
 {

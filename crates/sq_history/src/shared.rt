@@ -9,11 +9,11 @@ ghost use Rattle.sq_model.specs.declared.calls.HomeCall.TheVariants.{LeaveDead, 
 ghost use Rattle.sq_model.specs.declared.replies.HomeReply.TheVariants.{Left};
 ghost use Rattle.sq_model.specs.Homes.{HomeStep, IsFrom, IsIdle};
 ghost use Rattle.sq_model.specs.ItemActs.{call_with, replied_by};
-ghost use Rattle.sq_shard.specs.Moves.{KeepsRowRoom, item_refusal};
+ghost use Rattle.sq_shard.specs.Moves.{KeepsSpareRows, item_refusal};
 ghost use Rattle.sq_history.specs.Halves.{DoesHalf, HasItem, IsActRefused, IsDeadRefused, IsHalfRefused, IsTaker, IsTaskAnswer, IsTaskRefused, IsThrottled, IsWithout};
 ghost use Rattle.sq_history.specs.inside.Halves.{AreCopies};
 ghost use Rattle.sq_history.specs.Histories.{new_event, new_record};
-ghost use Rattle.sq_log.specs.Rooms.{IsReady, KeepsRoom};
+ghost use Rattle.sq_log.specs.Spares.{IsReady, KeepsSpare};
 
 use crate::act::{Answer, SmallReply};
 use crate::dead_leave::leave_dead;
@@ -84,12 +84,12 @@ fn note(
     calls: (HomeCall, HomeCall, HomeCall),
     answers: (Answer, HomeReply),
 ) -> HomeHalf
-    requires ready { IsReady log.old.room log.old.reserved }
+    requires ready { IsReady log.old.spare log.old.reserved }
     requires above { Below log.old.last stamp }
     ensures last { log.new.last ≡ stamp }
     ensures events { log.new.events ≡ log.old.events ++ new_event stamp step.now.by home.now calls.0 answers.0 ∷ [] }
     ensures rising { StampsRise start log.new.events log.new.last }
-    ensures room { KeepsRoom log.old.room log.new.room }
+    ensures spare { KeepsSpare log.old.spare log.new.spare }
     ensures its_record { result.its_record ≡ new_record stamp step.now.by home.now (length log.old.events) calls.1 answers.0 step.now.name }
     ensures answered { result.answered ≡ answers.0 }
     ensures for_ledger { result.for_ledger ≡ (calls.2, answers.1) }
@@ -116,7 +116,7 @@ impl<S: Store> Recorded<S> {
 
     /// A dead message, any of them, leaves for its dead-letter queue: it is told with the item that it becomes. None where
     /// none is dead, which is no event. The number of the item is what the ledger gives, or why it takes none in.
-    /// Refused as NoMemory (the history has room for none), as the stamp, as QueueDoesNotExist (not serving), and where a
+    /// Refused as NoMemory (the history has no spare memory), as the stamp, as QueueDoesNotExist (not serving), and where a
     /// message is dead as the ledger, and then as NoMemory (it is copied).
     pub fn leave_dead(
         &mut self,
@@ -153,7 +153,7 @@ impl<S: Store> Recorded<S> {
     /// A live message, any of them, leaves for a move task: it is told with the item that it becomes. Recorded, with no
     /// item, is that none is live (NoLiveRow), that the one that was chosen has no queue to go to and stays (NoOrigin), or
     /// that the home is closed (SourceClosed). None where the task is at its rate, which is no event.
-    /// Refused as NoMemory (the history has room for none), as the stamp, as QueueDoesNotExist (never opened), then as the
+    /// Refused as NoMemory (the history has no spare memory), as the stamp, as QueueDoesNotExist (never opened), then as the
     /// ledger says of the task, and where a message is live as it says of the next item, and then as NoMemory (it is copied).
     pub fn leave_task(
         &mut self,
@@ -194,10 +194,10 @@ impl<S: Store> Recorded<S> {
     }
 
     /// This is done with the item here, which is copied before the clock.
-    /// Refused as NoMemory (the history has room for none, or the item is copied), and as the stamp. Then where its row comes
+    /// Refused as NoMemory (the history has no spare memory, or the item is copied), and as the stamp. Then where its row comes
     /// in as QueueDoesNotExist (not serving), Worn (no serial is left), OverLimit (full), and where it is sent back or dropped
     /// as QueueDoesNotExist (never opened), UnsupportedOperation (serving). Then as UnsupportedOperation (no item, or not one
-    /// for this home), and as NoMemory (its row comes in where the home shows room for none).
+    /// for this home), and as NoMemory (its row comes in where the home shows no spare memory).
     pub fn item_step(
         &mut self,
         step: &StampedStep,
@@ -207,7 +207,7 @@ impl<S: Store> Recorded<S> {
         requires above_last { IfOk step.now.stamp (Below self.old.last) }
         requires above_seen { IfOk step.now.stamp (Below step.now.by.seen) }
         ensures does { IfOk result (λ half. (it : Moved) × (option_map (λ i. i.now) item.entry ≡ Some it) × DoesHalf self.old self.new step.now.by step.now.stamp step.now.name (call_with act it) half) }
-        ensures refusal { IfErr result (IsHalfRefused self.old (HasItem (option_map (λ i. i.now) item.entry)) step.now.stamp (λ m e. IsActRefused act self.old.row_room (item_refusal act self.old.site self.old.home m (option_map (λ i. i.now) item.entry)) e)) }
+        ensures refusal { IfErr result (IsHalfRefused self.old (HasItem (option_map (λ i. i.now) item.entry)) step.now.stamp (λ m e. IsActRefused act self.old.spare_rows (item_refusal act self.old.site self.old.home m (option_map (λ i. i.now) item.entry)) e)) }
         ensures err { OnErr result (self.new ≡ self.old) }
     {
         let (stamp, copies) = begin_item(&mut self.log, step, act, item)?;
@@ -217,7 +217,7 @@ impl<S: Store> Recorded<S> {
     }
 }
 
-// Begins a step that does this with an item: its stamp, and copies of the item. Refused as NoMemory (the history has room for
+// Begins a step that does this with an item: its stamp, and copies of the item. Refused as NoMemory (the history has spare memory for
 // none, or the item is copied), and as the stamp.
 fn begin_item(
     log: &mut Log<HomeCall, HomeReply>,
@@ -227,11 +227,11 @@ fn begin_item(
 ) -> Result<(Stamp, Option<ItemCopies>), Refusal>
     ensures last { log.new.last ≡ log.old.last }
     ensures events { log.new.events ≡ log.old.events }
-    ensures room { log.new.room ≡ log.old.room }
-    ensures ready { OnOk result (IsReady log.new.room log.new.reserved) }
+    ensures spare { log.new.spare ≡ log.old.spare }
+    ensures ready { OnOk result (IsReady log.new.spare log.new.reserved) }
     ensures stamped { IfOk result (λ begun. step.now.stamp ≡ Ok begun.0) }
     ensures copies { IfOk result (λ begun. AreCopies act (option_map (λ i. i.now) item.entry) begun.1) }
-    ensures refused { IfErr result (λ e. ((e ≡ Refusal.NoMemory) × ((log.old.room ≡ 0) ⊎ HasItem (option_map (λ i. i.now) item.entry))) ⊎ (step.now.stamp ≡ Err e)) }
+    ensures refused { IfErr result (λ e. ((e ≡ Refusal.NoMemory) × ((log.old.spare ≡ 0) ⊎ HasItem (option_map (λ i. i.now) item.entry))) ⊎ (step.now.stamp ≡ Err e)) }
 {
     log.reserve()?;
     let copies = copies_of(step.alloc, act, item)?;
@@ -239,7 +239,7 @@ fn begin_item(
 }
 
 // This is done with the item by a home's rows, at a moment in ms, with copies of it: the item, the calls, and what is answered.
-// Refused as the first check that fails, and then as NoMemory (its row comes in where the home shows room for none).
+// Refused as the first check that fails, and then as NoMemory (its row comes in where the home shows no spare memory).
 fn act_on<'a, S: Store>(
     shard: &mut Shard<S>,
     act: ItemAct,
@@ -262,8 +262,8 @@ fn act_on<'a, S: Store>(
     ensures ledger_reply { IfOk result (λ done. done.2.1 ≡ done.2.0) }
     ensures step { IfOk result (λ done. HomeStep shard.old.site shard.old.home moment (call_with act done.0.now) done.2.0 shard.new.home) }
     ensures site { shard.new.site ≡ shard.old.site }
-    ensures room { IfOk result (λ done. KeepsRowRoom (call_with act done.0.now) shard.old.room shard.new.room) }
-    ensures refusal { IfErr result (IsActRefused act shard.old.room (item_refusal act shard.old.site shard.old.home moment (option_map (λ i. i.now) item.entry))) }
+    ensures spare { IfOk result (λ done. KeepsSpareRows (call_with act done.0.now) shard.old.spare shard.new.spare) }
+    ensures refusal { IfErr result (IsActRefused act shard.old.spare (item_refusal act shard.old.site shard.old.home moment (option_map (λ i. i.now) item.entry))) }
     ensures err { OnErr result (shard.new ≡ shard.old) }
 {
     let found = shard.check_item(act, moment, item)?;

@@ -115,7 +115,7 @@ pub(crate) fn leave_for_task<S: Store>(
     ensures for_ledger { IfOk result (λ told. IfSome told (λ t. t.for_ledger ≡ t.answer)) }
     ensures throttled { IfOk result (λ told. IfNone told (IsThrottled shard.old.home asked.now × (shard.new ≡ shard.old))) }
     ensures site { shard.new.site ≡ shard.old.site }
-    ensures room { shard.new.room ≡ shard.old.room }
+    ensures spare { shard.new.spare ≡ shard.old.spare }
     ensures refusal { IfErr result (IsTaskRefused shard.old.site shard.old.home moment asked.now) }
     ensures err { OnErr result (shard.new ≡ shard.old) }
 {
@@ -145,7 +145,7 @@ fn take_for_task<S: Store>(
     ensures answer { IfOk result (λ t. IsTaskAnswer asked.now task.now t.answer t.left) }
     ensures for_ledger { IfOk result (λ t. t.for_ledger ≡ t.answer) }
     ensures site { shard.new.site ≡ shard.old.site }
-    ensures room { shard.new.room ≡ shard.old.room }
+    ensures spare { shard.new.spare ≡ shard.old.spare }
     ensures refusal { IfErr result (IsTaskRefused shard.old.site shard.old.home moment asked.now) }
     ensures err { OnErr result (shard.new ≡ shard.old) }
 {
@@ -207,7 +207,7 @@ fn leave_as<S: Store>(
     ensures for_ledger { IfOk result (λ t. t.for_ledger ≡ Left item) }
     ensures left { IfOk result (λ t. t.left ≡ Some item) }
     ensures site { shard.new.site ≡ shard.old.site }
-    ensures room { shard.new.room ≡ shard.old.room }
+    ensures spare { shard.new.spare ≡ shard.old.spare }
     ensures refused { IfErr result (λ e. e ≡ Refusal.NoMemory) }
     ensures err { OnErr result (shard.new ≡ shard.old) }
 {

@@ -33,28 +33,28 @@ some_then f (Some a) h each = each a
 -- ---- what fits is read
 
 mutual
-  read_value : (j : json.Json) (room : ℕ) (rest : List Token) → fits room (json_tokens j ++ rest) ≡ true → (depth j ≤ room) × IsSome (of_json j) × (fits room rest ≡ true)
-  read_value json.null room rest e = (omega arith, refl, e)
-  read_value (json.boolean b) room rest e = (omega arith, refl, e)
-  read_value (json.number s) room rest e = let h = both (is_some (number_of s)) (fits room rest) e in (omega arith, some_map number (number_of s) h.0, h.1)
-  read_value (json.string s) room rest e = (omega arith, refl, e)
+  read_value : (j : json.Json) (depth_left : ℕ) (rest : List Token) → fits depth_left (json_tokens j ++ rest) ≡ true → (depth j ≤ depth_left) × IsSome (of_json j) × (fits depth_left rest ≡ true)
+  read_value json.null depth_left rest e = (omega arith, refl, e)
+  read_value (json.boolean b) depth_left rest e = (omega arith, refl, e)
+  read_value (json.number s) depth_left rest e = let h = both (is_some (number_of s)) (fits depth_left rest) e in (omega arith, some_map number (number_of s) h.0, h.1)
+  read_value (json.string s) depth_left rest e = (omega arith, refl, e)
   read_value (json.array js) zero rest e = absurd (cc)
-  read_value (json.array js) (suc room) rest e = let h = read_items js room rest e in (omega (arith, h.0), some_map array (of_items js) h.1, h.2)
+  read_value (json.array js) (suc depth_left) rest e = let h = read_items js depth_left rest e in (omega (arith, h.0), some_map array (of_items js) h.1, h.2)
   read_value (json.object ms) zero rest e = absurd (cc)
-  read_value (json.object ms) (suc room) rest e = let h = read_members ms room rest e in (omega (arith, h.0), some_map object (of_members ms no_members) (h.1 no_members), h.2)
+  read_value (json.object ms) (suc depth_left) rest e = let h = read_members ms depth_left rest e in (omega (arith, h.0), some_map object (of_members ms no_members) (h.1 no_members), h.2)
 
-  read_items : (js : json.Items) (room : ℕ) (rest : List Token) → fits room (items_tokens js ++ rest) ≡ true → (items_depth js ≤ room) × IsSome (of_items js) × (fits (suc room) rest ≡ true)
-  read_items json.no_items room rest e = (omega arith, refl, e)
-  read_items (json.item j js) room rest e =
-      let first = read_value j room (items_tokens js ++ rest) (ap (fits room) (sym (append_assoc (json_tokens j) (items_tokens js) rest)) ∙ e) in
-      let others = read_items js room rest first.2 in
+  read_items : (js : json.Items) (depth_left : ℕ) (rest : List Token) → fits depth_left (items_tokens js ++ rest) ≡ true → (items_depth js ≤ depth_left) × IsSome (of_items js) × (fits (suc depth_left) rest ≡ true)
+  read_items json.no_items depth_left rest e = (omega arith, refl, e)
+  read_items (json.item j js) depth_left rest e =
+      let first = read_value j depth_left (items_tokens js ++ rest) (ap (fits depth_left) (sym (append_assoc (json_tokens j) (items_tokens js) rest)) ∙ e) in
+      let others = read_items js depth_left rest first.2 in
       (omega (arith, first.0, others.0), some_then (λ d. option_map (item d) (of_items js)) (of_json j) first.1 (λ d. some_map (item d) (of_items js) others.1), others.2)
 
-  read_members : (ms : json.Members) (room : ℕ) (rest : List Token) → fits room (members_tokens ms ++ rest) ≡ true → (members_depth ms ≤ room) × ((before : Members) → IsSome (of_members ms before)) × (fits (suc room) rest ≡ true)
-  read_members json.no_members room rest e = (omega arith, λ before. refl, e)
-  read_members (json.member k j ms) room rest e =
-      let first = read_value j room (members_tokens ms ++ rest) (ap (fits room) (sym (append_assoc (json_tokens j) (members_tokens ms) rest)) ∙ e) in
-      let others = read_members ms room rest first.2 in
+  read_members : (ms : json.Members) (depth_left : ℕ) (rest : List Token) → fits depth_left (members_tokens ms ++ rest) ≡ true → (members_depth ms ≤ depth_left) × ((before : Members) → IsSome (of_members ms before)) × (fits (suc depth_left) rest ≡ true)
+  read_members json.no_members depth_left rest e = (omega arith, λ before. refl, e)
+  read_members (json.member k j ms) depth_left rest e =
+      let first = read_value j depth_left (members_tokens ms ++ rest) (ap (fits depth_left) (sym (append_assoc (json_tokens j) (members_tokens ms) rest)) ∙ e) in
+      let others = read_members ms depth_left rest first.2 in
       (omega (arith, first.0, others.0), λ before. some_then (λ d. of_members ms (put k d before)) (of_json j) first.1 (λ d. others.1 (put k d before)), others.2)
 
 -- ---- what is read fits
@@ -64,31 +64,31 @@ first_some f None h = absurd (cc)
 first_some f (Some a) h = (a, refl, h)
 
 mutual
-  fits_value : (j : json.Json) (room : ℕ) (rest : List Token) → depth j ≤ room → IsSome (of_json j) → fits room (json_tokens j ++ rest) ≡ fits room rest
-  fits_value json.null room rest h e = refl
-  fits_value (json.boolean b) room rest h e = refl
-  fits_value (json.number s) room rest h e = let is : is_some (number_of s) ≡ true = map_some number (number_of s) e in ap (λ b. b && fits room rest) is
-  fits_value (json.string s) room rest h e = refl
+  fits_value : (j : json.Json) (depth_left : ℕ) (rest : List Token) → depth j ≤ depth_left → IsSome (of_json j) → fits depth_left (json_tokens j ++ rest) ≡ fits depth_left rest
+  fits_value json.null depth_left rest h e = refl
+  fits_value (json.boolean b) depth_left rest h e = refl
+  fits_value (json.number s) depth_left rest h e = let is : is_some (number_of s) ≡ true = map_some number (number_of s) e in ap (λ b. b && fits depth_left rest) is
+  fits_value (json.string s) depth_left rest h e = refl
   fits_value (json.array js) zero rest h e = absurd (omega arith)
-  fits_value (json.array js) (suc room) rest h e = fits_items js room rest (omega arith) (map_some array (of_items js) e)
+  fits_value (json.array js) (suc depth_left) rest h e = fits_items js depth_left rest (omega arith) (map_some array (of_items js) e)
   fits_value (json.object ms) zero rest h e = absurd (omega arith)
-  fits_value (json.object ms) (suc room) rest h e = fits_members ms no_members room rest (omega arith) (map_some object (of_members ms no_members) e)
+  fits_value (json.object ms) (suc depth_left) rest h e = fits_members ms no_members depth_left rest (omega arith) (map_some object (of_members ms no_members) e)
 
-  fits_items : (js : json.Items) (room : ℕ) (rest : List Token) → items_depth js ≤ room → IsSome (of_items js) → fits room (items_tokens js ++ rest) ≡ fits (suc room) rest
-  fits_items json.no_items room rest h e = refl
-  fits_items (json.item j js) room rest h e =
+  fits_items : (js : json.Items) (depth_left : ℕ) (rest : List Token) → items_depth js ≤ depth_left → IsSome (of_items js) → fits depth_left (items_tokens js ++ rest) ≡ fits (suc depth_left) rest
+  fits_items json.no_items depth_left rest h e = refl
+  fits_items (json.item j js) depth_left rest h e =
       let first = first_some (λ d. option_map (item d) (of_items js)) (of_json j) e in
-      ap (fits room) (append_assoc (json_tokens j) (items_tokens js) rest)
-      ∙ fits_value j room (items_tokens js ++ rest) (omega arith) (subst IsSome (sym first.1) refl)
-      ∙ fits_items js room rest (omega arith) (map_some (item first.0) (of_items js) first.2)
+      ap (fits depth_left) (append_assoc (json_tokens j) (items_tokens js) rest)
+      ∙ fits_value j depth_left (items_tokens js ++ rest) (omega arith) (subst IsSome (sym first.1) refl)
+      ∙ fits_items js depth_left rest (omega arith) (map_some (item first.0) (of_items js) first.2)
 
-  fits_members : (ms : json.Members) (before : Members) (room : ℕ) (rest : List Token) → members_depth ms ≤ room → IsSome (of_members ms before) → fits room (members_tokens ms ++ rest) ≡ fits (suc room) rest
-  fits_members json.no_members before room rest h e = refl
-  fits_members (json.member k j ms) before room rest h e =
+  fits_members : (ms : json.Members) (before : Members) (depth_left : ℕ) (rest : List Token) → members_depth ms ≤ depth_left → IsSome (of_members ms before) → fits depth_left (members_tokens ms ++ rest) ≡ fits (suc depth_left) rest
+  fits_members json.no_members before depth_left rest h e = refl
+  fits_members (json.member k j ms) before depth_left rest h e =
       let first = first_some (λ d. of_members ms (put k d before)) (of_json j) e in
-      ap (fits room) (append_assoc (json_tokens j) (members_tokens ms) rest)
-      ∙ fits_value j room (members_tokens ms ++ rest) (omega arith) (subst IsSome (sym first.1) refl)
-      ∙ fits_members ms (put k first.0 before) room rest (omega arith) first.2
+      ap (fits depth_left) (append_assoc (json_tokens j) (members_tokens ms) rest)
+      ∙ fits_value j depth_left (members_tokens ms ++ rest) (omega arith) (subst IsSome (sym first.1) refl)
+      ∙ fits_members ms (put k first.0 before) depth_left rest (omega arith) first.2
 
 -- ---- a text
 

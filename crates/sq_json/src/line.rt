@@ -42,16 +42,16 @@ impl<'a> Model for Line<'a> {
 fn are_read(nodes: &[Node<'_>]) -> bool
     ensures { result ≡ fits MAX_DEPTH (map node_token nodes.now) }
 {
-    let mut room = MAX_DEPTH;
+    let mut depth_left = MAX_DEPTH;
     for node in nodes {
         match *node {
             Node::Object(_) | Node::Array(_) => {
-                if room == 0 {
+                if depth_left == 0 {
                     return false;
                 }
-                room -= 1;
+                depth_left -= 1;
             }
-            Node::EndObject | Node::EndArray => room = room.saturating_add(1),
+            Node::EndObject | Node::EndArray => depth_left = depth_left.saturating_add(1),
             Node::Number(text) => {
                 if number_of(text).is_none() {
                     return false;

@@ -29,9 +29,9 @@ use Rattle.sq_model.specs.declared.task.NamedQueue.{NamedQueue}
 use Rattle.sq_model.specs.declared.task.Task.{Task}
 use Rattle.sq_model.specs.Directories.{Directory, DirectoryStep, agrees, attributes_at, changed_queue, deleted_recently, may_have, new_queue, purged_recently, queue_of, queues_without, settings_at}
 use Rattle.sq_model.specs.Homes.{Closed, Contents, MayHoldOneMore, Home, HomeStep, IsFrom, Serving, Unopened, counts_of, dead_target, entered_row, fresh_id, last_serial, may_enter, may_return, returned_row, sent_row, slots}
-use Rattle.sq_model.specs.Ledgers.{HasRoom, Ledger, LedgerStep, MayTake, changed_for, changed_task, in_transit, is_active_at, is_of_source, is_own, item_of, items_without, last_number, most_active, task_of, tasks_of, turned_if}
+use Rattle.sq_model.specs.Ledgers.{TakesOneMore, Ledger, LedgerStep, MayTake, changed_for, changed_task, in_transit, is_active_at, is_of_source, is_own, item_of, items_without, last_number, most_active, task_of, tasks_of, turned_if}
 use Rattle.sq_model.specs.Replays.{HomeEvent}
-use Rattle.sq_model.specs.Rows.{RisesFrom, Takes, is_dead, is_free, is_live, ms, received, received_if, room, serials_of, unexpired, without}
+use Rattle.sq_model.specs.Rows.{RisesFrom, Takes, is_dead, is_free, is_live, ms, received, received_if, flights_left, serials_of, unexpired, without}
 use Rattle.sq_model.specs.Systems.{HomeAt, IsRun, IsStep, LedgerGoes, MomentsRise, OfDirectory, OfHome, OfLedger, RunFrom, System, Tag, is_alone, opening, stamp_of, Opening}
 use Rattle.sq_model.specs.Tasks.{cancelled_as, destination_or, failed_as, finished_as, is_active, is_running, may_leave, new_task, target_of, with_back, with_dropped, with_left, with_moved, with_status}
 use Rattle.sq_model.proofs.RowLaws.{first_is_look, rises_unexpired}
@@ -53,11 +53,11 @@ held_more l next slot rows h =
     let within = and_both _ _ left.1 in
     record { not_worn = under _ _ worn.0; slot_left = under _ _ left.0; within = under _ _ within.0; free = within.1 }
 
-abbrev pub has_room : Ledger → Bool
-has_room l = nat_lt l.next_item last_number && nat_lt (length l.items) l.limit
+abbrev pub takes_one_more : Ledger → Bool
+takes_one_more l = nat_lt l.next_item last_number && nat_lt (length l.items) l.limit
 
-room_there : (l : Ledger) → has_room l ≡ true → HasRoom l
-room_there l h = let both = and_both _ _ h in record { not_worn = under _ _ both.0; within = under _ _ both.1 }
+one_more_fits : (l : Ledger) → takes_one_more l ≡ true → TakesOneMore l
+one_more_fits l h = let both = and_both _ _ h in record { not_worn = under _ _ both.0; within = under _ _ both.1 }
 
 -- serials rise from low on, below the next one
 abbrev pub is_risen : ℕ → List Row → ℕ → Bool
@@ -137,15 +137,15 @@ module _ (site : Site) (its : Contents) (l : Ledger) (e : HomeEvent) where
   abbrev pub looks : ℕ → Option ℕ → Outcome
   looks max timeout =
       let until = e.stamp.moment + ms (unwrap_or timeout its.settings.timeout) in
-      let picked = take (min max (room site.limits.flights e.stamp.moment kept)) (map (received e.stamp.moment until) (filter (is_live its.settings e.stamp.moment) kept)) in
-      alone (is_risen 0 its.rows its.next && nat_lt 0 (room site.limits.flights e.stamp.moment kept)) (asks.Look max timeout) (Looked picked) (map (received_if its.settings (serials_of picked) e.stamp.moment until) kept)
+      let picked = take (min max (flights_left site.limits.flights e.stamp.moment kept)) (map (received e.stamp.moment until) (filter (is_live its.settings e.stamp.moment) kept)) in
+      alone (is_risen 0 its.rows its.next && nat_lt 0 (flights_left site.limits.flights e.stamp.moment kept)) (asks.Look max timeout) (Looked picked) (map (received_if its.settings (serials_of picked) e.stamp.moment until) kept)
 
   looked : (max : ℕ) (timeout : Option ℕ) → (looks max timeout).done ≡ true → IsDone site (Serving its) l e (looks max timeout)
   unfolding HomeStep
   looked max timeout h =
       let both = and_both _ _ h in
       let until = e.stamp.moment + ms (unwrap_or timeout its.settings.timeout) in
-      let most = min max (room site.limits.flights e.stamp.moment kept) in
+      let most = min max (flights_left site.limits.flights e.stamp.moment kept) in
       record { step = (λ live. under _ _ both.1, first_is_look its.settings e.stamp.moment until most kept its.next (rises_unexpired its.settings e.stamp.moment 0 its.rows its.next (risen 0 its.rows its.next both.0)), refl); in_ledger = refl }
 
   abbrev pub leaving : Row → ℕ → Reason → Item
@@ -156,7 +156,7 @@ module _ (site : Site) (its : Contents) (l : Ledger) (e : HomeEvent) where
 
   abbrev pub dead_leaves : Option ℕ → Option Row → Outcome
   dead_leaves (Some target) (Some row) = record {
-    done = has_room l;
+    done = takes_one_more l;
     call = asks.LeaveDead;
     reply = Left (leaving row target DeadLetter);
     home = Serving (record its { rows = rest_of (is_dead its.settings e.stamp.moment) kept });
@@ -169,7 +169,7 @@ module _ (site : Site) (its : Contents) (l : Ledger) (e : HomeEvent) where
   dead_left (Some target) (Some row) to is h =
       let t = first_taken (is_dead its.settings e.stamp.moment) kept row is in
       let from : IsFrom site.home DeadLetter (leaving row target DeadLetter) = record { from = refl; because = refl; forward = refl } in
-      record { step = (from, sym to, t.1, (_, t.0, refl)); in_ledger = (from, (room_there l h, refl, refl)) }
+      record { step = (from, sym to, t.1, (_, t.0, refl)); in_ledger = (from, (one_more_fits l h, refl, refl)) }
   dead_left (Some target) None to is h = absurd cc
   dead_left None found to is h = absurd cc
 
@@ -186,7 +186,7 @@ module _ (site : Site) (its : Contents) (l : Ledger) (e : HomeEvent) where
 
   abbrev pub leaves_to : ℕ → Task → Row → ℕ → Outcome
   leaves_to number task row target = record {
-    done = takes task && has_room l;
+    done = takes task && takes_one_more l;
     call = asks.LeaveTask number;
     reply = Left (leaving row target (ForTask number));
     home = Serving (record its { rows = rest_of (is_live its.settings e.stamp.moment) kept });
@@ -201,13 +201,13 @@ module _ (site : Site) (its : Contents) (l : Ledger) (e : HomeEvent) where
       let may = may_take number task there both.0 in
       let t = first_taken (is_live its.settings e.stamp.moment) kept row is in
       let from : IsFrom site.home (ForTask number) (leaving row target (ForTask number)) = record { from = refl; because = refl; forward = refl } in
-      record { step = (from, t.1, (_, t.0, refl)); in_ledger = (from, (task, may.0, may.1, to), (room_there l both.1, refl, refl)) }
+      record { step = (from, t.1, (_, t.0, refl)); in_ledger = (from, (task, may.0, may.1, to), (one_more_fits l both.1, refl, refl)) }
 
   abbrev pub row_leaves : ℕ → Task → Row → Option NamedQueue → Option ℕ → Outcome
   row_leaves number task row (Some queue) origin = leaves_to number task row queue.number
   row_leaves number task row None (Some queue) = leaves_to number task row queue
   row_leaves number task row None None = record {
-    done = takes task && has_room l;
+    done = takes task && takes_one_more l;
     call = asks.LeaveTask number;
     reply = NoOrigin row.serial;
     home = Serving (record its { rows = kept });
@@ -223,7 +223,7 @@ module _ (site : Site) (its : Contents) (l : Ledger) (e : HomeEvent) where
       let both = and_both _ _ h in
       let may = may_take number task there both.0 in
       let t = first_taken (is_live its.settings e.stamp.moment) kept row is in
-      record { step = ((row, _, t.0, t.1, refl, o), refl); in_ledger = ((task, may.0, may.1, d), room_there l both.1, refl) }
+      record { step = ((row, _, t.0, t.1, refl, o), refl); in_ledger = ((task, may.0, may.1, d), one_more_fits l both.1, refl) }
 
   abbrev pub task_leaves : ℕ → Option Task → Option Row → Outcome
   task_leaves number None found = not_done (asks.LeaveTask number) (Serving its) l

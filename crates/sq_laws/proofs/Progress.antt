@@ -13,7 +13,7 @@ use Rattle.sq_model.specs.declared.calls.HomeCall.{HomeCall}
 use Rattle.sq_model.specs.declared.calls.HomeCall.TheVariants.{Configure, Close, Send, Look, Delete, Change, Purge, Count, LeaveDead, LeaveTask, Enter, TurnBack, GiveBack, Drop}
 use Rattle.sq_model.specs.declared.replies.HomeReply.{HomeReply}
 use Rattle.sq_model.specs.declared.replies.HomeReply.TheVariants.{Done, Sent, Looked, Over, Counted, Left, NoLiveRow, SourceClosed, Entered}
-use Rattle.sq_model.specs.Rows.{ms, RisesFrom, is_dead, is_live, is_spent, room, received, Takes}
+use Rattle.sq_model.specs.Rows.{ms, RisesFrom, is_dead, is_live, is_spent, flights_left, received, Takes}
 use Rattle.sq_model.specs.Homes.{Contents, Home, Unopened, Serving, Closed, HomeStep, home_refusal, full_refusal, refused_if, MayHoldOneMore, HasSlot, IsRising, IsIdle, last_serial, slots, fresh_id, counts_of, dead_target, unexpired_rows}
 use Rattle.sq_model.proofs.RowLaws.{first_is_look, rises_unexpired}
 use Rattle.sq_model.proofs.SlotLaws.{free_slot, not_false}
@@ -59,17 +59,17 @@ has_target None false row h = absurd cc
 has_target (Some redrive) visible row h = (redrive.target, refl)
 
 looked : (site : Site) (its : Contents) (m max : ℕ) (timeout : Option ℕ) → RisesFrom 0 its.rows its.next
-    → (list_any (is_live its.settings m) (unexpired_rows its m) ≡ true → 0 < room site.limits.flights m (unexpired_rows its m)) → Possible site (Serving its) m (Look max timeout)
+    → (list_any (is_live its.settings m) (unexpired_rows its m) ≡ true → 0 < flights_left site.limits.flights m (unexpired_rows its m)) → Possible site (Serving its) m (Look max timeout)
 unfolding HomeStep
 looked site its m max timeout r some =
     let until = m + ms (unwrap_or timeout its.settings.timeout) in
-    let most = min max (room site.limits.flights m (unexpired_rows its m)) in
+    let most = min max (flights_left site.limits.flights m (unexpired_rows its m)) in
     (Looked (take most (map (received m until) (filter (is_live its.settings m) (unexpired_rows its m)))), _, tt, (some, first_is_look its.settings m until most (unexpired_rows its m) its.next (rises_unexpired its.settings m 0 its.rows its.next r), refl))
 
 look_possible : (site : Site) (its : Contents) (m max : ℕ) (timeout : Option ℕ) → RisesFrom 0 its.rows its.next → Possible site (Serving its) m (Look max timeout)
 unfolding HomeStep
 look_possible site its m max timeout r =
-    let left = room site.limits.flights m (unexpired_rows its m) in
+    let left = flights_left site.limits.flights m (unexpired_rows its m) in
     let live = list_any (is_live its.settings m) (unexpired_rows its m) in
     elim left as (λ k. left ≡ k → Possible site (Serving its) m (Look max timeout)) [
       | zero ↦ (λ e. elim live as (λ b. live ≡ b → Possible site (Serving its) m (Look max timeout))

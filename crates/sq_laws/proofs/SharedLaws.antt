@@ -23,7 +23,7 @@ use Rattle.sq_model.specs.declared.task.Task.{Task}
 use Rattle.sq_model.specs.Rows.{Takes, is_dead, is_live}
 use Rattle.sq_model.specs.Homes.{Contents, Home, Unopened, Serving, Closed, HasSlot, HomeStep, IsFrom, home_refusal, may_enter, may_return, unexpired_rows}
 use Rattle.sq_model.specs.Tasks.{destination_or, is_running, may_leave, target_of}
-use Rattle.sq_model.specs.Ledgers.{HasRoom, Ledger, LedgerStep, MayTake, is_of_source, item_of, room_refusal, task_of}
+use Rattle.sq_model.specs.Ledgers.{TakesOneMore, Ledger, LedgerStep, MayTake, is_of_source, item_of, transit_refusal, task_of}
 use Rattle.sq_model.specs.Shared.{IsCallOf, HasSharedStep, IsUnrecorded, SharedStep, after_given, is_entering, is_returning, is_throttled, shared_refusal, shared_stamp, task_refusal}
 use Rattle.sq_base.proofs.StampLaws.{after_above, after_moment, below_trans}
 use Rattle.sq_laws.proofs.LedgerLists.{found_number, some_same}
@@ -33,8 +33,8 @@ use Rattle.sq_model.proofs.SlotLaws.{not_false}
 
 -- ---- only where no check fails
 
-room_left : (l : Ledger) → HasRoom l → room_refusal l ≡ None
-room_left l h = rw (below _ _ h.not_worn, below _ _ h.within) refl
+one_more_passes : (l : Ledger) → TakesOneMore l → transit_refusal l ≡ None
+one_more_passes l h = rw (below _ _ h.not_worn, below _ _ h.within) refl
 
 either : (b : Bool) (refusal : Option Refusal) → refusal ≡ None → (if b then refusal else None) ≡ None
 either true refusal e = e
@@ -54,15 +54,15 @@ takes_from site l number task later h e = rw (h.found, h.running, h.of_source, e
 allowed_leave_dead : (site : Site) (home : Home) (l : Ledger) (m : ℕ) (reply : HomeReply) (after : Home) (later : Ledger) → HomeStep site home m asks.LeaveDead reply after
     → LedgerStep l m (CallAtHome site.home asks.LeaveDead) (ReplyAtHome reply) later → shared_refusal site home l m LeaveDead ≡ None
 unfolding HomeStep LedgerStep shared_refusal
-allowed_leave_dead site (Serving its) l m (Left item) after later h k = either _ _ (room_left l k.1.0)
+allowed_leave_dead site (Serving its) l m (Left item) after later h k = either _ _ (one_more_passes l k.1.0)
 allowed_leave_dead site home l m reply after later h k = elim h [ ]
 
 allowed_leave_task : (site : Site) (home : Home) (l : Ledger) (m number : ℕ) (reply : HomeReply) (after : Home) (later : Ledger) → HomeStep site home m (asks.LeaveTask number) reply after
     → LedgerStep l m (CallAtHome site.home (asks.LeaveTask number)) (ReplyAtHome reply) later → shared_refusal site home l m (LeaveTask number) ≡ None
 unfolding HomeStep LedgerStep shared_refusal
-allowed_leave_task site (Serving its) l m number (Left item) after later h k = takes_from site l number k.1.0 _ k.1.1 (either _ _ (room_left l k.2.0))
+allowed_leave_task site (Serving its) l m number (Left item) after later h k = takes_from site l number k.1.0 _ k.1.1 (either _ _ (one_more_passes l k.2.0))
 allowed_leave_task site (Serving its) l m number NoLiveRow after later h k = takes_from site l number k.0.0 _ k.0.1 (not_asked _ _ (and_not _ _ h.0))
-allowed_leave_task site (Serving its) l m number (NoOrigin serial) after later h k = takes_from site l number k.0.0 _ k.0.1 (either _ _ (room_left l k.1))
+allowed_leave_task site (Serving its) l m number (NoOrigin serial) after later h k = takes_from site l number k.0.0 _ k.0.1 (either _ _ (one_more_passes l k.1))
 allowed_leave_task site Closed l m number SourceClosed after later h k = takes_from site l number k.0.0 _ k.0.1 refl
 allowed_leave_task site home l m number reply after later h k = elim h [ ]
 
@@ -111,8 +111,8 @@ shared_allowed site home l m (Drop number) call reply after later is s = item_al
 
 -- ---- and where none does it can be done
 
-room_for : (l : Ledger) → room_refusal l ≡ None → HasRoom l
-room_for l h = let worn = passed _ _ _ h in record { not_worn = above _ _ worn.0; within = above _ _ (passed _ _ _ worn.1).0 }
+one_more_fits : (l : Ledger) → transit_refusal l ≡ None → TakesOneMore l
+one_more_fits l h = let worn = passed _ _ _ h in record { not_worn = above _ _ worn.0; within = above _ _ (passed _ _ _ worn.1).0 }
 
 -- an item that is found is found by its own number too
 pub by_its_number : (number : ℕ) (l : Ledger) (item : Item) → item_of number l ≡ Some item → item_of item.number l ≡ Some item
@@ -124,7 +124,7 @@ goes_on : (site : Site) (home : Home) (l : Ledger) (m : ℕ) (act : SharedAct) (
 goes_on site home l m act call reply after l_after is slot at_home in_ledger =
     inr (record { call = call; reply = reply; after = after; l_after = l_after; is_asked = is; slot = slot; step = record { at_home = at_home; in_ledger = in_ledger } })
 
-dead_goes : (site : Site) (its : Contents) (l : Ledger) (m : ℕ) (b : Bool) → list_any (is_dead its.settings m) (unexpired_rows its m) ≡ b → (if b then room_refusal l else None) ≡ None
+dead_goes : (site : Site) (its : Contents) (l : Ledger) (m : ℕ) (b : Bool) → list_any (is_dead its.settings m) (unexpired_rows its m) ≡ b → (if b then transit_refusal l else None) ≡ None
     → IsUnrecorded site (Serving its) l m LeaveDead ⊎ HasSharedStep site (Serving its) l m LeaveDead
 unfolding HomeStep LedgerStep
 dead_goes site its l m false e h = inl e
@@ -133,13 +133,13 @@ dead_goes site its l m true e h =
     let target = has_target its.settings.redrive _ t.0 t.3 in
     let item : Item = record { number = l.next_item; row = t.0; source = site.home.queue; target = target.0; reason = DeadLetter; homeward = false } in
     let from : IsFrom site.home DeadLetter item = record { from = refl; because = refl; forward = refl } in
-    goes_on site (Serving its) l m LeaveDead asks.LeaveDead (Left item) _ _ refl tt (from, target.1, t.3, (t.1, t.2, refl)) (from, (room_for l h, refl, refl))
+    goes_on site (Serving its) l m LeaveDead asks.LeaveDead (Left item) _ _ refl tt (from, target.1, t.3, (t.1, t.2, refl)) (from, (one_more_fits l h, refl, refl))
 
 -- a live row leaves for a task, where it has somewhere to go, and else the task fails
-leaves_to : (site : Site) (its : Contents) (l : Ledger) (m number : ℕ) (task : Task) → MayTake l site.home.queue number task → may_leave m task ≡ true → HasRoom l
+leaves_to : (site : Site) (its : Contents) (l : Ledger) (m number : ℕ) (task : Task) → MayTake l site.home.queue number task → may_leave m task ≡ true → TakesOneMore l
     → (row : Row) (rest : List Row) → Takes row (unexpired_rows its m) rest → is_live its.settings m row ≡ true → (target : ℕ) → Some target ≡ target_of task row → HasSharedStep site (Serving its) l m (LeaveTask number)
 unfolding HomeStep LedgerStep
-leaves_to site its l m number task may pace room row rest t live target e =
+leaves_to site its l m number task may pace fits row rest t live target e =
     let item : Item = record { number = l.next_item; row = row; source = site.home.queue; target = target; reason = ForTask number; homeward = false } in
     record {
       call = asks.LeaveTask number;
@@ -150,25 +150,25 @@ leaves_to site its l m number task may pace room row rest t live target e =
       slot = tt;
       step = record {
         at_home = (record { from = refl; because = refl; forward = refl }, live, (rest, t, refl));
-        in_ledger = (record { from = refl; because = refl; forward = refl }, (task, may, pace, e), (room, refl, refl));
+        in_ledger = (record { from = refl; because = refl; forward = refl }, (task, may, pace, e), (fits, refl, refl));
       };
     }
 
-row_goes : (site : Site) (its : Contents) (l : Ledger) (m number : ℕ) (task : Task) → MayTake l site.home.queue number task → may_leave m task ≡ true → HasRoom l
+row_goes : (site : Site) (its : Contents) (l : Ledger) (m number : ℕ) (task : Task) → MayTake l site.home.queue number task → may_leave m task ≡ true → TakesOneMore l
     → (row : Row) (rest : List Row) → Takes row (unexpired_rows its m) rest → is_live its.settings m row ≡ true → (destination : Option NamedQueue) (origin : Option ℕ) → task.destination ≡ destination → row.origin ≡ origin
     → HasSharedStep site (Serving its) l m (LeaveTask number)
 unfolding HomeStep LedgerStep
-row_goes site its l m number task may pace room row rest t live None None d o = record {
+row_goes site its l m number task may pace fits row rest t live None None d o = record {
   call = asks.LeaveTask number;
   reply = NoOrigin row.serial;
   after = _;
   l_after = _;
   is_asked = refl;
   slot = tt;
-  step = record { at_home = ((row, rest, t, live, refl, o), refl); in_ledger = ((task, may, pace, d), room, refl) };
+  step = record { at_home = ((row, rest, t, live, refl, o), refl); in_ledger = ((task, may, pace, d), fits, refl) };
 }
-row_goes site its l m number task may pace room row rest t live None (Some queue) d o = leaves_to site its l m number task may pace room row rest t live queue (sym (ap (λ (x : Option NamedQueue). destination_or x row.origin) d ∙ o))
-row_goes site its l m number task may pace room row rest t live (Some queue) origin d o = leaves_to site its l m number task may pace room row rest t live queue.number (sym (ap (λ (x : Option NamedQueue). destination_or x row.origin) d))
+row_goes site its l m number task may pace fits row rest t live None (Some queue) d o = leaves_to site its l m number task may pace fits row rest t live queue (sym (ap (λ (x : Option NamedQueue). destination_or x row.origin) d ∙ o))
+row_goes site its l m number task may pace fits row rest t live (Some queue) origin d o = leaves_to site its l m number task may pace fits row rest t live queue.number (sym (ap (λ (x : Option NamedQueue). destination_or x row.origin) d))
 
 pub and_both : (a b : Bool) → (a && b) ≡ true → (a ≡ true) × (b ≡ true)
 and_both true b h = (refl, h)
@@ -188,7 +188,7 @@ is_false true e = absurd cc
 is_false false e = refl
 
 task_goes : (site : Site) (its : Contents) (l : Ledger) (m number : ℕ) (task : Task) → MayTake l site.home.queue number task → (throttled live : Bool) → is_throttled m (task_of number l) ≡ throttled
-    → list_any (is_live its.settings m) (unexpired_rows its m) ≡ live → (if not throttled && live then room_refusal l else None) ≡ None → IsUnrecorded site (Serving its) l m (LeaveTask number) ⊎ HasSharedStep site (Serving its) l m (LeaveTask number)
+    → list_any (is_live its.settings m) (unexpired_rows its m) ≡ live → (if not throttled && live then transit_refusal l else None) ≡ None → IsUnrecorded site (Serving its) l m (LeaveTask number) ⊎ HasSharedStep site (Serving its) l m (LeaveTask number)
 unfolding HomeStep LedgerStep
 task_goes site its l m number task may true live e f h = inl (task, may, is_false (may_leave m task) (ap (is_throttled m) (sym may.found) ∙ e))
 task_goes site its l m number task may false false e f h =
@@ -197,7 +197,7 @@ task_goes site its l m number task may false false e f h =
 task_goes site its l m number task may false true e f h =
     let pace : may_leave m task ≡ true = not_false _ (ap (is_throttled m) (sym may.found) ∙ e) in
     let t = takes_one (is_live its.settings m) (unexpired_rows its m) f in
-    inr (row_goes site its l m number task may pace (room_for l h) t.0 t.1 t.2 t.3 task.destination t.0.origin refl refl)
+    inr (row_goes site its l m number task may pace (one_more_fits l h) t.0 t.1 t.2 t.3 task.destination t.0.origin refl refl)
 
 -- an item that may enter is there
 entering_item : (site : Site) (l : Ledger) (number : ℕ) (found : Option Item) → item_of number l ≡ found → is_entering site.home found ≡ true → (item : Item) × (item_of number l ≡ Some item) × (may_enter site.home item ≡ true)

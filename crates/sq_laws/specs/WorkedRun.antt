@@ -216,5 +216,5 @@ full_run = until_full
     ∷ of_first 31000 4 0 9 (Look 1 None) (Looked (once_received 31000 letter_y ∷ []))
     ∷ []
 
-abbrev pub after_room : System
-after_room = narrow_system one_moved (with_rows plain 2 (once_received 31000 letter_y ∷ [])) (with_rows strict 1 [])
+abbrev pub after_waiting : System
+after_waiting = narrow_system one_moved (with_rows plain 2 (once_received 31000 letter_y ∷ [])) (with_rows strict 1 [])

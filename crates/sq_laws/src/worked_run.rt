@@ -11,7 +11,7 @@ ghost use Rattle.sq_model.specs.Places.{homes_with, place_in, run_ends, run_send
 ghost use Rattle.sq_model.specs.Shared.{shared_refusal, shared_stamp};
 ghost use Rattle.sq_model.specs.Systems.{IsRun, opening};
 ghost use Rattle.sq_laws.specs.Worked.{worked_id, plain, with_rows};
-ghost use Rattle.sq_laws.specs.WorkedRun.{IsWorked, after_all, after_back, after_drop, after_full, after_leave, after_receive, after_room, back_run, both_sites, dropped_run, full_run, message_x, narrow_letters, narrow_sites, stamp, until_dead, until_full, until_left, worked_run, opened_for};
+ghost use Rattle.sq_laws.specs.WorkedRun.{IsWorked, after_all, after_back, after_drop, after_full, after_leave, after_receive, after_waiting, back_run, both_sites, dropped_run, full_run, message_x, narrow_letters, narrow_sites, stamp, until_dead, until_full, until_left, worked_run, opened_for};
 
 /// Two queues are made and opened; a message is sent, received once, and is dead at 31,000. It leaves, comes in and is received again.
 /// At each point it is in one place. A step of a home and the ledger is stamped above both and above what its actor had seen.
@@ -44,7 +44,7 @@ pub fn a_dead_letter_without_a_queue_is_dropped()
 /// Where a home holds one message at most, a dead letter does not come in while another one is there. Once that one is received and
 /// deleted, it does.
 pub fn a_dead_letter_waits_for_room()
-    ensures run { IsRun (opened_for 64 narrow_sites) full_run after_room }
+    ensures run { IsRun (opened_for 64 narrow_sites) full_run after_waiting }
     ensures until { IsRun (opened_for 64 narrow_sites) until_full after_full }
     ensures full { shared_refusal narrow_letters (with_rows plain 1 (message_x ∷ [])) after_full.ledger 31000 (Enter 1) ≡ Some OverLimit }
 {}

@@ -24,7 +24,7 @@ use Rattle.sq_model.specs.declared.shared.ItemAct.{ItemAct}
 use Rattle.sq_model.specs.declared.shared.ItemAct.TheVariants.{Enter, TurnBack, GiveBack, Drop}
 use Rattle.sq_model.specs.declared.task.FailureReason.TheVariants as because
 use Rattle.sq_model.specs.declared.task.Task.{Task}
-use Rattle.sq_model.specs.Ledgers.{Ledger, LedgerEvent, LedgerStep, HasRoom, HasTask, IsLedger, IsTask, LeftBelow, changed_for, has_number, in_transit, is_for, is_own, is_task, items_without, last_number, opening_ledger, room_refusal, turned_if, ItemsRise}
+use Rattle.sq_model.specs.Ledgers.{Ledger, LedgerEvent, LedgerStep, TakesOneMore, HasTask, IsLedger, IsTask, LeftBelow, changed_for, has_number, in_transit, is_for, is_own, is_task, items_without, last_number, opening_ledger, transit_refusal, turned_if, ItemsRise}
 use Rattle.sq_model.specs.RecordValues.{LedgerRecordValue}
 use Rattle.sq_model.specs.Replays.{Replays, StampsRise}
 use Rattle.sq_model.specs.Systems.{AreLedger, NamesItsPart}
@@ -34,7 +34,7 @@ use Rattle.sq_laws.proofs.LedgerLists.{found_number, found_of_all, items_low, ma
 use Rattle.sq_laws.proofs.LedgerLaws.{ledger_holds}
 use Rattle.sq_task.specs.Counts.{unsettled}
 use Rattle.sq_log.specs.LogValue.{LogValue}
-use Rattle.sq_log.specs.Rooms.{GrowingValue, KeepsRoom}
+use Rattle.sq_log.specs.Spares.{GrowingValue, KeepsSpare}
 use Rattle.sq_ledger.specs.declared.tasks.TaskChange.TheVariants as to
 use Rattle.sq_ledger.specs.inside.ItemMoves.{change_by, tasks_without}
 use Rattle.sq_ledger.specs.LedgerHistory.{LedgerHistory, history_of, items_after, ledger_with}
@@ -72,14 +72,14 @@ pub for_reason : (items : List Item) (next : ℕ) (tasks : List Task) (limit : �
 for_reason items next tasks limit reason f = next_is items next (changed_for reason f tasks) limit (length tasks + 1) (ap (λ (n : ℕ). n + 1) (as_many reason f tasks))
 
 pub taken_in : (items : List Item) (next : ℕ) (tasks : List Task) (limit m : ℕ) (home : HomeId) (call : HomeCall) (reply : HomeReply) (item : Item)
-    → HasRoom (ledger_with items next tasks limit) → item.number ≡ next → IsLeaving (ledger_with items next tasks limit) m home call item → reply ≡ Left item
+    → TakesOneMore (ledger_with items next tasks limit) → item.number ≡ next → IsLeaving (ledger_with items next tasks limit) m home call item → reply ≡ Left item
     → LedgerStep (ledger_with items next tasks limit) m (asks.AtHome home call) (answers.AtHome reply) (ledger_with (items ++ item ∷ []) (next + 1) (changed_for item.reason (changed_by (to.Left m)) tasks) limit)
 unfolding LedgerStep
-taken_in items next tasks limit m home LeaveDead reply item room number leaves is_left =
-    rw is_left (leaves, (room, number, ap (λ (r : Reason). ledger_with (items ++ item ∷ []) (next + 1) (changed_for r (with_left m) tasks) limit) leaves.because))
-taken_in items next tasks limit m home (LeaveTask task) reply item room number leaves is_left =
-    rw is_left (leaves.0, leaves.1, (room, number, ap (λ (r : Reason). ledger_with (items ++ item ∷ []) (next + 1) (changed_for r (with_left m) tasks) limit) leaves.0.because ∙ for_reason (items ++ item ∷ []) (next + 1) tasks limit (ForTask task) (with_left m)))
-taken_in items next tasks limit m home call reply item room number leaves is_left = elim leaves [ ]
+taken_in items next tasks limit m home LeaveDead reply item spare number leaves is_left =
+    rw is_left (leaves, (spare, number, ap (λ (r : Reason). ledger_with (items ++ item ∷ []) (next + 1) (changed_for r (with_left m) tasks) limit) leaves.because))
+taken_in items next tasks limit m home (LeaveTask task) reply item spare number leaves is_left =
+    rw is_left (leaves.0, leaves.1, (spare, number, ap (λ (r : Reason). ledger_with (items ++ item ∷ []) (next + 1) (changed_for r (with_left m) tasks) limit) leaves.0.because ∙ for_reason (items ++ item ∷ []) (next + 1) tasks limit (ForTask task) (with_left m)))
+taken_in items next tasks limit m home call reply item spare number leaves is_left = elim leaves [ ]
 
 pub none_taken : (items : List Item) (next : ℕ) (tasks : List Task) (limit m : ℕ) (home : HomeId) (number : ℕ) (call : HomeCall) (reply : HomeReply) → IsNoneLeft (ledger_with items next tasks limit) m home number call reply
     → LedgerStep (ledger_with items next tasks limit) m (asks.AtHome home call) (answers.AtHome reply) (ledger_with items next (tasks_without number reply tasks) limit)
@@ -150,14 +150,14 @@ no_reason reason number dead is = let k : DeadLetter ≡ ForTask number = sym de
 same_number : (a b : ℕ) (reason : Reason) → reason ≡ ForTask a → reason ≡ ForTask b → a ≡ b
 same_number a b reason first second = let k : ForTask a ≡ ForTask b = sym first ∙ second in cc
 
-leaves_of : (l : Ledger) → IsLedger l → (m : ℕ) (home : HomeId) (call : HomeCall) (item : Item) → HasRoom l → IsLeaving l m home call item → MayChangeFor (to.Left m) item.reason l.tasks
-leaves_of l h m home LeaveDead item room leaves number reason = absurd (no_reason item.reason number leaves.because reason)
-leaves_of l h m home (LeaveTask asked) item room leaves number reason =
+leaves_of : (l : Ledger) → IsLedger l → (m : ℕ) (home : HomeId) (call : HomeCall) (item : Item) → TakesOneMore l → IsLeaving l m home call item → MayChangeFor (to.Left m) item.reason l.tasks
+leaves_of l h m home LeaveDead item spare leaves number reason = absurd (no_reason item.reason number leaves.because reason)
+leaves_of l h m home (LeaveTask asked) item spare leaves number reason =
     let same = same_number asked number item.reason leaves.0.because reason in
     let may = leaves.1.1 in
     let below = found_of_all (LeftBelow l.next_item) (is_task asked) l.tasks leaves.1.0 h.left_below may.found in
-    (leaves.1.0, subst (λ (n : ℕ). find (is_task n) l.tasks ≡ Some leaves.1.0) same may.found, (may.running, leaves.1.2, omega (arith, below, room.not_worn)))
-leaves_of l h m home call item room leaves number reason = elim leaves [ ]
+    (leaves.1.0, subst (λ (n : ℕ). find (is_task n) l.tasks ≡ Some leaves.1.0) same may.found, (may.running, leaves.1.2, omega (arith, below, spare.not_worn)))
+leaves_of l h m home call item spare leaves number reason = elim leaves [ ]
 
 -- ---- the history
 
@@ -180,9 +180,9 @@ kept_more old new by stamp home call reply kept same rising shares =
 -- a step that leaves these items and tasks, with its event
 pub one_more : (items left : List Item) (next after : ℕ) (tasks changed : GrowingValue Task) (limit : ℕ) (log new : LogValue LedgerCall LedgerReply) (by : Actor) (stamp : StampValue) (home : HomeId) (call : HomeCall) (reply : HomeReply)
     → LedgerStep (ledger_with items next tasks.items limit) stamp.moment (asks.AtHome home call) (answers.AtHome reply) (ledger_with left after changed.items limit)
-    → new.last ≡ stamp → new.events ≡ log.events ++ shared_event stamp by home call reply ∷ [] → KeepsRoom log.room new.room → changed.room ≡ tasks.room
+    → new.last ≡ stamp → new.events ≡ log.events ++ shared_event stamp by home call reply ∷ [] → KeepsSpare log.spare new.spare → changed.spare ≡ tasks.spare
     → LedgerShares (history_of items next tasks limit log) (history_of left after changed limit new) by stamp home call reply
-one_more items left next after tasks changed limit log new by stamp home call reply step last events room task_room = record { step = step; last = last; events = events; room = room; task_room = task_room }
+one_more items left next after tasks changed limit log new by stamp home call reply step last events spare spare_tasks = record { step = step; last = last; events = events; spare = spare; spare_tasks = spare_tasks }
 
 names_it : (call : LedgerCall) → is_own call ≡ true → NamesItsPart call part.Ledger
 names_it (asks.AtHome home call) own = absurd cc
@@ -213,16 +213,16 @@ pub items_stand : (h : LedgerHistory) → IsLedgerKept h → ItemsRise 1 h.ledge
 items_stand h kept = (holds h kept).items_rise
 
 -- an item that comes in may be counted for its task, and one that is moved may be counted off
-pub may_leave_for : (h : LedgerHistory) → IsLedgerKept h → (m : ℕ) (home : HomeId) (call : HomeCall) (item : Item) → HasRoom h.ledger → IsLeaving h.ledger m home call item → MayChangeFor (to.Left m) item.reason h.ledger.tasks
-may_leave_for h kept m home call item room leaves = leaves_of h.ledger (holds h kept) m home call item room leaves
+pub may_leave_for : (h : LedgerHistory) → IsLedgerKept h → (m : ℕ) (home : HomeId) (call : HomeCall) (item : Item) → TakesOneMore h.ledger → IsLeaving h.ledger m home call item → MayChangeFor (to.Left m) item.reason h.ledger.tasks
+may_leave_for h kept m home call item spare leaves = leaves_of h.ledger (holds h kept) m home call item spare leaves
 
 pub may_move_for : (h : LedgerHistory) → IsLedgerKept h → (number : ℕ) (item : Item) (act : ItemAct) → find (has_number number) h.ledger.items ≡ Some item → MayChangeFor (change_by act) item.reason h.ledger.tasks
 may_move_for h kept number item act found = moves_of h.ledger (holds h kept) number item act found
 
--- ---- room
+-- ---- spare memory
 
 -- where its next number is none of an item, the numbers are used up
-pub worn : (h : LedgerHistory) → IsLedgerKept h → (h.ledger.next_item ≡ 0) ⊎ (last_number ≤ h.ledger.next_item) → room_refusal h.ledger ≡ Some Worn
+pub worn : (h : LedgerHistory) → IsLedgerKept h → (h.ledger.next_item ≡ 0) ⊎ (last_number ≤ h.ledger.next_item) → transit_refusal h.ledger ≡ Some Worn
 worn h kept none =
     let low = items_low 1 h.ledger.items h.ledger.next_item (items_stand h kept) in
     let test : nat_le last_number h.ledger.next_item ≡ true = grind (arith, common_steps, low, none) in

@@ -26,9 +26,9 @@ use Rattle.sq_laws.proofs.Progress.{neither, passed}
 use Rattle.sq_task.specs.Counts.{settled, unsettled}
 use Rattle.sq_ledger.specs.declared.tasks.TaskChange.TheVariants as to
 use Rattle.sq_log.specs.LogValue.{LogValue}
-use Rattle.sq_log.specs.Rooms.{GrowingValue, KeepsRoom}
+use Rattle.sq_log.specs.Spares.{GrowingValue, KeepsSpare}
 use Rattle.sq_ledger.specs.LedgerHistory.{LedgerHistory, LedgerValue, history_of, ledger_with}
-use Rattle.sq_ledger.specs.LedgerHistories.{IsLedgerKept, IsLedgerRefused, KeepsTaskRoom, LedgerRecords, own_event}
+use Rattle.sq_ledger.specs.LedgerHistories.{IsLedgerKept, IsLedgerRefused, KeepsSpareTasks, LedgerRecords, own_event}
 use Rattle.sq_ledger.specs.inside.LedgerHistories.{MayStart, start_refusal}
 use Rattle.sq_ledger.specs.TaskIndexes.{MayChange, changed_by, newest, task_number}
 use Rattle.sq_ledger.proofs.LedgerLaws.{for_reason, holds, in_transit_of, next_is}
@@ -87,13 +87,13 @@ finished items next tasks limit m number may =
 -- the record of a step that leaves these tasks
 pub recorded_as : (items : List Item) (next : ℕ) (tasks changed : GrowingValue Task) (limit : ℕ) (log begun new : LogValue LedgerCall LedgerReply) (by : Actor) (now : ℕ) (stamp : StampValue) (call : LedgerCall) (reply : LedgerReply) (its_record : LedgerRecordValue)
     → after log.last by.seen now ≡ Ok stamp → LedgerStep (ledger_with items next tasks.items limit) stamp.moment call reply (ledger_with items next changed.items limit)
-    → begun.events ≡ log.events → begun.room ≡ log.room → new.last ≡ stamp → new.events ≡ begun.events ++ own_event stamp by call reply ∷ [] → KeepsRoom begun.room new.room → KeepsTaskRoom call tasks.room changed.room
+    → begun.events ≡ log.events → begun.spare ≡ log.spare → new.last ≡ stamp → new.events ≡ begun.events ++ own_event stamp by call reply ∷ [] → KeepsSpare begun.spare new.spare → KeepsSpareTasks call tasks.spare changed.spare
     → its_record ≡ record { place = by.place; stamp = stamp; index = length begun.events; call = call; reply = reply }
     → LedgerRecords (history_of items next tasks limit log) (history_of items next changed limit new) by now call its_record
-recorded_as items next tasks changed limit log begun new by now stamp call reply its_record stamped step same_events same_room last events room task_room is =
+recorded_as items next tasks changed limit log begun new by now stamp call reply its_record stamped step same_events same_spare last events spare spare_tasks is =
     let event = own_event stamp by call reply in
     let did : LedgerRecords (history_of items next tasks limit log) (history_of items next changed limit new) by now call (record_of (length log.events) event)
-    = record { stamped = stamped; step = step; last = last; events = rw same_events at events; room = rw same_room at room; task_room = task_room; record_is = refl } in
+    = record { stamped = stamped; step = step; last = last; events = rw same_events at events; spare = rw same_spare at spare; spare_tasks = spare_tasks; record_is = refl } in
     subst (λ (r : LedgerRecordValue). LedgerRecords (history_of items next tasks limit log) (history_of items next changed limit new) by now call r) (sym (is ∙ ap (λ (n : ℕ). record_of n event) (ap length same_events))) did
 
 -- it is refused where a check of it fails

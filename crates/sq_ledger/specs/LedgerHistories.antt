@@ -21,13 +21,13 @@ use Rattle.sq_model.specs.declared.shared.ItemAct.{ItemAct}
 use Rattle.sq_model.specs.declared.task.Task.{Task}
 use Rattle.sq_model.specs.Homes.{IsFrom}
 use Rattle.sq_model.specs.ItemActs.{IsItemReply, call_with, may_act}
-use Rattle.sq_model.specs.Ledgers.{HasRoom, Ledger, LedgerEvent, LedgerStep, MayTake, last_task, ledger_refusal, opening_ledger}
+use Rattle.sq_model.specs.Ledgers.{TakesOneMore, Ledger, LedgerEvent, LedgerStep, MayTake, last_task, ledger_refusal, opening_ledger}
 use Rattle.sq_model.specs.RecordValues.{LedgerRecordValue, record_of}
 use Rattle.sq_model.specs.Replays.{Replays, StampsRise}
 use Rattle.sq_model.specs.Systems.{AreLedger}
 use Rattle.sq_model.specs.Tasks.{may_leave, target_of}
 use Rattle.sq_log.specs.Logs.{event_by}
-use Rattle.sq_log.specs.Rooms.{IsReady, KeepsRoom}
+use Rattle.sq_log.specs.Spares.{IsReady, KeepsSpare}
 use Rattle.sq_ledger.specs.LedgerHistory.{LedgerHistory, LedgerValue}
 
 -- the event of a step of this home, as it stands in the ledger's history
@@ -39,17 +39,17 @@ pub record LedgerShares (old new : LedgerHistory) (by : Actor) (stamp : StampVal
   pub step : LedgerStep old.ledger stamp.moment (asks.AtHome home call) (answers.AtHome reply) new.ledger
   pub last : new.last ≡ stamp
   pub events : new.events ≡ old.events ++ shared_event stamp by home call reply ∷ []
-  pub room : KeepsRoom old.room new.room
-  pub task_room : new.task_room ≡ old.task_room
+  pub spare : KeepsSpare old.spare new.spare
+  pub spare_tasks : new.spare_tasks ≡ old.spare_tasks
 
 -- the event of a step of the ledger alone
 abbrev pub own_event : StampValue → Actor → LedgerCall → LedgerReply → LedgerEvent
 own_event stamp by call reply = event_by stamp by part.Ledger call reply
 
 -- the start of a task uses memory for one, and no other call does
-abbrev pub KeepsTaskRoom : LedgerCall → ℕ → ℕ → Type 0
-KeepsTaskRoom (asks.StartTask source destination rate) old new = KeepsRoom old new
-KeepsTaskRoom other old new = new ≡ old
+abbrev pub KeepsSpareTasks : LedgerCall → ℕ → ℕ → Type 0
+KeepsSpareTasks (asks.StartTask source destination rate) old new = KeepsSpare old new
+KeepsSpareTasks other old new = new ≡ old
 
 -- Exactly one event was added: a step of the ledger alone at a new stamp, above its last and above what the actor had seen. The record is its own.
 pub record LedgerRecords (old new : LedgerHistory) (by : Actor) (now : ℕ) (call : LedgerCall) (its_record : LedgerRecordValue) : Type 0 where
@@ -57,26 +57,26 @@ pub record LedgerRecords (old new : LedgerHistory) (by : Actor) (now : ℕ) (cal
   pub step : LedgerStep old.ledger its_record.stamp.moment call its_record.reply new.ledger
   pub last : new.last ≡ its_record.stamp
   pub events : new.events ≡ old.events ++ own_event its_record.stamp by call its_record.reply ∷ []
-  pub room : KeepsRoom old.room new.room
-  pub task_room : KeepsTaskRoom call old.task_room new.task_room
+  pub spare : KeepsSpare old.spare new.spare
+  pub spare_tasks : KeepsSpareTasks call old.spare_tasks new.spare_tasks
   pub record_is : its_record ≡ record_of (length old.events) (own_event its_record.stamp by call its_record.reply)
 
--- what a call takes memory for, beside its event: a task where there is room for none, and the tasks that are listed
+-- what a call takes memory for, beside its event: a task where there is no spare memory, and the tasks that are listed
 abbrev pub LedgerTakesMemory : LedgerHistory → LedgerCall → Type 0
-LedgerTakesMemory h (asks.StartTask source destination rate) = h.task_room ≡ 0
+LedgerTakesMemory h (asks.StartTask source destination rate) = h.spare_tasks ≡ 0
 LedgerTakesMemory h (asks.ListTasks source most) = last_task source h.ledger ≢ None
 LedgerTakesMemory h other = ⊥
 
 -- The first that fails, in order: memory, where it has to be got; the clock, and the counts; and the ledger's checks.
 abbrev pub IsLedgerRefused : LedgerHistory → Actor → ℕ → LedgerCall → Refusal → Type 0
 IsLedgerRefused old by now call e =
-    ((e ≡ NoMemory) × ((old.room ≡ 0) ⊎ LedgerTakesMemory old call))
+    ((e ≡ NoMemory) × ((old.spare ≡ 0) ⊎ LedgerTakesMemory old call))
     ⊎ (after old.last by.seen now ≡ Err e)
     ⊎ ((stamp : StampValue) × (after old.last by.seen now ≡ Ok stamp) × (ledger_refusal old.ledger stamp.moment call ≡ Some e))
 
 -- there is memory for one event more
 abbrev pub IsPrepared : LedgerValue → Type 0
-IsPrepared v = IsReady v.history.room v.reserved
+IsPrepared v = IsReady v.history.spare v.reserved
 
 -- what a home did with an item
 pub record DoesItem (act : ItemAct) (home : HomeId) (call : HomeCall) (reply : HomeReply) (item : Item) : Type 0 where
@@ -94,7 +94,7 @@ IsLeaving l m home call item = ⊥
 -- A leave for the task of this number let no message out of this home: none was live; the one that was chosen has no queue to go to; or the home was closed.
 abbrev pub IsNoneLeft : Ledger → ℕ → HomeId → ℕ → HomeCall → HomeReply → Type 0
 IsNoneLeft l m home number (LeaveTask asked) NoLiveRow = (asked ≡ number) × ((task : Task) × MayTake l home.queue number task × (may_leave m task ≡ true))
-IsNoneLeft l m home number (LeaveTask asked) (NoOrigin serial) = (asked ≡ number) × ((task : Task) × MayTake l home.queue number task × (may_leave m task ≡ true) × (task.destination ≡ None)) × HasRoom l
+IsNoneLeft l m home number (LeaveTask asked) (NoOrigin serial) = (asked ≡ number) × ((task : Task) × MayTake l home.queue number task × (may_leave m task ≡ true) × (task.destination ≡ None)) × TakesOneMore l
 IsNoneLeft l m home number (LeaveTask asked) SourceClosed = (asked ≡ number) × ((task : Task) × MayTake l home.queue number task)
 -- no other answer is without a message
 IsNoneLeft l m home number call reply = ⊥

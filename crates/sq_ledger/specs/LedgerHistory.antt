@@ -9,7 +9,7 @@ use Rattle.sq_model.specs.declared.shared.ItemAct.TheVariants.{Enter, TurnBack, 
 use Rattle.sq_model.specs.Ledgers.{Ledger, LedgerEvent, items_without, turned_if}
 use Rattle.sq_model.specs.declared.task.Task.{Task}
 use Rattle.sq_log.specs.LogValue.{LogValue}
-use Rattle.sq_log.specs.Rooms.{GrowingValue}
+use Rattle.sq_log.specs.Spares.{GrowingValue}
 
 -- the items in transit, and for how many more there is memory
 pub record ItemsValue : Type 0 where
@@ -32,13 +32,13 @@ pub record LedgerHistory : Type 0 where
   pub last : StampValue
   pub events : List LedgerEvent
   -- for how many events more there was memory when the last one was added
-  pub room : ℕ
+  pub spare : ℕ
   -- for how many tasks more there was memory when the last one was started
-  pub task_room : ℕ
+  pub spare_tasks : ℕ
 
 -- with the history that a log has
 abbrev pub history_of : List Item → ℕ → GrowingValue Task → ℕ → LogValue LedgerCall LedgerReply → LedgerHistory
-history_of items next tasks limit log = record { ledger = ledger_with items next tasks.items limit; last = log.last; events = log.events; room = log.room; task_room = tasks.room }
+history_of items next tasks limit log = record { ledger = ledger_with items next tasks.items limit; last = log.last; events = log.events; spare = log.spare; spare_tasks = tasks.spare }
 
 -- with the memory that it has now, for so many events and items more
 pub record LedgerValue : Type 0 where

@@ -4,9 +4,9 @@ ghost use Rattle.sq_base.specs.Stamps.{start, Below};
 ghost use Rattle.sq_model.specs.declared.item.Item.{Item as Moved};
 ghost use Rattle.sq_model.specs.declared.replies.HomeReply.TheVariants.{Left};
 ghost use Rattle.sq_model.specs.declared.task.Task.{Task as Moving};
-ghost use Rattle.sq_model.specs.Ledgers.{HasRoom, has_number, is_task, item_of, opening_ledger, peek, room_refusal};
+ghost use Rattle.sq_model.specs.Ledgers.{TakesOneMore, has_number, is_task, item_of, opening_ledger, peek, transit_refusal};
 ghost use Rattle.sq_model.specs.Replays.{StampsRise};
-ghost use Rattle.sq_log.specs.Rooms.{IsReady, KeepsRoom};
+ghost use Rattle.sq_log.specs.Spares.{IsReady, KeepsSpare};
 ghost use Rattle.sq_ledger.specs.LedgerHistories.{DoesItem, IsLeaving, IsLedgerKept, IsNoneLeft, IsPrepared, LedgerShares, shared_event};
 ghost use Rattle.sq_ledger.specs.inside.ItemMoves.{change_by, tasks_without};
 
@@ -41,7 +41,7 @@ pub struct SharedEvent<'a> {
 /// The messages between two queues, as items with numbers, the tasks that move messages, and the history of all steps, those
 /// that the ledger shares with homes and its own: the ledger is always the replay of it. Moments are in ms. Own.
 ///
-/// A shared step is done at a home and here, at one stamp. It is begun with `prepare`, and with `room` or `task_leave` where
+/// A shared step is done at a home and here, at one stamp. It is begun with `prepare`, and with `next_number` or `task_leave` where
 /// an item is to come in; what follows takes no memory and is not refused.
 #[derive(Drop)]
 pub struct TransitLedger {
@@ -66,7 +66,7 @@ impl Model for TransitLedger {
 impl TransitLedger {
     /// No item and no event. It is to hold so many items at most.
     pub fn new(alloc: Global, limit: u32) -> TransitLedger
-        ensures { result.history ≡ record { ledger = opening_ledger limit; last = start; events = []; room = 0; task_room = 0 } }
+        ensures { result.history ≡ record { ledger = opening_ledger limit; last = start; events = []; spare = 0; spare_tasks = 0 } }
     {
         TransitLedger {
             items: TransitItems::new(alloc),
@@ -112,10 +112,10 @@ impl TransitLedger {
         ensures history { self.new.history ≡ self.old.history }
         ensures reserved { self.new.reserved ≡ self.old.reserved }
         ensures number { IfOk result (λ number. number ≡ self.old.history.ledger.next_item) }
-        ensures has_room { OnOk result (HasRoom self.old.history.ledger) }
-        ensures passes { OnOk result (room_refusal self.old.history.ledger ≡ None) }
+        ensures takes_one_more { OnOk result (TakesOneMore self.old.history.ledger) }
+        ensures passes { OnOk result (transit_refusal self.old.history.ledger ≡ None) }
         ensures ready { OnOk result (0 < self.new.item_reserved) }
-        ensures refused { IfErr result (λ e. (room_refusal self.old.history.ledger ≡ Some e) ⊎ ((room_refusal self.old.history.ledger ≡ None) × (e ≡ Refusal.NoMemory) × (self.old.item_reserved ≡ 0))) }
+        ensures refused { IfErr result (λ e. (transit_refusal self.old.history.ledger ≡ Some e) ⊎ ((transit_refusal self.old.history.ledger ≡ None) × (e ≡ Refusal.NoMemory) × (self.old.item_reserved ≡ 0))) }
     {
         let Some(number) = ItemNo::new(self.next) else {
             return Err(Refusal::Worn);
@@ -127,12 +127,12 @@ impl TransitLedger {
         Ok(number)
     }
 
-    /// Gets memory for one event more, and for four where it shows room for none. Refused as NoMemory where it shows room
+    /// Gets memory for one event more, and for four where it shows no spare memory. Refused as NoMemory where it shows spare memory
     /// for none and has memory for fewer than four.
     pub fn prepare(&mut self) -> Result<(), Refusal>
         ensures history { self.new.history ≡ self.old.history }
         ensures prepared { OnOk result (IsPrepared self.new) }
-        ensures refused { IfErr result (λ e. (e ≡ Refusal.NoMemory) × (self.old.history.room ≡ 0) × (self.old.reserved < 4)) }
+        ensures refused { IfErr result (λ e. (e ≡ Refusal.NoMemory) × (self.old.history.spare ≡ 0) × (self.old.reserved < 4)) }
         ensures reserved { self.old.reserved ≤ self.new.reserved }
         ensures item_reserved { self.new.item_reserved ≡ self.old.item_reserved }
     {
@@ -144,7 +144,7 @@ impl TransitLedger {
         requires prepared { IsPrepared self.old }
         requires ready { 0 < self.old.item_reserved }
         requires above { Below self.old.history.last event.stamp }
-        requires has_room { HasRoom self.old.history.ledger }
+        requires takes_one_more { TakesOneMore self.old.history.ledger }
         requires number { item.number ≡ self.old.history.ledger.next_item }
         requires leaves { IsLeaving self.old.history.ledger event.stamp.moment event.home.now event.kept.0 item }
         requires reply { event.kept.1 ≡ Left item }
@@ -213,7 +213,7 @@ fn change_by(act: ItemAct) -> TaskChange
 fn fail_without(tasks: &mut Tasks, number: TaskNo, reply: &HomeReply)
     requires { (task : Moving) × (find (is_task number) tasks.old.items ≡ Some task) }
     ensures items { tasks.new.items ≡ tasks_without number reply.now tasks.old.items }
-    ensures room { tasks.new.room ≡ tasks.old.room }
+    ensures spare { tasks.new.spare ≡ tasks.old.spare }
     ensures reserved { tasks.new.reserved ≡ tasks.old.reserved }
 {
     match reply {
@@ -229,12 +229,12 @@ fn fail_without(tasks: &mut Tasks, number: TaskNo, reply: &HomeReply)
 
 // Adds the event of a step of a home.
 fn add_event(log: &mut Log<LedgerCall, LedgerReply>, event: SharedEvent<'_>)
-    requires ready { IsReady log.old.room log.old.reserved }
+    requires ready { IsReady log.old.spare log.old.reserved }
     requires above { Below log.old.last event.stamp }
     ensures last { log.new.last ≡ event.entry.stamp }
     ensures events { log.new.events ≡ log.old.events ++ shared_event event.entry.stamp event.entry.by.now event.entry.home.now event.entry.kept.0 event.entry.kept.1 ∷ [] }
     ensures rising { StampsRise start log.new.events log.new.last }
-    ensures room { KeepsRoom log.old.room log.new.room }
+    ensures spare { KeepsSpare log.old.spare log.new.spare }
 {
     let SharedEvent {
         by,

@@ -5,11 +5,11 @@ ghost use Rattle.sq_base.specs.Stamps.{start, Below};
 ghost use Rattle.sq_model.specs.declared.ledger.LedgerCall.TheVariants as asks;
 ghost use Rattle.sq_model.specs.declared.ledger.LedgerReply.TheVariants as answers;
 ghost use Rattle.sq_model.specs.declared.task.Task.{Task as Moving};
-ghost use Rattle.sq_model.specs.Ledgers.{HasRoom, MayTake, cancel_refusal, finish_refusal, in_transit, is_active_at, last_task, room_refusal, task_of};
+ghost use Rattle.sq_model.specs.Ledgers.{TakesOneMore, MayTake, cancel_refusal, finish_refusal, in_transit, is_active_at, last_task, transit_refusal, task_of};
 ghost use Rattle.sq_model.specs.Replays.{StampsRise};
 ghost use Rattle.sq_model.specs.Shared.{is_throttled, task_refusal};
 ghost use Rattle.sq_model.specs.Tasks.{is_running};
-ghost use Rattle.sq_log.specs.Rooms.{IsReady, KeepsRoom};
+ghost use Rattle.sq_log.specs.Spares.{IsReady, KeepsSpare};
 ghost use Rattle.sq_ledger.specs.LedgerHistories.{IsLedgerRefused, LedgerRecords, own_event};
 ghost use Rattle.sq_ledger.specs.inside.LedgerHistories.{MayStart, start_refusal};
 
@@ -64,7 +64,7 @@ impl TransitLedger {
     }
 
     /// What the ledger says to a leave for the task of a number at this home, at a moment in ms: the task, where it is RUNNING
-    /// and takes messages of this home's queue; whether its rate allows one; and the number of the next item, as `room` says.
+    /// and takes messages of this home's queue; whether its rate allows one; and the number of the next item, as `next_number` says.
     /// The task is refused as ResourceNotFoundException, and then as UnsupportedOperation.
     pub fn task_leave(&mut self, home: &HomeId, number: TaskNo, moment: u64) -> TaskLeave
         ensures history { self.new.history ≡ self.old.history }
@@ -74,10 +74,10 @@ impl TransitLedger {
         ensures no_task { IfErr result.task (λ e. task_refusal home.now (task_of number self.old.history.ledger) None ≡ Some e) }
         ensures allowed { result.allowed ≡ not (is_throttled moment (task_of number self.old.history.ledger)) }
         ensures item { IfOk result.item (λ item. item ≡ self.old.history.ledger.next_item) }
-        ensures has_room { OnOk result.item (HasRoom self.old.history.ledger) }
-        ensures passes { OnOk result.item (room_refusal self.old.history.ledger ≡ None) }
+        ensures takes_one_more { OnOk result.item (TakesOneMore self.old.history.ledger) }
+        ensures passes { OnOk result.item (transit_refusal self.old.history.ledger ≡ None) }
         ensures ready { OnOk result.item (0 < self.new.item_reserved) }
-        ensures no_room { IfErr result.item (λ e. (room_refusal self.old.history.ledger ≡ Some e) ⊎ ((room_refusal self.old.history.ledger ≡ None) × (e ≡ Refusal.NoMemory) × (self.old.item_reserved ≡ 0))) }
+        ensures no_place { IfErr result.item (λ e. (transit_refusal self.old.history.ledger ≡ Some e) ⊎ ((transit_refusal self.old.history.ledger ≡ None) × (e ≡ Refusal.NoMemory) × (self.old.item_reserved ≡ 0))) }
     {
         TaskLeave {
             number,
@@ -88,7 +88,7 @@ impl TransitLedger {
     }
 
     /// Starts a task, and gives its number.
-    /// Refused as NoMemory (there is room for no event or for no task, also where no task would start), ClockRange, Worn,
+    /// Refused as NoMemory (there is spare memory for no event or for no task, also where no task would start), ClockRange, Worn,
     /// UnsupportedOperation (a task of the source is active), OverLimit (100 tasks are active).
     pub fn start_task(
         &mut self,
@@ -120,7 +120,7 @@ impl TransitLedger {
     }
 
     /// Cancels the task of a number, which takes no more messages then, and tells how many it moved; none is moved back.
-    /// Refused as NoMemory (there is room for no event), ClockRange, Worn, ResourceNotFoundException (no such task),
+    /// Refused as NoMemory (there is spare memory for no event), ClockRange, Worn, ResourceNotFoundException (no such task),
     /// UnsupportedOperation (it is not RUNNING).
     pub fn cancel_task(
         &mut self,
@@ -149,7 +149,7 @@ impl TransitLedger {
     }
 
     /// The tasks of a source, the most recent first, and so many at most.
-    /// Refused as NoMemory (there is room for no event, or tasks are listed), ClockRange, Worn.
+    /// Refused as NoMemory (there is spare memory for no event, or tasks are listed), ClockRange, Worn.
     pub fn list_tasks(
         &mut self,
         alloc: Global,
@@ -182,7 +182,7 @@ impl TransitLedger {
     }
 
     /// Ends the task of a number, of which no message is in transit: RUNNING becomes COMPLETED, and CANCELLING CANCELLED.
-    /// Refused as NoMemory (there is room for no event), ClockRange, Worn, ResourceNotFoundException (no such task),
+    /// Refused as NoMemory (there is spare memory for no event), ClockRange, Worn, ResourceNotFoundException (no such task),
     /// UnsupportedOperation (it is over, or messages of it are in transit).
     pub fn finish_task(
         &mut self,
@@ -305,12 +305,12 @@ fn add_own(
     kept: (LedgerCall, LedgerReply),
     for_record: (LedgerCall, LedgerReply),
 ) -> LedgerRecord
-    requires ready { IsReady log.old.room log.old.reserved }
+    requires ready { IsReady log.old.spare log.old.reserved }
     requires above { Below log.old.last stamp }
     ensures last { log.new.last ≡ stamp }
     ensures events { log.new.events ≡ log.old.events ++ own_event stamp by.now kept.0 kept.1 ∷ [] }
     ensures rising { StampsRise start log.new.events log.new.last }
-    ensures room { KeepsRoom log.old.room log.new.room }
+    ensures spare { KeepsSpare log.old.spare log.new.spare }
     ensures for_record { result ≡ record { place = by.now.place; stamp = stamp; index = length log.old.events; call = for_record.0; reply = for_record.1 } }
 {
     log.add(stamp, by, Component::Ledger, kept, for_record)

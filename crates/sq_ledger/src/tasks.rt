@@ -3,7 +3,7 @@ ghost use Rattle.std.specs.Prelude.{◌≡◌, ◌≢◌, ◌+◌, ◌-◌, ◌<
 ghost use Rattle.sq_model.specs.declared.task.Task.{Task as TaskValue};
 ghost use Rattle.sq_model.specs.Ledgers.{changed_for, changed_task, is_task, TasksCount};
 ghost use Rattle.sq_model.specs.Tasks.{is_active, new_task};
-ghost use Rattle.sq_log.specs.Rooms.{IsReady, KeepsRoom};
+ghost use Rattle.sq_log.specs.Spares.{IsReady, KeepsSpare};
 ghost use Rattle.sq_ledger.specs.TaskIndexes.{changed_by, how_many_active, newest, tasks_from, MayChange, MayChangeFor};
 
 use indexmap::IndexMap;
@@ -48,34 +48,34 @@ pub struct Tasks {
     rows: Vec<TaskRow>,
     last: IndexMap<u64, TaskNo>,
     active: usize,
-    room: usize,
+    spare: usize,
 }
 
 impl Model for Tasks {
     ghost use Rattle.std.specs.Prelude.{◌-◌, ◌==◌, ◌≤◌, min, vec_len, vec_capacity};
     ghost use Rattle.indexmap.specs.IndexMap.{get, spare};
     ghost use Rattle.sq_model.specs.declared.task.Task.{Task as TaskValue};
-    ghost use Rattle.sq_log.specs.Rooms.{GrowingValue};
+    ghost use Rattle.sq_log.specs.Spares.{GrowingValue};
     ghost use Rattle.sq_ledger.specs.TaskIndexes.{AreTasks, tasks_in};
 
     ghost Value = { GrowingValue TaskValue };
 
-    ghost view = { λ t. record { items = tasks_in t.rows.items; room = t.room; reserved = min (vec_capacity t.rows - vec_len t.rows) (spare t.last) } };
+    ghost view = { λ t. record { items = tasks_in t.rows.items; spare = t.spare; reserved = min (vec_capacity t.rows - vec_len t.rows) (spare t.last) } };
 
-    ghost invariant = { λ t. AreTasks t.rows.items (get (λ a b. a == b) t.last) t.active × (t.room ≤ min (vec_capacity t.rows - vec_len t.rows) (spare t.last)) };
+    ghost invariant = { λ t. AreTasks t.rows.items (get (λ a b. a == b) t.last) t.active × (t.spare ≤ min (vec_capacity t.rows - vec_len t.rows) (spare t.last)) };
 }
 
 impl Tasks {
     /// No task, and memory for none.
     pub fn new(alloc: Global) -> Tasks
         ensures items { result.items ≡ [] }
-        ensures room { result.room ≡ 0 }
+        ensures spare { result.spare ≡ 0 }
     {
         Tasks {
             rows: Vec::new(alloc),
             last: IndexMap::new(alloc),
             active: 0,
-            room: 0,
+            spare: 0,
         }
     }
 
@@ -142,17 +142,17 @@ impl Tasks {
         Ok(listed)
     }
 
-    /// Gets memory for one task more, and for four at once where they show room for none. Refused as NoMemory where they
-    /// show room for none and have memory for fewer than four.
+    /// Gets memory for one task more, and for four at once where they show no spare memory. Refused as NoMemory where they
+    /// show no spare memory and have memory for fewer than four.
     pub fn reserve(&mut self) -> Result<(), Refusal>
         ensures items { self.new.items ≡ self.old.items }
-        ensures room { self.new.room ≡ self.old.room }
+        ensures spare { self.new.spare ≡ self.old.spare }
         ensures kept { self.old.reserved ≤ self.new.reserved }
-        ensures untouched { 0 < self.old.room → self.new.reserved ≡ self.old.reserved }
-        ensures ready { OnOk result (IsReady self.new.room self.new.reserved) }
-        ensures refused { IfErr result (λ e. (e ≡ Refusal.NoMemory) × (self.old.room ≡ 0) × (self.old.reserved < 4)) }
+        ensures untouched { 0 < self.old.spare → self.new.reserved ≡ self.old.reserved }
+        ensures ready { OnOk result (IsReady self.new.spare self.new.reserved) }
+        ensures refused { IfErr result (λ e. (e ≡ Refusal.NoMemory) × (self.old.spare ≡ 0) × (self.old.reserved < 4)) }
     {
-        if self.room == 0 {
+        if self.spare == 0 {
             self.rows.try_reserve(4)?;
             self.last.reserve(4)?;
         }
@@ -168,11 +168,11 @@ impl Tasks {
         rate: Option<Rate>,
         moment: u64,
     )
-        requires ready { IsReady self.old.room self.old.reserved }
+        requires ready { IsReady self.old.spare self.old.reserved }
         requires number { number ≡ length self.old.items + 1 }
         ensures items { self.new.items ≡ self.old.items ++ new_task number source destination rate moment ∷ [] }
-        ensures shown { self.new.room ≡ self.new.reserved }
-        ensures room { KeepsRoom self.old.room self.new.room }
+        ensures shown { self.new.spare ≡ self.new.reserved }
+        ensures spare { KeepsSpare self.old.spare self.new.spare }
     {
         let before = self.last_of(source.number);
         // Memory for both was got.
@@ -181,14 +181,14 @@ impl Tasks {
         let _ = self.rows.push(TaskRow { task, before });
         self.active += 1;
         let sources = self.last.capacity() - self.last.len();
-        self.room = sources.min(self.rows.capacity() - self.rows.len());
+        self.spare = sources.min(self.rows.capacity() - self.rows.len());
     }
 
     /// Does this to the task that a message is moved for, if it is moved for one.
     pub fn change_for(&mut self, reason: Reason, change: TaskChange)
         requires may { MayChangeFor change reason self.old.items }
         ensures items { self.new.items ≡ changed_for reason (changed_by change) self.old.items }
-        ensures room { self.new.room ≡ self.old.room }
+        ensures spare { self.new.spare ≡ self.old.spare }
         ensures reserved { self.new.reserved ≡ self.old.reserved }
     {
         match reason {
@@ -201,7 +201,7 @@ impl Tasks {
     pub fn change(&mut self, number: TaskNo, change: TaskChange)
         requires may { (task : TaskValue) × (find (is_task number) self.old.items ≡ Some task) × MayChange change task }
         ensures items { self.new.items ≡ changed_task number (changed_by change) self.old.items }
-        ensures room { self.new.room ≡ self.old.room }
+        ensures spare { self.new.spare ≡ self.old.spare }
         ensures reserved { self.new.reserved ≡ self.old.reserved }
     {
         if let Some(row) = self.rows.get_mut(index_of(number)) {

@@ -170,7 +170,7 @@ puts_all old new texts a = record { gone = texts; parts = sym (append-nil texts)
 pub puts_behind : (old mid new : Option (List ℕ)) (texts : List (List ℕ)) (text : List ℕ) → Appends old mid (with_feeds texts) → Appends mid new (text ++ 10 ∷ []) → Appends old new (with_feeds (texts ++ text ∷ []))
 puts_behind old mid new texts text a b = rw feeds_more (appends_more old mid new (with_feeds texts) (text ++ 10 ∷ []) a b)
 
--- ---- lists that grow within their room
+-- ---- lists that grow within their capacity
 
 pub appended : (ok : Bool) (new old more : List ℕ) → new ≡ (if ok then old ++ more else old) → ok ≡ true → new ≡ old ++ more
 appended true new old more e is = e

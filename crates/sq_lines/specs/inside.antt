@@ -1,3 +1,3 @@
 -- What only the bodies of this crate need: no contract that others see rests on it.
 pub mod Replies
-pub mod Rooms
+pub mod Capacities

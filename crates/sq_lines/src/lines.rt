@@ -1,7 +1,7 @@
 //! Reading a line.
 ghost use Rattle.std.specs.Prelude.{true, false, IfNone, ◌≡◌, ◌≢◌, ◌∷◌, ◌++◌, [], IfOk, IfErr, IfSome, MatchOption, option_map, Some, OnOk, OnErr, ◌<◌, ◌≤◌, ◌+◌, take, drop, length, vec_len, vec_capacity};
 ghost use Rattle.sq_lines.specs.Lines.{lines_left, lines_of, read_of, none_read, has_feed, FirstIsOver, FirstIsWithin, GoesOn, OneMore};
-ghost use Rattle.sq_lines.specs.inside.Rooms.{room_for};
+ghost use Rattle.sq_lines.specs.inside.Capacities.{grown_capacity};
 ghost use Rattle.sq_lines.specs.declared.lines.LineFault.TheVariants.{TooLong, Read, NoMemory};
 
 use crate::buffer::Buffer;
@@ -13,11 +13,11 @@ use std::marker::Model;
 use std::mem;
 
 /// The greatest number of bytes in a line.
-pub const LIMIT: usize = 4_194_304;
+pub const LIMIT: usize = 8_388_608;
 
 /// It does nothing: its contract is the law that says which number the limit of contracts is.
 pub fn limit_is_known()
-    ensures { LIMIT ≡ 4194304 }
+    ensures { LIMIT ≡ 8388608 }
 {}
 
 /// Why there is no next line.
@@ -49,21 +49,21 @@ impl Model for Lines {
     ghost invariant = { λ l. (has_feed l.begun.items ≡ false) × (vec_len l.begun ≤ LIMIT) };
 }
 
-// Room for so many bytes more of a line: twice what there was, or what they need where that is more, but no more than the
-// longest line has. Where there is room for them already, that stays.
-fn make_room(begun: &mut Vec<u8>, more: usize) -> Result<(), AllocError>
+// Capacity for so many bytes more of a line: twice what there was, or what they need where that is more, but no more than the
+// longest line has. Where there is spare memory for them already, that stays.
+fn reserve_for(begun: &mut Vec<u8>, more: usize) -> Result<(), AllocError>
     requires { vec_len begun.old + more ≤ LIMIT }
     ensures items { begun.new.items ≡ begun.old.items }
     ensures len { vec_len begun.new ≡ vec_len begun.old }
-    ensures room { OnOk result (vec_capacity begun.new ≡ room_for (vec_capacity begun.old) (vec_len begun.old + more)) }
+    ensures capacity { OnOk result (vec_capacity begun.new ≡ grown_capacity (vec_capacity begun.old) (vec_len begun.old + more)) }
     ensures full { OnErr result (vec_capacity begun.old < vec_len begun.old + more) }
 {
     let wanted = begun.len() + more;
-    let room = begun.capacity();
-    if wanted <= room {
+    let capacity = begun.capacity();
+    if wanted <= capacity {
         return Ok(());
     }
-    let grown = room.saturating_mul(2).min(LIMIT).max(wanted);
+    let grown = capacity.saturating_mul(2).min(LIMIT).max(wanted);
     begun.reserve_exact(grown - begun.len())
 }
 
@@ -75,7 +75,7 @@ fn add(begun: &mut Vec<u8>, bytes: &[u8]) -> Result<(), LineFault>
     ensures memory { IfErr result (λ e. e ≡ NoMemory) }
     ensures full { OnErr result (vec_capacity begun.old < vec_len begun.old + length bytes.now) }
 {
-    let Ok(()) = make_room(begun, bytes.len()) else {
+    let Ok(()) = reserve_for(begun, bytes.len()) else {
         return Err(LineFault::NoMemory);
     };
     let Ok(()) = begun.extend_from_slice(bytes) else {
@@ -102,7 +102,7 @@ fn end_line(
     // It reports that memory is out only of bytes that are within the limit and do not fit.
     ensures some { IfErr result (λ e. e ≡ NoMemory → 0 < at) }
     ensures fits { IfErr result (λ e. e ≡ NoMemory → length begun.old.items + at ≤ LIMIT) }
-    ensures room { IfErr result (λ e. e ≡ NoMemory → vec_capacity begun.old < vec_len begun.old + at) }
+    ensures capacity { IfErr result (λ e. e ≡ NoMemory → vec_capacity begun.old < vec_len begun.old + at) }
     ensures never_read { IfErr result (λ e. e ≡ Read → ⊥) }
 {
     if at > LIMIT - begun.len() {
@@ -124,7 +124,7 @@ fn add_ahead(begun: &mut Vec<u8>, ahead: &mut Buffer) -> Result<(), LineFault>
     // It reports that memory is out only of bytes that are within the limit and do not fit.
     ensures some { IfErr result (λ e. e ≡ NoMemory → 0 < length ahead.old) }
     ensures fits { IfErr result (λ e. e ≡ NoMemory → length begun.old.items + length ahead.old ≤ LIMIT) }
-    ensures room { IfErr result (λ e. e ≡ NoMemory → vec_capacity begun.old < vec_len begun.old + length ahead.old) }
+    ensures capacity { IfErr result (λ e. e ≡ NoMemory → vec_capacity begun.old < vec_len begun.old + length ahead.old) }
     ensures never_read { IfErr result (λ e. e ≡ Read → ⊥) }
 {
     let count = ahead.bytes().len();

@@ -33,7 +33,7 @@ impl Model for Replies {
 }
 
 // Memory for the replies that wait, or none.
-fn room(alloc: Global) -> Vec<u8>
+fn first_bytes(alloc: Global) -> Vec<u8>
     ensures { result.items ≡ [] }
 {
     match Vec::with_capacity(alloc, KEPT) {
@@ -62,7 +62,7 @@ impl Replies {
         ensures { result ≡ [] }
     {
         Replies {
-            bytes: room(alloc),
+            bytes: first_bytes(alloc),
             lengths: Vec::new(alloc),
         }
     }
@@ -74,7 +74,7 @@ impl Replies {
         self.lengths.len()
     }
 
-    // Keeps a reply, where there is room and memory for it, and tells whether it did.
+    // Keeps a reply, where it fits and memory is found, and tells whether it did.
     fn keep(&mut self, text: &[u8]) -> bool
         ensures kept { result ≡ true → self.new ≡ self.old ++ text.now ∷ [] }
         ensures unchanged { result ≡ false → self.new ≡ self.old }
@@ -116,7 +116,7 @@ impl Replies {
         Ok(())
     }
 
-    /// Adds a reply. One for which there is no room or no memory goes out at once, after those that wait. Where a call failed, it
+    /// Adds a reply. One that does not fit, or for which no memory is found, goes out at once, after those that wait. Where a call failed, it
     /// answers how many of all these went out whole.
     pub fn add<W: Write>(&mut self, writer: &mut Counted<W>, text: &[u8]) -> Result<(), usize>
         ensures ok { OnOk result (PutsFirst (W.contents writer.old.inner) (W.contents writer.new.inner) (self.old ++ text.now ∷ []) self.new) }

@@ -16,8 +16,8 @@ IsWhole block = length block.items ≡ 4096
 abbrev pub joined : {T : Type 0} → List (Vec T) → List T → List T
 joined whole last = flat_map (λ block. block.items) whole ++ last
 
--- Room for items more, of a last block with so many items and room for so many, of so many whole blocks with room for so many, and of the next one with its room: that
+-- Memory for items more, of a last block with so many items and spare memory for so many, of so many whole blocks with spare memory for so many, and of the next one with its room: that
 -- block's, and the next one where it can be begun once that one is full.
-abbrev pub room_in : ℕ → ℕ → ℕ → ℕ → ℕ → ℕ
-room_in len capacity blocks most next =
+abbrev pub spare_in : ℕ → ℕ → ℕ → ℕ → ℕ → ℕ
+spare_in len capacity blocks most next =
     (min capacity 4096 - len) + (if nat_le 4096 capacity && nat_lt blocks (min most (2 ^ 50)) && nat_le 4096 next then 4096 else 0)

@@ -1,5 +1,5 @@
 pub mod BlocksValue
-pub mod Rooms
+pub mod Spares
 pub mod LogValue
 pub mod Logs
 pub mod Events

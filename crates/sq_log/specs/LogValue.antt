@@ -7,5 +7,5 @@ use Rattle.sq_model.specs.declared.event.Event.{Event}
 pub record LogValue (K R : Type 0) : Type 0 where
   pub last : StampValue
   pub events : List (Event K R)
-  pub room : ℕ
+  pub spare : ℕ
   pub reserved : ℕ

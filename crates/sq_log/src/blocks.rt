@@ -28,11 +28,11 @@ pub struct Blocks<T> {
 impl<T> Model for Blocks<T> {
     ghost use Rattle.std.specs.Prelude.{◌≡◌, ◌≤◌, ◌-◌, ◌^◌, length, vec_len, vec_capacity};
     ghost use Rattle.std.specs.List.{AllByRecursion};
-    ghost use Rattle.sq_log.specs.BlocksValue.{BlocksValue, IsWhole, joined, room_in};
+    ghost use Rattle.sq_log.specs.BlocksValue.{BlocksValue, IsWhole, joined, spare_in};
 
     ghost Value = { BlocksValue T };
 
-    ghost view = { λ b. record { items = joined b.whole.items b.last.items; reserved = room_in (vec_len b.last) (vec_capacity b.last) (vec_len b.whole) (vec_capacity b.whole) (vec_capacity b.next) } };
+    ghost view = { λ b. record { items = joined b.whole.items b.last.items; reserved = spare_in (vec_len b.last) (vec_capacity b.last) (vec_len b.whole) (vec_capacity b.whole) (vec_capacity b.next) } };
 
     ghost invariant = { λ b. record {
       whole : AllByRecursion IsWhole b.whole.items;

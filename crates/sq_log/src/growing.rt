@@ -1,6 +1,6 @@
 //! Lists of what is never forgotten, which grow within memory that was got before.
 ghost use Rattle.std.specs.Prelude.{◌≡◌, ◌+◌, ◌≤◌, ◌++◌, ◌∷◌, []};
-ghost use Rattle.sq_log.specs.Rooms.{HasReserved, IsReady, KeepsRoom};
+ghost use Rattle.sq_log.specs.Spares.{HasReserved, IsReady, KeepsSpare};
 
 use crate::blocks::Blocks;
 use sq_base::refusal::Refusal;
@@ -12,28 +12,28 @@ use std::marker::Model;
 #[derive(Drop)]
 pub struct Growing<T> {
     items: Blocks<T>,
-    room: usize,
+    spare: usize,
 }
 
 impl<T> Model for Growing<T> {
     ghost use Rattle.std.specs.Prelude.{◌≤◌};
-    ghost use Rattle.sq_log.specs.Rooms.{GrowingValue};
+    ghost use Rattle.sq_log.specs.Spares.{GrowingValue};
 
     ghost Value = { GrowingValue T };
 
-    ghost view = { λ g. record { items = g.items.items; room = g.room; reserved = g.items.reserved } };
+    ghost view = { λ g. record { items = g.items.items; spare = g.spare; reserved = g.items.reserved } };
 
-    ghost invariant = { λ g. g.room ≤ g.items.reserved };
+    ghost invariant = { λ g. g.spare ≤ g.items.reserved };
 }
 
 impl<T: Drop> Growing<T> {
     /// No item, and memory for none.
     pub fn new(alloc: Global) -> Growing<T>
-        ensures { result ≡ record { items = []; room = 0; reserved = 0 } }
+        ensures { result ≡ record { items = []; spare = 0; reserved = 0 } }
     {
         Growing {
             items: Blocks::new(alloc),
-            room: 0,
+            spare: 0,
         }
     }
 
@@ -44,12 +44,12 @@ impl<T: Drop> Growing<T> {
         &self.items
     }
 
-    /// Gets memory for one item more, and for four at once where it shows room for none. Refused as NoMemory where it
-    /// shows room for none and has memory for fewer than four.
+    /// Gets memory for one item more, and for four at once where it shows no spare memory. Refused as NoMemory where it
+    /// shows no spare memory and has memory for fewer than four.
     pub fn reserve(&mut self) -> Result<(), Refusal>
         ensures { HasReserved self.old self.new result }
     {
-        if self.room == 0 {
+        if self.spare == 0 {
             self.items.reserve()?;
         }
         Ok(())
@@ -57,13 +57,13 @@ impl<T: Drop> Growing<T> {
 
     /// Puts an item last, for which `reserve` got memory.
     pub fn push(&mut self, item: T)
-        requires { IsReady self.old.room self.old.reserved }
+        requires { IsReady self.old.spare self.old.reserved }
         ensures items { self.new.items ≡ self.old.items ++ item ∷ [] }
-        ensures shown { self.new.room ≡ self.new.reserved }
+        ensures shown { self.new.spare ≡ self.new.reserved }
         ensures kept { self.old.reserved ≤ self.new.reserved + 1 }
-        ensures room { KeepsRoom self.old.room self.new.room }
+        ensures spare { KeepsSpare self.old.spare self.new.spare }
     {
         self.items.push(item);
-        self.room = self.items.reserved();
+        self.spare = self.items.reserved();
     }
 }

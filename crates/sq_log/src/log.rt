@@ -3,7 +3,7 @@ ghost use Rattle.std.specs.Prelude.{◌≡◌, ◌≤◌, [], OnOk, IfOk, IfErr,
 ghost use Rattle.sq_base.specs.Stamps.{start, after, Below};
 ghost use Rattle.sq_model.specs.Replays.{StampsRise};
 ghost use Rattle.sq_log.specs.Logs.{HasNoted, IsFull, IsUnready};
-ghost use Rattle.sq_log.specs.Rooms.{IsReady};
+ghost use Rattle.sq_log.specs.Spares.{IsReady};
 
 use crate::blocks::Blocks;
 use crate::growing::Growing;
@@ -29,7 +29,7 @@ impl<K, R> Model for Log<K, R> {
 
     ghost Value = { LogValue K R };
 
-    ghost view = { λ l. record { last = l.last; events = l.events.items; room = l.events.room; reserved = l.events.reserved } };
+    ghost view = { λ l. record { last = l.last; events = l.events.items; spare = l.events.spare; reserved = l.events.reserved } };
 
     ghost invariant = { λ l. StampsRise start l.events.items l.last };
 }
@@ -39,7 +39,7 @@ impl<K: Drop, R: Drop> Log<K, R> {
     pub fn new(alloc: Global) -> Log<K, R>
         ensures last { result.last ≡ start }
         ensures events { result.events ≡ [] }
-        ensures room { result.room ≡ 0 }
+        ensures spare { result.spare ≡ 0 }
     {
         Log {
             last: Stamp::start(),
@@ -62,26 +62,26 @@ impl<K: Drop, R: Drop> Log<K, R> {
         self.events.items()
     }
 
-    /// Gets memory for one event more. Refused as NoMemory where there was room for none.
+    /// Gets memory for one event more. Refused as NoMemory where there was no spare memory.
     pub fn reserve(&mut self) -> Result<(), Refusal>
         ensures last { self.new.last ≡ self.old.last }
         ensures events { self.new.events ≡ self.old.events }
-        ensures room { self.new.room ≡ self.old.room }
+        ensures spare { self.new.spare ≡ self.old.spare }
         ensures kept { self.old.reserved ≤ self.new.reserved }
-        ensures ready { OnOk result (IsReady self.new.room self.new.reserved) }
+        ensures ready { OnOk result (IsReady self.new.spare self.new.reserved) }
         ensures refused { IfErr result (IsFull self.old) }
     {
         self.events.reserve()
     }
 
     /// Gets memory for one event more, and gives its stamp: above the last one, and above what the actor saw.
-    /// Refused as NoMemory (there was room for none), ClockRange, Worn.
+    /// Refused as NoMemory (there was no spare memory), ClockRange, Worn.
     pub fn begin(&mut self, by: &Actor, now: u64) -> Result<Stamp, Refusal>
         ensures last { self.new.last ≡ self.old.last }
         ensures events { self.new.events ≡ self.old.events }
-        ensures room { self.new.room ≡ self.old.room }
+        ensures spare { self.new.spare ≡ self.old.spare }
         ensures kept { self.old.reserved ≤ self.new.reserved }
-        ensures ready { OnOk result (IsReady self.new.room self.new.reserved) }
+        ensures ready { OnOk result (IsReady self.new.spare self.new.reserved) }
         ensures stamped { IfOk result (λ stamp. after self.old.last by.now.seen now ≡ Ok stamp) }
         ensures above { IfOk result (Below self.old.last) }
         ensures refused { IfErr result (IsUnready self.old by.now now) }
@@ -108,7 +108,7 @@ impl<K: Drop, R: Drop> Log<K, R> {
         kept: (K, R),
         for_record: (K, R),
     ) -> PartRecord<K, R>
-        requires ready { IsReady self.old.room self.old.reserved }
+        requires ready { IsReady self.old.spare self.old.reserved }
         requires above { Below self.old.last stamp }
         ensures noted { HasNoted stamp by.now component kept self.old self.new }
         ensures rising { StampsRise start self.new.events self.new.last }
@@ -129,7 +129,7 @@ impl<K: Drop, R: Drop> Log<K, R> {
     /// Adds the event of a step, for which memory was got, with the call and reply that are kept. It makes no record: the
     /// step's record is of its event in the history of another part.
     pub fn note(&mut self, stamp: Stamp, by: &Actor, component: Component, kept: (K, R))
-        requires ready { IsReady self.old.room self.old.reserved }
+        requires ready { IsReady self.old.spare self.old.reserved }
         requires above { Below self.old.last stamp }
         ensures noted { HasNoted stamp by.now component kept self.old self.new }
         ensures rising { StampsRise start self.new.events self.new.last }

@@ -98,7 +98,7 @@ pub opened_here : (old : WorldValue) (actor : ℕ) (id : HomeId) (place : ℕ) (
 opened_here old actor id place before mine numbered least found in_list own = record { home = home_is old id place before numbered least found in_list; own = opened_is actor old.journals mine own }
 
 -- what an actor has with one record more stands where the actor was opened
-recorded_put : (actor : ℕ) (journals : List Journal) (mine recorded_in : Journal) (n : RecordValue) → mine ≡ journal_of actor journals → recorded_in ≡ with_record mine n recorded_in.room → slice_set (opened actor journals) (index_in actor journals) recorded_in ≡ put_journal recorded_in journals
+recorded_put : (actor : ℕ) (journals : List Journal) (mine recorded_in : Journal) (n : RecordValue) → mine ≡ journal_of actor journals → recorded_in ≡ with_record mine n recorded_in.spare → slice_set (opened actor journals) (index_in actor journals) recorded_in ≡ put_journal recorded_in journals
 recorded_put actor journals mine recorded_in n is recorded_as =
     opened_put actor recorded_in journals (ap (λ (b : Journal). b.actor) recorded_as ∙ ap (λ (b : Journal). b.actor) is ∙ journal_own actor journals)
 

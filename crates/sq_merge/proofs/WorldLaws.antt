@@ -84,10 +84,10 @@ recorded_kept journals actor recorded_in a P own more h =
     ]
 
 -- the new one is there
-new_recorded : (journals : List Journal) (actor : ℕ) (n : RecordValue) (room : ℕ) (P : RecordValue → Type 0) → P n → IsRecorded (put_journal (with_record (journal_of actor journals) n room) journals) actor P
-new_recorded journals actor n room P p =
-    let t = put_there (with_record (journal_of actor journals) n room) journals in
-    record { at = t.0; index = length (journal_of actor journals).records; journal = with_record (journal_of actor journals) n room; its_record = n; in_list = record { in_journals = t.1; in_records = get_new (journal_of actor journals).records n }; of_actor = journal_own actor journals; of_event = p }
+new_recorded : (journals : List Journal) (actor : ℕ) (n : RecordValue) (spare : ℕ) (P : RecordValue → Type 0) → P n → IsRecorded (put_journal (with_record (journal_of actor journals) n spare) journals) actor P
+new_recorded journals actor n spare P p =
+    let t = put_there (with_record (journal_of actor journals) n spare) journals in
+    record { at = t.0; index = length (journal_of actor journals).records; journal = with_record (journal_of actor journals) n spare; its_record = n; in_list = record { in_journals = t.1; in_records = get_new (journal_of actor journals).records n }; of_actor = journal_own actor journals; of_event = p }
 
 -- a record that was there before, of the same actor
 record WasRecord (journals : List Journal) (i : ℕ) (actor : ℕ) (m : RecordValue) : Type 0 where
@@ -103,9 +103,9 @@ was_own journals actor i m h = elim (journal_there actor journals) [
 ]
 
 -- a record after a step was there, or is the new one
-old_or_new : (journals : List Journal) (actor : ℕ) (n : RecordValue) (room : ℕ) (b i : ℕ) (x : Journal) (m : RecordValue) → IsRecordAt (put_journal (with_record (journal_of actor journals) n room) journals) b i x m
+old_or_new : (journals : List Journal) (actor : ℕ) (n : RecordValue) (spare : ℕ) (b i : ℕ) (x : Journal) (m : RecordValue) → IsRecordAt (put_journal (with_record (journal_of actor journals) n spare) journals) b i x m
     → WasRecord journals i x.actor m ⊎ ((x.actor ≡ actor) × (i ≡ length (journal_of actor journals).records) × (m ≡ n))
-old_or_new journals actor n room b i x m h = elim (put_cases (with_record (journal_of actor journals) n room) journals b x h.in_journals) [
+old_or_new journals actor n spare b i x m h = elim (put_cases (with_record (journal_of actor journals) n spare) journals b x h.in_journals) [
   | inl k ↦ inl (record { at = b; journal = x; in_list = record { in_journals = k; in_records = h.in_records }; own = refl })
   | inr same ↦ (
       let own : x.actor ≡ actor = ap (λ (y : Journal). y.actor) same ∙ journal_own actor journals in
@@ -122,26 +122,26 @@ journal_counted journals actor counted = elim (journal_there actor journals) [
   | inr none ↦ rw none refl
 ]
 
-exact_more : (w : WorldValue) (actor : ℕ) (n : RecordValue) (room : ℕ) → IsKeptWorld w → place_of_record n ≡ (journal_of actor w.journals).next → (b i : ℕ) (x : Journal) (m : RecordValue) → IsRecordAt (put_journal (with_record (journal_of actor w.journals) n room) w.journals) b i x m → place_of_record m ≡ i
-exact_more w actor n room kept place b i x m h = elim (old_or_new w.journals actor n room b i x m h) [
+exact_more : (w : WorldValue) (actor : ℕ) (n : RecordValue) (spare : ℕ) → IsKeptWorld w → place_of_record n ≡ (journal_of actor w.journals).next → (b i : ℕ) (x : Journal) (m : RecordValue) → IsRecordAt (put_journal (with_record (journal_of actor w.journals) n spare) w.journals) b i x m → place_of_record m ≡ i
+exact_more w actor n spare kept place b i x m h = elim (old_or_new w.journals actor n spare b i x m h) [
   | inl was ↦ kept.exact was.at i was.journal m was.in_list
   | inr new ↦ ap place_of_record new.2 ∙ place ∙ journal_counted w.journals actor kept.counted ∙ sym new.1
 ]
 
-counted_more : (w : WorldValue) (actor : ℕ) (n : RecordValue) (room : ℕ) → IsKeptWorld w → (b : ℕ) (x : Journal) → slice_get (put_journal (with_record (journal_of actor w.journals) n room) w.journals) b ≡ Some x → x.next ≡ length x.records
-counted_more w actor n room kept b x h = elim (put_cases (with_record (journal_of actor w.journals) n room) w.journals b x h) [
+counted_more : (w : WorldValue) (actor : ℕ) (n : RecordValue) (spare : ℕ) → IsKeptWorld w → (b : ℕ) (x : Journal) → slice_get (put_journal (with_record (journal_of actor w.journals) n spare) w.journals) b ≡ Some x → x.next ≡ length x.records
+counted_more w actor n spare kept b x h = elim (put_cases (with_record (journal_of actor w.journals) n spare) w.journals b x h) [
   | inl k ↦ kept.counted b x k
   | inr same ↦ rw same (omega (arith, length-append (journal_of actor w.journals).records (n ∷ []), journal_counted w.journals actor kept.counted))
 ]
 
 -- An actor has one record more.
-module _ (old : WorldValue) (actor : ℕ) (its_record : RecordValue) (room : ℕ) where
+module _ (old : WorldValue) (actor : ℕ) (its_record : RecordValue) (spare : ℕ) where
   abbrev with_one : List Journal
-  with_one = put_journal (with_record (journal_of actor old.journals) its_record room) old.journals
+  with_one = put_journal (with_record (journal_of actor old.journals) its_record spare) old.journals
 
   -- what was recorded is
   one_stays : (a : ℕ) (P : RecordValue → Type 0) → IsRecorded old.journals a P → IsRecorded with_one a P
-  one_stays a P h = recorded_kept old.journals actor (with_record (journal_of actor old.journals) its_record room) a P (journal_own actor old.journals) (λ i m g. get_old (journal_of actor old.journals).records its_record m i g) h
+  one_stays a P h = recorded_kept old.journals actor (with_record (journal_of actor old.journals) its_record spare) a P (journal_own actor old.journals) (λ i m g. get_old (journal_of actor old.journals).records its_record m i g) h
 
   -- each record has its event, where the new one has and no event is gone
   one_has_event : IsKeptWorld old → (ds : List DirectoryEvent) (ls : List LedgerEvent) (hs : List HomeHistory)
@@ -149,7 +149,7 @@ module _ (old : WorldValue) (actor : ℕ) (its_record : RecordValue) (room : ℕ
       → ((k : ℕ) (e : LedgerEvent) → slice_get old.ledger.events k ≡ Some e → slice_get ls k ≡ Some e)
       → ((j : ℕ) (h : HomeHistory) → slice_get (histories_of old.homes) j ≡ Some h → Grown hs j h)
       → HasItsEvent ds ls hs actor its_record → (b i : ℕ) (journal : Journal) (n : RecordValue) → IsRecordAt with_one b i journal n → HasItsEvent ds ls hs journal.actor n
-  one_has_event kept ds ls hs grow more grown has b i journal n h = elim (old_or_new old.journals actor its_record room b i journal n h) [
+  one_has_event kept ds ls hs grow more grown has b i journal n h = elim (old_or_new old.journals actor its_record spare b i journal n h) [
     | inl was ↦ subst (λ (a : ℕ). HasItsEvent ds ls hs a n) was.own
         (its_event_stays old.directory.events ds old.ledger.events ls (histories_of old.homes) hs was.journal.actor n grow more grown (kept.has_its_event was.at i was.journal n was.in_list))
     | inr new ↦ subst (λ (a : ℕ). HasItsEvent ds ls hs a n) (sym new.0) (subst (λ (m : RecordValue). HasItsEvent ds ls hs actor m) (sym new.2) has)
@@ -162,7 +162,7 @@ module _ (old : WorldValue) (actor : ℕ) (its_record : RecordValue) (room : ℕ
     | inl g ↦ one_stays (actor_in e) (IsOf k e) (was g)
     | inr g ↦ subst (λ (x : E). IsRecorded with_one (actor_in x) (IsOf k x)) (sym g.1)
         (subst (λ (i : ℕ). IsRecorded with_one (actor_in event) (IsOf i event)) (sym g.0)
-        (subst (λ (a : ℕ). IsRecorded with_one a (IsOf (length events) event)) (sym own) (new_recorded old.journals actor its_record room (IsOf (length events) event) is)))
+        (subst (λ (a : ℕ). IsRecorded with_one a (IsOf (length events) event)) (sym own) (new_recorded old.journals actor its_record spare (IsOf (length events) event) is)))
   ]
 
 -- the last event of a part stands where its record says
@@ -194,7 +194,7 @@ record OneMore (old : WorldValue) (actor here : ℕ) (before after : HistoryValu
   grows : (k : ℕ) (e : LedgerEvent) → slice_get old.ledger.events k ≡ Some e → slice_get ledger.events k ≡ Some e
   own_as_before : (k : ℕ) (e : LedgerEvent) → slice_get ledger.events k ≡ Some e → is_own e.call ≡ true → slice_get old.ledger.events k ≡ Some e
 
-module _ (old : WorldValue) (actor here : ℕ) (before after : HistoryValue) (name : Option (List ℕ)) (call : HomeCall) (its_record : HomeRecordValue) (room : ℕ) (ledger : LedgerHistory) (kept : IsKeptWorld old) (s : OneMore old actor here before after name call its_record ledger) where
+module _ (old : WorldValue) (actor here : ℕ) (before after : HistoryValue) (name : Option (List ℕ)) (call : HomeCall) (its_record : HomeRecordValue) (spare : ℕ) (ledger : LedgerHistory) (kept : IsKeptWorld old) (s : OneMore old actor here before after name call its_record ledger) where
   abbrev by : Actor
   by = actor_of (journal_of actor old.journals)
 
@@ -205,7 +205,7 @@ module _ (old : WorldValue) (actor here : ℕ) (before after : HistoryValue) (na
   homes = slice_set old.homes here after
 
   abbrev journals : List Journal
-  journals = put_journal (with_record (journal_of actor old.journals) (OfHome its_record) room) old.journals
+  journals = put_journal (with_record (journal_of actor old.journals) (OfHome its_record) spare) old.journals
 
   same_home : after.site.home ≡ before.site.home
   same_home = ap (λ (x : _). x.home) s.site
@@ -239,13 +239,13 @@ module _ (old : WorldValue) (actor here : ℕ) (before after : HistoryValue) (na
   )
 
   stays : (a : ℕ) (P : RecordValue → Type 0) → IsRecorded old.journals a P → IsRecorded journals a P
-  stays a P h = one_stays old actor (OfHome its_record) room a P h
+  stays a P h = one_stays old actor (OfHome its_record) spare a P h
 
   of_after : (k : ℕ) (e : HomeEvent) → slice_get after.events k ≡ Some e → IsRecorded journals e.actor (IsOfHome after.site.home k e)
   of_after k e h =
       let index = ap (λ (n : HomeRecordValue). n.index) s.record_is in
       let is : IsOfHome after.site.home (length before.events) event (OfHome its_record) = (its_record.name, ap OfHome (subst (λ (x : ℕ). its_record ≡ home_record_of after.site.home x its_record.name event) index (same_record its_record by before.site.home after.site.home (length before.events) call name s.record_is same_home))) in
-      one_recorded old actor (OfHome its_record) room before.events event (λ x. x.actor) (IsOfHome after.site.home) (journal_own actor old.journals) is k e
+      one_recorded old actor (OfHome its_record) spare before.events event (λ x. x.actor) (IsOfHome after.site.home) (journal_own actor old.journals) is k e
       (λ g. subst (λ (x : HomeId). IsRecorded old.journals e.actor (IsOfHome x k e)) (sym same_home) (kept.homes_recorded here k (home_history before) e (record { in_homes = get_map home_history old.homes here before s.in_list; in_events = g })))
       (rw s.events at h)
 
@@ -299,13 +299,13 @@ module _ (old : WorldValue) (actor here : ℕ) (before after : HistoryValue) (na
   kept_with : IsPaired ledger.events (histories_of homes) → IsKeptWorld (record old { ledger = ledger; homes = homes; journals = journals })
   kept_with paired = record {
     numbered = numbered;
-    has_its_event = one_has_event old actor (OfHome its_record) room kept old.directory.events ledger.events (histories_of homes) (λ k e g. g) s.grows home_grown new_has_event;
+    has_its_event = one_has_event old actor (OfHome its_record) spare kept old.directory.events ledger.events (histories_of homes) (λ k e g. g) s.grows home_grown new_has_event;
     directory_recorded = λ k e h. stays e.actor (IsOfDirectory k e) (kept.directory_recorded k e h);
     ledger_recorded = λ k e h own. stays e.actor (IsOfLedger k e) (kept.ledger_recorded k e (s.own_as_before k e h own) own);
     homes_recorded = all_recorded;
-    exact = exact_more old actor (OfHome its_record) room kept (ap (λ (n : HomeRecordValue). n.place) s.record_is);
-    counted = counted_more old actor (OfHome its_record) room kept;
-    distinct = put_distinct (with_record (journal_of actor old.journals) (OfHome its_record) room) old.journals kept.distinct;
+    exact = exact_more old actor (OfHome its_record) spare kept (ap (λ (n : HomeRecordValue). n.place) s.record_is);
+    counted = counted_more old actor (OfHome its_record) spare kept;
+    distinct = put_distinct (with_record (journal_of actor old.journals) (OfHome its_record) spare) old.journals kept.distinct;
     paired = paired;
   }
 
@@ -336,8 +336,8 @@ kept_home old actor now name id act reply new kept known s =
       grows = λ k e h. h;
       own_as_before = λ k e h own. h;
     } in
-    let paired = pairs old actor s.at s.before s.after name (call_of act) its_record s.recorded_in.room old.ledger kept more (λ shared. let k : true ≡ false = sym (acts_are_alone act) ∙ shared in cc) (λ k e h. inl h) in
-    rw (s.changed, s.moves.recorded_as) (kept_with old actor s.at s.before s.after name (call_of act) its_record s.recorded_in.room old.ledger kept more paired)
+    let paired = pairs old actor s.at s.before s.after name (call_of act) its_record s.recorded_in.spare old.ledger kept more (λ shared. let k : true ≡ false = sym (acts_are_alone act) ∙ shared in cc) (λ k e h. inl h) in
+    rw (s.changed, s.moves.recorded_as) (kept_with old actor s.at s.before s.after name (call_of act) its_record s.recorded_in.spare old.ledger kept more paired)
 
 -- a step that a home shares with the ledger
 pub kept_shared : (old : WorldValue) (actor now : ℕ) (name : Option (List ℕ)) (id : HomeId) (what : SharedAct) (reply : HomeReply) (new : WorldValue) → IsKeptWorld old → IsKnown old.directory.events (journal_of actor old.journals) name id.queue
@@ -358,13 +358,13 @@ kept_shared old actor now name id what reply new kept known s =
     } in
     let event = new_event its_record.stamp (actor_of (journal_of actor old.journals)) s.before.site.home its_record.call its_record.reply in
     let entered : InLedger s.ledger.events s.before.site.home event = (length old.ledger.events, rw in_ledger.events (get_new old.ledger.events entry)) in
-    let there = event_there old actor s.at s.before s.after name its_record.call its_record s.recorded_in.room s.ledger kept more in
+    let there = event_there old actor s.at s.before s.after name its_record.call its_record s.recorded_in.spare s.ledger kept more in
     let same : s.after.site.home ≡ s.before.site.home = ap (λ (x : Site). x.home) at_home.site in
     let partner : InHome (histories_of (slice_set old.homes s.at s.after)) entry = (s.at, length s.before.events, home_history s.after, event, there, at_home.shared, ap (λ (x : HomeId). as_ledger x event) (sym same)) in
     let paired =
-    pairs old actor s.at s.before s.after name its_record.call its_record s.recorded_in.room s.ledger kept more (λ shared. entered)
+    pairs old actor s.at s.before s.after name its_record.call its_record s.recorded_in.spare s.ledger kept more (λ shared. entered)
     (λ k e h. elim (get_cases old.ledger.events entry e k (rw in_ledger.events at h)) [ inl was ↦ inl was | inr new ↦ inr (λ shared. rw new.1 partner) ]) in
-    rw (s.changed, s.moves.recorded_as) (kept_with old actor s.at s.before s.after name its_record.call its_record s.recorded_in.room s.ledger kept more paired)
+    rw (s.changed, s.moves.recorded_as) (kept_with old actor s.at s.before s.after name its_record.call its_record s.recorded_in.spare s.ledger kept more paired)
 
 as_it_was : (homes : List HomeHistory) (j : ℕ) (h : HomeHistory) → slice_get homes j ≡ Some h → Grown homes j h
 as_it_was homes j h there = record { new = h; in_list = there; same = refl; more = λ k e g. g }
@@ -378,16 +378,16 @@ kept_directory old actor now call reply new kept s =
     let event = directory_event n.stamp (actor_of (journal_of actor old.journals)) call n.reply in
     let own = journal_own actor old.journals in
     let last = last_there old.directory.events s.after.events event directory_record_of n n.index (ap (λ (m : DirectoryRecordValue). m.index) is) grown is in
-    let stays = one_stays old actor (OfDirectory n) s.recorded_in.room in
+    let stays = one_stays old actor (OfDirectory n) s.recorded_in.spare in
     rw (s.changed, s.moves.recorded_as) (record {
       numbered = kept.numbered;
-      has_its_event = one_has_event old actor (OfDirectory n) s.recorded_in.room kept s.after.events old.ledger.events (histories_of old.homes) (λ k e h. rw grown (get_old old.directory.events event e k h)) (λ k e h. h) (as_it_was (histories_of old.homes)) (event, last.0, own, last.1);
-      directory_recorded = λ k e h. one_recorded old actor (OfDirectory n) s.recorded_in.room old.directory.events event (λ x. x.actor) IsOfDirectory own (ap OfDirectory is) k e (kept.directory_recorded k e) (rw grown at h);
+      has_its_event = one_has_event old actor (OfDirectory n) s.recorded_in.spare kept s.after.events old.ledger.events (histories_of old.homes) (λ k e h. rw grown (get_old old.directory.events event e k h)) (λ k e h. h) (as_it_was (histories_of old.homes)) (event, last.0, own, last.1);
+      directory_recorded = λ k e h. one_recorded old actor (OfDirectory n) s.recorded_in.spare old.directory.events event (λ x. x.actor) IsOfDirectory own (ap OfDirectory is) k e (kept.directory_recorded k e) (rw grown at h);
       ledger_recorded = λ k e h own. stays e.actor (IsOfLedger k e) (kept.ledger_recorded k e h own);
       homes_recorded = λ j k h e at. stays e.actor (IsOfHome h.home k e) (kept.homes_recorded j k h e at);
-      exact = exact_more old actor (OfDirectory n) s.recorded_in.room kept (ap (λ (m : DirectoryRecordValue). m.place) is);
-      counted = counted_more old actor (OfDirectory n) s.recorded_in.room kept;
-      distinct = put_distinct (with_record (journal_of actor old.journals) (OfDirectory n) s.recorded_in.room) old.journals kept.distinct;
+      exact = exact_more old actor (OfDirectory n) s.recorded_in.spare kept (ap (λ (m : DirectoryRecordValue). m.place) is);
+      counted = counted_more old actor (OfDirectory n) s.recorded_in.spare kept;
+      distinct = put_distinct (with_record (journal_of actor old.journals) (OfDirectory n) s.recorded_in.spare) old.journals kept.distinct;
       paired = kept.paired;
     })
 
@@ -416,16 +416,16 @@ kept_ledger old actor now what reply new kept s =
     let event = own_event n.stamp (actor_of (journal_of actor old.journals)) (task_call what) n.reply in
     let own = journal_own actor old.journals in
     let last = last_there old.ledger.events s.after.events event record_of n n.index (ap (λ (m : LedgerRecordValue). m.index) is) grown is in
-    let stays = one_stays old actor (OfLedger n) s.recorded_in.room in
+    let stays = one_stays old actor (OfLedger n) s.recorded_in.spare in
     rw (s.changed, s.moves.recorded_as) (record {
       numbered = kept.numbered;
-      has_its_event = one_has_event old actor (OfLedger n) s.recorded_in.room kept old.directory.events s.after.events (histories_of old.homes) (λ k e h. h) (λ k e h. rw grown (get_old old.ledger.events event e k h)) (as_it_was (histories_of old.homes)) (event, last.0, acts_are_own what, own, last.1);
+      has_its_event = one_has_event old actor (OfLedger n) s.recorded_in.spare kept old.directory.events s.after.events (histories_of old.homes) (λ k e h. h) (λ k e h. rw grown (get_old old.ledger.events event e k h)) (as_it_was (histories_of old.homes)) (event, last.0, acts_are_own what, own, last.1);
       directory_recorded = λ k e h. stays e.actor (IsOfDirectory k e) (kept.directory_recorded k e h);
-      ledger_recorded = λ k e h alone. one_recorded old actor (OfLedger n) s.recorded_in.room old.ledger.events event (λ x. x.actor) IsOfLedger own (ap OfLedger is) k e (λ was. kept.ledger_recorded k e was alone) (rw grown at h);
+      ledger_recorded = λ k e h alone. one_recorded old actor (OfLedger n) s.recorded_in.spare old.ledger.events event (λ x. x.actor) IsOfLedger own (ap OfLedger is) k e (λ was. kept.ledger_recorded k e was alone) (rw grown at h);
       homes_recorded = λ j k h e at. stays e.actor (IsOfHome h.home k e) (kept.homes_recorded j k h e at);
-      exact = exact_more old actor (OfLedger n) s.recorded_in.room kept (ap (λ (m : LedgerRecordValue). m.place) is);
-      counted = counted_more old actor (OfLedger n) s.recorded_in.room kept;
-      distinct = put_distinct (with_record (journal_of actor old.journals) (OfLedger n) s.recorded_in.room) old.journals kept.distinct;
+      exact = exact_more old actor (OfLedger n) s.recorded_in.spare kept (ap (λ (m : LedgerRecordValue). m.place) is);
+      counted = counted_more old actor (OfLedger n) s.recorded_in.spare kept;
+      distinct = put_distinct (with_record (journal_of actor old.journals) (OfLedger n) s.recorded_in.spare) old.journals kept.distinct;
       paired = rw grown (own_paired old.ledger.events (histories_of old.homes) event (acts_are_own what) kept.paired);
     })
 

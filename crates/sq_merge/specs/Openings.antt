@@ -11,8 +11,8 @@ use Rattle.sq_model.specs.Ledgers.{opening_ledger}
 -- no queue is made yet, and nothing was done
 unfoldable pub new_world : Options → WorldValue
 new_world o = record {
-  directory = record { directory = opening_directory o.queues; last = start; events = []; room = 0 };
-  ledger = record { ledger = opening_ledger o.transit; last = start; events = []; room = 0; task_room = 0 };
+  directory = record { directory = opening_directory o.queues; last = start; events = []; spare = 0 };
+  ledger = record { ledger = opening_ledger o.transit; last = start; events = []; spare = 0; spare_tasks = 0 };
   per_queue = o.homes;
   sample = o.sample;
   homes = never_opened_homes o.homes (limits_of o) (o.queues * o.homes);

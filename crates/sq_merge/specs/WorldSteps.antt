@@ -58,8 +58,8 @@ pub record TurnStepped (actor now : ℕ) (turn : Turn) (old : WorldValue) (answe
   pub put : new ≡ record mid { progress = put_progress actor after old.progress }
 
 -- no memory was found for an actor's first turn, and nothing was done; or else this is so
-abbrev pub UnlessNoRoom : ℕ → WorldValue → Result Turned Refusal → WorldValue → Type 0 → Type 0
-UnlessNoRoom actor old answered new P = ((position (is_progress_of actor) old.progress ≡ None) × (answered ≡ Err NoMemory) × (new ≡ old)) ⊎ P
+abbrev pub UnlessNoMemory : ℕ → WorldValue → Result Turned Refusal → WorldValue → Type 0 → Type 0
+UnlessNoMemory actor old answered new P = ((position (is_progress_of actor) old.progress ≡ None) × (answered ≡ Err NoMemory) × (new ≡ old)) ⊎ P
 
 abbrev pub TurnDone : ℕ → ℕ → Turn → WorldValue → Result Turned Refusal → WorldValue → Type 0
-TurnDone actor now turn old answered new = UnlessNoRoom actor old answered new (TurnStepped actor now turn old answered new)
+TurnDone actor now turn old answered new = UnlessNoMemory actor old answered new (TurnStepped actor now turn old answered new)

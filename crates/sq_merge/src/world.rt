@@ -8,7 +8,7 @@ ghost use Rattle.sq_history.specs.Acts.{call_of};
 ghost use Rattle.sq_audit.specs.Matched.{AreMatched, ArePaired};
 ghost use Rattle.sq_merge.specs.Worlds.{SharedStepped, NothingLeaves, SharedRefused, having_peeked, ItemRead, LedgerStepped, LedgerRefused, IsUnread, NamesUnread, TaskRead, TaskUnread, EndsRead, EndsUnread, HomeStepped, HomeRefused, DirectoryStepped, DirectoryRefused, NameRefused, having_read_directory, having_seen_at, StepDone, StepRefused, Schedule, IsKeptWorld};
 ghost use Rattle.sq_steps.specs.Reads.{next_of};
-ghost use Rattle.sq_merge.specs.WorldSteps.{world_counts, ActorLeaves, ActorStepped, TurnDone, UnlessNoRoom};
+ghost use Rattle.sq_merge.specs.WorldSteps.{world_counts, ActorLeaves, ActorStepped, TurnDone, UnlessNoMemory};
 ghost use Rattle.sq_merge.specs.inside.WorldSteps.{IsKnownTo};
 ghost use Rattle.sq_merge.specs.Progresses.{progress_of};
 ghost use Rattle.sq_actions.specs.Performs.{CallFits, TurnFits, UntilFits, Performs};
@@ -217,7 +217,7 @@ impl World {
         turn: &Turn,
     ) -> Result<Turned, Refusal>
         ensures answered { TurnDone actor now turn.now self.old result self.new }
-        ensures leaves_records { UnlessNoRoom actor self.old result self.new (ActorLeaves actor (TurnFits (world_counts self.old).homes turn.now (progress_of actor self.old.progress) (progress_of actor self.new.progress)) self.old result self.new) }
+        ensures leaves_records { UnlessNoMemory actor self.old result self.new (ActorLeaves actor (TurnFits (world_counts self.old).homes turn.now (progress_of actor self.old.progress) (progress_of actor self.new.progress)) self.old result self.new) }
     {
         let at = progress_index(&mut self.progress, actor)?;
         let mut progress = self.progress[at].progress;

@@ -19,7 +19,7 @@ use Rattle.sq_model.specs.declared.calls.HomeCall.TheVariants.{Configure, Close,
 use Rattle.sq_model.specs.declared.replies.Counts.{Counts}
 use Rattle.sq_model.specs.declared.replies.HomeReply.{HomeReply}
 use Rattle.sq_model.specs.declared.replies.HomeReply.TheVariants.{Done, Sent, Looked, Over, Counted, Left, NoLiveRow, NoOrigin, SourceClosed, Entered}
-use Rattle.sq_model.specs.Rows.{ms, unexpired, RisesFrom, is_visible, is_delayed, is_in_flight, is_dead, is_live, room, serials_of, IsLook, received_if, without, is_held, is_late, changed_if, Takes, is_free}
+use Rattle.sq_model.specs.Rows.{ms, unexpired, RisesFrom, is_visible, is_delayed, is_in_flight, is_dead, is_live, flights_left, serials_of, IsLook, received_if, without, is_held, is_late, changed_if, Takes, is_free}
 
 -- what a home that serves holds
 pub record Contents : Type 0 where
@@ -93,7 +93,7 @@ dead_target policy = option_map (λ redrive. redrive.target) policy
 abbrev pub counts_of : ℕ → List Row → Counts
 counts_of m rows = record { visible = count_by (is_visible m) rows; in_flight = count_by (is_in_flight m) rows; delayed = count_by (is_delayed m) rows }
 
--- a row has room, and a serial and a slot are left for it
+-- one more row fits, and a serial and a slot are left for it
 pub record MayHoldOneMore (l : Limits) (next slot : ℕ) (rows : List Row) : Type 0 where
   pub not_worn : next < last_serial
   pub slot_left : length rows < slots
@@ -125,12 +125,12 @@ HomeStep site (Serving its) m (Send body delay) (Sent sent) after =
     × (sent.id ≡ fresh_id site.home its.next)
     × (after ≡ Serving (record its { next = its.next + 1; rows = unexpired_rows its m ++ sent_row site.home its.next sent.slot m (m + ms (unwrap_or delay its.settings.delay)) body ∷ [] }))
 HomeStep site (Serving its) m (Look max timeout) (Looked picked) after =
-    (list_any (is_live its.settings m) (unexpired_rows its m) ≡ true → 0 < room site.limits.flights m (unexpired_rows its m))
-    × IsLook its.settings m (m + ms (unwrap_or timeout its.settings.timeout)) (min max (room site.limits.flights m (unexpired_rows its m))) (unexpired_rows its m) picked
+    (list_any (is_live its.settings m) (unexpired_rows its m) ≡ true → 0 < flights_left site.limits.flights m (unexpired_rows its m))
+    × IsLook its.settings m (m + ms (unwrap_or timeout its.settings.timeout)) (min max (flights_left site.limits.flights m (unexpired_rows its m))) (unexpired_rows its m) picked
     × (after ≡ Serving (record its { rows = map (received_if its.settings (serials_of picked) m (m + ms (unwrap_or timeout its.settings.timeout))) (unexpired_rows its m) }))
 HomeStep site (Serving its) m (Look max timeout) Over after =
     (list_any (is_live its.settings m) (unexpired_rows its m) ≡ true)
-    × (room site.limits.flights m (unexpired_rows its m) ≡ 0)
+    × (flights_left site.limits.flights m (unexpired_rows its m) ≡ 0)
     × (after ≡ Serving (record its { rows = unexpired_rows its m }))
 HomeStep site (Serving its) m (Delete receipt) Done after =
     (receipt.serial < its.next) × (after ≡ Serving (record its { rows = without receipt (unexpired_rows its m) }))

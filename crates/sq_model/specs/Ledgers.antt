@@ -85,13 +85,13 @@ abbrev pub in_transit : ℕ → List Item → ℕ
 in_transit number items = count_by (λ item. is_for number item.reason) items
 
 -- an item more fits, and a number is left for it
-pub record HasRoom (l : Ledger) : Type 0 where
+pub record TakesOneMore (l : Ledger) : Type 0 where
   pub not_worn : l.next_item < last_number
   pub within : length l.items < l.limit
 
 -- an item with the next number comes in, and the tasks become these
 abbrev pub TakesIn : Ledger → Item → List Task → Ledger → Type 0
-TakesIn l item tasks after = HasRoom l × (item.number ≡ l.next_item) × (after ≡ record l { items = l.items ++ item ∷ []; next_item = l.next_item + 1; tasks = tasks })
+TakesIn l item tasks after = TakesOneMore l × (item.number ≡ l.next_item) × (after ≡ record l { items = l.items ++ item ∷ []; next_item = l.next_item + 1; tasks = tasks })
 
 -- an item that is there goes out, and its task is changed
 abbrev pub GivesOut : Ledger → Item → (Task → Task) → Ledger → Type 0
@@ -134,7 +134,7 @@ LedgerStep l m (asks.AtHome home (LeaveTask number)) (answers.AtHome NoLiveRow) 
     ((task : Task) × MayTake l home.queue number task × (may_leave m task ≡ true)) × (after ≡ l)
 LedgerStep l m (asks.AtHome home (LeaveTask number)) (answers.AtHome (NoOrigin serial)) after =
     ((task : Task) × MayTake l home.queue number task × (may_leave m task ≡ true) × (task.destination ≡ None))
-    × HasRoom l
+    × TakesOneMore l
     × (after ≡ record l { tasks = changed_task number (with_status (failed_as because.NoOrigin)) l.tasks })
 LedgerStep l m (asks.AtHome home (LeaveTask number)) (answers.AtHome SourceClosed) after =
     ((task : Task) × MayTake l home.queue number task) × (after ≡ record l { tasks = changed_task number (with_status (failed_as because.SourceClosed)) l.tasks })
@@ -167,8 +167,8 @@ LedgerStep l m (asks.FinishTask number) answers.Finished after =
 LedgerStep l m call reply after = ⊥
 
 -- the ledger takes one item more; its numbers may be used up
-abbrev pub room_refusal : Ledger → Option Refusal
-room_refusal l = refused_if (nat_le last_number l.next_item) Worn (refused_if (nat_le l.limit (length l.items)) OverLimit None)
+abbrev pub transit_refusal : Ledger → Option Refusal
+transit_refusal l = refused_if (nat_le last_number l.next_item) Worn (refused_if (nat_le l.limit (length l.items)) OverLimit None)
 
 abbrev pub cancel_refusal : Option Task → Option Refusal
 cancel_refusal None = Some ResourceNotFoundException

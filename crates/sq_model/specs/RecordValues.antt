@@ -55,7 +55,7 @@ pub record Journal : Type 0 where
   pub next : ℕ
   pub seen : StampValue
   pub records : List RecordValue
-  pub room : ℕ
+  pub spare : ℕ
 
 abbrev pub actor_of : Journal → Actor
 actor_of journal = record { number = journal.actor; place = journal.next; seen = journal.seen }

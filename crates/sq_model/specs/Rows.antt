@@ -37,13 +37,13 @@ is_spent (Some redrive) row = nat_le redrive.max_receives row.receives
 abbrev pub is_dead : Settings → ℕ → Row → Bool
 is_dead s m row = is_visible m row && is_spent s.redrive row
 
--- what a receive may give; the number of receives has room for one more
+-- what a receive may give; the number of receives has spare memory for one more
 abbrev pub is_live : Settings → ℕ → Row → Bool
 is_live s m row = is_visible m row && not (is_dead s m row) && nat_lt row.receives 4294967295
 
 -- how many more rows may be in flight
-abbrev pub room : ℕ → ℕ → List Row → ℕ
-room flights m rows = flights - count_by (is_in_flight m) rows
+abbrev pub flights_left : ℕ → ℕ → List Row → ℕ
+flights_left flights m rows = flights - count_by (is_in_flight m) rows
 
 abbrev pub serials_of : List Row → List ℕ
 serials_of rows = map (λ row. row.serial) rows

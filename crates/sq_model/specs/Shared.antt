@@ -19,7 +19,7 @@ use Rattle.sq_model.specs.declared.task.Task.{Task}
 use Rattle.sq_model.specs.Rows.{is_dead, is_live}
 use Rattle.sq_model.specs.Homes.{Home, Unopened, Serving, Closed, HasSlot, HomeStep, may_enter, may_return, full_refusal, refused_if, unexpired_rows}
 use Rattle.sq_model.specs.Tasks.{is_running, may_leave}
-use Rattle.sq_model.specs.Ledgers.{Ledger, LedgerStep, MayTake, is_of_source, item_of, room_refusal, task_of}
+use Rattle.sq_model.specs.Ledgers.{Ledger, LedgerStep, MayTake, is_of_source, item_of, transit_refusal, task_of}
 
 -- the call that is recorded: an item is handed over as it stands in the ledger
 abbrev pub IsCallOf : Ledger → SharedAct → HomeCall → Type 0
@@ -54,12 +54,12 @@ abbrev pub is_throttled : ℕ → Option Task → Bool
 is_throttled m None = false
 is_throttled m (Some task) = not (may_leave m task)
 
--- the first check that fails. A dead letter's leave without a dead row, and a task's leave that is throttled or finds no live row, ask for no room.
+-- the first check that fails. A dead letter's leave without a dead row, and a task's leave that is throttled or finds no live row, ask for no place in the ledger.
 unfoldable pub shared_refusal : Site → Home → Ledger → ℕ → SharedAct → Option Refusal
 shared_refusal site Unopened l m act = Some QueueDoesNotExist
-shared_refusal site (Serving its) l m LeaveDead = if list_any (is_dead its.settings m) (unexpired_rows its m) then room_refusal l else None
+shared_refusal site (Serving its) l m LeaveDead = if list_any (is_dead its.settings m) (unexpired_rows its m) then transit_refusal l else None
 shared_refusal site (Serving its) l m (LeaveTask number) =
-    task_refusal site.home (task_of number l) (if not (is_throttled m (task_of number l)) && list_any (is_live its.settings m) (unexpired_rows its m) then room_refusal l else None)
+    task_refusal site.home (task_of number l) (if not (is_throttled m (task_of number l)) && list_any (is_live its.settings m) (unexpired_rows its m) then transit_refusal l else None)
 shared_refusal site (Serving its) l m (Enter number) =
     full_refusal site.limits its.next (unexpired_rows its m) (refused_if (not (is_entering site.home (item_of number l))) UnsupportedOperation None)
 shared_refusal site (Serving its) l m (TurnBack number) = Some UnsupportedOperation

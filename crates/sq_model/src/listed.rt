@@ -41,7 +41,7 @@ impl<T: Drop> Listed<T> {
         ensures ok { OnOk result (self.new ≡ self.old ++ item ∷ []) }
         ensures err { IfErr result (λ e. (e ≡ Refusal.NoMemory) × (self.new ≡ self.old)) }
     {
-        // Most lists have one, and a list that grows by itself has room for four at first.
+        // Most lists have one, and a list that grows by itself has spare memory for four at first.
         self.items.try_reserve_exact(1)?;
         self.items.push(item)?;
         Ok(())

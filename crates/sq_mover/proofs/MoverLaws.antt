@@ -20,7 +20,7 @@ use Rattle.sq_queue.specs.SessionValue.{SessionValue}
 use Rattle.sq_queue.specs.Services.{HasRead}
 use Rattle.sq_mover.specs.Movers.{GainsAtMost}
 use Rattle.sq_mover.specs.MoverValue.{MoverValue, after_walk, brought, walk_kept}
-use Rattle.sq_mover.specs.MoverTurns.{BringsNext, GetsRoom, IsPassedOver, MakesTurn, ServesFor, TakesTurn, TakesTurns}
+use Rattle.sq_mover.specs.MoverTurns.{BringsNext, GetsSpare, IsPassedOver, MakesTurn, ServesFor, TakesTurn, TakesTurns}
 
 -- nothing was done
 pub gains_none : (most : ℕ) (s t : SessionValue) → t ≡ s → GainsAtMost most s.journal t.journal
@@ -79,14 +79,14 @@ pub brings : (at : Surroundings) (tried : ℕ) (m n : MoverValue) (s t : Session
 brings at tried m n s t told made same new = (new, subst (λ (item : ℕ). MakesTurn at turn.EnterTurn (with_item item no_progress) (with_item n.tried no_progress) s told t) same made)
 
 -- a task was served by the walk that was kept for it, which is kept as it is then
-pub served : (at : Surroundings) (task room : ℕ) (m n : MoverValue) (s t : SessionValue) (told : Result Turned Refusal) (before after : Walk) (last : List Walk)
-    → before ≡ walk_kept task last → task_walked before ≡ task → last ≡ m.last.walks → GetsRoom m.this room → n ≡ after_walk after room m
+pub served : (at : Surroundings) (task spare : ℕ) (m n : MoverValue) (s t : SessionValue) (told : Result Turned Refusal) (before after : Walk) (last : List Walk)
+    → before ≡ walk_kept task last → task_walked before ≡ task → last ≡ m.last.walks → GetsSpare m.this spare → n ≡ after_walk after spare m
     → MakesTurn at (turn.TaskTurn (Some (task_walked before))) (with_walk before no_progress) (with_walk after no_progress) s told t
     → ServesFor at (Some task) m s told n t
-served at task room m n s t told before after last kept same of_last has new made =
+served at task spare m n s t told before after last kept same of_last has new made =
     inr (
       after,
-      room,
+      spare,
       has,
       new,
       subst (λ (walk : Walk). MakesTurn at (turn.TaskTurn (Some task)) (with_walk walk no_progress) (with_walk after no_progress) s told t) (kept ∙ ap (walk_kept task) of_last)

@@ -40,18 +40,18 @@ abbrev pub BringsNext : Surroundings → MoverValue → SessionValue → Result 
 BringsNext at m s told n t = (n ≡ brought n.tried m) × MakesTurn at turn.EnterTurn (with_item m.tried no_progress) (with_item n.tried no_progress) s told t
 
 -- there is memory for no walk more of this sweep; or for one more, and for as many as before
-abbrev pub HasNoRoom : WalksValue → Type 0
-HasNoRoom walks = walks.room ≤ length walks.walks
+abbrev pub HasNoSpare : WalksValue → Type 0
+HasNoSpare walks = walks.spare ≤ length walks.walks
 
-abbrev pub GetsRoom : WalksValue → ℕ → Type 0
-GetsRoom walks room = (length walks.walks < room) × (walks.room ≤ room)
+abbrev pub GetsSpare : WalksValue → ℕ → Type 0
+GetsSpare walks spare = (length walks.walks < spare) × (walks.spare ≤ spare)
 
--- A task is served by the walk that was kept for it in the last sweep, or by a new one, which is kept as the turn leaves it. Where there is no room for a walk more, there may be no memory for it. Without a task the next item comes in.
+-- A task is served by the walk that was kept for it in the last sweep, or by a new one, which is kept as the turn leaves it. Where there is no memory for a walk more, there may be no memory for it. Without a task the next item comes in.
 abbrev pub ServesFor : Surroundings → Option ℕ → MoverValue → SessionValue → Result Turned Refusal → MoverValue → SessionValue → Type 0
 ServesFor at None m s told n t = BringsNext at m s told n t
 ServesFor at (Some task) m s told n t =
-    (HasNoRoom m.this × RunsOut m s told n t)
-    ⊎ ((walk : Walk) × (room : ℕ) × GetsRoom m.this room × (n ≡ after_walk walk room m) × MakesTurn at (turn.TaskTurn (Some task)) (with_walk (walk_kept task m.last.walks) no_progress) (with_walk walk no_progress) s told t)
+    (HasNoSpare m.this × RunsOut m s told n t)
+    ⊎ ((walk : Walk) × (spare : ℕ) × GetsSpare m.this spare × (n ≡ after_walk walk spare m) × MakesTurn at (turn.TaskTurn (Some task)) (with_walk (walk_kept task m.last.walks) no_progress) (with_walk walk no_progress) s told t)
 
 -- the last task of a source is read, as the gate saw the ledger, and served where it is not over
 abbrev pub ServesSource : Surroundings → ℕ → MoverValue → SessionValue → Result Turned Refusal → MoverValue → SessionValue → Type 0

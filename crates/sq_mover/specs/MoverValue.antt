@@ -13,15 +13,15 @@ use Rattle.sq_mover.specs.declared.mover.Stage.TheVariants.{Leave}
 -- The walks of a sweep, and how many there is memory for.
 pub record WalksValue : Type 0 where
   pub walks : List Walk
-  pub room : ℕ
+  pub spare : ℕ
 
 -- as a list of them shows both
 abbrev pub walks_of : Vec Walk → WalksValue
-walks_of walks = record { walks = walks.items; room = vec_capacity walks }
+walks_of walks = record { walks = walks.items; spare = vec_capacity walks }
 
 -- none, and no memory for one
 abbrev pub no_walks : WalksValue
-no_walks = record { walks = []; room = 0 }
+no_walks = record { walks = []; spare = 0 }
 
 -- The queues of its sweep, the place of the one that it is at, what it does next there, the item that it tried last, the walks of the last sweep and of this one, and how many turns of its last run moved a message or ended a task.
 pub record MoverValue : Type 0 where
@@ -43,7 +43,7 @@ begun m = record m { moved = 0 }
 
 -- a new sweep, over these queues: the walks of this one are those of the last one then, and those of the last one are forgotten
 abbrev pub sweeping : List NamedQueue → MoverValue → MoverValue
-sweeping queues m = record m { queues = queues; at = 0; last = m.this; this = record { walks = []; room = m.last.room } }
+sweeping queues m = record m { queues = queues; at = 0; last = m.this; this = record { walks = []; spare = m.last.spare } }
 
 -- with something else to do next at this queue
 abbrev pub staged : Stage → MoverValue → MoverValue
@@ -59,7 +59,7 @@ brought tried m = record m { at = one_more m.at; stage = Leave; tried = tried }
 
 -- with one walk more of this sweep, and memory for so many
 abbrev pub after_walk : Walk → ℕ → MoverValue → MoverValue
-after_walk walk room m = record m { this = record { walks = m.this.walks ++ walk ∷ []; room = room } }
+after_walk walk spare m = record m { this = record { walks = m.this.walks ++ walk ∷ []; spare = spare } }
 
 -- the first of these walks that is for a task; a new one where none is
 abbrev pub walk_kept : ℕ → List Walk → Walk

@@ -195,7 +195,7 @@ impl Mover {
     }
 
     // A message leaves for a task, or it is to finish. Without one that is not over the next item comes in. Refused as NoMemory
-    // where there is no room for a walk more, and else as the turn.
+    // where there is no memory for a walk more, and else as the turn.
     fn serve<C: Clock + Drop, G: Gate + Drop, D: Ledger, T: Ledger, R: Wait>(
         &mut self,
         service: &Service<C, G, D, T>,

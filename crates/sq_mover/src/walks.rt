@@ -43,7 +43,7 @@ impl Walks {
 
     /// Gets memory for one walk more of this sweep.
     pub(crate) fn reserve(&mut self) -> Result<(), Refusal>
-        ensures room { OnOk result (vec_len self.new.this < vec_capacity self.new.this) }
+        ensures spare { OnOk result (vec_len self.new.this < vec_capacity self.new.this) }
         ensures last { self.new.last ≡ self.old.last }
         ensures this { self.new.this.items ≡ self.old.this.items }
         ensures more { vec_capacity self.old.this ≤ vec_capacity self.new.this }

@@ -123,7 +123,7 @@ fn apply_at(
     Ok(())
 }
 
-// Makes room for so many homes.
+// Makes spare memory for so many homes.
 fn grow(alloc: Global, homes: &mut Vec<HomeStates>, count: usize) -> Result<(), Refusal>
     ensures homes { OnOk result (homes.new.items ≡ audits.grown count homes.old.items) }
     ensures len { OnOk result (count ≤ vec_len homes.new) }

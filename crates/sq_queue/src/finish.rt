@@ -43,7 +43,7 @@ struct Gathered<D: Ledger, T: Ledger> {
 
 // A journal comes to these where none of its actor is there.
 fn put_first(journals: &mut Vec<Journal>, journal: Journal)
-    requires room { vec_len journals.old < vec_capacity journals.old }
+    requires spare { vec_len journals.old < vec_capacity journals.old }
     requires distinct { AreDistinct journals.old.items }
     ensures put { journals.new.items ≡ with_unfound journals.old.items journal (position (is_of_actor journal.actor) journals.old.items) }
     ensures distinct { AreDistinct journals.new.items }
@@ -58,7 +58,7 @@ fn put_first(journals: &mut Vec<Journal>, journal: Journal)
 
 // Takes these sessions in, with the journal of each whose actor is not there yet.
 fn gather<D: Ledger, T: Ledger>(all: &mut Gathered<D, T>, sessions: Vec<Session<D, T>>)
-    requires room { vec_len all.old.journals + vec_len sessions ≤ vec_capacity all.old.journals }
+    requires spare { vec_len all.old.journals + vec_len sessions ≤ vec_capacity all.old.journals }
     requires distinct { AreDistinct all.old.journals.items }
     requires directory_few { all.old.of_directory.parts ≤ D.parts }
     requires ledger_few { all.old.of_ledger.parts ≤ T.parts }
@@ -70,7 +70,7 @@ fn gather<D: Ledger, T: Ledger>(all: &mut Gathered<D, T>, sessions: Vec<Session<
     ensures ledger { all.new.of_ledger.amount ≡ all.old.of_ledger.amount + sum_by (λ s. ledger_records s.journal.records) sessions.items }
     ensures directory_few { all.new.of_directory.parts ≤ D.parts }
     ensures ledger_few { all.new.of_ledger.parts ≤ T.parts }
-    ensures room { vec_len all.new.journals ≤ vec_len all.old.journals + length sessions.items }
+    ensures spare { vec_len all.new.journals ≤ vec_len all.old.journals + length sessions.items }
     ensures capacity { vec_capacity all.new.journals ≡ vec_capacity all.old.journals }
     ensures made { all.new.made ≡ all.old.made }
 {
@@ -93,7 +93,7 @@ fn all_of<D: Ledger, T: Ledger>(
     sessions: Vec<Session<D, T>>,
     journals: Vec<Journal>,
 ) -> Gathered<D, T>
-    requires room { vec_len actors.retired + vec_len sessions ≤ vec_capacity journals }
+    requires spare { vec_len actors.retired + vec_len sessions ≤ vec_capacity journals }
     requires none { journals.items ≡ [] }
     requires of_directory { HasSeats D.parts }
     requires of_ledger { HasSeats T.parts }
@@ -134,7 +134,7 @@ fn left_parts<D: Ledger, T: Ledger>(
     sessions: Vec<Session<D, T>>,
     journals: Vec<Journal>,
 ) -> Parts
-    requires room { vec_len actors.retired + vec_len sessions ≤ vec_capacity journals }
+    requires spare { vec_len actors.retired + vec_len sessions ≤ vec_capacity journals }
     requires none { journals.items ≡ [] }
     requires of_directory { HasSeats D.parts }
     requires of_ledger { HasSeats T.parts }
@@ -179,7 +179,7 @@ fn unlocked(
     out: Vec<Home>,
     places: Vec<Placed<SlotStore>>,
 ) -> Vec<Home>
-    requires room { vec_len places ≤ vec_capacity out }
+    requires spare { vec_len places ≤ vec_capacity out }
     requires none { out.items ≡ [] }
     requires few { vec_len places ≤ 16384 }
     ensures many { length result.items ≡ vec_len places }
@@ -211,8 +211,8 @@ fn home_at(alloc: Global, per_queue: HomeCount, index: u32, found: HomeWithId) -
     }
 }
 
-// Room for what is to be gathered.
-fn room_for<D: Ledger, T: Ledger>(
+// Memory for what is to be gathered.
+fn memory_for<D: Ledger, T: Ledger>(
     alloc: Global,
     actors: &Actors<D, T>,
     sessions: &Vec<Session<D, T>>,
@@ -255,7 +255,7 @@ impl<C: Drop, G: Drop, D: Ledger, T: Ledger> Serving<C, G, D, T, SlotStore> {
         let mut service = self;
         let alloc = service.alloc;
         let actors = service.actors.into_inner().into_inner();
-        let Ok((journals, out)) = room_for(alloc, &actors, &sessions, &service.homes) else {
+        let Ok((journals, out)) = memory_for(alloc, &actors, &sessions, &service.homes) else {
             service.actors = under_lock(actors);
             return Err(Unfinished {
                 refusal: Refusal::NoMemory,

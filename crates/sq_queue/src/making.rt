@@ -42,8 +42,8 @@ pub(crate) fn new_parts<D: Ledger, T: Ledger>(
     ensures homes { IfOk result (λ m. m.homes.items ≡ never_opened_homes options.now.homes (limits_of options.now) (options.now.queues * options.now.homes)) }
     ensures many { IfOk result (λ m. length m.homes.items ≡ options.now.queues * options.now.homes) }
     ensures few { IfOk result (λ m. length m.homes.items ≤ 16384) }
-    ensures directory { IfOk result (λ m. m.directory.directory ≡ record { directory = opening_directory options.now.queues; last = start; events = []; room = 0 }) }
-    ensures ledger { IfOk result (λ m. m.ledger.ledger.history ≡ record { ledger = opening_ledger options.now.transit; last = start; events = []; room = 0; task_room = 0 }) }
+    ensures directory { IfOk result (λ m. m.directory.directory ≡ record { directory = opening_directory options.now.queues; last = start; events = []; spare = 0 }) }
+    ensures ledger { IfOk result (λ m. m.ledger.ledger.history ≡ record { ledger = opening_ledger options.now.transit; last = start; events = []; spare = 0; spare_tasks = 0 }) }
     ensures seed { IfOk result (λ m. m.actors.seed ≡ options.now.seed) }
     ensures none { IfOk result (λ m. (m.actors.made ≡ 0) × (m.actors.retired.items ≡ [])) }
     ensures refused { IfErr result (λ e. e ≡ Refusal.NoMemory) }

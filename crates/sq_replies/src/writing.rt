@@ -9,7 +9,7 @@ use std::alloc::{AllocError, Global};
 use std::marker::Model;
 
 /// How many bytes of memory are got before a text is written; it grows.
-const ROOM: usize = 256;
+const CAPACITY: usize = 256;
 
 /// JSON that is written. A clause sees its tokens.
 #[derive(Drop)]
@@ -37,7 +37,7 @@ impl Writer {
     pub fn new(alloc: Global) -> Result<Writer, AllocError>
         ensures { IfOk result (λ out. out ≡ []) }
     {
-        let inside = json::Writer::new(Vec::with_capacity(alloc, ROOM)?);
+        let inside = json::Writer::new(Vec::with_capacity(alloc, CAPACITY)?);
         Ok(Writer { alloc, inside })
     }
 

@@ -64,10 +64,10 @@ keeps_none kind all = record {
   few = omega arith;
 }
 
--- where there is room, all so far are kept
+-- where more fit, all so far are kept
 not_more : (has_more : Bool) (n : ℕ) → (has_more ≡ true → n ≡ 10) → n < 10 → has_more ≡ false
-not_more true n full room = let is = full refl in absurd (omega arith)
-not_more false n full room = refl
+not_more true n full more_fit = let is = full refl in absurd (omega arith)
+not_more false n full more_fit = refl
 
 -- and behind ten there are more
 more_than_ten : (kind : BatchKind) (all ds rest : Items) (d : Data) (first : List EntryMembers) (has_more : Bool) → ds ≡ item d rest → length first ≡ 10 → AreKept kind all ds first has_more → 10 < how_many all
@@ -82,9 +82,9 @@ pub keeps_one : {E : Type 0} (kind : BatchKind) (all ds rest : Items) (d : Data)
     → IsOk pushed ↔ (length first.items < 10) → OnOk pushed (new.items ≡ first.items ++ entry ∷ []) → OnErr pushed (new ≡ first) → OnErr pushed (length first.items ≡ 10)
     → AreKept kind all ds first.items has_more → AreKept kind all rest new.items (is_err pushed)
 keeps_one kind all ds rest d first new has_more entry (Ok done) is one length fits ok err full so =
-    let room = fits.0 refl in
+    let more_fit = fits.0 refl in
     record {
-      are_all = λ h. rw ok (next_first kind all ds rest d first.items entry is one length (so.are_all (not_more has_more _ so.full room)));
+      are_all = λ h. rw ok (next_first kind all ds rest d first.items entry is one length (so.are_all (not_more has_more _ so.full more_fit)));
       many = λ h. absurd (cc);
       full = λ h. absurd (cc);
       few = rw ok (simp length-append (omega arith));

@@ -29,7 +29,7 @@ send_members d = do
   has_attributes ← has_attributes_at d
   Ok (record { queue = queue; delay = delay; has_attributes = has_attributes })
 
--- a body of 1 to 262144 bytes
+-- a body of 1 to `body_limit` bytes
 abbrev pub body_text : List ℕ → Result (List ℕ) Refusal
 body_text body = if is_too_small_or_large body then Err InvalidParameterValue else Ok body
 

@@ -132,7 +132,7 @@ items_at name d = items_in (get name d)
 unfoldable pub members_of : BatchKind → Items → Result Items Refusal
 members_of kind items = if all_items (is_entry kind) items then Ok items else Err InvalidRequest
 
--- 1 to 10 entries, each with an id, all of them distinct, and bodies of 262144 bytes together at most (own)
+-- 1 to 10 entries, each with an id, all of them distinct, and bodies of `body_limit` bytes together at most (own)
 unfoldable pub batch_check : BatchKind → Items → Result (Unit {0}) Refusal
 batch_check kind items =
     if how_many items == 0 then Err EmptyBatchRequest

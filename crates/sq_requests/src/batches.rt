@@ -211,13 +211,13 @@ fn body_length(members: &AskMembers<'_>) -> usize
 fn are_too_long(entries: &[EntryMembers<'_>]) -> bool
     ensures { result ≡ nat_lt body_limit (lengths_of entries.now) }
 {
-    let mut room = BODY_LIMIT;
+    let mut bytes_left = BODY_LIMIT;
     for entry in entries {
         let length = body_length(&entry.asked);
-        if length > room {
+        if length > bytes_left {
             return true;
         }
-        room -= length;
+        bytes_left -= length;
     }
     false
 }

@@ -46,5 +46,5 @@ full_refused l next s m rows later low fits within full =
 
 -- and one that is not full, with serials left, refuses no row
 pub one_more_left : (l : Limits) (next : ℕ) (s : Settings) (m : ℕ) (rows : List Row) → next < last_serial → l.rows < slots → length (unexpired s m rows) < l.rows → full_refusal l next (unexpired s m rows) None ≡ None
-one_more_left l next s m rows low fits room =
-    rw (above next last_serial low, above (length (unexpired s m rows)) slots (omega (arith, fits, room)), above (length (unexpired s m rows)) l.rows room) refl
+one_more_left l next s m rows low fits few =
+    rw (above next last_serial low, above (length (unexpired s m rows)) slots (omega (arith, fits, few)), above (length (unexpired s m rows)) l.rows few) refl

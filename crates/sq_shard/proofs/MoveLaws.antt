@@ -87,7 +87,7 @@ few_rest rows rest row most takes le =
     let whole : length (takes.before ++ row ∷ takes.after) ≤ most = subst (λ xs. length xs ≤ most) takes.at le in
     rw takes.left (omega (arith, fewer, whole))
 
--- a home that takes a row serves, and has a serial, a slot and room for it
+-- a home that takes a row serves, and has a serial, a slot and spare memory for it
 pub record TakesOne (status : Status) (site : Site) (next : ℕ) (rows : List Row) : Type 0 where
   pub serves : status ≡ Serving
   pub not_worn : next < last_serial

@@ -5,7 +5,7 @@ use Rattle.sq_base.specs.declared.row.Row.{Row}
 use Rattle.sq_model.specs.declared.place.Site.{Site}
 use Rattle.sq_model.specs.declared.replies.HomeReply.{HomeReply}
 use Rattle.sq_model.specs.declared.replies.HomeReply.TheVariants.{Looked, Over}
-use Rattle.sq_model.specs.Rows.{ms, is_live, room, serials_of, received_if}
+use Rattle.sq_model.specs.Rows.{ms, is_live, flights_left, serials_of, received_if}
 use Rattle.sq_model.specs.Homes.{Home, Unopened, Serving, Closed, unexpired_rows}
 use Rattle.sq_store.specs.Picked.{AreTheirs}
 
@@ -23,7 +23,7 @@ look_after Closed m timeout picked = Closed
 
 -- a look gives rows: a live one is there, and fewer are in flight than may be
 abbrev pub GivesAny : Site → Home → ℕ → Type 0
-GivesAny site (Serving its) m = (list_any (is_live its.settings m) (unexpired_rows its m) ≡ true) × (0 < room site.limits.flights m (unexpired_rows its m))
+GivesAny site (Serving its) m = (list_any (is_live its.settings m) (unexpired_rows its m) ≡ true) × (0 < flights_left site.limits.flights m (unexpired_rows its m))
 GivesAny site Unopened m = ⊥
 GivesAny site Closed m = ⊥
 

@@ -64,17 +64,17 @@ GoesWithout (Serving its) m row after = (rest : List Row) × Takes row (unexpire
 GoesWithout Unopened m row after = ⊥
 GoesWithout Closed m row after = ⊥
 
--- one row more uses room for one; where there was none, there is room for three more
-pub record UsesRowRoom (old new : ℕ) : Type 0 where
+-- one row more uses spare memory for one; where there was none, there is spare memory for three more
+pub record UsesSpareRow (old new : ℕ) : Type 0 where
   pub used : old ≤ new + 1
   pub got : old ≡ 0 → 3 ≤ new
 
--- a row that comes in uses room, and no other call does
-abbrev pub KeepsRowRoom : HomeCall → ℕ → ℕ → Type 0
-KeepsRowRoom (Send body delay) old new = UsesRowRoom old new
-KeepsRowRoom (call.Enter item) old new = UsesRowRoom old new
-KeepsRowRoom (call.GiveBack item) old new = UsesRowRoom old new
-KeepsRowRoom other old new = new ≡ old
+-- a row that comes in uses spare memory, and no other call does
+abbrev pub KeepsSpareRows : HomeCall → ℕ → ℕ → Type 0
+KeepsSpareRows (Send body delay) old new = UsesSpareRow old new
+KeepsSpareRows (call.Enter item) old new = UsesSpareRow old new
+KeepsSpareRows (call.GiveBack item) old new = UsesSpareRow old new
+KeepsSpareRows other old new = new ≡ old
 
 -- a row comes in
 abbrev pub PutsRow : ItemAct → Type 0

@@ -9,7 +9,7 @@ pub record ShardValue : Type 0 where
   pub site : Site
   pub home : Home
   -- for how many rows more there was memory when the last one came in
-  pub room : ℕ
+  pub spare : ℕ
 
 abbrev pub home_with : Status → Contents → Home
 home_with Unopened its = Never

@@ -5,7 +5,7 @@ ghost use Rattle.sq_model.specs.Homes.{HomeStep, IsIdle, home_refusal, may_enter
 ghost use Rattle.sq_model.specs.ItemActs.{call_with, is_its, may_act, replied_by};
 ghost use Rattle.sq_model.specs.Homes.{Closed as Gone};
 ghost use Rattle.sq_shard.specs.Calls.{HasComeIn};
-ghost use Rattle.sq_shard.specs.Moves.{IsDeadAt, IsLiveAt, HasRow, GoesWithout, IsFor, KeepsRowRoom, PutsRow, has_live_row, is_opened, target_at, unexpired_home, coming_refusal, closed_refusal, item_refusal};
+ghost use Rattle.sq_shard.specs.Moves.{IsDeadAt, IsLiveAt, HasRow, GoesWithout, IsFor, KeepsSpareRows, PutsRow, has_live_row, is_opened, target_at, unexpired_home, coming_refusal, closed_refusal, item_refusal};
 
 use crate::made;
 use crate::shard::{Shard, Status};
@@ -73,7 +73,7 @@ impl<S: Store> Shard<S> {
     pub fn expire(&mut self, moment: u64)
         ensures home { self.new.home ≡ unexpired_home self.old.home moment }
         ensures site { self.new.site ≡ self.old.site }
-        ensures room { self.new.room ≡ self.old.room }
+        ensures spare { self.new.spare ≡ self.old.spare }
     {
         let settings = self.settings;
         self.store.expire(&At { settings, moment });
@@ -95,7 +95,7 @@ impl<S: Store> Shard<S> {
         ensures row { result ≡ row.now }
         ensures home { GoesWithout self.old.home moment row.now self.new.home }
         ensures site { self.new.site ≡ self.old.site }
-        ensures room { self.new.room ≡ self.old.room }
+        ensures spare { self.new.spare ≡ self.old.spare }
     {
         let settings = self.settings;
         let at = At { settings, moment };
@@ -130,7 +130,7 @@ impl<S: Store> Shard<S> {
     }
 
     /// Does this with an item, as `check_item` found, of which this is a copy: with the row that came in, where one did. Refused
-    /// as NoMemory, only where one is to come in and the home shows room for none.
+    /// as NoMemory, only where one is to come in and the home shows no spare memory.
     #[tactic(auto, using(crate::proofs::MoveLaws::turned_at, crate::proofs::MoveLaws::dropped_at))]
     pub fn item_step(
         &mut self,
@@ -142,8 +142,8 @@ impl<S: Store> Shard<S> {
         requires is_for { IsFor act self.old.site self.old.home moment }
         ensures step { IfOk result (λ entered. HomeStep self.old.site self.old.home moment (call_with act item) (replied_by entered) self.new.home) }
         ensures site { self.new.site ≡ self.old.site }
-        ensures room { OnOk result (KeepsRowRoom (call_with act item) self.old.room self.new.room) }
-        ensures refused { IfErr result (λ e. (e ≡ Refusal.NoMemory) × PutsRow act × (self.old.room ≡ 0)) }
+        ensures spare { OnOk result (KeepsSpareRows (call_with act item) self.old.spare self.new.spare) }
+        ensures refused { IfErr result (λ e. (e ≡ Refusal.NoMemory) × PutsRow act × (self.old.spare ≡ 0)) }
         ensures err { OnErr result (self.new ≡ self.old) }
     {
         match act {
@@ -153,7 +153,7 @@ impl<S: Store> Shard<S> {
         }
     }
 
-    /// Puts the row of an item last, which comes in here, as `check_item` found. Refused as NoMemory where the home shows room for
+    /// Puts the row of an item last, which comes in here, as `check_item` found. Refused as NoMemory where the home shows spare memory for
     /// none.
     #[tactic(auto, using(crate::proofs::MoveLaws::entered_at))]
     pub fn enter(&mut self, moment: u64, item: Item) -> Result<EnteredRow, Refusal>
@@ -165,7 +165,7 @@ impl<S: Store> Shard<S> {
         self.put(moment, row)
     }
 
-    /// Puts the row of an item last, which comes back, as `check_item` found. Refused as NoMemory where the home shows room for
+    /// Puts the row of an item last, which comes back, as `check_item` found. Refused as NoMemory where the home shows spare memory for
     /// none.
     #[tactic(auto, using(crate::proofs::MoveLaws::returned_at))]
     pub fn give_back(&mut self, moment: u64, item: Item) -> Result<EnteredRow, Refusal>

@@ -8,7 +8,7 @@ ghost use Rattle.sq_model.specs.declared.replies.HomeReply.TheVariants.{Sent, Co
 ghost use Rattle.sq_base.specs.declared.refusal.Refusal.{Refusal as Refused};
 ghost use Rattle.sq_shard.specs.Calls.{IsDoneOrRefused};
 ghost use Rattle.sq_shard.specs.Looks.{look_reply, look_after, GivesAny, GivesRows, MayBeGiven};
-ghost use Rattle.sq_shard.specs.Moves.{UsesRowRoom, coming_refusal};
+ghost use Rattle.sq_shard.specs.Moves.{UsesSpareRow, coming_refusal};
 ghost use Rattle.sq_shard.specs.inside.Moves.{IsPut};
 ghost use Rattle.sq_model.specs.Rows.{ms};
 
@@ -35,16 +35,16 @@ fn after_seconds(moment: u64, seconds: u32) -> u64
     moment + seconds as u64 * 1000
 }
 
-// Gets memory for four rows more, where a home shows room for none. Refused as NoMemory.
-fn make_room<S: Store>(store: &mut S, room: usize) -> Result<(), Refusal>
-    requires { room ≤ S.reserved store.old }
+// Gets memory for four rows more, where a home shows no spare memory. Refused as NoMemory.
+fn make_spare<S: Store>(store: &mut S, spare: usize) -> Result<(), Refusal>
+    requires { spare ≤ S.reserved store.old }
     ensures rows { S.rows store.new ≡ S.rows store.old }
     ensures ready { OnOk result (0 < S.reserved store.new) }
-    ensures got { OnOk result (room ≡ 0 → 4 ≤ S.reserved store.new) }
-    ensures kept { room ≤ S.reserved store.new }
-    ensures refused { IfErr result (λ e. (e ≡ Refusal.NoMemory) × (room ≡ 0)) }
+    ensures got { OnOk result (spare ≡ 0 → 4 ≤ S.reserved store.new) }
+    ensures kept { spare ≤ S.reserved store.new }
+    ensures refused { IfErr result (λ e. (e ≡ Refusal.NoMemory) × (spare ≡ 0)) }
 {
-    if room == 0 {
+    if spare == 0 {
         store.reserve()?;
     }
     Ok(())
@@ -60,7 +60,7 @@ pub(crate) enum Status {
 /// One home of a queue, over a store of its rows. Moments are in ms, below 2^62.
 ///
 /// A call that is refused leaves the home as it was, and drops nothing that has expired. It shows for how many rows more there was
-/// memory when the last one came in, at least. A row for which it shows no room gets memory for four.
+/// memory when the last one came in, at least. A row for which it shows none to spare gets memory for four.
 #[derive(Drop)]
 pub struct Shard<S: Store> {
     pub(crate) site: Site,
@@ -69,7 +69,7 @@ pub struct Shard<S: Store> {
     version: u64,
     pub(crate) next: Serial,
     pub(crate) store: S,
-    room: usize,
+    spare: usize,
 }
 
 impl<S: Store> Model for Shard<S> {
@@ -79,18 +79,18 @@ impl<S: Store> Model for Shard<S> {
 
     ghost Value = { ShardValue };
 
-    ghost view = { λ a. record { site = a.site; home = home_with a.status (record { settings = a.settings; version = a.version; next = a.next; rows = S.rows a.store }); room = a.room } };
+    ghost view = { λ a. record { site = a.site; home = home_with a.status (record { settings = a.settings; version = a.version; next = a.next; rows = S.rows a.store }); spare = a.spare } };
 
     ghost use Rattle.sq_shard.specs.declared.shard.Status.TheVariants.{Unopened, Closed};
 
-    ghost invariant = { λ a. record { rising : RisesFrom 0 (S.rows a.store) a.next; empty : a.status ≡ Unopened → S.rows a.store ≡ []; left : a.status ≡ Closed → S.rows a.store ≡ []; within : length (S.rows a.store) ≤ a.site.limits.rows; room : a.room ≤ S.reserved a.store } };
+    ghost invariant = { λ a. record { rising : RisesFrom 0 (S.rows a.store) a.next; empty : a.status ≡ Unopened → S.rows a.store ≡ []; left : a.status ≡ Closed → S.rows a.store ≡ []; within : length (S.rows a.store) ≤ a.site.limits.rows; spare : a.spare ≤ S.reserved a.store } };
 }
 
 impl<S: Store> Shard<S> {
-    /// A home that was never opened, over a store without rows. It shows room for none.
+    /// A home that was never opened, over a store without rows. It shows no spare memory.
     pub fn unopened(site: Site, store: S) -> Shard<S>
         requires { S.rows store ≡ [] }
-        ensures { result ≡ record { site = site; home = Never; room = 0 } }
+        ensures { result ≡ record { site = site; home = Never; spare = 0 } }
     {
         Shard {
             site,
@@ -99,7 +99,7 @@ impl<S: Store> Shard<S> {
             version: 0,
             next: Serial::first(),
             store,
-            room: 0,
+            spare: 0,
         }
     }
 
@@ -146,7 +146,7 @@ impl<S: Store> Shard<S> {
     }
 
     /// Puts a message last; without a delay the home's is taken.
-    /// Refused as QueueDoesNotExist (not serving), Worn (no serial is left), OverLimit (full), NoMemory (it shows room for no
+    /// Refused as QueueDoesNotExist (not serving), Worn (no serial is left), OverLimit (full), NoMemory (it shows spare memory for no
     /// row).
     #[tactic(auto, unfolding(sq_model::specs::Homes::HomeStep, sq_model::specs::Homes::home_refusal), using(sq_model::proofs::RowLaws::rises_unexpired, crate::proofs::Few::few_unexpired, sq_model::proofs::RowLaws::rises_push, crate::proofs::Few::few_pushed, crate::proofs::Few::full_refused, crate::proofs::Few::one_more_left))]
     pub fn send(
@@ -158,8 +158,8 @@ impl<S: Store> Shard<S> {
         requires { moment < stamp_end }
         ensures step { IfOk result (λ sent. HomeStep self.old.site self.old.home moment (Send body delay) (Sent sent) self.new.home) }
         ensures site { self.new.site ≡ self.old.site }
-        ensures room { OnOk result (UsesRowRoom self.old.room self.new.room) }
-        ensures refusal { IfErr result (λ e. ((e ≡ Refusal.NoMemory) × (home_refusal self.old.site self.old.home moment (Send body delay) ≡ None) × (self.old.room ≡ 0)) ⊎ (home_refusal self.old.site self.old.home moment (Send body delay) ≡ Some e)) }
+        ensures spare { OnOk result (UsesSpareRow self.old.spare self.new.spare) }
+        ensures refusal { IfErr result (λ e. ((e ≡ Refusal.NoMemory) × (home_refusal self.old.site self.old.home moment (Send body delay) ≡ None) × (self.old.spare ≡ 0)) ⊎ (home_refusal self.old.site self.old.home moment (Send body delay) ≡ Some e)) }
         ensures err { OnErr result (self.new ≡ self.old) }
     {
         // What refuses a message is checked before it asks for memory.
@@ -191,23 +191,23 @@ impl<S: Store> Shard<S> {
         Ok(())
     }
 
-    // Puts a row last, with the next serial. Refused as NoMemory where it shows room for none.
+    // Puts a row last, with the next serial. Refused as NoMemory where it shows no spare memory.
     pub(crate) fn put(&mut self, moment: u64, row: Row) -> Result<EnteredRow, Refusal>
         requires { coming_refusal self.old.site self.old.home moment None ≡ None }
         ensures put { IfOk result (λ entered. IsPut self.old.site self.old.home moment row entered self.new.home) }
         ensures site { self.new.site ≡ self.old.site }
-        ensures room { OnOk result (UsesRowRoom self.old.room self.new.room) }
-        ensures refused { IfErr result (λ e. (e ≡ Refusal.NoMemory) × (self.old.room ≡ 0)) }
+        ensures spare { OnOk result (UsesSpareRow self.old.spare self.new.spare) }
+        ensures refused { IfErr result (λ e. (e ≡ Refusal.NoMemory) × (self.old.spare ≡ 0)) }
         ensures err { OnErr result (self.new ≡ self.old) }
     {
-        make_room(&mut self.store, self.room)?;
+        make_spare(&mut self.store, self.spare)?;
         let settings = self.settings;
         self.store.expire(&At { settings, moment });
         let serial = self.next;
         let mut row = row;
         row.serial = serial;
         let slot = self.store.insert(row);
-        self.room = self.store.spare();
+        self.spare = self.store.spare();
         if let Some(after) = Serial::new(serial.get() + 1) {
             self.next = after;
         }
@@ -260,7 +260,7 @@ impl<S: Store> Shard<S> {
         requires picked { MayBeGiven self.old.home moment picked.now }
         ensures home { self.new.home ≡ look_after self.old.home moment timeout picked.now }
         ensures site { self.new.site ≡ self.old.site }
-        ensures room { self.new.room ≡ self.old.room }
+        ensures spare { self.new.spare ≡ self.old.spare }
     {
         let Status::Serving = self.status else {
             return;
@@ -287,7 +287,7 @@ impl<S: Store> Shard<S> {
         requires { moment < stamp_end }
         ensures step { IfOk result (λ picked. HomeStep self.old.site self.old.home moment (Look max timeout) (look_reply picked) self.new.home) }
         ensures site { self.new.site ≡ self.old.site }
-        ensures room { self.new.room ≡ self.old.room }
+        ensures spare { self.new.spare ≡ self.old.spare }
         ensures refusal { IfErr result (λ e. ((e ≡ Refusal.NoMemory) × GivesAny self.old.site self.old.home moment) ⊎ (home_refusal self.old.site self.old.home moment (Look max timeout) ≡ Some e)) }
         ensures err { OnErr result (self.new ≡ self.old) }
     {
@@ -364,7 +364,7 @@ impl<S: Store> Shard<S> {
     pub fn count(&mut self, moment: u64) -> Result<Counts, Refusal>
         ensures step { IfOk result (λ counts. HomeStep self.old.site self.old.home moment Count (Counted counts) self.new.home) }
         ensures site { self.new.site ≡ self.old.site }
-        ensures room { self.new.room ≡ self.old.room }
+        ensures spare { self.new.spare ≡ self.old.spare }
         ensures refusal { IfErr result (λ e. home_refusal self.old.site self.old.home moment Count ≡ Some e) }
         ensures err { OnErr result (self.new ≡ self.old) }
     {

@@ -49,8 +49,8 @@ less_below a b less = elim (below_or a b) [
   ]
 ]
 
-pub journal_more : (b : Journal) (n : RecordValue) (room : ℕ) → IsJournal b → place_of_record n ≡ b.next → Below b.seen (record_stamp n) → IsJournal (with_record b n room)
-journal_more b n room is place above =
+pub journal_more : (b : Journal) (n : RecordValue) (spare : ℕ) → IsJournal b → place_of_record n ≡ b.next → Below b.seen (record_stamp n) → IsJournal (with_record b n spare)
+journal_more b n spare is place above =
     let low = all_weaken (λ m. place_of_record m < b.next) (λ m. place_of_record m < place_of_record n) b.records (λ m lt. omega (arith, lt, place)) is.below in
     let under = all_weaken (λ m. IsSeen (record_stamp m) b.seen) (λ m. Below (record_stamp m) (record_stamp n)) b.records (λ m s. seen_below (record_stamp m) b.seen (record_stamp n) s above) is.saw in
     record {
@@ -68,16 +68,16 @@ journal_above b stamp is less = record {
 }
 
 -- the record of a step of a part is above what its actor has
-pub after_journal_more : (last : StampValue) (journal : Journal) (now : ℕ) (n : RecordValue) (room : ℕ)
-    → IsJournal journal → after last journal.seen now ≡ Ok (record_stamp n) → place_of_record n ≡ journal.next → IsJournal (with_record journal n room)
-after_journal_more last journal now n room is stamped place = journal_more journal n room is place (after_above_second last journal.seen now (record_stamp n) stamped)
+pub after_journal_more : (last : StampValue) (journal : Journal) (now : ℕ) (n : RecordValue) (spare : ℕ)
+    → IsJournal journal → after last journal.seen now ≡ Ok (record_stamp n) → place_of_record n ≡ journal.next → IsJournal (with_record journal n spare)
+after_journal_more last journal now n spare is stamped place = journal_more journal n spare is place (after_above_second last journal.seen now (record_stamp n) stamped)
 
 -- that of a step that the home shares with the ledger
-pub shared_journal_more : (old new : HistoryValue) (ledger after : LedgerHistory) (journal : Journal) (stamp : StampValue) (name : Option (List ℕ)) (act : SharedAct) (reply : HomeReply) (its_record : HomeRecordValue) (room : ℕ)
-    → IsJournal journal → BothDo old new ledger after (actor_of journal) stamp name act (reply, its_record) → IsJournal (with_record journal (OfHome its_record) room)
-shared_journal_more old new ledger after journal stamp name act reply its_record room is both =
+pub shared_journal_more : (old new : HistoryValue) (ledger after : LedgerHistory) (journal : Journal) (stamp : StampValue) (name : Option (List ℕ)) (act : SharedAct) (reply : HomeReply) (its_record : HomeRecordValue) (spare : ℕ)
+    → IsJournal journal → BothDo old new ledger after (actor_of journal) stamp name act (reply, its_record) → IsJournal (with_record journal (OfHome its_record) spare)
+shared_journal_more old new ledger after journal stamp name act reply its_record spare is both =
     let at_home = both.at_home in
-    journal_more journal (OfHome its_record) room is (ap (λ (n : HomeRecordValue). n.place) at_home.record_is)
+    journal_more journal (OfHome its_record) spare is (ap (λ (n : HomeRecordValue). n.place) at_home.record_is)
     (subst (λ (s : StampValue). Below journal.seen s) (sym (ap (λ (n : HomeRecordValue). n.stamp) at_home.record_is)) at_home.above_seen)
 
 -- of two stamps the later is not below either

@@ -17,7 +17,7 @@ use Rattle.sq_model.specs.declared.shared.ItemAct.TheVariants.{Enter, TurnBack, 
 use Rattle.sq_model.specs.declared.shared.SharedAct.TheVariants as asks
 use Rattle.sq_model.specs.Homes.{Home, Unopened, Serving, Closed, HomeStep, IsFrom, home_refusal}
 use Rattle.sq_model.specs.ItemActs.{asked_with, call_with}
-use Rattle.sq_model.specs.Ledgers.{Ledger, item_of, room_refusal}
+use Rattle.sq_model.specs.Ledgers.{Ledger, item_of, transit_refusal}
 use Rattle.sq_model.specs.RecordValues.{HomeRecordValue}
 use Rattle.sq_model.specs.Shared.{IsUnrecorded, shared_refusal}
 use Rattle.sq_history.specs.Halves.{item_refusal, DoesHalf, HasDead, HasItem, IsActRefused, IsDeadRefused, IsHalfRefused, PutsRow}
@@ -52,9 +52,9 @@ recorded act site Closed l m number h = h
 recorded act site (Serving its) l m number h =
     elim act as (λ a. IsUnrecorded site (Serving its) l m (asked_with a number) → ⊥) [ Enter ↦ (λ k. k) | TurnBack ↦ (λ k. k) | GiveBack ↦ (λ k. k) | Drop ↦ (λ k. k) ] h
 
-grows_last : (act : ItemAct) (old : HistoryValue) (m number : ℕ) → PutsRow act → old.row_room ≡ 0 → GrowsLast old m (asked_with act number)
-grows_last act old m number puts room =
-    elim act as (λ a. PutsRow a → GrowsLast old m (asked_with a number)) [ Enter ↦ (λ k. room) | TurnBack ↦ (λ k. k) | GiveBack ↦ (λ k. room) | Drop ↦ (λ k. k) ] puts
+grows_last : (act : ItemAct) (old : HistoryValue) (m number : ℕ) → PutsRow act → old.spare_rows ≡ 0 → GrowsLast old m (asked_with act number)
+grows_last act old m number puts spare =
+    elim act as (λ a. PutsRow a → GrowsLast old m (asked_with a number)) [ Enter ↦ (λ k. spare) | TurnBack ↦ (λ k. k) | GiveBack ↦ (λ k. spare) | Drop ↦ (λ k. k) ] puts
 
 -- an item that is there is copied
 copies_item : (act : ItemAct) (l : Ledger) (number : ℕ) → HasItem (item_of number l) → CopiesItem l (asked_with act number)
@@ -70,7 +70,7 @@ half_out {A} {B} old given P Q e copies at h = elim h [
 
 -- why a home's rows do not do it is why neither half is done
 act_out : (act : ItemAct) (old : HistoryValue) (l : Ledger) (m number : ℕ) (item : Option Item) (e : Refusal) → item ≡ item_of number l
-    → IsActRefused act old.row_room (item_refusal act old.site old.home m item) e → IsPairRefused old l m (asked_with act number) e
+    → IsActRefused act old.spare_rows (item_refusal act old.site old.home m item) e → IsPairRefused old l m (asked_with act number) e
 act_out act old l m number item e is h =
     let same = ap (λ (it : Option Item). item_refusal act old.site old.home m it) is ∙ item_first act old.site old.home l m number in
     elim h [
@@ -79,10 +79,10 @@ act_out act old l m number item e is h =
     ]
 
 pub item_out : (act : ItemAct) (old : HistoryValue) (l : Ledger) (given : Result StampValue Refusal) (number : ℕ) (item : Option Item) (e : Refusal) → item ≡ item_of number l
-    → IsHalfRefused old (HasItem item) given (λ m x. IsActRefused act old.row_room (item_refusal act old.site old.home m item) x) e
+    → IsHalfRefused old (HasItem item) given (λ m x. IsActRefused act old.spare_rows (item_refusal act old.site old.home m item) x) e
     → IsHalfRefused old (CopiesItem l (asked_with act number)) given (λ m x. IsPairRefused old l m (asked_with act number) x) e
 item_out act old l given number item e is h =
-    half_out old given (λ m x. IsActRefused act old.row_room (item_refusal act old.site old.home m item) x) (λ m x. IsPairRefused old l m (asked_with act number) x) e
+    half_out old given (λ m x. IsActRefused act old.spare_rows (item_refusal act old.site old.home m item) x) (λ m x. IsPairRefused old l m (asked_with act number) x) e
     (λ there. copies_item act l number (subst HasItem is there)) (λ stamp _ not. act_out act old l stamp.moment number item e is not) h
 
 -- ---- what the ledger is told
@@ -99,7 +99,7 @@ half_does act old new by given name item half does =
 
 -- ---- a dead message that does not leave
 
-leave_passes : (site : Site) (home : Home) (l : Ledger) (m : ℕ) → HasDead home m → shared_refusal site home l m asks.LeaveDead ≡ room_refusal l
+leave_passes : (site : Site) (home : Home) (l : Ledger) (m : ℕ) → HasDead home m → shared_refusal site home l m asks.LeaveDead ≡ transit_refusal l
 unfolding shared_refusal
 leave_passes site Unopened l m dead = absurd dead
 leave_passes site Closed l m dead = absurd dead
@@ -116,8 +116,8 @@ home_first site Unopened l m e h = h
 home_first site Closed l m e h = h
 home_first site (Serving its) l m e h = absurd cc
 
-dead_out : (old : HistoryValue) (l : Ledger) (m reserved : ℕ) (number : Result ℕ Refusal) (e : Refusal) → ((n : ℕ) → number ≡ Ok n → room_refusal l ≡ None)
-    → ((r : Refusal) → number ≡ Err r → (room_refusal l ≡ Some r) ⊎ ((room_refusal l ≡ None) × (r ≡ NoMemory) × (reserved ≡ 0)))
+dead_out : (old : HistoryValue) (l : Ledger) (m reserved : ℕ) (number : Result ℕ Refusal) (e : Refusal) → ((n : ℕ) → number ≡ Ok n → transit_refusal l ≡ None)
+    → ((r : Refusal) → number ≡ Err r → (transit_refusal l ≡ Some r) ⊎ ((transit_refusal l ≡ None) × (r ≡ NoMemory) × (reserved ≡ 0)))
     → IsDeadRefused old.site old.home m number e → IsPairRefused old l m asks.LeaveDead e
 dead_out old l m reserved number e passes refuses (inl (out, dead, ok)) = inl (out, (leave_passes old.site old.home l m dead ∙ passes ok.0 ok.1, leaves_recorded old.site old.home l m dead, tt))
 dead_out old l m reserved number e passes refuses (inr (inl h)) = inr (home_first old.site old.home l m e h)
@@ -127,8 +127,8 @@ dead_out old l m reserved number e passes refuses (inr (inr (dead, is))) =
       | inr out ↦ inl (out.1, (leave_passes old.site old.home l m dead ∙ out.0, leaves_recorded old.site old.home l m dead, tt))
     ]
 
-pub leave_refused : (old : HistoryValue) (l : Ledger) (given : Result StampValue Refusal) (reserved : ℕ) (number : Result ℕ Refusal) (e : Refusal) → ((n : ℕ) → number ≡ Ok n → room_refusal l ≡ None)
-    → ((r : Refusal) → number ≡ Err r → (room_refusal l ≡ Some r) ⊎ ((room_refusal l ≡ None) × (r ≡ NoMemory) × (reserved ≡ 0)))
+pub leave_refused : (old : HistoryValue) (l : Ledger) (given : Result StampValue Refusal) (reserved : ℕ) (number : Result ℕ Refusal) (e : Refusal) → ((n : ℕ) → number ≡ Ok n → transit_refusal l ≡ None)
+    → ((r : Refusal) → number ≡ Err r → (transit_refusal l ≡ Some r) ⊎ ((transit_refusal l ≡ None) × (r ≡ NoMemory) × (reserved ≡ 0)))
     → IsHalfRefused old ⊥ given (λ m x. IsDeadRefused old.site old.home m number x) e → IsHalfRefused old ⊥ given (λ m x. IsPairRefused old l m asks.LeaveDead x) e
 leave_refused old l given reserved number e passes refuses h =
     half_out old given (λ m x. IsDeadRefused old.site old.home m number x) (λ m x. IsPairRefused old l m asks.LeaveDead x) e

@@ -16,7 +16,7 @@ use Rattle.sq_model.specs.declared.replies.HomeReply.TheVariants.{Left, NoLiveRo
 use Rattle.sq_model.specs.declared.shared.SharedAct.TheVariants as asks
 use Rattle.sq_model.specs.declared.task.Task.{Task}
 use Rattle.sq_model.specs.Homes.{Home, Unopened, Serving, Closed, HomeStep, IsFrom, home_refusal, refused_if}
-use Rattle.sq_model.specs.Ledgers.{HasRoom, Ledger, MayTake, is_of_source, room_refusal, task_of}
+use Rattle.sq_model.specs.Ledgers.{TakesOneMore, Ledger, MayTake, is_of_source, transit_refusal, task_of}
 use Rattle.sq_model.specs.RecordValues.{HomeRecordValue}
 use Rattle.sq_model.specs.Shared.{IsUnrecorded, is_throttled, shared_refusal, task_refusal}
 use Rattle.sq_model.specs.Tasks.{is_running, may_leave}
@@ -37,10 +37,10 @@ pub record IsSaid (l : Ledger) (old reserved m : ℕ) (home : HomeId) (number : 
   pub no_task : IfErr said.task (λ e. task_refusal home (task_of number l) None ≡ Some e)
   pub allowed : said.allowed ≡ not (is_throttled m (task_of number l))
   pub item : IfOk said.item (λ item. item ≡ l.next_item)
-  pub has_room : OnOk said.item (HasRoom l)
-  pub passes : OnOk said.item (room_refusal l ≡ None)
+  pub takes_one_more : OnOk said.item (TakesOneMore l)
+  pub passes : OnOk said.item (transit_refusal l ≡ None)
   pub ready : OnOk said.item (0 < reserved)
-  pub no_room : IfErr said.item (λ e. (room_refusal l ≡ Some e) ⊎ ((room_refusal l ≡ None) × (e ≡ NoMemory) × (old ≡ 0)))
+  pub no_place : IfErr said.item (λ e. (transit_refusal l ≡ Some e) ⊎ ((transit_refusal l ≡ None) × (e ≡ NoMemory) × (old ≡ 0)))
 
 not_not : (b : Bool) → not (not b) ≡ b
 not_not true = refl
@@ -53,17 +53,17 @@ allowed_as l old reserved m home number said task is found = sym (is.allowed ∙
 takes : (l : Ledger) (old reserved m : ℕ) (home : HomeId) (number : ℕ) (said : TaskLeave) (task : Task) → IsSaid l old reserved m home number said → IsTaker said task → MayTake l home.queue number task
 takes l old reserved m home number said task is taker = subst (λ (r : Result Task Refusal). IfOk r (λ t. MayTake l home.queue number t)) taker is.task
 
-has_room : (l : Ledger) (old reserved m : ℕ) (home : HomeId) (number n : ℕ) (said : TaskLeave) → IsSaid l old reserved m home number said → said.item ≡ Ok n → HasRoom l
-has_room l old reserved m home number n said is ok = subst (λ (r : Result ℕ Refusal). OnOk r (HasRoom l)) ok is.has_room
+takes_one_more : (l : Ledger) (old reserved m : ℕ) (home : HomeId) (number n : ℕ) (said : TaskLeave) → IsSaid l old reserved m home number said → said.item ≡ Ok n → TakesOneMore l
+takes_one_more l old reserved m home number n said is ok = subst (λ (r : Result ℕ Refusal). OnOk r (TakesOneMore l)) ok is.takes_one_more
 
 next_is : (l : Ledger) (old reserved m : ℕ) (home : HomeId) (number n : ℕ) (said : TaskLeave) → IsSaid l old reserved m home number said → said.item ≡ Ok n → n ≡ l.next_item
 next_is l old reserved m home number n said is ok = subst (λ (r : Result ℕ Refusal). IfOk r (λ item. item ≡ l.next_item)) ok is.item
 
-room_passes : (l : Ledger) (old reserved m : ℕ) (home : HomeId) (number n : ℕ) (said : TaskLeave) → IsSaid l old reserved m home number said → said.item ≡ Ok n → room_refusal l ≡ None
-room_passes l old reserved m home number n said is ok = subst (λ (r : Result ℕ Refusal). OnOk r (room_refusal l ≡ None)) ok is.passes
+transit_passes : (l : Ledger) (old reserved m : ℕ) (home : HomeId) (number n : ℕ) (said : TaskLeave) → IsSaid l old reserved m home number said → said.item ≡ Ok n → transit_refusal l ≡ None
+transit_passes l old reserved m home number n said is ok = subst (λ (r : Result ℕ Refusal). OnOk r (transit_refusal l ≡ None)) ok is.passes
 
-room_refuses : (l : Ledger) (old reserved m : ℕ) (home : HomeId) (number : ℕ) (e : Refusal) (said : TaskLeave) → IsSaid l old reserved m home number said → said.item ≡ Err e → (room_refusal l ≡ Some e) ⊎ ((room_refusal l ≡ None) × (e ≡ NoMemory) × (old ≡ 0))
-room_refuses l old reserved m home number e said is err = subst (λ (r : Result ℕ Refusal). IfErr r (λ x. (room_refusal l ≡ Some x) ⊎ ((room_refusal l ≡ None) × (x ≡ NoMemory) × (old ≡ 0)))) err is.no_room
+transit_refuses : (l : Ledger) (old reserved m : ℕ) (home : HomeId) (number : ℕ) (e : Refusal) (said : TaskLeave) → IsSaid l old reserved m home number said → said.item ≡ Err e → (transit_refusal l ≡ Some e) ⊎ ((transit_refusal l ≡ None) × (e ≡ NoMemory) × (old ≡ 0))
+transit_refuses l old reserved m home number e said is err = subst (λ (r : Result ℕ Refusal). IfErr r (λ x. (transit_refusal l ≡ Some x) ⊎ ((transit_refusal l ≡ None) × (x ≡ NoMemory) × (old ≡ 0)))) err is.no_place
 
 task_refuses : (l : Ledger) (old reserved m : ℕ) (home : HomeId) (number : ℕ) (e : Refusal) (said : TaskLeave) → IsSaid l old reserved m home number said → said.task ≡ Err e → task_refusal home (task_of number l) None ≡ Some e
 task_refuses l old reserved m home number e said is err = subst (λ (r : Result Task Refusal). IfErr r (λ x. task_refusal home (task_of number l) None ≡ Some x)) err is.no_task
@@ -81,13 +81,13 @@ told_left l old reserved m site home after number said task (Left item) left is 
     let may = takes l old reserved m site.home number said task is taker in
     let leaving : IsLeaving l m site.home (call.LeaveTask number) item
     = (from_home site home m number item after step, (task, may, allowed_as l old reserved m site.home number said task is may.found ∙ a.0.0, a.1)) in
-    rw a.2 (has_room l old reserved m site.home number item.number said is a.0.1, next_is l old reserved m site.home number item.number said is a.0.1, leaving, refl)
+    rw a.2 (takes_one_more l old reserved m site.home number item.number said is a.0.1, next_is l old reserved m site.home number item.number said is a.0.1, leaving, refl)
 told_left l old reserved m site home after number said task NoLiveRow left is step taker a =
     let may = takes l old reserved m site.home number said task is taker in
     rw a.1 (refl, (task, may, allowed_as l old reserved m site.home number said task is may.found ∙ a.0))
 told_left l old reserved m site home after number said task (NoOrigin serial) left is step taker a =
     let may = takes l old reserved m site.home number said task is taker in
-    rw a.2 (refl, (task, may, allowed_as l old reserved m site.home number said task is may.found ∙ a.0.1.0, a.1), has_room l old reserved m site.home number a.0.0 said is a.0.1.1)
+    rw a.2 (refl, (task, may, allowed_as l old reserved m site.home number said task is may.found ∙ a.0.1.0, a.1), takes_one_more l old reserved m site.home number a.0.0 said is a.0.1.1)
 told_left l old reserved m site home after number said task SourceClosed left is step taker a =
     rw a (refl, (task, takes l old reserved m site.home number said task is taker))
 told_left l old reserved m site home after number said task reply left is step taker a = elim a [ ]
@@ -131,12 +131,12 @@ then_task site Closed l m number e none h = h
 then_task site (Serving its) l m number e none h = task_first site.home (task_of number l) _ e h
 
 -- where a live message may leave for the task, only the ledger's room is left to check
-then_room : (site : Site) (home : Home) (l : Ledger) (old reserved m number : ℕ) (said : TaskLeave) (task : Task) → IsSaid l old reserved m site.home number said → IsTaker said task → said.allowed ≡ true → has_live_row home m ≡ true
-    → shared_refusal site home l m (asks.LeaveTask number) ≡ room_refusal l
+then_spare : (site : Site) (home : Home) (l : Ledger) (old reserved m number : ℕ) (said : TaskLeave) (task : Task) → IsSaid l old reserved m site.home number said → IsTaker said task → said.allowed ≡ true → has_live_row home m ≡ true
+    → shared_refusal site home l m (asks.LeaveTask number) ≡ transit_refusal l
 unfolding shared_refusal
-then_room site Unopened l old reserved m number said task is taker ok live = absurd cc
-then_room site Closed l old reserved m number said task is taker ok live = absurd cc
-then_room site (Serving its) l old reserved m number said task is taker ok live =
+then_spare site Unopened l old reserved m number said task is taker ok live = absurd cc
+then_spare site Closed l old reserved m number said task is taker ok live = absurd cc
+then_spare site (Serving its) l old reserved m number said task is taker ok live =
     let may = takes l old reserved m site.home number said task is taker in
     let allowed : not (is_throttled m (task_of number l)) ≡ true = sym is.allowed ∙ ok in
     passed_task site.home (task_of number l) task _ may.found may.running may.of_source ∙ rw (allowed, live) refl
@@ -152,15 +152,15 @@ task_out : (old : HistoryValue) (l : Ledger) (had reserved m number : ℕ) (said
 task_out old l had reserved m number said e is (inl (out, leaving)) =
     let ok = leaving.6.0 in
     let live = one_live old.home m leaving.1 leaving.5 in
-    inl (out, (then_room old.site old.home l had reserved m number said leaving.0 is leaving.4 ok live ∙ room_passes l had reserved m old.site.home number leaving.2 said is leaving.6.1, is_recorded old.site old.home l had reserved m number said is ok, live))
+    inl (out, (then_spare old.site old.home l had reserved m number said leaving.0 is leaving.4 ok live ∙ transit_passes l had reserved m old.site.home number leaving.2 said is leaving.6.1, is_recorded old.site old.home l had reserved m number said is ok, live))
 task_out old l had reserved m number said e is (inr (inl h)) = inr (home_first old.site old.home l m number e (subst (λ (n : ℕ). home_refusal old.site old.home m (call.LeaveTask n) ≡ Some e) is.of_number h))
 task_out old l had reserved m number said e is (inr (inr (inl (none, err)))) =
     inr (then_task old.site old.home l m number e (subst (λ (n : ℕ). home_refusal old.site old.home m (call.LeaveTask n) ≡ None) is.of_number none) (task_refuses l had reserved m old.site.home number e said is err))
 task_out old l had reserved m number said e is (inr (inr (inr (taker, ok, live, err)))) =
-    let room = then_room old.site old.home l had reserved m number said taker.0 is taker.1 ok live in
-    elim (room_refuses l had reserved m old.site.home number e said is err) [
-      | inl full ↦ inr (room ∙ full)
-      | inr out ↦ inl (out.1, (room ∙ out.0, is_recorded old.site old.home l had reserved m number said is ok, live))
+    let passes = then_spare old.site old.home l had reserved m number said taker.0 is taker.1 ok live in
+    elim (transit_refuses l had reserved m old.site.home number e said is err) [
+      | inl full ↦ inr (passes ∙ full)
+      | inr out ↦ inl (out.1, (passes ∙ out.0, is_recorded old.site old.home l had reserved m number said is ok, live))
     ]
 
 pub task_refused : (old : HistoryValue) (l : Ledger) (given : Result StampValue Refusal) (had reserved number : ℕ) (said : TaskLeave) (e : Refusal)

@@ -14,7 +14,7 @@ use Rattle.sq_model.specs.declared.directory.DirectoryReply.{DirectoryReply}
 use Rattle.sq_model.specs.declared.ledger.LedgerCall.{LedgerCall}
 use Rattle.sq_model.specs.declared.ledger.LedgerReply.{LedgerReply}
 use Rattle.sq_model.specs.RecordValues.{HomeRecordValue, DirectoryRecordValue, LedgerRecordValue, RecordValue, OfDirectory, OfLedger, OfHome, place_of_record, record_stamp, Journal, actor_of, RecordsRise}
-use Rattle.sq_log.specs.Rooms.{KeepsRoom}
+use Rattle.sq_log.specs.Spares.{KeepsSpare}
 use Rattle.sq_history.specs.HistoryValue.{HistoryValue}
 use Rattle.sq_history.specs.Histories as home
 use Rattle.sq_directory.specs.DirectoryHistory.{DirectoryHistory}
@@ -29,7 +29,7 @@ last_place = 18446744073709551615
 
 -- an actor that did nothing yet
 abbrev pub new_journal : ℕ → Journal
-new_journal actor = record { actor = actor; next = 0; seen = start; records = []; room = 0 }
+new_journal actor = record { actor = actor; next = 0; seen = start; records = []; spare = 0 }
 
 -- True of each actor: its records rise, their numbers are below its next, and it has seen their stamps.
 pub record IsJournal (journal : Journal) : Type 0 where
@@ -41,9 +41,9 @@ pub record IsJournal (journal : Journal) : Type 0 where
 abbrev pub RecordsRiseAt : List Journal → ℕ → Type 0
 RecordsRiseAt journals b = (journal : Journal) → slice_get journals b ≡ Some journal → RecordsRise journal.records
 
--- one step more, with its record, and room for so many more
+-- one step more, with its record, and spare memory for so many more
 abbrev pub with_record : Journal → RecordValue → ℕ → Journal
-with_record journal n room = record { actor = journal.actor; next = journal.next + 1; seen = record_stamp n; records = journal.records ++ n ∷ []; room = room }
+with_record journal n spare = record { actor = journal.actor; next = journal.next + 1; seen = record_stamp n; records = journal.records ++ n ∷ []; spare = spare }
 
 -- the greater of two stamps
 abbrev pub later : StampValue → StampValue → StampValue
@@ -59,8 +59,8 @@ pub record Moves {Part Call N Reply : Type 0} (Does : Part → Part → Actor �
   pub its_record : N
   pub does : Does old new (actor_of journal) now call its_record
   pub answered : reply_of its_record ≡ reply
-  pub recorded_as : recorded_in ≡ with_record journal (kept its_record) recorded_in.room
-  pub room : KeepsRoom journal.room recorded_in.room
+  pub recorded_as : recorded_in ≡ with_record journal (kept its_record) recorded_in.spare
+  pub spare : KeepsSpare journal.spare recorded_in.spare
 
 -- a home does, for an actor that used this name
 abbrev pub HomeMoves : HistoryValue → HistoryValue → Journal → Journal → ℕ → Option (List ℕ) → HomeCall → HomeReply → Type 0
@@ -81,7 +81,7 @@ worn_at now = if nat_le stamp_end now then ClockRange else Worn
 
 -- why an actor does no step: the count of its steps is at its end, or no memory was found for a record
 abbrev pub IsNotReady : Journal → ℕ → Refusal → Type 0
-IsNotReady journal now e = ((journal.next ≡ last_place) × (e ≡ worn_at now)) ⊎ ((journal.next ≢ last_place) × (e ≡ NoMemory) × (journal.room ≡ 0))
+IsNotReady journal now e = ((journal.next ≡ last_place) × (e ≡ worn_at now)) ⊎ ((journal.next ≢ last_place) × (e ≡ NoMemory) × (journal.spare ≡ 0))
 
 -- why an actor's step of a part is refused: its own causes, or the part's
 abbrev pub IsStepRefused : {Part Call : Type 0} → (Part → Actor → ℕ → Call → Refusal → Type 0) → Part → Journal → ℕ → Call → Refusal → Type 0
@@ -119,9 +119,9 @@ abbrev pub put_journal : Journal → List Journal → List Journal
 put_journal journal [] = journal ∷ []
 put_journal journal (x ∷ journals) = if x.actor == journal.actor then journal ∷ journals else x ∷ put_journal journal journals
 
--- what an actor has without the record of this number; it shows room for none
+-- what an actor has without the record of this number; it shows no spare memory
 abbrev pub without_record : ℕ → Journal → Journal
-without_record place journal = record journal { records = filter (λ n. not (place_of_record n == place)) journal.records; room = 0 }
+without_record place journal = record journal { records = filter (λ n. not (place_of_record n == place)) journal.records; spare = 0 }
 
 -- the same actors in the same order, where this one has no record of this number
 abbrev pub without_record_of : ℕ → ℕ → List Journal → List Journal

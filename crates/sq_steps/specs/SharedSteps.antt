@@ -11,7 +11,7 @@ use Rattle.sq_model.specs.Ledgers.{Ledger, item_of}
 use Rattle.sq_model.specs.RecordValues.{HomeRecordValue, OfHome, Journal, actor_of}
 use Rattle.sq_model.specs.Shared.{IsCallOf, IsUnrecorded, shared_refusal, shared_stamp}
 use Rattle.sq_history.specs.Halves.{HasItem, has_live_row}
-use Rattle.sq_log.specs.Rooms.{KeepsRoom}
+use Rattle.sq_log.specs.Spares.{KeepsSpare}
 use Rattle.sq_history.specs.HistoryValue.{HistoryValue}
 use Rattle.sq_history.specs.Histories.{RecordsShared}
 use Rattle.sq_ledger.specs.LedgerHistory.{LedgerHistory}
@@ -30,8 +30,8 @@ pub record SharedMoves (old new : HistoryValue) (ledger after : LedgerHistory) (
   pub its_record : HomeRecordValue
   pub stamped : shared_stamp old.last ledger.last journal.seen now ≡ Ok its_record.stamp
   pub both : BothDo old new ledger after (actor_of journal) its_record.stamp name act (reply, its_record)
-  pub recorded_as : recorded_in ≡ with_record journal (OfHome its_record) recorded_in.room
-  pub room : KeepsRoom journal.room recorded_in.room
+  pub recorded_as : recorded_in ≡ with_record journal (OfHome its_record) recorded_in.spare
+  pub spare : KeepsSpare journal.spare recorded_in.spare
 
 -- nothing leaves, which is no step, though one could be counted
 pub record IsUnmoved (old : HistoryValue) (ledger : LedgerHistory) (journal : Journal) (now : ℕ) (act : SharedAct) : Type 0 where
@@ -51,15 +51,15 @@ CopiesItem l (asks.Drop number) = HasItem (item_of number l)
 
 -- memory is got before the clock: for the event of the ledger, for that of the home, or for copies of the item
 abbrev pub GrowsFirst : HistoryValue → LedgerHistory → SharedAct → Type 0
-GrowsFirst old ledger act = (ledger.room ≡ 0) ⊎ (old.room ≡ 0) ⊎ CopiesItem ledger.ledger act
+GrowsFirst old ledger act = (ledger.spare ≡ 0) ⊎ (old.spare ≡ 0) ⊎ CopiesItem ledger.ledger act
 
--- What memory is got for where nothing refuses the step: for copies of a message that leaves, and a place in the ledger; for a row that comes in where the home shows room for none. A closed home, or one without a live message, answers a leave for a task with none.
+-- What memory is got for where nothing refuses the step: for copies of a message that leaves, and a place in the ledger; for a row that comes in where the home shows no spare memory. A closed home, or one without a live message, answers a leave for a task with none.
 abbrev pub GrowsLast : HistoryValue → ℕ → SharedAct → Type 0
 GrowsLast old m asks.LeaveDead = Unit {0}
 GrowsLast old m (asks.LeaveTask number) = has_live_row old.home m ≡ true
-GrowsLast old m (asks.Enter number) = old.row_room ≡ 0
+GrowsLast old m (asks.Enter number) = old.spare_rows ≡ 0
 GrowsLast old m (asks.TurnBack number) = ⊥
-GrowsLast old m (asks.GiveBack number) = old.row_room ≡ 0
+GrowsLast old m (asks.GiveBack number) = old.spare_rows ≡ 0
 GrowsLast old m (asks.Drop number) = ⊥
 
 -- memory is got after all checks: nothing refuses the step, and something is there for it

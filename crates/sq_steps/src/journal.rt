@@ -3,7 +3,7 @@ ghost use Rattle.std.specs.Prelude.{◌≡◌, ◌≢◌, ◌⊎◌, ◌==◌, �
 ghost use Rattle.std.specs.List.{list_any};
 ghost use Rattle.sq_model.specs.RecordValues.{RecordsRise, place_of_record};
 ghost use Rattle.sq_history.specs.Acts.{call_of};
-ghost use Rattle.sq_log.specs.Rooms.{IsReady};
+ghost use Rattle.sq_log.specs.Spares.{IsReady};
 ghost use Rattle.sq_directory.specs.Makers.{IsAnsweredByName};
 ghost use Rattle.sq_steps.specs.Records.{value_of_record};
 ghost use Rattle.sq_steps.specs.Journals.{new_journal, having_seen, without_record, last_place, worn_at, HomeMoves, DirectoryMoves, LedgerMoves, IsHomeRefused, IsDirectoryStepRefused, IsLedgerStepRefused};
@@ -41,9 +41,9 @@ impl Model for Journal {
 
     ghost Value = { Journal };
 
-    ghost view = { λ b. record { actor = b.by.number; next = b.by.place; seen = b.by.seen; records = b.records.items; room = b.records.room } };
+    ghost view = { λ b. record { actor = b.by.number; next = b.by.place; seen = b.by.seen; records = b.records.items; spare = b.records.spare } };
 
-    ghost invariant = { λ b. IsJournal (record { actor = b.by.number; next = b.by.place; seen = b.by.seen; records = b.records.items; room = b.records.room }) };
+    ghost invariant = { λ b. IsJournal (record { actor = b.by.number; next = b.by.place; seen = b.by.seen; records = b.records.items; spare = b.records.spare }) };
 }
 
 impl Journal {
@@ -114,13 +114,13 @@ fn worn_at(now: u64) -> Refusal
 }
 
 // Gets memory for the record of an actor's next step. Refused where the count of its steps is at its end, and then as
-// NoMemory where there was room for none.
+// NoMemory where there was no spare memory.
 pub(crate) fn ready(by: &Actor, records: &mut Records, now: u64) -> Result<(), Refusal>
     ensures items { records.new.items ≡ records.old.items }
-    ensures room { records.new.room ≡ records.old.room }
-    ensures ready { OnOk result (IsReady records.new.room records.new.reserved) }
+    ensures spare { records.new.spare ≡ records.old.spare }
+    ensures ready { OnOk result (IsReady records.new.spare records.new.reserved) }
     ensures more { OnOk result (by.now.place < last_place) }
-    ensures refused { IfErr result (λ e. ((by.now.place ≡ last_place) × (e ≡ worn_at now)) ⊎ ((by.now.place ≢ last_place) × (e ≡ Refusal.NoMemory) × (records.old.room ≡ 0) × (records.old.reserved < 4))) }
+    ensures refused { IfErr result (λ e. ((by.now.place ≡ last_place) × (e ≡ worn_at now)) ⊎ ((by.now.place ≢ last_place) × (e ≡ Refusal.NoMemory) × (records.old.spare ≡ 0) × (records.old.reserved < 4))) }
 {
     if by.place == u64::MAX {
         return Err(worn_at(now));
@@ -138,7 +138,7 @@ pub(crate) fn count(by: &mut Actor, stamp: Stamp)
 }
 
 /// A step of a home that is lent, by an actor that is lent; all that grows does so before it. A clock reading is in ms.
-/// Refused as NoMemory (the actor's records or the home's history have room for none, or bytes are copied: of a send,
+/// Refused as NoMemory (the actor's records or the home's history have no spare memory, or bytes are copied: of a send,
 /// and of a look that gives messages), ClockRange, Worn, and then as the home's call.
 pub fn home_step(
     alloc: Global,
@@ -161,7 +161,7 @@ pub fn home_step(
 }
 
 /// A step of the directory that is lent, by an actor that is lent; all that grows does so before it. A clock reading is
-/// in ms. Refused as NoMemory (the actor's records or the directory's history have room for none, the call gives a list of queues
+/// in ms. Refused as NoMemory (the actor's records or the directory's history have no spare memory, the call gives a list of queues
 /// or is answered with one, or with a policy that has one), ClockRange, Worn, and then as the directory's call.
 pub fn directory_step(
     alloc: Global,
@@ -218,7 +218,7 @@ fn task_step(
 }
 
 /// A step of the ledger alone, which is lent, by an actor that is lent; all that grows does so before it. A clock reading is
-/// in ms. Refused as NoMemory (the actor's records or the ledger's history have room for none, of a start its tasks too, or tasks
+/// in ms. Refused as NoMemory (the actor's records or the ledger's history have no spare memory, of a start its tasks too, or tasks
 /// are listed), ClockRange, Worn, and then as the ledger's call.
 pub fn ledger_step(
     alloc: Global,

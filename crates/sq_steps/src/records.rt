@@ -2,7 +2,7 @@
 ghost use Rattle.std.specs.Prelude.{◌≡◌, ◌<◌, ◌≤◌, ◌+◌, ◌++◌, ◌∷◌, ◌==◌, [], None, Some, false, length, slice_get, IfSome};
 ghost use Rattle.std.specs.List.{list_any};
 ghost use Rattle.sq_model.specs.RecordValues.{OfHome, place_of_record};
-ghost use Rattle.sq_log.specs.Rooms.{HasReserved, IsReady, KeepsRoom};
+ghost use Rattle.sq_log.specs.Spares.{HasReserved, IsReady, KeepsSpare};
 ghost use Rattle.sq_steps.specs.Records.{value_of_record};
 ghost use Rattle.sq_steps.specs.inside.Records.{IsFirstAt, IsKeptAs, least, place_of_kept, value_of_other, without_first};
 
@@ -22,7 +22,7 @@ use std::alloc::Global;
 use std::marker::Model;
 
 /// A record of a home, by no name or by the one at an index; or at which index among the others a record is. What is small
-/// comes first, where the mark of the kind leaves room for it.
+/// comes first, where the mark of the kind leaves bits for it.
 #[derive(Drop)]
 pub(crate) enum Kept {
     Home(HomeId, StepRecord<HomeCall, HomeReply>),
@@ -46,37 +46,37 @@ pub(crate) struct Records {
     kept: Blocks<Kept>,
     others: Blocks<Other>,
     names: Names,
-    room: usize,
+    spare: usize,
 }
 
 impl Model for Records {
     ghost use Rattle.std.specs.Prelude.{◌≤◌, length};
     ghost use Rattle.std.specs.List.{AllByRecursion};
-    ghost use Rattle.sq_log.specs.Rooms.{GrowingValue};
+    ghost use Rattle.sq_log.specs.Spares.{GrowingValue};
     ghost use Rattle.sq_model.specs.RecordValues.{RecordValue};
     ghost use Rattle.sq_steps.specs.inside.Records.{IsIn, least, values_of_kept};
 
     ghost Value = { GrowingValue RecordValue };
 
-    ghost view = { λ r. record { items = values_of_kept r.others.items r.names.names r.kept.items; room = r.room; reserved = least (least r.kept.reserved r.others.reserved) r.names.reserved } };
+    ghost view = { λ r. record { items = values_of_kept r.others.items r.names.names r.kept.items; spare = r.spare; reserved = least (least r.kept.reserved r.others.reserved) r.names.reserved } };
 
     ghost invariant = { λ r. record {
       within : AllByRecursion (IsIn (length r.others.items) (length r.names.names)) r.kept.items;
-      room : r.room ≤ least (least r.kept.reserved r.others.reserved) r.names.reserved;
+      spare : r.spare ≤ least (least r.kept.reserved r.others.reserved) r.names.reserved;
     } };
 }
 
 impl Records {
-    /// No record; it shows room for none.
+    /// No record; it shows no spare memory.
     pub(crate) fn new(alloc: Global) -> Records
         ensures items { result.items ≡ [] }
-        ensures room { result.room ≡ 0 }
+        ensures spare { result.spare ≡ 0 }
     {
         Records {
             kept: Blocks::new(alloc),
             others: Blocks::new(alloc),
             names: Names::new(alloc),
-            room: 0,
+            spare: 0,
         }
     }
 
@@ -101,12 +101,12 @@ impl Records {
         }
     }
 
-    /// Gets memory for one record more, and for four at once where it shows room for none. Refused as NoMemory where it
-    /// shows room for none and has memory for fewer than four.
+    /// Gets memory for one record more, and for four at once where it shows no spare memory. Refused as NoMemory where it
+    /// shows no spare memory and has memory for fewer than four.
     pub(crate) fn reserve(&mut self) -> Result<(), Refusal>
         ensures { HasReserved self.old self.new result }
     {
-        if self.room == 0 {
+        if self.spare == 0 {
             self.kept.reserve()?;
             self.others.reserve()?;
             self.names.reserve()?;
@@ -116,36 +116,36 @@ impl Records {
 
     /// Puts a record of a home last, for which `reserve` got memory.
     pub(crate) fn push_home(&mut self, its_record: HomeRecord)
-        requires { IsReady self.old.room self.old.reserved }
+        requires { IsReady self.old.spare self.old.reserved }
         ensures items { self.new.items ≡ self.old.items ++ OfHome its_record ∷ [] }
-        ensures shown { self.new.room ≡ self.new.reserved }
-        ensures room { KeepsRoom self.old.room self.new.room }
+        ensures shown { self.new.spare ≡ self.new.reserved }
+        ensures spare { KeepsSpare self.old.spare self.new.spare }
     {
         let kept = keep(&mut self.names, its_record);
         self.kept.push(kept);
-        self.room = spare(&self.kept, &self.others, &self.names);
+        self.spare = spare(&self.kept, &self.others, &self.names);
     }
 
     /// Puts a record of the directory or of the ledger last, for which `reserve` got memory: apart, with its index here.
     pub(crate) fn push_other(&mut self, other: Other)
-        requires { IsReady self.old.room self.old.reserved }
+        requires { IsReady self.old.spare self.old.reserved }
         ensures items { self.new.items ≡ self.old.items ++ value_of_other other ∷ [] }
-        ensures shown { self.new.room ≡ self.new.reserved }
-        ensures room { KeepsRoom self.old.room self.new.room }
+        ensures shown { self.new.spare ≡ self.new.reserved }
+        ensures spare { KeepsSpare self.old.spare self.new.spare }
     {
         self.kept.push(Kept::Other(self.others.len()));
         self.others.push(other);
-        self.room = spare(&self.kept, &self.others, &self.names);
+        self.spare = spare(&self.kept, &self.others, &self.names);
     }
 
-    /// Takes out the first record of the step of this number, and tells whether it was there. It shows room for none then. One of
+    /// Takes out the first record of the step of this number, and tells whether it was there. It shows no spare memory then. One of
     /// the directory or the ledger keeps its memory, and so does a name.
     pub(crate) fn drop_record(&mut self, place: u64) -> bool
         ensures answered { result ≡ list_any (λ n. place_of_record n == place) self.old.items }
         ensures dropped { self.new.items ≡ without_first (λ n. place_of_record n == place) self.old.items }
-        ensures room { self.new.room ≡ 0 }
+        ensures spare { self.new.spare ≡ 0 }
     {
-        self.room = 0;
+        self.spare = 0;
         match find_place(&self.others, &self.kept, place) {
             Some(at) => {
                 drop(self.kept.remove(at));

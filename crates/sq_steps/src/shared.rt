@@ -167,12 +167,12 @@ fn both_halves(
 /// the home does so before the clock, but for a message that leaves, which is found after it, and a row that comes in; then the
 /// message moves, and one event stands in each history, with one stamp. None where nothing was there to leave, or a task is at its
 /// rate, which is no event and changes nothing. A clock reading is in ms.
-/// Refused as NoMemory (the actor's records or either history have room for none, or an item is copied), ClockRange, Worn, and then
+/// Refused as NoMemory (the actor's records or either history have no spare memory, or an item is copied), ClockRange, Worn, and then
 /// as the home and the ledger: QueueDoesNotExist (not serving; never opened, where an item is sent back or given up, or one is to
 /// leave for a task), ResourceNotFoundException (no such task), UnsupportedOperation (a task that does not run, or is of another
 /// queue), Worn and OverLimit (a home or the ledger has no number left, or is full), UnsupportedOperation (no item of this number,
 /// not one for this home, or a home that serves where it is to be closed); and where nothing refuses it as NoMemory (a message
-/// leaves, or its row comes in where the home shows room for none).
+/// leaves, or its row comes in where the home shows no spare memory).
 pub fn shared_step(
     alloc: Global,
     home: &mut Home,

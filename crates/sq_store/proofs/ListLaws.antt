@@ -20,9 +20,9 @@ use Rattle.sq_store.specs.inside.Found.{found, row_of}
 use Rattle.sq_store.specs.SlotStores.{AreVisible, received_row, any_row, unreceived_row, exhausted_row}
 use Rattle.sq_store.specs.declared.visible.VisibleFrom.{VisibleFrom}
 use Rattle.sq_store.specs.Visible.{HasSpace}
-use Rattle.sq_store.specs.inside.Visible.{IsOrdered, IsSet, KeepsSpace, HasRoomFor}
+use Rattle.sq_store.specs.inside.Visible.{IsOrdered, IsSet, KeepsSpace, HasSpareFor}
 use Rattle.sq_store.proofs.HeldLaws.{held_few}
-use Rattle.sq_store.proofs.MemoryLaws.{has_more, has_room}
+use Rattle.sq_store.proofs.MemoryLaws.{has_more, has_spare}
 use Rattle.sq_store.proofs.DueLaws.{found_more, found_of_class}
 use Rattle.sq_store.proofs.PickLaws.{distinct_permutation, rise_rises, serial_of}
 use Rattle.sq_store.proofs.ReceiveLaws.{first_is_apart, is_number, none_first, other_way}
@@ -120,16 +120,16 @@ kept_few h (d ∷ ds) = let rest = kept_few h ds in elim (h d) as (λ o. length 
   | None ↦ omega (arith, rest)
 ]
 
-pub room_for_next : (rows : List Row) (ages : List Deadline) (rank : ℕ) (first v : VisibleFrom) → Holds any_row enqueued_at rows ages → rank < length ages → HasSpace (length rows) first → KeepsSpace first v
-    → AreVisible (found any_row rows (take rank ages)) v → (receives : ℕ) → HasRoomFor receives v
-room_for_next rows ages rank first v held within memory kept h =
+pub spare_for_next : (rows : List Row) (ages : List Deadline) (rank : ℕ) (first v : VisibleFrom) → Holds any_row enqueued_at rows ages → rank < length ages → HasSpace (length rows) first → KeepsSpace first v
+    → AreVisible (found any_row rows (take rank ages)) v → (receives : ℕ) → HasSpareFor receives v
+spare_for_next rows ages rank first v held within memory kept h =
     let before = found any_row rows (take rank ages) in
     let few = kept_few (row_of rows) (take rank ages) in
     let taken : length (take rank ages) ≤ rank = omega (arith, length-take rank ages, min-le_left rank (length ages)) in
     let all = held_few any_row enqueued_at rows ages held in
     let less : length before + 1 ≤ length rows = omega (arith, few, taken, all, within) in
     let more = has_more (length rows) first v kept memory in
-    has_room before v h (record { unreceived = omega (arith, less, more.unreceived); received = omega (arith, less, more.received); exhausted = omega (arith, less, more.exhausted) })
+    has_spare before v h (record { unreceived = omega (arith, less, more.unreceived); received = omega (arith, less, more.received); exhausted = omega (arith, less, more.exhausted) })
 
 pub none_is_past : (ds : List Deadline) (k : ℕ) → slice_get ds k ≡ None → length ds ≤ k
 none_is_past [] k h = omega arith

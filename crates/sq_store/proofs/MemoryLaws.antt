@@ -9,7 +9,7 @@ use Rattle.sq_store.specs.declared.visible.VisibleFrom.{VisibleFrom}
 use Rattle.sq_store.proofs.HeldLaws.{held_few}
 use Rattle.sq_store.specs.SlotStores.{AreVisible, SlotValue, received_row, any_row, unreceived_row, reserved_in, exhausted_row}
 use Rattle.sq_store.specs.Visible.{HasSpace}
-use Rattle.sq_store.specs.inside.Visible.{KeepsSpace, HasRoomFor}
+use Rattle.sq_store.specs.inside.Visible.{KeepsSpace, HasSpareFor}
 
 -- there is memory for one row more
 pub record HasOneMore (s : SlotValue) : Type 0 where
@@ -46,15 +46,15 @@ has_one_more s h =
 one_more : (count : ℕ) (index : IndexValue) → count + 1 ≤ space index → length index.deadlines ≤ count → 0 < index.reserved
 one_more count index memory few = omega (arith, memory, few)
 
-pub has_room : (rows : List Row) (v : VisibleFrom) → AreVisible rows v → HasSpace (length rows + 1) v → (receives : ℕ) → HasRoomFor receives v
-has_room rows v held memory receives = record {
+pub has_spare : (rows : List Row) (v : VisibleFrom) → AreVisible rows v → HasSpace (length rows + 1) v → (receives : ℕ) → HasSpareFor receives v
+has_spare rows v held memory receives = record {
   unreceived = λ is. one_more (length rows) v.unreceived memory.unreceived (held_few unreceived_row visible_at rows v.unreceived.deadlines held.unreceived);
   received = λ is. one_more (length rows) v.received memory.received (held_few (received_row v.most) visible_at rows v.received.deadlines held.received);
   exhausted = λ is. one_more (length rows) v.exhausted memory.exhausted (held_few (exhausted_row v.most) visible_at rows v.exhausted.deadlines held.exhausted);
 }
 
-pub has_age_room : (rows : List Row) (ages : IndexValue) → Holds any_row enqueued_at rows ages.deadlines → length rows + 1 ≤ space ages → 0 < ages.reserved
-has_age_room rows ages held memory = one_more (length rows) ages memory (held_few any_row enqueued_at rows ages.deadlines held)
+pub has_age_spare : (rows : List Row) (ages : IndexValue) → Holds any_row enqueued_at rows ages.deadlines → length rows + 1 ≤ space ages → 0 < ages.reserved
+has_age_spare rows ages held memory = one_more (length rows) ages memory (held_few any_row enqueued_at rows ages.deadlines held)
 
 pub has_more : (count : ℕ) (old new : VisibleFrom) → KeepsSpace old new → HasSpace count old → HasSpace count new
 has_more count old new kept memory = record {

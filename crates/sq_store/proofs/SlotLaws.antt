@@ -14,10 +14,10 @@ use Rattle.sq_slots.proofs.RowLists.{is_this}
 use Rattle.sq_store.specs.Due.{Holds, enqueued_at, is_received_below, is_unreceived, is_exhausted_by, space, visible_at}
 use Rattle.sq_store.specs.declared.visible.VisibleFrom.{VisibleFrom}
 use Rattle.sq_store.specs.Visible.{HasSpace}
-use Rattle.sq_store.specs.inside.Visible.{IsCleared, IsOrdered, IsSet, HasRoomFor}
+use Rattle.sq_store.specs.inside.Visible.{IsCleared, IsOrdered, IsSet, HasSpareFor}
 use Rattle.sq_store.specs.SlotStores.{AreVisible, IsIndexed, received_row, any_row, unreceived_row, exhausted_row}
 use Rattle.sq_store.proofs.HeldLaws.{held_in, held_out, held_same}
-use Rattle.sq_store.proofs.MemoryLaws.{has_more, has_room}
+use Rattle.sq_store.proofs.MemoryLaws.{has_more, has_spare}
 
 module _ (before : List Row) (row : Row) (after : List Row) where
   -- no row of this slot stands in a list
@@ -105,8 +105,8 @@ module _ (before : List Row) (row : Row) (after : List Row) where
         age_memory = rw long h.age_memory;
       }
 
-  -- where a row's moment went out, there is room for one in each list
-  pub room_beside : (old new : VisibleFrom) (ages : IndexValue) → IsOrdered row.receives old → IsCleared row.receives (visible_at row) old new → IsIndexed (before ++ row ∷ after) old ages → (receives : ℕ) → HasRoomFor receives new
-  room_beside old new ages ordered cleared h =
-      has_room (before ++ after) new (goes_out before row after old new ordered cleared h.held) (has_more _ old new cleared.space
+  -- where a row's moment went out, there is spare memory for one in each list
+  pub spare_beside : (old new : VisibleFrom) (ages : IndexValue) → IsOrdered row.receives old → IsCleared row.receives (visible_at row) old new → IsIndexed (before ++ row ∷ after) old ages → (receives : ℕ) → HasSpareFor receives new
+  spare_beside old new ages ordered cleared h =
+      has_spare (before ++ after) new (goes_out before row after old new ordered cleared h.held) (has_more _ old new cleared.space
       (record { unreceived = omega (arith, fewer, h.memory.unreceived); received = omega (arith, fewer, h.memory.received); exhausted = omega (arith, fewer, h.memory.exhausted) }))

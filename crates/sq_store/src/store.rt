@@ -79,7 +79,7 @@ pub trait Store: Drop {
     fn spare(&self) -> usize
         ensures { result ≡ reserved self.now };
 
-    /// Makes room for four rows more. Refused as NoMemory, only where there is room for fewer.
+    /// Makes spare memory for four rows more. Refused as NoMemory, only where there is spare memory for fewer.
     fn reserve(&mut self) -> Result<(), Refusal>
         ensures rows { rows self.new ≡ rows self.old }
         ensures reserved { OnOk result (4 ≤ reserved self.new) }

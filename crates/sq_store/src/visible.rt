@@ -1,7 +1,7 @@
 //! From when the rows of a home are visible.
 ghost use Rattle.std.specs.Prelude.{◌≡◌, [], min, OnOk, IfErr};
 ghost use Rattle.sq_store.specs.Visible.{HasSpace};
-ghost use Rattle.sq_store.specs.inside.Visible.{first_list, AreBoth, IsCleared, IsOrdered, IsSet, KeepsSpace, LacksSpace, HasRoomFor};
+ghost use Rattle.sq_store.specs.inside.Visible.{first_list, AreBoth, IsCleared, IsOrdered, IsSet, KeepsSpace, LacksSpace, HasSpareFor};
 ghost use Rattle.sq_store.specs.Due.{space};
 
 use sq_base::refusal::Refusal;
@@ -66,7 +66,7 @@ impl VisibleFrom {
 
     /// Puts in from when a row is visible that was received so often, for which there is memory.
     pub(crate) fn set(&mut self, receives: u32, deadline: Deadline)
-        requires { HasRoomFor receives self.old }
+        requires { HasSpareFor receives self.old }
         ensures set { IsSet receives deadline self.old self.new }
         ensures ordered { IsOrdered receives self.old }
     {

@@ -29,8 +29,8 @@ impl Read for Piecewise<'_> {
         if self.calls == self.fails_at {
             return Err(io::Error::from(ErrorKind::BrokenPipe));
         }
-        let room = buf.len().min(self.most);
-        self.bytes.read(&mut buf[..room])
+        let length = buf.len().min(self.most);
+        self.bytes.read(&mut buf[..length])
     }
 }
 

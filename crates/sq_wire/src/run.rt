@@ -31,7 +31,7 @@ pub enum ServeFault {
 }
 
 /// Answers each line with a line, until the end or a fault. Replies gather, and go out together: before more is read, where no
-/// whole line is held; where there is no more room for them; and at the end.
+/// whole line is held; where there is no more spare memory for them; and at the end.
 pub fn answer_lines<R: Read, W: Write, A: Answering>(
     alloc: Global,
     reader: &mut Counted<R>,

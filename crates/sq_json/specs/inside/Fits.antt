@@ -3,18 +3,18 @@ use Rattle.std.specs.Prelude.{ℕ, zero, suc, List, [], ◌∷◌, Bool, true, f
 use Rattle.json.specs.Token.{Token}
 use Rattle.serde_json.specs.Read.{number_of}
 
--- Each number is in range, and at most `room` brackets are open at once.
+-- Each number is in range, and at most `depth_left` brackets are open at once.
 abbrev pub fits : ℕ → List Token → Bool
-fits room [] = true
+fits depth_left [] = true
 fits zero (Token.begin_object ∷ ts) = false
-fits (suc room) (Token.begin_object ∷ ts) = fits room ts
-fits room (Token.end_object ∷ ts) = fits (suc room) ts
+fits (suc depth_left) (Token.begin_object ∷ ts) = fits depth_left ts
+fits depth_left (Token.end_object ∷ ts) = fits (suc depth_left) ts
 fits zero (Token.begin_array ∷ ts) = false
-fits (suc room) (Token.begin_array ∷ ts) = fits room ts
-fits room (Token.end_array ∷ ts) = fits (suc room) ts
-fits room (Token.key s ∷ ts) = fits room ts
-fits room (Token.string s ∷ ts) = fits room ts
-fits room (Token.number s ∷ ts) = is_some (number_of s) && fits room ts
-fits room (Token.boolean b ∷ ts) = fits room ts
-fits room (Token.null ∷ ts) = fits room ts
-fits room (Token.bad ∷ ts) = false
+fits (suc depth_left) (Token.begin_array ∷ ts) = fits depth_left ts
+fits depth_left (Token.end_array ∷ ts) = fits (suc depth_left) ts
+fits depth_left (Token.key s ∷ ts) = fits depth_left ts
+fits depth_left (Token.string s ∷ ts) = fits depth_left ts
+fits depth_left (Token.number s ∷ ts) = is_some (number_of s) && fits depth_left ts
+fits depth_left (Token.boolean b ∷ ts) = fits depth_left ts
+fits depth_left (Token.null ∷ ts) = fits depth_left ts
+fits depth_left (Token.bad ∷ ts) = false

@@ -20,7 +20,7 @@ read_is : (actor : ℕ) (s t : WorldValue) (last : StampValue) → t.journals �
 read_is actor s t last journals = (last, mine_is actor s t (having_seen (journal_of actor s.journals) last) (journal_own actor s.journals) journals)
 
 -- what a step leaves with what its actor has, it leaves with what the world has of the actor
-kept_is : (actor : ℕ) (s t : WorldValue) (ask : Ask) (answered : Result Gave Refusal) (n : RecordValue) (b : Journal) → b ≡ with_record (journal_of actor s.journals) n b.room → t.journals ≡ put_journal b s.journals
+kept_is : (actor : ℕ) (s t : WorldValue) (ask : Ask) (answered : Result Gave Refusal) (n : RecordValue) (b : Journal) → b ≡ with_record (journal_of actor s.journals) n b.spare → t.journals ≡ put_journal b s.journals
     → LeavesOf ask answered (journal_of actor s.journals) b → LeavesOf ask answered (journal_of actor s.journals) (journal_of actor t.journals)
 kept_is actor s t ask answered n b more journals left =
     let own : b.actor ≡ actor = ap (λ (x : Journal). x.actor) more ∙ journal_own actor s.journals in

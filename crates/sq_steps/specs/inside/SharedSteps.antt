@@ -10,7 +10,7 @@ use Rattle.sq_model.specs.declared.item.Item.{Item}
 use Rattle.sq_model.specs.declared.replies.HomeReply.{HomeReply}
 use Rattle.sq_model.specs.declared.replies.HomeReply.TheVariants.{Left}
 use Rattle.sq_model.specs.declared.shared.SharedAct.{SharedAct}
-use Rattle.sq_model.specs.Ledgers.{HasRoom, Ledger}
+use Rattle.sq_model.specs.Ledgers.{TakesOneMore, Ledger}
 use Rattle.sq_model.specs.RecordValues.{HomeRecordValue}
 use Rattle.sq_model.specs.Shared.{IsUnrecorded}
 use Rattle.sq_history.specs.Halves.{IsHalfRefused, IsWithout}
@@ -21,7 +21,7 @@ use Rattle.sq_steps.specs.SharedSteps.{BothDo, CopiesItem, IsPairRefused}
 
 -- what the ledger is told of a leave for a task: the item that left, or that none did
 abbrev pub IsToldLeft : Ledger → ℕ → HomeId → ℕ → HomeCall → HomeReply → Option Item → Type 0
-IsToldLeft l m home number call reply (Some item) = HasRoom l × (item.number ≡ l.next_item) × IsLeaving l m home call item × (reply ≡ Left item)
+IsToldLeft l m home number call reply (Some item) = TakesOneMore l × (item.number ≡ l.next_item) × IsLeaving l m home call item × (reply ≡ Left item)
 IsToldLeft l m home number call reply None = IsNoneLeft l m home number call reply
 
 -- A step of both may be done at the stamp that is given, if one is: the ledger has memory for its event, and the stamp is above the last one of each and above what the actor saw.

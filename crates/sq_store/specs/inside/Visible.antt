@@ -52,7 +52,7 @@ abbrev pub first_list : ℕ → VisibleFrom → IndexValue
 first_list m v = if is_visible_longer (find (is_due m) v.received.deadlines) (find (is_due m) v.unreceived.deadlines) then v.received else v.unreceived
 
 -- for one row more in the list of the class of this receive number, if of any
-pub record HasRoomFor (receives : ℕ) (v : VisibleFrom) : Type 0 where
+pub record HasSpareFor (receives : ℕ) (v : VisibleFrom) : Type 0 where
   pub unreceived : is_unreceived receives ≡ true → 0 < v.unreceived.reserved
   pub received : is_received_below v.most receives ≡ true → 0 < v.received.reserved
   pub exhausted : is_exhausted_by v.most receives ≡ true → 0 < v.exhausted.reserved

@@ -250,7 +250,7 @@ fn is_closed_at<S: Store>(home: &Recorded<S>, last: Stamp) -> bool {
     home.last() == last && home.is_closed()
 }
 
-// The same to an actor that has seen 5000 ms, of a home with room for one message; and whether it is closed then, at this stamp.
+// The same to an actor that has seen 5000 ms, of a home with spare memory for one message; and whether it is closed then, at this stamp.
 fn ended(rt: &impl Abort, alloc: Global, lines: &[Line], last: Stamp) -> (usize, bool) {
     let mut home = unopened(rt, alloc, SlotStore::new(alloc), 1);
     let wrong = first_wrong(alloc, &mut home, 5000, lines);

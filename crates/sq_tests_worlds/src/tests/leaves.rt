@@ -142,7 +142,7 @@ fn first_wrong(alloc: Global, home: &mut Home, lines: &[Line]) -> usize {
     lines.len()
 }
 
-// The same of a home of its own, which has room for two messages.
+// The same of a home of its own, which has spare memory for two messages.
 fn played(rt: &impl Abort, alloc: Global, lines: &[Line]) -> usize {
     let mut home = unopened(rt, alloc, SlotStore::new(alloc), 2);
     first_wrong(alloc, &mut home, lines)

@@ -409,7 +409,7 @@ const REMOVE_Q_EARLY: Cue = Cue::Line(
 );
 
 // The queues d, q, c and u, of one row a home: q has a message, another one of it is in transit to d, c is deleted, and u was never
-// opened. There is room for one item in transit, and no fifth queue.
+// opened. There is spare memory for one item in transit, and no fifth queue.
 const CROSSING: &[Cue] = &[
     MAKE_D,
     MAKE_Q_FOR_D,

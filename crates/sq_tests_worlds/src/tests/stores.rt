@@ -309,8 +309,8 @@ fn most_given(pair: &mut Pair, moment: u64, max: MaxMessages) -> Result<usize, R
     let counts = pair.slots.count(moment)?;
     let wanted = pair.plain.count(moment)?;
     let in_flight = counts.in_flight.max(wanted.in_flight);
-    let room = FLIGHTS.saturating_sub(in_flight);
-    Ok(room.min(max.get()) as usize)
+    let flights_left = FLIGHTS.saturating_sub(in_flight);
+    Ok(flights_left.min(max.get()) as usize)
 }
 
 // What either gives where both chose the same.

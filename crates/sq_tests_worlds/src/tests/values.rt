@@ -23,14 +23,17 @@ fn handle_of(queue: u64, home: u64, slot: u32, serial: u64, receive: u64) -> Opt
     })
 }
 
-// Whether a handle has this text, and this text is read as it.
+// Whether a handle has this text, and this text and that of version 1 are read as it.
 fn has_text(handle: &Option<Handle>, text: &[u8; HANDLE_LENGTH]) -> bool {
     let mut written = [0u8; HANDLE_LENGTH];
     if let Some(h) = handle {
         h.fits();
         write_handle(h, &mut written);
     }
-    handle.is_some() && read_handle(text) == *handle && &written == text
+    handle.is_some()
+        && read_handle(text) == *handle
+        && read_handle(&text[2..]) == *handle
+        && &written == text
 }
 
 #[test]
@@ -44,10 +47,13 @@ fn handles_have_their_texts(rt: HostRuntime) {
     );
     for (text, handle) in [
         (
-            b"000000000001-000-00000000-0000000000000000-00000001",
+            b"2-000000000001-000-00000000-0000000000000000-00000001",
             handle_of(1, 0, 0, 0, 1),
         ),
-        (b"ffffffffffff-00f-ffffffff-3fffffffffffffff-ffffffff", last),
+        (
+            b"2-ffffffffffff-00f-ffffffff-3fffffffffffffff-ffffffff",
+            last,
+        ),
     ] {
         assert!(rt; has_text(&handle, text));
     }

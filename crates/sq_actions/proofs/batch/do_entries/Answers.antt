@@ -14,7 +14,7 @@ loop-at-preserved g c =
       known = rw (← c.queue.ensures) c.do_entry-answer.ensures.known;
       same = c.do_entry-answer.ensures.same_counts ∙ c.loop-at.invariant.same;
       many = search (rules, arith);
-      room = search rules;
+      spare = search rules;
       asked = entry_more _ g.S.LockSteps.counts _ _ _ c.args.batch.now c.queue.result c.args.number c.loop-at.at c.loop-at.told.items c.push_reserved.new.self.items e c.do_entry-answer.result c.loop-at.invariant.asked c.loop-at.invariant.same c.queue.ensures
           (slice_get_read entries (length entries) c.loop-at.at e refl (search rules) (search rules)) c.do_entry-answer.ensures.did more;
     }

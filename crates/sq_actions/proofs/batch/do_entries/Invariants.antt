@@ -10,6 +10,6 @@ invariant-loop-at g l = record {
   known : g.S.LockSteps.knows l.steps l.batch.queue l.fn.number;
   same : g.S.LockSteps.counts l.steps ≡ g.S.LockSteps.counts l.fn.steps;
   many : vec_len l.told ≡ l.at;
-  room : length l.batch.entries ≤ vec_capacity l.told;
+  spare : length l.batch.entries ≤ vec_capacity l.told;
   asked : (trace : List Done) × Path g.S.LockSteps.stepped l.fn.steps trace l.steps × EntriesFit (g.S.LockSteps.counts l.fn.steps).homes l.batch l.fn.number l.at trace l.told.items;
 }

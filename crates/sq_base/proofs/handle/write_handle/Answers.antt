@@ -1,13 +1,15 @@
-use Rattle.std.proofs.Common.{◌∙◌, rules}
-use Rattle.sq_base.specs.Fields.{field}
+use Rattle.std.proofs.Common.{◌≡◌, ◌∙◌, ℕ, suc, List, [], ◌∷◌, ◌++◌, length, slice_set, ap, arith, rules}
+use Rattle.std.proofs.lemmas.List.{append-nil, drop_all}
 use Rattle.sq_base.specs.Handles.{handle_text}
-use Rattle.sq_base.proofs.HandleLaws.{written}
 use Rattle.sq_base.proofs.handle.write_handle.Goals as goal
+use borrow.Rule.Slice.PartMut.{put_mid}
+
+-- two bytes, and then what was put behind them
+behind_two : (old rest : List ℕ) → length old ≡ 53 → put_mid 2 51 (slice_set (slice_set old 0 50) 1 45) rest ≡ 50 ∷ 45 ∷ rest
+behind_two [] rest e = absurd (omega (arith, e))
+behind_two (a ∷ []) rest e = absurd (omega (arith, e))
+behind_two (a ∷ b ∷ more) rest e = ap (λ (x : List ℕ). 50 ∷ 45 ∷ (rest ++ x)) (drop_all 51 more (omega (arith, e))) ∙ ap (λ (x : List ℕ). 50 ∷ 45 ∷ x) (append-nil rest)
 
 pub returns : goal.returns
 unfolding handle_text
-returns c =
-    let all = written c.args.out.now c.put_at.new.out c.put_dash.new.out c.put_at-2.new.out c.put_dash-2.new.out c.put_at-3.new.out c.put_dash-3.new.out c.put_at-4.new.out c.put_dash-4.new.out c.put_at-5.new.out
-    (field 12 c.get.result) (field 3 c.get-2.result) (field 8 c.args.h.now.slot) (field 16 c.get-3.result) (field 8 c.get-4.result)
-    c.put_at.ensures.written c.put_dash.ensures.written c.put_at-2.ensures.written c.put_dash-2.ensures.written c.put_at-3.ensures.written c.put_dash-3.ensures.written c.put_at-4.ensures.written c.put_dash-4.ensures.written c.put_at-5.ensures.written (search rules) in
-    all ∙ cc (c.get.ensures.value, c.get-2.ensures.value, c.get-3.ensures.value, c.get-4.ensures.value)
+returns c = behind_two c.args.out.now c.put_numbers.new.out (search rules) ∙ ap (λ (x : List ℕ). 50 ∷ 45 ∷ x) c.put_numbers.ensures

@@ -5,4 +5,4 @@ use Rattle.sq_json.proofs.line.are_read.Given as goal
 
 abbrev pub invariant-loop-node : goal.invariant-loop-node
 invariant-loop-node l =
-    (l.room ≤ 127 + l.node-index) × (fits 127 (map node_token l.nodes) ≡ fits l.room (map node_token (drop l.node-index l.nodes)))
+    (l.depth_left ≤ 127 + l.node-index) × (fits 127 (map node_token l.nodes) ≡ fits l.depth_left (map node_token (drop l.node-index l.nodes)))

@@ -10,7 +10,7 @@ abbrev pub invariant-loop-session : goal.invariant-loop-session
 invariant-loop-session g l = record {
   all : l.yielded ++ into_iter_items l.session-iterator ≡ l.fn.sessions.items;
   left : into_iter_len l.session-iterator ≡ length (into_iter_items l.session-iterator);
-  room : vec_len l.all.journals + into_iter_len l.session-iterator ≤ vec_capacity l.all.journals;
+  spare : vec_len l.all.journals + into_iter_len l.session-iterator ≤ vec_capacity l.all.journals;
   capacity : vec_capacity l.all.journals ≡ vec_capacity l.fn.all.journals;
   journals : l.all.journals.items ≡ with_firsts l.fn.all.journals.items (map (λ s. s.journal) l.yielded);
   distinct : AreDistinct l.all.journals.items;

@@ -10,7 +10,7 @@ loop-home-preserved c =
     let many : c.loop-home.index ≡ length (map (λ place. place.id) places) = search (rules, length-map) in record {
       left = search rules;
       all = search rules;
-      room = search rules;
+      spare = search rules;
       index = search rules;
       placed = rw c.push_reserved.ensures.items (placed_more c.args.per_queue (λ place. place.id) places c.new.result c.loop-home.invariant.placed (c.new.ensures ∙ c.id_at.ensures ∙ ap (home_id c.args.per_queue) many));
     }

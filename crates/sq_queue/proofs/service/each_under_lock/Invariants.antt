@@ -8,7 +8,7 @@ abbrev pub invariant-loop-home : goal.invariant-loop-home
 invariant-loop-home l = record {
   left : into_iter_len l.home-iterator ≡ length (into_iter_items l.home-iterator);
   all : vec_len l.places + into_iter_len l.home-iterator ≡ length l.fn.homes.items;
-  room : vec_len l.places + into_iter_len l.home-iterator ≤ vec_capacity l.places;
+  spare : vec_len l.places + into_iter_len l.home-iterator ≤ vec_capacity l.places;
   index : l.index ≡ vec_len l.places;
   placed : ArePlaced l.per_queue (map (λ place. place.id) l.places.items);
 }

@@ -5,6 +5,6 @@ use Rattle.sq_requests.proofs.batches.are_too_long.Given as goal
 
 abbrev pub invariant-loop-entry : goal.invariant-loop-entry
 invariant-loop-entry l = record {
-  within : l.room ≤ body_limit;
-  left : lengths_of l.entries + l.room ≡ body_limit + lengths_of (drop l.entry-index l.entries);
+  within : l.bytes_left ≤ body_limit;
+  left : lengths_of l.entries + l.bytes_left ≡ body_limit + lengths_of (drop l.entry-index l.entries);
 }

@@ -9,5 +9,5 @@ invariant-loop-members l = record {
   ids : list_all (λ entry. is_name entry.id.now) (drop l.members-index l.read) ≡ true;
   made : l.entries.items ≡ map entry_by (take l.members-index l.read);
   many : vec_len l.entries ≡ l.members-index;
-  room : vec_capacity l.entries ≡ length l.read;
+  spare : vec_capacity l.entries ≡ length l.read;
 }

@@ -7,4 +7,4 @@ pub invariant_of-journal-2 : goal.invariant_of-journal-2
 invariant_of-journal-2 c =
     let recorded = c.in_ok-reply.ensures.recorded in
     rw (c.count.ensures, c.step-2.ensures, c.push_home.ensures.items, c.ready.ensures.items)
-    (after_journal_more _ _ c.args.now (OfHome c.in_ok-reply.record) c.push_home.new.self.room c.journal.invariant recorded.stamped (ap (λ (n : HomeRecordValue). n.place) recorded.record_is))
+    (after_journal_more _ _ c.args.now (OfHome c.in_ok-reply.record) c.push_home.new.self.spare c.journal.invariant recorded.stamped (ap (λ (n : HomeRecordValue). n.place) recorded.record_is))

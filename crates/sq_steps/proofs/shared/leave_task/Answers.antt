@@ -16,7 +16,7 @@ said : (c : After-task_leave-asked) (stamp : StampValue) → c.args.step.stamp �
 said c stamp given =
     let e = c.task_leave-asked.ensures in
     let m : c.moment_of.result ≡ stamp.moment = subst (λ (r : Result StampValue Refusal). IfOk r (λ s. c.moment_of.result ≡ s.moment)) given c.moment_of.ensures in
-    record { of_number = e.number; task = rw c.id.ensures at e.task; no_task = rw c.id.ensures at e.no_task; allowed = rw m at e.allowed; item = e.item; has_room = e.has_room; passes = e.passes; ready = e.ready; no_room = e.no_room }
+    record { of_number = e.number; task = rw c.id.ensures at e.task; no_task = rw c.id.ensures at e.no_task; allowed = rw m at e.allowed; item = e.item; takes_one_more = e.takes_one_more; passes = e.passes; ready = e.ready; no_place = e.no_place }
 
 pub returns-in_err-half : goal.returns-in_err-half
 returns-in_err-half c =

@@ -4,7 +4,7 @@ use Rattle.std.proofs.lemmas.List.{take_all}
 use Rattle.sq_deadline.specs.declared.deadline.Deadline.{Deadline}
 use Rattle.sq_store.specs.inside.Found.{found, row_of}
 use Rattle.sq_store.specs.SlotStores.{AreVisible, any_row}
-use Rattle.sq_store.proofs.ListLaws.{all_listed, its_slot, listed_more, none_is_past, none_more, room_for_next, slot_fits}
+use Rattle.sq_store.proofs.ListLaws.{all_listed, its_slot, listed_more, none_is_past, none_more, spare_for_next, slot_fits}
 use Rattle.sq_store.proofs.MemoryLaws.{keeps_on}
 use Rattle.sq_store.proofs.split.list_all.Goals as goal
 use Rattle.sq_store.proofs.split.list_all.Goals.{in-Some+in-Some-at, in-Some+in_default-at, in_default}
@@ -18,7 +18,7 @@ returns c =
     record { held = all_listed rows ages c.loop-rank.visible c.len.ensures.apart c.requires.aged listed; most = c.loop-rank.invariant.most; space = c.loop-rank.invariant.space }
 
 pub set-requires : goal.set-requires
-set-requires c = room_for_next c.args.table.now.rows c.args.ages.now.deadlines c.loop-rank.rank c.args.visible.now c.loop-rank.visible c.requires.aged (omega arith) c.requires.memory c.loop-rank.invariant.space c.loop-rank.invariant.listed _
+set-requires c = spare_for_next c.args.table.now.rows c.args.ages.now.deadlines c.loop-rank.rank c.args.visible.now c.loop-rank.visible c.requires.aged (omega arith) c.requires.memory c.loop-rank.invariant.space c.loop-rank.invariant.listed _
 
 pub loop-rank-preserved : goal.loop-rank-preserved
 loop-rank-preserved c =

@@ -9,7 +9,7 @@ pub returns-clause-recorded : goal.returns-clause-recorded
 returns-clause-recorded c =
     let t = c.self.inside in
     let step = finished t.items.items t.next t.tasks.items t.limit c.in_ok-stamp.stamp.moment c.args.number c.in_ok-may_finish.ensures.may in
-    rw (← c.self.view_is) (recorded_as t.items.items t.next t.tasks c.change.new.self t.limit t.log c.begin.new.self c.add_own.new.log c.args.by.now c.args.now c.in_ok-stamp.stamp (asks.FinishTask c.args.number) _ c.add_own.result c.in_ok-stamp.ensures.stamped (rw c.change.ensures.items step) c.begin.ensures.events c.begin.ensures.room c.add_own.ensures.last c.add_own.ensures.events c.add_own.ensures.room c.change.ensures.room c.add_own.ensures.for_record)
+    rw (← c.self.view_is) (recorded_as t.items.items t.next t.tasks c.change.new.self t.limit t.log c.begin.new.self c.add_own.new.log c.args.by.now c.args.now c.in_ok-stamp.stamp (asks.FinishTask c.args.number) _ c.add_own.result c.in_ok-stamp.ensures.stamped (rw c.change.ensures.items step) c.begin.ensures.events c.begin.ensures.spare c.add_own.ensures.last c.add_own.ensures.events c.add_own.ensures.spare c.change.ensures.spare c.add_own.ensures.for_record)
 
 pub invariant_of-self-3 : goal.invariant_of-self-3
 invariant_of-self-3 c = own_kept _ _ c.args.by.now c.args.now (asks.FinishTask c.args.number) c.add_own.result c.self.invariant refl refl c.add_own.ensures.rising (rw (← c.self.view_is) at (returns-clause-recorded c))

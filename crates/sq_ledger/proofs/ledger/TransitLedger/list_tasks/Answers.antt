@@ -19,7 +19,7 @@ returns-clause-recorded c =
     let step = listed t.items.items t.next t.tasks.items t.limit c.in_ok-stamp.stamp.moment c.args.source c.args.most c.in_ok-in_event.in_event c.in_ok-in_event.ensures.listed in
     let same = c.in_ok-in_record.ensures.listed ∙ sym c.in_ok-in_event.ensures.listed in
     let stamped : after t.log.last c.args.by.now.seen c.args.now ≡ Ok c.in_ok-stamp.stamp = search rules in
-    rw (← c.self.view_is) (recorded_as t.items.items t.next t.tasks t.tasks t.limit t.log c.reserve.new.self c.add_own.new.log c.args.by.now c.args.now c.in_ok-stamp.stamp (asks.ListTasks c.args.source c.args.most) (answers.Listed c.in_ok-in_event.in_event) c.add_own.result stamped step c.reserve.ensures.events c.reserve.ensures.room c.add_own.ensures.last c.add_own.ensures.events c.add_own.ensures.room refl (rw same at c.add_own.ensures.for_record))
+    rw (← c.self.view_is) (recorded_as t.items.items t.next t.tasks t.tasks t.limit t.log c.reserve.new.self c.add_own.new.log c.args.by.now c.args.now c.in_ok-stamp.stamp (asks.ListTasks c.args.source c.args.most) (answers.Listed c.in_ok-in_event.in_event) c.add_own.result stamped step c.reserve.ensures.events c.reserve.ensures.spare c.add_own.ensures.last c.add_own.ensures.events c.add_own.ensures.spare refl (rw same at c.add_own.ensures.for_record))
 
 pub invariant_of-self-2 : goal.invariant_of-self-2
 invariant_of-self-2 c = own_kept _ _ c.args.by.now c.args.now (asks.ListTasks c.args.source c.args.most) c.add_own.result c.self.invariant refl refl c.add_own.ensures.rising (rw (← c.self.view_is) at (returns-clause-recorded c))

@@ -32,7 +32,7 @@ returns-clause-recorded c =
     let number = c.in_ok-number.ensures.number ∙ ap (λ (l : List Task). length l + 1) c.in_ok-reserve-2.ensures.items in
     let may = subst (λ (l : List Task). MayStart asked.source.number (ledger_with t.items.items t.next l t.limit)) c.in_ok-reserve-2.ensures.items c.in_ok-number.ensures.may in
     let step = started t.items.items t.next t.tasks.items t.limit c.in_ok-stamp.stamp.moment c.in_ok-number.number asked.source asked.destination asked.rate number may in
-    rw (← c.self.view_is) (recorded_as t.items.items t.next t.tasks c.start.new.self t.limit t.log c.reserve.new.self c.add_own.new.log c.args.by.now c.args.now c.in_ok-stamp.stamp call (answers.Started c.in_ok-number.number) c.add_own.result stamped (rw tasks step) c.reserve.ensures.events c.reserve.ensures.room c.add_own.ensures.last (rw c.start_call.ensures at c.add_own.ensures.events) c.add_own.ensures.room (rw c.in_ok-reserve-2.ensures.room at c.start.ensures.room) (rw c.start_call-2.ensures at c.add_own.ensures.for_record))
+    rw (← c.self.view_is) (recorded_as t.items.items t.next t.tasks c.start.new.self t.limit t.log c.reserve.new.self c.add_own.new.log c.args.by.now c.args.now c.in_ok-stamp.stamp call (answers.Started c.in_ok-number.number) c.add_own.result stamped (rw tasks step) c.reserve.ensures.events c.reserve.ensures.spare c.add_own.ensures.last (rw c.start_call.ensures at c.add_own.ensures.events) c.add_own.ensures.spare (rw c.in_ok-reserve-2.ensures.spare at c.start.ensures.spare) (rw c.start_call-2.ensures at c.add_own.ensures.for_record))
 
 pub invariant_of-self-3 : goal.invariant_of-self-3
 invariant_of-self-3 c =

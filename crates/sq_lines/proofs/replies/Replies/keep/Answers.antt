@@ -6,11 +6,11 @@ use Rattle.sq_lines.proofs.replies.Replies.keep.Goals as goal
 -- the bytes with the text and its line feed behind them
 all_are : (c : goal.After-push-2) → c.push-2.new.self.items ≡ (c.self.inside.bytes.items ++ c.args.text.now) ++ 10 ∷ []
 all_are c =
-    let room : vec_len c.self.inside.bytes + length c.args.text.now < vec_capacity c.self.inside.bytes = omega arith in
+    let fits : vec_len c.self.inside.bytes + length c.args.text.now < vec_capacity c.self.inside.bytes = omega arith in
     let first : c.extend_from_slice.new.self.items ≡ c.self.inside.bytes.items ++ c.args.text.now =
     appended _ _ c.self.inside.bytes.items c.args.text.now c.extend_from_slice.ensures.items (c.extend_from_slice.ensures.succeeds (omega arith)) in
     let left : vec_len c.extend_from_slice.new.self < vec_capacity c.extend_from_slice.new.self =
-    omega (arith, room, c.extend_from_slice.ensures.capacity, appended_len _ _ _ _ c.extend_from_slice.ensures.len (c.extend_from_slice.ensures.succeeds (omega arith))) in
+    omega (arith, fits, c.extend_from_slice.ensures.capacity, appended_len _ _ _ _ c.extend_from_slice.ensures.len (c.extend_from_slice.ensures.succeeds (omega arith))) in
     appended _ _ c.extend_from_slice.new.self.items (10 ∷ []) c.push-2.ensures.items (c.push-2.ensures.succeeds left) ∙ ap (λ (b : List ℕ). b ++ 10 ∷ []) first
 
 pub invariant_of-self-2 : goal.invariant_of-self-2

@@ -22,9 +22,9 @@ invariant_of-self-in-Some g c =
       empty = (λ e. let k : Serving ≡ Unopened = sym takes.serves ∙ e in cc);
       left = (λ e. let k : Serving ≡ Closed = sym takes.serves ∙ e in cc);
       within = rw rows (few_pushed kept added c.self.inside.site.limits.rows takes.within);
-      room = search rules;
+      spare = search rules;
     }
 
 pub insert-slot-requires-clause-rising : goal.insert-slot-requires-clause-rising
 insert-slot-requires-clause-rising g c =
-    rw (c.expire.ensures.rows, c.make_room.ensures.rows) (rises_unexpired c.self.inside.settings c.args.moment 0 (g.S.Store.rows c.self.inside.store) c.self.inside.next c.self.invariant.rising)
+    rw (c.expire.ensures.rows, c.make_spare.ensures.rows) (rises_unexpired c.self.inside.settings c.args.moment 0 (g.S.Store.rows c.self.inside.store) c.self.inside.next c.self.invariant.rising)

@@ -28,7 +28,7 @@ invariant_of-self g c =
       empty = (λ e. let k : Serving ≡ Unopened = sym serves ∙ e in cc);
       left = (λ e. let k : Serving ≡ Closed = sym serves ∙ e in cc);
       within = few_rest (unexpired s c.args.moment rows) (g.S.Store.rows c.take_out.new.self) c.in-Some.row c.self.inside.site.limits.rows (search rules) (few_unexpired s c.args.moment rows c.self.inside.site.limits.rows c.self.invariant.within);
-      room = search rules;
+      spare = search rules;
     }
 
 pub returns-clause-row : goal.returns-clause-row

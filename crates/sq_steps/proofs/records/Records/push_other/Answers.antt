@@ -7,7 +7,7 @@ invariant_of-self c =
     let at : c.len.result ≡ length c.self.inside.others.items = c.len.ensures in
     record {
       within = rw (c.push-2.ensures.items, c.push.ensures.items, at) (other_within c.self.inside.others.items (length c.self.inside.names.names) c.self.inside.kept.items c.args.other c.self.invariant.within);
-      room = search rules;
+      spare = search rules;
     }
 
 pub returns-clause-items : goal.returns-clause-items

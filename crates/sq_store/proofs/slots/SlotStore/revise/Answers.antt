@@ -5,7 +5,7 @@ use Rattle.std.specs.Prelude.{find}
 use Rattle.sq_slots.specs.Slots.{IsBetween, is_at}
 use Rattle.sq_slots.proofs.SplitLaws.{none_changes, stands_between}
 use Rattle.sq_store.specs.SlotStores.{IsIndexed}
-use Rattle.sq_store.proofs.SlotLaws.{indexed_changed, room_beside}
+use Rattle.sq_store.proofs.SlotLaws.{indexed_changed, spare_beside}
 use Rattle.sq_store.proofs.slots.SlotStore.revise.Goals as goal
 use Rattle.sq_store.proofs.slots.SlotStore.revise.Goals.{After-clear}
 
@@ -25,7 +25,7 @@ pub set-requires : goal.set-requires
 set-requires c =
     let s = split (goal.at.set-requires c).After-clear in
     let whole : IsIndexed (s.before ++ c.in-Some.row.now ∷ s.after) c.self.inside.visible c.self.inside.ages = rw s.whole at c.self.invariant in
-    room_beside s.before c.in-Some.row.now s.after c.self.inside.visible c.clear.new.self c.self.inside.ages c.clear.ensures.ordered (rw (← s.slot_is) at c.clear.ensures.cleared) whole _
+    spare_beside s.before c.in-Some.row.now s.after c.self.inside.visible c.clear.new.self c.self.inside.ages c.clear.ensures.ordered (rw (← s.slot_is) at c.clear.ensures.cleared) whole _
 
 pub invariant_of-self : goal.invariant_of-self
 invariant_of-self c =

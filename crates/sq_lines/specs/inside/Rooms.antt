@@ -1,7 +1,0 @@
--- The memory of a line that is read.
-use Rattle.std.specs.Prelude.{ℕ, ◌*◌, leb, max, min, if◌then◌else◌}
-use Rattle.sq_lines.specs.declared.lines.TheConstants.{LIMIT}
-
--- the room of a line that has so much and wants so much: what it has where that is enough, else twice that up to the limit, or what it wants where that is more
-abbrev pub room_for : ℕ → ℕ → ℕ
-room_for room wanted = if leb wanted room then room else max (min (2 * room) LIMIT) wanted
