@@ -50,11 +50,11 @@ body_refused homes name queue body delay e in_bounds refused = refused_so homes 
 
 -- what was told of an entry is answered
 pub answered_as_entry : {S : Type 0} (stepped : S → Ask → Result Gave Refusal → S → Type 0) (G : List Done → Result EntryAnswer Refusal → Type 0) (homes : ℕ) (name : List ℕ) (asked : EntryAsk) (queue : ℕ) (old new : S) (told : Result EntryAnswer Refusal)
-    → Performs stepped G old told new → ((ds : List Done) → G ds told → EntryFits homes name queue asked ds told) → Performs stepped (OneFits homes name asked queue) old (one_answered told) new
+    → Performs stepped G old told new → ((ds : List Done) → G ds told → EntryFits homes name queue (Ok asked) ds told) → Performs stepped (OneFits homes name asked queue) old (one_answered told) new
 answered_as_entry stepped G homes name asked queue old new told did fits = record { trace = did.trace; path = did.path; fits = (told, fits did.trace did.fits, refl) }
 
 -- a step on the message of a handle is one as an entry asks it
-pub handle_as_entry : (homes : ℕ) (name : List ℕ) (queue : ℕ) (handle : Option Handle) (what : OnMessage) (ds : List Done) (told : Result EntryAnswer Refusal) → HandleAt homes name queue handle (act_of what) ds told → EntryFits homes name queue (asked_by what handle) ds told
+pub handle_as_entry : (homes : ℕ) (name : List ℕ) (queue : ℕ) (handle : Option Handle) (what : OnMessage) (ds : List Done) (told : Result EntryAnswer Refusal) → HandleAt homes name queue handle (act_of what) ds told → EntryFits homes name queue (Ok (asked_by what handle)) ds told
 handle_as_entry homes name queue handle Delete ds told fits = fits
 handle_as_entry homes name queue handle (Change timeout) ds told fits = fits
 

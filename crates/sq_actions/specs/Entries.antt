@@ -7,7 +7,7 @@ use Rattle.md5.specs.Md5.{md5}
 use Rattle.sq_base.specs.Bodies.{allowed}
 use Rattle.sq_base.specs.declared.handle.Handle.{Handle}
 use Rattle.sq_base.specs.declared.refusal.Refusal.{Refusal}
-use Rattle.sq_base.specs.declared.refusal.Refusal.TheVariants.{InvalidMessageContents, InvalidParameterValue, NoMemory, ReceiptHandleIsInvalid, UnsupportedOperation}
+use Rattle.sq_base.specs.declared.refusal.Refusal.TheVariants.{InvalidMessageContents, NoMemory, ReceiptHandleIsInvalid}
 use Rattle.sq_model.specs.declared.calls.Receipt.{Receipt}
 use Rattle.sq_model.specs.declared.replies.HomeReply.{HomeReply}
 use Rattle.sq_model.specs.declared.replies.HomeReply.TheVariants as reply
@@ -64,12 +64,11 @@ HandleAt homes name queue handle act trace told =
     ⊎ ((h : Handle) × (handle_of_queue homes queue handle ≡ Some h) × OneStep name queue h.home (act (receipt_of h)) MakesDone trace told)
 
 -- What is asked of a queue that was found: one step at one of its homes, or none where it is refused before.
-abbrev pub EntryFits : ℕ → List ℕ → ℕ → EntryAsk → List Done → Result EntryAnswer Refusal → Type 0
-EntryFits homes name queue (ask.Send body delay) trace told = SendAt homes name queue body delay trace told
-EntryFits homes name queue (ask.Delete handle) trace told = HandleAt homes name queue handle (λ receipt. Delete receipt) trace told
-EntryFits homes name queue (ask.Change handle timeout) trace told = HandleAt homes name queue handle (λ receipt. Change receipt timeout) trace told
-EntryFits homes name queue ask.Unsupported trace told = (trace ≡ []) × (told ≡ Err UnsupportedOperation)
-EntryFits homes name queue ask.OutOfRange trace told = (trace ≡ []) × (told ≡ Err InvalidParameterValue)
+abbrev pub EntryFits : ℕ → List ℕ → ℕ → Result EntryAsk Refusal → List Done → Result EntryAnswer Refusal → Type 0
+EntryFits homes name queue (Ok (ask.Send body delay)) trace told = SendAt homes name queue body delay trace told
+EntryFits homes name queue (Ok (ask.Delete handle)) trace told = HandleAt homes name queue handle (λ receipt. Delete receipt) trace told
+EntryFits homes name queue (Ok (ask.Change handle timeout)) trace told = HandleAt homes name queue handle (λ receipt. Change receipt timeout) trace told
+EntryFits homes name queue (Err e) trace told = (trace ≡ []) × (told ≡ Err e)
 
 -- ---- a call on one message
 
@@ -80,7 +79,7 @@ one_answered (Err e) = Err e
 
 -- a call on one message of a queue that was found is answered as an entry is
 abbrev pub OneFits : ℕ → List ℕ → EntryAsk → ℕ → List Done → Result Answer Refusal → Type 0
-OneFits homes name asked queue trace answered = (told : Result EntryAnswer Refusal) × EntryFits homes name queue asked trace told × (answered ≡ one_answered told)
+OneFits homes name asked queue trace answered = (told : Result EntryAnswer Refusal) × EntryFits homes name queue (Ok asked) trace told × (answered ≡ one_answered told)
 
 -- ---- a batch
 

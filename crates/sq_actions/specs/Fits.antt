@@ -1,6 +1,5 @@
 -- Which steps a call does, and what it tells of them, up to a stop; nothing here speaks of states.
 use Rattle.std.specs.Prelude.{◌≡◌, ◌⊎◌, ℕ, zero, suc, ◌<◌, ◌≤◌, Bool, true, false, List, [], ◌∷◌, ◌++◌, length, slice_get, Option, Some, None, Result, Ok, Err}
-use Rattle.std.specs.Str.{bytes_eq}
 use Rattle.rand.specs.Sample.{IsSampleOf}
 use Rattle.sq_base.specs.declared.refusal.Refusal.{Refusal}
 use Rattle.sq_base.specs.declared.refusal.Refusal.TheVariants.{InvalidParameterValue, NoMemory, QueueDoesNotExist, OverLimit, ResourceNotFoundException}
@@ -36,6 +35,7 @@ use Rattle.sq_calls.specs.declared.calls.ListMessageMoveTasks.{ListMessageMoveTa
 use Rattle.sq_calls.specs.declared.calls.QueueCounts.{QueueCounts}
 use Rattle.sq_calls.specs.declared.calls.ReceiveMessage.{ReceiveMessage}
 use Rattle.sq_calls.specs.declared.calls.SetQueueAttributes.{SetQueueAttributes}
+use Rattle.sq_calls.specs.MoveTasks.{is_destination}
 use Rattle.sq_calls.specs.declared.calls.StartMessageMoveTask.{StartMessageMoveTask}
 use Rattle.sq_actions.specs.Asks.{Resolve, AskDirectory, AskHome, Redriven, AskLedger, Found, Ends, Done, HomeCounts, IsAnswerTo, IsOfAnyStep, MayRefuse}
 use Rattle.sq_actions.specs.Steps.{named, directory_step, home_step, redriven, ledger_step}
@@ -177,11 +177,6 @@ MakesTasks by answered = (tasks : List Task) × (by ≡ ledger.Listed tasks) × 
 -- a task between these queues, at this rate
 abbrev pub start_between : MoveEnds → Option ℕ → TaskStart
 start_between ends rate = record { source = ends.source; destination = ends.destination; rate = rate }
-
--- the queue of this name is the destination
-abbrev pub is_destination : List ℕ → Option (List ℕ) → Bool
-is_destination source None = false
-is_destination source (Some name) = bytes_eq source name
 
 -- it is read whether messages may be moved between these queues, and then a task starts
 abbrev pub StartsBetween : StartMessageMoveTask → List Done → Result Answer Refusal → Type 0

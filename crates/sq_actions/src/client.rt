@@ -8,7 +8,7 @@ ghost use Rattle.sq_actions.specs.inside.Messages.{act_at_each, asked_by};
 ghost use Rattle.sq_actions.specs.Calls.{home_numbered, counted_homes, counts_with, received_from};
 ghost use Rattle.sq_actions.specs.inside.Calls.{changes_queue, AreFew};
 ghost use Rattle.sq_actions.specs.Entries.{OneFits};
-ghost use Rattle.sq_actions.specs.Fits.{ByName, AtAll, ByDirectory, ThenAll, CreateFits, SetFits, TellsUrl, TellsQueues, TellsSources, StartFits, StartsBetween, is_destination, CancelFits, ListTasksFits, source_refusal, CountsAt, Shows, ReceiveAt, CallFits};
+ghost use Rattle.sq_actions.specs.Fits.{ByName, AtAll, ByDirectory, ThenAll, CreateFits, SetFits, TellsUrl, TellsQueues, TellsSources, StartFits, StartsBetween, CancelFits, ListTasksFits, source_refusal, CountsAt, Shows, ReceiveAt, CallFits};
 ghost use Rattle.sq_calls.specs.ReceivedValue.{AreReceived};
 ghost use Rattle.sq_actions.specs.Performs.{Performs, LeavesRecords};
 
@@ -329,20 +329,10 @@ fn look<S: LockSteps>(
 fn start_task<S: LockSteps>(steps: &mut S, call: &StartMessageMoveTask) -> Result<Answer, Refusal>
     ensures { Performs S.stepped (StartFits call.now) steps.old result steps.new }
 {
-    if is_destination(&call.source, &call.destination) {
+    if call.is_to_its_source() {
         return Err(Refusal::InvalidParameterValue);
     }
     start_between(steps, call)
-}
-
-// Whether the queue of a name is the destination.
-fn is_destination(source: &QueueName, destination: &Option<QueueName>) -> bool
-    ensures { result ≡ is_destination source.now destination.now }
-{
-    match destination {
-        Some(name) => source.as_bytes() == name.as_bytes(),
-        None => false,
-    }
 }
 
 // A task starts between two queues that it may move messages between.

@@ -23,11 +23,11 @@ use sq_model::task::NamedQueue;
 use sq_sample::sampler::HomeCount;
 use sq_steps::act::NamedHome;
 
-/// Does what an entry asks.
+/// Does what an entry asks, or refuses it without a step.
 pub(crate) fn do_entry<S: LockSteps>(
     steps: &mut S,
     of: &NamedQueue,
-    ask: &EntryAsk,
+    ask: &Result<EntryAsk, Refusal>,
 ) -> Result<EntryAnswer, Refusal>
     requires { S.knows steps.old of.now.name of.now.number }
     ensures did { Performs S.stepped (EntryFits (S.counts steps.old).homes of.now.name of.now.number ask.now) steps.old result steps.new }
@@ -35,13 +35,12 @@ pub(crate) fn do_entry<S: LockSteps>(
     ensures same_counts { S.counts steps.new ≡ S.counts steps.old }
 {
     match ask {
-        EntryAsk::Send(body, delay) => send(steps, of, body, *delay),
-        EntryAsk::Delete(handle) => on_message(steps, of, handle, OnMessage::Delete),
-        EntryAsk::Change(handle, timeout) => {
+        Ok(EntryAsk::Send(body, delay)) => send(steps, of, body, *delay),
+        Ok(EntryAsk::Delete(handle)) => on_message(steps, of, handle, OnMessage::Delete),
+        Ok(EntryAsk::Change(handle, timeout)) => {
             on_message(steps, of, handle, OnMessage::Change(*timeout))
         }
-        EntryAsk::Unsupported => Err(Refusal::UnsupportedOperation),
-        EntryAsk::OutOfRange => Err(Refusal::InvalidParameterValue),
+        Err(refusal) => Err(*refusal),
     }
 }
 

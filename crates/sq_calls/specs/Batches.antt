@@ -1,21 +1,23 @@
 -- Which entries make a batch (SQS API Reference, SendMessageBatch, DeleteMessageBatch, ChangeMessageVisibilityBatch).
-use Rattle.std.specs.Prelude.{ℕ, ◌<◌, ◌≤◌, ◌≡◌, List, [], ◌∷◌, length, Bool, true, false, not, ◌&&◌}
+use Rattle.std.specs.Prelude.{ℕ, ◌<◌, ◌≤◌, ◌≡◌, List, [], ◌∷◌, length, Bool, true, false, not, ◌&&◌, Result, Ok, Err}
 use Rattle.std.specs.List.{list_all, list_any}
 use Rattle.std.specs.Str.{bytes_eq}
+use Rattle.sq_base.specs.declared.refusal.Refusal.{Refusal}
+use Rattle.sq_base.specs.declared.refusal.Refusal.TheVariants.{InvalidParameterValue, UnsupportedOperation}
 use Rattle.sq_calls.specs.declared.batches.BatchKind.{BatchKind}
 use Rattle.sq_calls.specs.declared.batches.BatchKind.TheVariants as kind
 use Rattle.sq_calls.specs.declared.batches.Entry.{Entry}
 use Rattle.sq_calls.specs.declared.batches.EntryAsk.{EntryAsk}
 use Rattle.sq_calls.specs.declared.batches.EntryAsk.TheVariants as ask
 
--- What an entry asks is of this kind. Attributes are of a send alone; a delete has nothing that is out of its range.
-abbrev pub is_of : BatchKind → EntryAsk → Bool
-is_of kind.Send (ask.Send body delay) = true
-is_of kind.Send ask.Unsupported = true
-is_of kind.Send ask.OutOfRange = true
-is_of kind.Delete (ask.Delete handle) = true
-is_of kind.Change (ask.Change handle timeout) = true
-is_of kind.Change ask.OutOfRange = true
+-- What an entry asks is of this kind, or it is refused as one of this kind may be. Attributes are of a send alone; a delete has nothing that is out of its range.
+abbrev pub is_of : BatchKind → Result EntryAsk Refusal → Bool
+is_of kind.Send (Ok (ask.Send body delay)) = true
+is_of kind.Send (Err UnsupportedOperation) = true
+is_of kind.Send (Err InvalidParameterValue) = true
+is_of kind.Delete (Ok (ask.Delete handle)) = true
+is_of kind.Change (Ok (ask.Change handle timeout)) = true
+is_of kind.Change (Err InvalidParameterValue) = true
 is_of kind asked = false
 
 abbrev pub are_of : BatchKind → List Entry → Bool

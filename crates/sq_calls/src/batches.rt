@@ -26,17 +26,15 @@ pub enum EntryAsk {
     Delete(Option<Handle>),
     /// As ChangeMessageVisibility does; without a handle where its text is none, which is ReceiptHandleIsInvalid.
     Change(Option<Handle>, Timeout),
-    /// It has message attributes: it fails as UnsupportedOperation, without a step.
-    Unsupported,
-    /// A delay, a timeout or the length of a body is out of its range: it fails as InvalidParameterValue, without a step.
-    OutOfRange,
 }
 
 /// An entry of a batch.
 #[derive(Drop)]
 pub struct Entry {
     pub id: EntryId,
-    pub ask: EntryAsk,
+    /// What it asks; or what it is refused as, without a step: UnsupportedOperation, if a send has message attributes, or
+    /// InvalidParameterValue, if a delay, a timeout or the length of a body is out of its range.
+    pub ask: Result<EntryAsk, Refusal>,
 }
 
 /// What all entries of a batch do.
@@ -114,15 +112,17 @@ impl Batch {
     }
 }
 
-// Whether what an entry asks is of this kind.
-fn is_of(kind: BatchKind, ask: &EntryAsk) -> bool
+// Whether what an entry asks is of this kind, or it is refused as one of this kind may be.
+fn is_of(kind: BatchKind, ask: &Result<EntryAsk, Refusal>) -> bool
     ensures { result ≡ is_of kind ask.now }
 {
     match (kind, ask) {
-        (BatchKind::Send, EntryAsk::Send(_, _) | EntryAsk::Unsupported | EntryAsk::OutOfRange) =>
+        (BatchKind::Send, Ok(EntryAsk::Send(_, _))) => true,
+        (BatchKind::Send, Err(Refusal::UnsupportedOperation | Refusal::InvalidParameterValue)) =>
             true,
-        (BatchKind::Delete, EntryAsk::Delete(_)) => true,
-        (BatchKind::Change, EntryAsk::Change(_, _) | EntryAsk::OutOfRange) => true,
+        (BatchKind::Delete, Ok(EntryAsk::Delete(_))) => true,
+        (BatchKind::Change, Ok(EntryAsk::Change(_, _))) => true,
+        (BatchKind::Change, Err(Refusal::InvalidParameterValue)) => true,
         _ => false,
     }
 }

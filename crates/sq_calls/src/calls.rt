@@ -1,4 +1,7 @@
 //! What clients ask and the answers that they get, as values (SQS API Reference).
+ghost use Rattle.std.specs.Prelude.{◌≡◌};
+ghost use Rattle.sq_calls.specs.MoveTasks.{is_destination};
+
 use crate::batches::{Batch, EntryResult};
 use crate::body_text::BodyText;
 use crate::digest::Digest;
@@ -108,6 +111,18 @@ pub struct StartMessageMoveTask {
     pub destination: Option<QueueName>,
     /// MaxNumberOfMessagesPerSecond.
     pub rate: Option<Rate>,
+}
+
+impl StartMessageMoveTask {
+    /// Whether its source is its destination too, which is refused as InvalidParameterValue.
+    pub fn is_to_its_source(&self) -> bool
+        ensures { result ≡ is_destination self.now.source self.now.destination }
+    {
+        match &self.destination {
+            Some(name) => self.source.as_bytes() == name.as_bytes(),
+            None => false,
+        }
+    }
 }
 
 /// ListMessageMoveTasks.

@@ -53,16 +53,17 @@ pub struct Tasks {
 
 impl Model for Tasks {
     ghost use Rattle.std.specs.Prelude.{◌-◌, ◌==◌, ◌≤◌, min, vec_len, vec_capacity};
-    ghost use Rattle.indexmap.specs.IndexMap.{get, spare};
+    ghost use Rattle.indexmap.specs.IndexMap as maps;
+    ghost use Rattle.indexmap.specs.IndexMap.{get};
     ghost use Rattle.sq_model.specs.declared.task.Task.{Task as TaskValue};
     ghost use Rattle.sq_log.specs.Spares.{GrowingValue};
     ghost use Rattle.sq_ledger.specs.TaskIndexes.{AreTasks, tasks_in};
 
     ghost Value = { GrowingValue TaskValue };
 
-    ghost view = { λ t. record { items = tasks_in t.rows.items; spare = t.spare; reserved = min (vec_capacity t.rows - vec_len t.rows) (spare t.last) } };
+    ghost view = { λ t. record { items = tasks_in t.rows.items; spare = t.spare; reserved = min (vec_capacity t.rows - vec_len t.rows) (maps.spare t.last) } };
 
-    ghost invariant = { λ t. AreTasks t.rows.items (get (λ a b. a == b) t.last) t.active × (t.spare ≤ min (vec_capacity t.rows - vec_len t.rows) (spare t.last)) };
+    ghost invariant = { λ t. AreTasks t.rows.items (get (λ a b. a == b) t.last) t.active × (t.spare ≤ min (vec_capacity t.rows - vec_len t.rows) (maps.spare t.last)) };
 }
 
 impl Tasks {

@@ -31,7 +31,7 @@ numbers_ascii h =
 
 pub handle_ascii : (h : Handle) → IsAscii (handle_text h)
 unfolding handle_text
-handle_ascii h = IsAscii-cons 50 _ (omega arith) (IsAscii-cons 45 _ (omega arith) (numbers_ascii h))
+handle_ascii h = IsAscii-cons 50 (45 ∷ numbers_text h) (omega arith) (IsAscii-cons 45 (numbers_text h) (omega arith) (numbers_ascii h))
 
 pub task_handle_ascii : (task : ℕ) → IsAscii (task_handle_text task)
 unfolding task_handle_text

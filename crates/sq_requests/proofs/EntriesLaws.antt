@@ -1,6 +1,6 @@
 -- The entries that are read are as many as there are items, of the batch's kind, and have the ids of these.
 use Rattle.std.proofs.Common.{◌≡◌, ◌∙◌, Bool, true, false, not, ℕ, ◌<◌, ◌≤◌, add-zero, append-nil, List, [], ◌∷◌, length, map, Option, Some, None, Result, Ok, Err, refl, sym, ap, subst, arith}
-use Rattle.std.specs.Prelude.{◌==◌, nat_lt, ◌&&◌, ◌||◌, if◌then◌else◌, codes, ok_or}
+use Rattle.std.specs.Prelude.{◌==◌, nat_lt, ◌&&◌, ◌||◌, if◌then◌else◌, codes, ok_or, IfErr}
 use Rattle.std.specs.List.{list_all, list_any}
 use Rattle.std.specs.Str.{bytes_eq}
 use Rattle.std.proofs.lemmas.List.Folds.{list_all-map}
@@ -22,7 +22,7 @@ use Rattle.sq_policy.specs.Reading.{◌>>=◌}
 use Rattle.sq_policy.specs.declared.amount.Amount.{Amount}
 use Rattle.sq_policy.specs.declared.amount.Amount.TheVariants.{Natural, Other}
 use Rattle.sq_requests.specs.Actions.{body_text, has_attributes_at}
-use Rattle.sq_requests.specs.Batches.{as_ask, ask_of, batch_check, batch_of, bodies_length, change_ask, change_of_entry, delete_of_entry, entries_of, entry_id, entry_of, has_id, have_same_id, how_many, items_at, members_of, repeat_an_id, send_ask, send_of_entry}
+use Rattle.sq_requests.specs.Batches.{ask_of, batch_check, batch_of, bodies_length, change_ask, change_of_entry, delete_of_entry, entries_of, entry_id, entry_of, has_id, have_same_id, how_many, items_at, members_of, repeat_an_id, send_ask, send_of_entry}
 use Rattle.sq_requests.specs.inside.Batches.{are_distinct, check_by, entry_by, lengths_of, AreFirst, IsRead}
 use Rattle.sq_requests.specs.Lists.{all_items, any_item}
 use Rattle.sq_requests.specs.Members.{amount_at, amount_if_at, receipt_handle_at, text_at, url_at}
@@ -31,46 +31,65 @@ use Rattle.sq_requests.specs.declared.batches.ReadEntries.{ReadEntries}
 
 -- ---- what an entry asks is of its kind
 
-send_is : (has : Bool) (delay : Result (Option ℕ) Refusal) (body : Result (List ℕ) Refusal)
-    → is_of kind.Send (as_ask (if has then Err UnsupportedOperation else (delay >>= λ d. body >>= λ t. Ok (ask.Send t d)))) ≡ true
-send_is true delay body = refl
-send_is false (Ok d) (Ok t) = refl
-send_is false (Ok d) (Err UnsupportedOperation) = refl
-send_is false (Ok d) (Err e) = refl
-send_is false (Err UnsupportedOperation) body = refl
-send_is false (Err e) body = refl
+-- it is refused for what is out of its range, if at all
+abbrev IsInRange : {A : Type 0} → Result A Refusal → Type 0
+IsInRange r = IfErr r (λ e. e ≡ InvalidParameterValue)
 
-change_is : (handle : Option Handle) (n : Option ℕ) → is_of kind.Change (as_ask (ok_or n InvalidParameterValue >>= λ t. Ok (ask.Change handle t))) ≡ true
+or_out_of_range : {A : Type 0} (o : Option A) → IsInRange (ok_or o InvalidParameterValue)
+or_out_of_range (Some x) = tt
+or_out_of_range None = refl
+
+some_range : (n : Result ℕ Refusal) → IsInRange n → IsInRange (n >>= λ x. Ok (Some x))
+some_range (Ok n) h = tt
+some_range (Err e) h = h
+
+delay_range : (delay : Option Amount) → IsInRange (in_range_if 0 900 InvalidParameterValue delay)
+delay_range None = tt
+delay_range (Some Other) = refl
+delay_range (Some (Natural n)) = some_range (ok_or (within 0 900 n) InvalidParameterValue) (or_out_of_range (within 0 900 n))
+
+send_is : (has : Bool) (delay : Result (Option ℕ) Refusal) (body : Result (List ℕ) Refusal) → IsInRange delay → IsInRange body
+    → is_of kind.Send (if has then Err UnsupportedOperation else (delay >>= λ d. body >>= λ t. Ok (ask.Send t d))) ≡ true
+send_is true delay body in_range short = refl
+send_is false (Ok d) (Ok t) in_range short = refl
+send_is false (Ok d) (Err e) in_range short = rw short refl
+send_is false (Err e) body in_range short = rw in_range refl
+
+body_range : (long : Bool) (body : List ℕ) → IsInRange (if long then Err InvalidParameterValue else Ok body)
+body_range true body = refl
+body_range false body = tt
+
+change_is : (handle : Option Handle) (n : Option ℕ) → is_of kind.Change (ok_or n InvalidParameterValue >>= λ t. Ok (ask.Change handle t)) ≡ true
 change_is handle None = refl
 change_is handle (Some n) = refl
 
-change_of : (handle : Option Handle) (amount : Amount) → is_of kind.Change (as_ask (change_ask handle amount)) ≡ true
+change_of : (handle : Option Handle) (amount : Amount) → is_of kind.Change (change_ask handle amount) ≡ true
 change_of handle (Natural n) = change_is handle (within 0 43200 n)
 change_of handle Other = refl
 
-sent_of : (body : Result (List ℕ) Refusal) (delay : Result (Option Amount) Refusal) (has : Result Bool Refusal) (a : EntryAsk)
-    → (body >>= λ b. delay >>= λ d. has >>= λ h. Ok (as_ask (send_ask h d b))) ≡ Ok a → is_of kind.Send a ≡ true
+sent_of : (body : Result (List ℕ) Refusal) (delay : Result (Option Amount) Refusal) (has : Result Bool Refusal) (a : Result EntryAsk Refusal)
+    → (body >>= λ b. delay >>= λ d. has >>= λ h. Ok (send_ask h d b)) ≡ Ok a → is_of kind.Send a ≡ true
 sent_of (Ok b) (Ok d) (Ok h) a is =
-    let same : as_ask (send_ask h d b) ≡ a = cc in
-    subst (λ (x : EntryAsk). is_of kind.Send x ≡ true) same (send_is h (in_range_if 0 900 InvalidParameterValue d) (body_text b))
+    let same : send_ask h d b ≡ a = cc in
+    subst (λ (x : Result EntryAsk Refusal). is_of kind.Send x ≡ true) same (send_is h (in_range_if 0 900 InvalidParameterValue d) (body_text b) (delay_range d) (body_range _ b))
 sent_of (Ok b) (Ok d) (Err e) a is = absurd (cc)
 sent_of (Ok b) (Err e) has a is = absurd (cc)
 sent_of (Err e) delay has a is = absurd (cc)
 
-deleted_of : (handle : Result (Option Handle) Refusal) (a : EntryAsk) → (handle >>= λ h. Ok (ask.Delete h)) ≡ Ok a → is_of kind.Delete a ≡ true
+deleted_of : (handle : Result (Option Handle) Refusal) (a : Result EntryAsk Refusal) → (handle >>= λ h. Ok (Ok (ask.Delete h))) ≡ Ok a → is_of kind.Delete a ≡ true
 deleted_of (Ok h) a is =
-    let same : ask.Delete h ≡ a = cc in
-    subst (λ (x : EntryAsk). is_of kind.Delete x ≡ true) same refl
+    let same : Ok (ask.Delete h) ≡ a = cc in
+    subst (λ (x : Result EntryAsk Refusal). is_of kind.Delete x ≡ true) same refl
 deleted_of (Err e) a is = absurd (cc)
 
-changed_of : (handle : Result (Option Handle) Refusal) (amount : Result Amount Refusal) (a : EntryAsk) → (handle >>= λ h. amount >>= λ n. Ok (as_ask (change_ask h n))) ≡ Ok a → is_of kind.Change a ≡ true
+changed_of : (handle : Result (Option Handle) Refusal) (amount : Result Amount Refusal) (a : Result EntryAsk Refusal) → (handle >>= λ h. amount >>= λ n. Ok (change_ask h n)) ≡ Ok a → is_of kind.Change a ≡ true
 changed_of (Ok h) (Ok n) a is =
-    let same : as_ask (change_ask h n) ≡ a = cc in
-    subst (λ (x : EntryAsk). is_of kind.Change x ≡ true) same (change_of h n)
+    let same : change_ask h n ≡ a = cc in
+    subst (λ (x : Result EntryAsk Refusal). is_of kind.Change x ≡ true) same (change_of h n)
 changed_of (Ok h) (Err e) a is = absurd (cc)
 changed_of (Err e) amount a is = absurd (cc)
 
-ask_is : (kind : BatchKind) (d : Data) (a : EntryAsk) → ask_of kind d ≡ Ok a → is_of kind a ≡ true
+ask_is : (kind : BatchKind) (d : Data) (a : Result EntryAsk Refusal) → ask_of kind d ≡ Ok a → is_of kind a ≡ true
 unfolding send_of_entry delete_of_entry change_of_entry
 ask_is kind.Send d a h = sent_of (text_at (codes "MessageBody") d) (amount_if_at (codes "DelaySeconds") d) (has_attributes_at d) a h
 ask_is kind.Delete d a h = deleted_of (receipt_handle_at d) a h
@@ -78,7 +97,7 @@ ask_is kind.Change d a h = changed_of (receipt_handle_at d) (amount_at (codes "V
 
 -- ---- an entry has the id and the ask that are read
 
-entry_parts : (id : Result (List ℕ) Refusal) (asked : Result EntryAsk Refusal) (e : Entry) → (id >>= λ i. asked >>= λ a. Ok (record { id = i; ask = a })) ≡ Ok e → (id ≡ Ok e.id) × (asked ≡ Ok e.ask)
+entry_parts : (id : Result (List ℕ) Refusal) (asked : Result (Result EntryAsk Refusal) Refusal) (e : Entry) → (id >>= λ i. asked >>= λ a. Ok (record { id = i; ask = a })) ≡ Ok e → (id ≡ Ok e.id) × (asked ≡ Ok e.ask)
 entry_parts (Ok i) (Ok a) e h =
     let same : record { id = i; ask = a } ≡ e = cc in
     (ap (λ (x : Entry). Ok x.id) same, ap (λ (x : Entry). Ok x.ask) same)

@@ -26,12 +26,6 @@ use Rattle.sq_calls.specs.declared.calls.Call.TheVariants as call
 
 -- ---- what an entry asks
 
--- What refuses it alone is what it asks. Two refusals do.
-abbrev pub as_ask : Result EntryAsk Refusal → EntryAsk
-as_ask (Ok asked) = asked
-as_ask (Err UnsupportedOperation) = ask.Unsupported
-as_ask (Err e) = ask.OutOfRange
-
 -- a send as an entry: message attributes are not supported; then its delay, and how long its body is
 abbrev pub send_ask : Bool → Option Amount → List ℕ → Result EntryAsk Refusal
 send_ask has_attributes delay body =
@@ -45,24 +39,24 @@ change_ask handle amount = do
   timeout ← amount_in_range 0 43200 InvalidParameterValue amount
   Ok (ask.Change handle timeout)
 
--- the members of an entry are those of the action on one message, without its URL
-unfoldable pub send_of_entry : Data → Result EntryAsk Refusal
+-- the members of an entry are those of the action on one message, without its URL; what refuses it alone is told of it
+unfoldable pub send_of_entry : Data → Result (Result EntryAsk Refusal) Refusal
 send_of_entry d = do
   body ← text_at (codes "MessageBody") d
   delay ← amount_if_at (codes "DelaySeconds") d
   has_attributes ← has_attributes_at d
-  Ok (as_ask (send_ask has_attributes delay body))
+  Ok (send_ask has_attributes delay body)
 
-unfoldable pub delete_of_entry : Data → Result EntryAsk Refusal
-delete_of_entry d = receipt_handle_at d >>= λ handle. Ok (ask.Delete handle)
+unfoldable pub delete_of_entry : Data → Result (Result EntryAsk Refusal) Refusal
+delete_of_entry d = receipt_handle_at d >>= λ handle. Ok (Ok (ask.Delete handle))
 
-unfoldable pub change_of_entry : Data → Result EntryAsk Refusal
+unfoldable pub change_of_entry : Data → Result (Result EntryAsk Refusal) Refusal
 change_of_entry d = do
   handle ← receipt_handle_at d
   amount ← amount_at (codes "VisibilityTimeout") d
-  Ok (as_ask (change_ask handle amount))
+  Ok (change_ask handle amount)
 
-abbrev pub ask_of : BatchKind → Data → Result EntryAsk Refusal
+abbrev pub ask_of : BatchKind → Data → Result (Result EntryAsk Refusal) Refusal
 ask_of kind.Send d = send_of_entry d
 ask_of kind.Delete d = delete_of_entry d
 ask_of kind.Change d = change_of_entry d

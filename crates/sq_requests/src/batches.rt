@@ -7,7 +7,7 @@ ghost use Rattle.sq_calls.specs.BodyTexts.{body_limit};
 ghost use Rattle.sq_json.specs.View.{items_view, view};
 ghost use Rattle.sq_policy.specs.Reading.{seen_as, Reads};
 ghost use Rattle.sq_requests.specs.Lists.{all_items};
-ghost use Rattle.sq_requests.specs.Batches.{as_ask, send_ask, change_ask, send_of_entry, delete_of_entry, change_of_entry, ask_of, is_entry, body_length, items_at, entry_of, batch_of};
+ghost use Rattle.sq_requests.specs.Batches.{send_ask, change_ask, send_of_entry, delete_of_entry, change_of_entry, ask_of, is_entry, body_length, items_at, entry_of, batch_of};
 ghost use Rattle.sq_requests.specs.inside.Batches.{ask_by, has_body, entry_by, length_by, lengths_of, are_distinct, check_by, IsRead};
 
 use crate::actions::has_attributes_at;
@@ -24,16 +24,14 @@ use sq_model::listed::Listed;
 use sq_policy::amount::{Amount, in_range, in_range_if};
 use std::alloc::Global;
 
-// What refuses an entry alone is what it asks; only want of memory stays a refusal.
-fn as_ask(asked: Result<EntryAsk, Refusal>) -> Result<EntryAsk, Refusal>
-    ensures ok { IfOk result (λ ask. (ask ≡ as_ask asked) × (asked ≢ Err Refusal.NoMemory)) }
+// What refuses an entry refuses it alone, but want of memory.
+fn alone(asked: Result<EntryAsk, Refusal>) -> Result<Result<EntryAsk, Refusal>, Refusal>
+    ensures ok { IfOk result (λ ask. (ask ≡ asked) × (asked ≢ Err Refusal.NoMemory)) }
     ensures err { IfErr result (λ e. (e ≡ Refusal.NoMemory) × (asked ≡ Err Refusal.NoMemory)) }
 {
     match asked {
-        Ok(ask) => Ok(ask),
         Err(Refusal::NoMemory) => Err(Refusal::NoMemory),
-        Err(Refusal::UnsupportedOperation) => Ok(EntryAsk::Unsupported),
-        Err(_) => Ok(EntryAsk::OutOfRange),
+        other => Ok(other),
     }
 }
 
@@ -257,17 +255,17 @@ fn batch_check(read: &ReadEntries<'_>) -> Result<(), Refusal>
 }
 
 // What an entry of these members asks. Memory is asked for the body of a send that nothing refuses.
-fn ask_of(alloc: Global, members: &AskMembers<'_>) -> Result<EntryAsk, Refusal>
+fn ask_of(alloc: Global, members: &AskMembers<'_>) -> Result<Result<EntryAsk, Refusal>, Refusal>
     ensures ok { IfOk result (λ ask. ask ≡ ask_by members.now) }
     ensures err { IfErr result (λ e. (e ≡ Refusal.NoMemory) × (has_body (ask_by members.now) ≡ true)) }
 {
     match *members {
         AskMembers::Send(body, delay, has_attributes) => {
-            as_ask(send_ask(alloc, has_attributes, delay, body))
+            alone(send_ask(alloc, has_attributes, delay, body))
         }
-        AskMembers::Delete(handle) => Ok(EntryAsk::Delete(read_handle(handle.as_bytes()))),
+        AskMembers::Delete(handle) => Ok(Ok(EntryAsk::Delete(read_handle(handle.as_bytes())))),
         AskMembers::Change(handle, timeout) => {
-            as_ask(change_ask(read_handle(handle.as_bytes()), timeout))
+            Ok(change_ask(read_handle(handle.as_bytes()), timeout))
         }
     }
 }

@@ -1,7 +1,7 @@
 //! What the actions on message move tasks ask.
 ghost use Rattle.std.specs.Prelude.{◌≡◌};
 ghost use Rattle.sq_json.specs.View.{view};
-ghost use Rattle.sq_requests.specs.Tasks.{move_members, destination_of, is_own_destination, start_move_of, list_moves_of};
+ghost use Rattle.sq_requests.specs.Tasks.{move_members, destination_of, start_move_of, list_moves_of};
 
 use crate::members::{amount_if_at, arn_at, arn_if_at};
 use sq_base::name::QueueName;
@@ -43,16 +43,6 @@ fn destination_of(destination: Option<Option<QueueName>>) -> Result<Option<Queue
     }
 }
 
-// Whether a queue is the destination.
-fn is_destination(source: &QueueName, destination: &Option<QueueName>) -> bool
-    ensures { result ≡ is_own_destination source.now destination.now }
-{
-    match destination {
-        Some(name) => source.as_bytes() == name.as_bytes(),
-        None => false,
-    }
-}
-
 /// What a StartMessageMoveTask asks (SQS API Reference, StartMessageMoveTask). A text that is no ARN is InvalidAddress; and
 /// then a rate out of its range, or a source that is the destination too, is InvalidParameterValue.
 #[tactic(auto, unfolding(crate::specs::Tasks::start_move_of))]
@@ -63,14 +53,15 @@ pub fn start_move_of(value: &Value<'_, '_>) -> Result<Call, Refusal>
     let source = members.source.ok_or(Refusal::InvalidAddress)?;
     let destination = destination_of(members.destination)?;
     let rate = in_range_if(members.rate, Refusal::InvalidParameterValue)?;
-    if is_destination(&source, &destination) {
-        return Err(Refusal::InvalidParameterValue);
-    }
-    Ok(Call::StartMessageMoveTask(StartMessageMoveTask {
+    let call = StartMessageMoveTask {
         source,
         destination,
         rate,
-    }))
+    };
+    if call.is_to_its_source() {
+        return Err(Refusal::InvalidParameterValue);
+    }
+    Ok(Call::StartMessageMoveTask(call))
 }
 
 /// What a ListMessageMoveTasks asks (SQS API Reference, ListMessageMoveTasks); one task without a number. A text that is no

@@ -13,7 +13,7 @@ use Rattle.sq_calls.specs.declared.batches.BatchKind.{BatchKind}
 use Rattle.sq_calls.specs.declared.batches.Entry.{Entry}
 use Rattle.sq_calls.specs.declared.batches.EntryAsk.{EntryAsk}
 use Rattle.sq_calls.specs.declared.batches.EntryAsk.TheVariants as ask
-use Rattle.sq_requests.specs.Batches.{as_ask, send_ask, change_ask, is_entry, entries_of, how_many, bodies_length}
+use Rattle.sq_requests.specs.Batches.{send_ask, change_ask, is_entry, entries_of, how_many, bodies_length}
 use Rattle.sq_requests.specs.Lists.{all_items}
 use Rattle.sq_requests.specs.declared.batches.AskMembers.{AskMembers}
 use Rattle.sq_requests.specs.declared.batches.AskMembers.TheVariants as members
@@ -21,15 +21,15 @@ use Rattle.sq_requests.specs.declared.batches.EntryMembers.{EntryMembers}
 use Rattle.sq_requests.specs.declared.batches.ReadEntries.{ReadEntries}
 
 -- memory is asked for the body of a send that nothing refuses
-abbrev pub has_body : EntryAsk → Bool
-has_body (ask.Send body delay) = true
+abbrev pub has_body : Result EntryAsk Refusal → Bool
+has_body (Ok (ask.Send body delay)) = true
 has_body other = false
 
 -- what an entry of these members asks
-abbrev pub ask_by : AskMembers → EntryAsk
-ask_by (members.Send body delay has_attributes) = as_ask (send_ask has_attributes delay body.now)
-ask_by (members.Delete handle) = ask.Delete (handle_at handle.now)
-ask_by (members.Change handle timeout) = as_ask (change_ask (handle_at handle.now) timeout)
+abbrev pub ask_by : AskMembers → Result EntryAsk Refusal
+ask_by (members.Send body delay has_attributes) = send_ask has_attributes delay body.now
+ask_by (members.Delete handle) = Ok (ask.Delete (handle_at handle.now))
+ask_by (members.Change handle timeout) = change_ask (handle_at handle.now) timeout
 
 abbrev pub entry_by : EntryMembers → Entry
 entry_by entry = record { id = entry.id.now; ask = ask_by entry.asked }

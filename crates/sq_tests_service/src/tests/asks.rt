@@ -197,7 +197,7 @@ fn batch(rt: &impl Abort, alloc: Global, name: u8, kind: BatchKind, ask: EntryAs
     let mut entries = Listed::new(alloc);
     let entry = Entry {
         id: named(rt, name),
-        ask,
+        ask: Ok(ask),
     };
     assert!(rt; entries.push(entry).is_ok(), "memory");
     Call::Batch(Batch::new(named(rt, name), kind, entries).expect(rt, "a batch"))

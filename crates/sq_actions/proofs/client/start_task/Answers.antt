@@ -1,5 +1,6 @@
 use Rattle.std.proofs.Common.{rules, ◌≡◌, false, inr}
-use Rattle.sq_actions.specs.Fits.{StartFits, StartsBetween, is_destination}
+use Rattle.sq_actions.specs.Fits.{StartFits, StartsBetween}
+use Rattle.sq_calls.specs.MoveTasks.{is_destination}
 use Rattle.sq_actions.proofs.PathLaws.{fits_as}
 use Rattle.sq_actions.proofs.client.start_task.Goals as goal
 

@@ -9,11 +9,11 @@ use Rattle.sq_steps.proofs.shared.leave_dead.Goals as goal
 pub returns-in_err-half : goal.returns-in_err-half
 returns-in_err-half c =
     let l = c.args.ledger.now.history.ledger in
-    let spare = c.next_number-number.ensures in
+    let fits = c.next_number-number.ensures in
     let refused =
     leave_refused c.args.home.now l c.args.step.stamp c.args.ledger.now.item_reserved c.next_number-number.result c.in_err-half.field-0.0
-    (λ n is. subst (λ (r : Result ℕ Refusal). OnOk r (transit_refusal l ≡ None)) is spare.passes)
-    (λ e is. subst (λ (r : Result ℕ Refusal). IfErr r (λ x. (transit_refusal l ≡ Some x) ⊎ ((transit_refusal l ≡ None) × (x ≡ NoMemory) × (c.args.ledger.now.item_reserved ≡ 0)))) is spare.refused) c.in_err-half.ensures.refusal in
+    (λ n is. subst (λ (r : Result ℕ Refusal). OnOk r (transit_refusal l ≡ None)) is fits.passes)
+    (λ e is. subst (λ (r : Result ℕ Refusal). IfErr r (λ x. (transit_refusal l ≡ Some x) ⊎ ((transit_refusal l ≡ None) × (x ≡ NoMemory) × (c.args.ledger.now.item_reserved ≡ 0)))) is fits.refused) c.in_err-half.ensures.refusal in
     search rules
 
 pub take_in-requires-clause-leaves : goal.take_in-requires-clause-leaves
