@@ -34,12 +34,13 @@ impl Read for Piecewise<'_> {
     }
 }
 
-/// Takes one byte a call, and fails at one call.
+/// Takes one byte a call, and fails at one call; or takes no byte at that call, and tells no error.
 #[derive(Drop)]
 pub struct Bytewise {
     pub written: Vec<u8>,
     calls: u32,
     fails_at: u32,
+    is_silent: bool,
     pub flushes: u32,
 }
 
@@ -49,7 +50,16 @@ impl Bytewise {
             written: Vec::new(alloc),
             calls: 0,
             fails_at,
+            is_silent: false,
             flushes: 0,
+        }
+    }
+
+    /// The same, which tells no error at the call where it takes no byte.
+    pub fn silent(alloc: Global, takes_none_at: u32) -> Bytewise {
+        Bytewise {
+            is_silent: true,
+            ..Bytewise::new(alloc, takes_none_at)
         }
     }
 }
@@ -57,6 +67,9 @@ impl Bytewise {
 impl Write for Bytewise {
     fn write(&mut self, buf: &[u8]) -> io::Result<usize> {
         self.calls = self.calls.saturating_add(1);
+        if self.calls == self.fails_at && self.is_silent {
+            return Ok(0);
+        }
         if self.calls == self.fails_at {
             return Err(io::Error::from(ErrorKind::BrokenPipe));
         }

@@ -2,9 +2,9 @@
 ghost use Rattle.std.specs.Prelude.{◌≡◌};
 ghost use Rattle.sq_queue.specs.Seats.{IsNamedBy};
 
-use crate::memory::serve_from_memory;
+use crate::memory::{ByWorld, serve_from_memory};
 use crate::stage::Stage;
-use crate::trial::Trial;
+use crate::trial::{Calls, Trial};
 use sq_audit::merge::merge;
 use sq_audit::parts::Parts;
 use sq_base::refusal::Refusal;
@@ -33,10 +33,28 @@ fn answered<'a, I: Read, W: Write, R: Wait, D: Ledger, T: Ledger>(
     output: &mut Counted<W>,
 ) -> Result<u64, ServeFault> {
     match trial {
-        Trial::Serve { read, write } => {
-            serve_from_memory(rt, alloc, stage, (read, write), input, output)
-        }
+        Trial::Serve(calls) => serve_from_memory(rt, alloc, stage, calls, input, output),
         _ => answer_lines(alloc, input, output, stage),
+    }
+}
+
+// The status of a run that told this.
+fn status_of<E: Write>(told: Result<u64, ServeFault>, errors: &mut E) -> u8 {
+    match told {
+        Ok(_) => 0,
+        Err(fault) => report(errors, fault),
+    }
+}
+
+// After how many answers the run is told: after all, where that is asked for; of lines from memory also after a fault.
+fn asked_after(mode: &ScriptMode, trial: Trial, told: Result<u64, ServeFault>) -> Option<u64> {
+    if !mode.audit {
+        return None;
+    }
+    match (told, trial) {
+        (Ok(answered), _) => Some(answered),
+        (Err(_), Trial::Serve(_) | Trial::World(_)) => Some(0),
+        (Err(_), _) => None,
     }
 }
 
@@ -77,9 +95,31 @@ fn verdict_without<W: Write, E: Write>(
     tell_verdict(judged(alloc, parts), output, errors)
 }
 
-/// Answers each line of a reader by a service, whose counts have names, and tells how it ended: as `sqd script`, but that a fault of the audit
-/// is status 3.
-pub fn answer_all<R: Wait, I: Read, W: Write, E: Write, D: Ledger, T: Ledger>(
+// Answers each line by a world, from memory.
+fn answer_by_world<I: Read, W: Write, E: Write>(
+    alloc: Global,
+    mode: &ScriptMode,
+    calls: Calls,
+    input: &mut Counted<I>,
+    output: &mut Counted<W>,
+    errors: &mut E,
+) -> u8 {
+    let mut world = match ByWorld::new(alloc, mode.options) {
+        Ok(world) => world,
+        Err(Refusal::InvalidParameterValue) => return fail(errors, Failure::BadOptions),
+        Err(_) => return no_memory(errors),
+    };
+    let told = world.answer(alloc, calls, input, output);
+    let status = status_of(told, errors);
+    let Some(parts) = world.parts(alloc) else {
+        return no_memory(errors);
+    };
+    let asked_after = asked_after(mode, Trial::World(calls), told);
+    audited(alloc, &parts, asked_after, output, errors).max(status)
+}
+
+// Answers each line by a service.
+fn answer_by_service<R: Wait, I: Read, W: Write, E: Write, D: Ledger, T: Ledger>(
     rt: &R,
     alloc: Global,
     mode: &ScriptMode,
@@ -107,11 +147,7 @@ pub fn answer_all<R: Wait, I: Read, W: Write, E: Write, D: Ledger, T: Ledger>(
         Err(_) => return no_memory(errors),
     };
     let told = answered(rt, alloc, &mut stage, trial, input, output);
-    let (status, asked_after) = match told {
-        Ok(answered) if mode.audit => (0, Some(answered)),
-        Ok(_) => (0, None),
-        Err(fault) => (report(errors, fault), None),
-    };
+    let status = status_of(told, errors);
     let Some(parts) = stage.finish(alloc) else {
         return no_memory(errors);
     };
@@ -119,6 +155,36 @@ pub fn answer_all<R: Wait, I: Read, W: Write, E: Write, D: Ledger, T: Ledger>(
         Trial::Drop { actor, number } => {
             verdict_without(alloc, parts, (actor, number), output, errors)
         }
-        _ => audited(alloc, &parts, asked_after, output, errors).max(status),
+        _ => audited(
+            alloc,
+            &parts,
+            asked_after(mode, trial, told),
+            output,
+            errors,
+        )
+        .max(status),
+    }
+}
+
+/// Answers each line of a reader by a service, whose counts have names, or by a world, and tells how it ended: as `sqd script`, but that a
+/// fault of the audit is status 3.
+pub fn answer_all<R: Wait, I: Read, W: Write, E: Write, D: Ledger, T: Ledger>(
+    rt: &R,
+    alloc: Global,
+    mode: &ScriptMode,
+    trial: Trial,
+    blanks: Blanks,
+    input: &mut Counted<I>,
+    output: &mut Counted<W>,
+    errors: &mut E,
+) -> u8
+    requires of_directory { IsNamedBy D.name D.parts blanks.directory }
+    requires of_ledger { IsNamedBy T.name T.parts blanks.ledger }
+{
+    match trial {
+        Trial::World(calls) => answer_by_world(alloc, mode, calls, input, output, errors),
+        _ => answer_by_service::<_, _, _, _, D, T>(
+            rt, alloc, mode, trial, blanks, input, output, errors,
+        ),
     }
 }

@@ -1,5 +1,5 @@
 //! Answers the lines of a script by the sessions of a service and the turns of a mover, where `sqd script` answers them by a world. So
-//! the worked rows are tests of a service, too.
+//! the worked rows are tests of a service, too. Lines from memory show what a reader or a writer that fails does, of both.
 #![tactic(auto)]
 
 mod actors;
@@ -27,6 +27,9 @@ by a world. TRIAL is
   stop LINE STEPS      the call of this line, counted from 1, ends after so many steps
   drop ACTOR NUMBER    the record of this step is taken out, and a server's verdict is given on what is left
   serve READ WRITE     the lines are served from memory: a byte a call, where this read fails, and this write; 0: none
+  serve-silent ..      the same, where this write takes no byte and tells no error
+  world READ WRITE     the same as serve, by a world as sqd script, and not by a session
+  world-silent ..      the same, where this write takes no byte and tells no error
 ";
 
 // What the words after the program's name ask for; none where they ask for nothing.

@@ -9,8 +9,19 @@ pub enum Trial {
     Stop { line: u64, steps: u64 },
     /// The record of a step is taken out, and a server's verdict is given on what is left.
     Drop { actor: u32, number: u64 },
-    /// The lines are served from memory, a byte a call: which read fails, and which write; 0 where none does.
-    Serve { read: u32, write: u32 },
+    /// The lines are served from memory, by a session of the service.
+    Serve(Calls),
+    /// The lines are answered from memory by a world, as `sqd script` answers them.
+    World(Calls),
+}
+
+/// Which calls fail of a reader and a writer of one byte a call, counted from 1; 0 where none does.
+#[derive(Clone, Copy, PartialEq, Eq, Debug)]
+pub struct Calls {
+    pub read: u32,
+    pub write: u32,
+    /// The write takes no byte, and tells no error.
+    pub is_silent: bool,
 }
 
 // The number that a word is.
@@ -21,6 +32,15 @@ fn number(words: &[&str], at: usize) -> Option<u64> {
 // The same, if 32 bits hold it.
 fn small(words: &[&str], at: usize) -> Option<u32> {
     u32::try_from(number(words, at)?).ok()
+}
+
+// The calls that two words say.
+fn calls(words: &[&str], is_silent: bool) -> Option<Calls> {
+    Some(Calls {
+        read: small(words, 2)?,
+        write: small(words, 3)?,
+        is_silent,
+    })
 }
 
 /// What the words after the first ask for, and how many they are.
@@ -34,10 +54,10 @@ pub fn trial_of(words: &[&str]) -> Option<(Trial, usize)> {
             actor: small(words, 2)?,
             number: number(words, 3)?,
         },
-        "serve" => Trial::Serve {
-            read: small(words, 2)?,
-            write: small(words, 3)?,
-        },
+        "serve" => Trial::Serve(calls(words, false)?),
+        "serve-silent" => Trial::Serve(calls(words, true)?),
+        "world" => Trial::World(calls(words, false)?),
+        "world-silent" => Trial::World(calls(words, true)?),
         _ => return Some((Trial::Answer, 0)),
     };
     Some((trial, 3))
