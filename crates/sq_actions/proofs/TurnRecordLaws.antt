@@ -1,28 +1,23 @@
 -- A turn leaves one record at most.
-use Rattle.std.proofs.Common.{◌≡◌, ◌∙◌, ℕ, ◌+◌, ◌≤◌, List, [], ◌∷◌, ◌++◌, length, ap, subst, sym, refl, arith, Option, Some, None, Result, Ok, Err, inl, inr}
+use Rattle.std.proofs.Common.{◌≡◌, ◌∙◌, ℕ, ◌≤◌, true, List, [], ◌∷◌, ◌++◌, length, ap, subst, sym, refl, arith, Option, Some, None, Result, Ok, Err, inl, inr}
 use Rattle.std.proofs.lemmas.List.{length-append}
 use Rattle.sq_base.specs.declared.ids.HomeId.{HomeId}
 use Rattle.sq_base.specs.declared.refusal.Refusal.{Refusal}
-use Rattle.sq_base.specs.declared.refusal.Refusal.TheVariants.{QueueDoesNotExist}
 use Rattle.sq_model.specs.RecordValues.{RecordValue, Journal}
 use Rattle.sq_model.specs.declared.ledger.LedgerReply.{LedgerReply}
 use Rattle.sq_model.specs.declared.shared.SharedAct.{SharedAct}
 use Rattle.sq_model.specs.declared.shared.SharedAct.TheVariants.{LeaveDead, LeaveTask}
 use Rattle.sq_model.specs.declared.task.Task.{Task}
-use Rattle.sq_calls.specs.declared.turns.Turn.{Turn}
-use Rattle.sq_calls.specs.declared.turns.Turn.TheVariants as turn
 use Rattle.sq_calls.specs.declared.turns.Turned.{Turned}
 use Rattle.sq_steps.specs.declared.act.NextItem.{NextItem}
 use Rattle.sq_steps.specs.declared.act.TaskAct.{TaskAct}
 use Rattle.sq_steps.specs.declared.act.TaskAct.TheVariants.{Finish}
-use Rattle.sq_actions.specs.declared.progress.Progress.{Progress}
 use Rattle.sq_actions.specs.declared.walk.Walk.{Walk}
 use Rattle.sq_actions.specs.Asks.{AskShared, AskLedger, Gave, Found, Replied, Nothing, Peeked, TaskFound, Done, AreOf, AreOfStep, gave_as, Told}
 use Rattle.sq_actions.specs.Performs.{LeavesRecords}
-use Rattle.sq_actions.specs.Progresses.{no_progress, walk_for, with_walk}
 use Rattle.sq_actions.specs.Calls.{home_numbered}
 use Rattle.sq_actions.specs.Steps.{ledger_step, named}
-use Rattle.sq_actions.specs.Turns.{TurnFits, LeaveFits, BringFits, Brings, TaskFits, ServesTask, comes_in, goes_back, home_ahead, shared_step, peeking, task_read}
+use Rattle.sq_actions.specs.Turns.{GainsAtMost, LeaveFits, BringFits, Brings, ServeFits, ServesTask, comes_in, goes_back, home_ahead, is_closed, shared_step, peeking, task_read}
 
 -- a list that is empty, or has one
 none_is_few : (ns : List RecordValue) → ns ≡ [] → length ns ≤ 1
@@ -64,14 +59,19 @@ last_moved name home what by trace ns e are = last_of (shared_step name home wha
 read_then : (d : Done) (ds trace : List Done) (ns : List RecordValue) → ((front : List RecordValue) → AreOfStep d.ask d.answered front → front ≡ []) → trace ≡ d ∷ ds → AreOf trace ns → AreOf ds ns
 read_then d ds trace ns none e are = after_none d ds ns none (of_trace trace (d ∷ ds) ns e are)
 
+-- a home that does not serve leaves none
+closed_none : (name : Option (List ℕ)) (home : HomeId) (what : SharedAct) (by : Result Gave Refusal) → is_closed by ≡ true → (ns : List RecordValue) → AreOfStep (AskShared name home what) by ns → ns ≡ []
+closed_none name home what (Ok gave) closed ns h = absurd cc
+closed_none name home what (Err e) closed ns h = h
+
 only_read : (d : Done) (trace : List Done) (ns : List RecordValue) → ((front : List RecordValue) → AreOfStep d.ask d.answered front → front ≡ []) → trace ≡ d ∷ [] → AreOf trace ns → length ns ≤ 1
 only_read d trace ns none e are = none_is_few ns (read_then d [] trace ns none e are)
 
 one_of_brings : (next : NextItem) (home : HomeId) (trace : List Done) (answered : Result Turned Refusal) (ns : List RecordValue) → Brings next home trace answered → AreOf trace ns → length ns ≤ 1
 one_of_brings next home trace answered ns h are = elim h [
   | inl came ↦ last_moved None home (comes_in next) came.0 trace ns came.1 are
-  | inr back ↦ (let rest = shared_step None home (goes_back next) back.0 ∷ [] in
-      last_moved None home (goes_back next) back.0 rest ns refl (read_then (shared_step None home (comes_in next) (Err QueueDoesNotExist)) rest trace ns (λ front k. k) back.1 are))
+  | inr back ↦ (let rest = shared_step None home (goes_back next) back.1 ∷ [] in
+      last_moved None home (goes_back next) back.1 rest ns refl (read_then (shared_step None home (comes_in next) back.0) rest trace ns (closed_none None home (comes_in next) back.0 back.3) back.2 are))
 ]
 
 one_of_leave : (homes : ℕ) (name : List ℕ) (trace : List Done) (answered : Result Turned Refusal) (ns : List RecordValue) → LeaveFits homes name trace answered → AreOf trace ns → length ns ≤ 1
@@ -81,46 +81,36 @@ one_of_leave homes name trace answered ns h are = elim h [
       last_moved (Some name) (home_numbered left.0.number left.1) LeaveDead left.2 rest ns refl (read_then (named name (Ok (Found left.0))) rest trace ns (λ front k. k) left.4 are))
 ]
 
-one_of_bring : (homes : ℕ) (before after : Progress) (trace : List Done) (answered : Result Turned Refusal) (ns : List RecordValue) → BringFits homes before after trace answered → AreOf trace ns → length ns ≤ 1
+one_of_bring : (homes before after : ℕ) (trace : List Done) (answered : Result Turned Refusal) (ns : List RecordValue) → BringFits homes before after trace answered → AreOf trace ns → length ns ≤ 1
 one_of_bring homes before after trace answered ns h are = elim h [
-  | inl refused ↦ only_read (peeking before.item (Err refused.0)) trace ns (λ front k. k) refused.2 are
+  | inl refused ↦ only_read (peeking before (Err refused.0)) trace ns (λ front k. k) refused.2 are
   | inr found ↦ elim found [
-    | inl none ↦ only_read (peeking before.item (Ok (Peeked None))) trace ns (λ front k. k) none.0 are
-    | inr some ↦ one_of_brings some.0 (home_ahead some.0 some.1) some.2 answered ns some.5 (read_then (peeking before.item (Ok (Peeked (Some some.0)))) some.2 trace ns (λ front k. k) some.4 are)
+    | inl none ↦ only_read (peeking before (Ok (Peeked None))) trace ns (λ front k. k) none.0 are
+    | inr some ↦ one_of_brings some.0 (home_ahead some.0 some.1) some.2 answered ns some.5 (read_then (peeking before (Ok (Peeked (Some some.0)))) some.2 trace ns (λ front k. k) some.4 are)
   ]
 ]
 
-one_of_served : (homes number : ℕ) (task : Task) (before after : Walk) (trace : List Done) (answered : Result Turned Refusal) (ns : List RecordValue) → ServesTask homes number task before after trace answered → AreOf trace ns → length ns ≤ 1
-one_of_served homes number task before after trace answered ns h are = elim h [
+one_of_served : (homes : ℕ) (task : Task) (before after : Walk) (trace : List Done) (answered : Result Turned Refusal) (ns : List RecordValue) → ServesTask homes task before after trace answered → AreOf trace ns → length ns ≤ 1
+one_of_served homes task before after trace answered ns h are = elim h [
   | inl over ↦ none_is_few ns (of_trace trace [] ns over.1 are)
   | inr active ↦ elim active [
-    | inl goes ↦ last_moved None (home_numbered task.source.number before.home) (LeaveTask number) goes.1.0 trace ns goes.1.1 are
-    | inr ends ↦ last_of (ledger_step (Finish number) ends.2.0) ns (λ front k. told_one (Finish number) ends.2.0 front k) (of_trace trace (ledger_step (Finish number) ends.2.0 ∷ []) ns ends.2.1 are)
+    | inl goes ↦ last_moved None (home_numbered task.source.number before.home) (LeaveTask before.task) goes.1.0 trace ns goes.1.1 are
+    | inr ends ↦ last_of (ledger_step (Finish before.task) ends.2.0) ns (λ front k. told_one (Finish before.task) ends.2.0 front k) (of_trace trace (ledger_step (Finish before.task) ends.2.0 ∷ []) ns ends.2.1 are)
   ]
 ]
 
-one_of_task : (homes : ℕ) (number : Option ℕ) (before after : Progress) (trace : List Done) (answered : Result Turned Refusal) (ns : List RecordValue) → TaskFits homes number before after trace answered → AreOf trace ns → length ns ≤ 1
-one_of_task homes None before after trace answered ns h are = none_is_few ns (of_trace trace [] ns h.0 are)
-one_of_task homes (Some number) before after trace answered ns h are = elim h [
-  | inl refused ↦ only_read (task_read number (Err refused.0)) trace ns (λ front k. k) refused.2 are
-  | inr found ↦ one_of_served homes number found.0 (walk_for number before.walk) found.1 found.2 answered ns found.4 (read_then (task_read number (Ok (TaskFound found.0))) found.2 trace ns (λ front k. k) found.3 are)
+one_of_serve : (homes : ℕ) (before after : Walk) (trace : List Done) (answered : Result Turned Refusal) (ns : List RecordValue) → ServeFits homes before after trace answered → AreOf trace ns → length ns ≤ 1
+one_of_serve homes before after trace answered ns h are = elim h [
+  | inl refused ↦ only_read (task_read before.task (Err refused.0)) trace ns (λ front k. k) refused.2 are
+  | inr found ↦ one_of_served homes found.0 before after found.1 answered ns found.3 (read_then (task_read before.task (Ok (TaskFound found.0))) found.1 trace ns (λ front k. k) found.2 are)
 ]
-
-one_of_turn : (homes : ℕ) (what : Turn) (before after : Progress) (trace : List Done) (answered : Result Turned Refusal) (ns : List RecordValue) → TurnFits homes what before after trace answered → AreOf trace ns → length ns ≤ 1
-one_of_turn homes (turn.DeadTurn name) before after trace answered ns h are = one_of_leave homes name trace answered ns h.0 are
-one_of_turn homes turn.EnterTurn before after trace answered ns h are = one_of_bring homes before after trace answered ns h are
-one_of_turn homes (turn.TaskTurn number) before after trace answered ns h are = one_of_task homes number before after trace answered ns h are
 
 -- what a turn leaves with its actor
-pub one_record : (homes : ℕ) (what : Turn) (before after : Progress) (a b : Journal) (answered : Result Turned Refusal) → LeavesRecords (TurnFits homes what before after) a answered b → length b.records ≤ length a.records + 1
-one_record homes what before after a b answered left =
-    let few = one_of_turn homes what before after left.trace answered left.records left.fits left.are in
-    let all = ap (λ (xs : List RecordValue). length xs) left.gains.added in
-    omega (arith, few, all, length-append a.records left.records)
+pub leave_gains : (homes : ℕ) (name : List ℕ) (a b : Journal) (answered : Result Turned Refusal) → LeavesRecords (LeaveFits homes name) a answered b → GainsAtMost 1 a b
+leave_gains homes name a b answered left = (left.records, left.gains, one_of_leave homes name left.trace answered left.records left.fits left.are)
 
--- a turn for the task of a walk leaves a walk
-pub walk_left : (homes : ℕ) (before : Walk) (after : Progress) (a b : Journal) (answered : Result Turned Refusal) → LeavesRecords (TurnFits homes (turn.TaskTurn (Some before.task)) (with_walk before no_progress) after) a answered b → (walk : Walk) × (after ≡ with_walk walk no_progress)
-walk_left homes before after a b answered left = elim left.fits [
-  | inl refused ↦ (before, refused.4)
-  | inr found ↦ (found.1, found.5)
-]
+pub bring_gains : (homes before after : ℕ) (a b : Journal) (answered : Result Turned Refusal) → LeavesRecords (BringFits homes before after) a answered b → GainsAtMost 1 a b
+bring_gains homes before after a b answered left = (left.records, left.gains, one_of_bring homes before after left.trace answered left.records left.fits left.are)
+
+pub serve_gains : (homes : ℕ) (before after : Walk) (a b : Journal) (answered : Result Turned Refusal) → LeavesRecords (ServeFits homes before after) a answered b → GainsAtMost 1 a b
+serve_gains homes before after a b answered left = (left.records, left.gains, one_of_serve homes before after left.trace answered left.records left.fits left.are)

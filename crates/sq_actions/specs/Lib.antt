@@ -1,5 +1,4 @@
 pub mod Walks
-pub mod Progresses
 pub mod Asks
 pub mod Performs
 pub mod Calls

@@ -1,11 +1,11 @@
--- What a call does, step by step, and what it tells, whatever its steps are done on; and what fits a call, one that may stop, and a turn.
+-- What a call does, step by step, and what it tells, whatever its steps are done on; and what fits a call, one that may stop, and each turn.
 use Rattle.std.specs.Prelude.{◌≡◌, List, [], ◌∷◌, Result}
 use Rattle.sq_base.specs.declared.refusal.Refusal.{Refusal}
 use Rattle.sq_model.specs.RecordValues.{RecordValue, Journal}
 use Rattle.sq_actions.specs.Asks.{Ask, Gave, Done, AreOf, Gains}
 pub use Rattle.sq_actions.specs.Fits.{CallFits}
 pub use Rattle.sq_actions.specs.Stops.{UntilFits}
-pub use Rattle.sq_actions.specs.Turns.{TurnFits}
+pub use Rattle.sq_actions.specs.Turns.{LeaveFits, BringFits, ServeFits, GainsAtMost}
 
 -- these steps were asked one after another
 abbrev pub Path : {S : Type 0} → (S → Ask → Result Gave Refusal → S → Type 0) → S → List Done → S → Type 0

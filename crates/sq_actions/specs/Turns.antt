@@ -1,5 +1,5 @@
--- Which steps a turn does, its word, up to a refusal, and what it makes of how far its actor is; nothing here speaks of states. Own.
-use Rattle.std.specs.Prelude.{◌≡◌, ◌⊎◌, ℕ, ◌<◌, Bool, true, false, ◌&&◌, nat_lt, List, [], ◌∷◌, if◌then◌else◌, Option, Some, None, Result, Ok, Err}
+-- Which steps a turn does, its word, up to a refusal, and what it makes of the item that was tried last or of the walk; nothing here speaks of states. Own.
+use Rattle.std.specs.Prelude.{◌≡◌, ◌⊎◌, ℕ, ◌<◌, ◌≤◌, length, Bool, true, false, ◌&&◌, nat_lt, List, [], ◌∷◌, if◌then◌else◌, Option, Some, None, Result, Ok, Err}
 use Rattle.sq_base.specs.declared.ids.HomeId.{HomeId}
 use Rattle.sq_base.specs.declared.refusal.Refusal.{Refusal}
 use Rattle.sq_base.specs.declared.refusal.Refusal.TheVariants.{NoMemory, ClockRange, Worn, QueueDoesNotExist, OverLimit, ResourceNotFoundException, UnsupportedOperation}
@@ -8,9 +8,8 @@ use Rattle.sq_model.specs.declared.replies.HomeReply.TheVariants.{NoLiveRow}
 use Rattle.sq_model.specs.declared.replies.HomeReply.TheVariants as reply
 use Rattle.sq_model.specs.declared.ledger.LedgerReply.{LedgerReply}
 use Rattle.sq_model.specs.declared.task.Task.{Task}
+use Rattle.sq_model.specs.RecordValues.{RecordValue, Journal}
 use Rattle.sq_model.specs.Tasks.{is_active, is_running}
-use Rattle.sq_calls.specs.declared.turns.Turn.{Turn}
-use Rattle.sq_calls.specs.declared.turns.Turn.TheVariants as turn
 use Rattle.sq_calls.specs.declared.turns.Turned.{Turned}
 use Rattle.sq_calls.specs.declared.turns.Turned.TheVariants as word
 use Rattle.sq_model.specs.declared.shared.SharedAct.{SharedAct}
@@ -18,13 +17,11 @@ use Rattle.sq_model.specs.declared.shared.SharedAct.TheVariants.{LeaveDead, Leav
 use Rattle.sq_model.specs.declared.task.NamedQueue.{NamedQueue}
 use Rattle.sq_steps.specs.declared.act.NextItem.{NextItem}
 use Rattle.sq_steps.specs.declared.act.TaskAct.TheVariants.{Finish}
-use Rattle.sq_actions.specs.declared.progress.Progress.{Progress}
 use Rattle.sq_actions.specs.declared.walk.Walk.{Walk}
-use Rattle.sq_actions.specs.Asks.{Resolve, AskShared, Peek, ReadTask, Gave, Found, Replied, Nothing, Peeked, TaskFound, Done, IsOfAnyStep, MayRefuse}
+use Rattle.sq_actions.specs.Asks.{Resolve, AskShared, Peek, ReadTask, Gave, Found, Replied, Nothing, Peeked, TaskFound, Done, Gains, IsOfAnyStep, MayRefuse}
 use Rattle.sq_actions.specs.Calls.{home_numbered}
 use Rattle.sq_actions.specs.Steps.{ledger_step, named}
 use Rattle.sq_actions.specs.Walks.{after_nothing, after_other, row_again}
-use Rattle.sq_actions.specs.Progresses.{walk_for, with_item, with_walk}
 
 -- a home and the ledger are asked; the item after a number is read; a task is read
 abbrev pub shared_step : Option (List ℕ) → HomeId → SharedAct → Result Gave Refusal → Done
@@ -73,14 +70,15 @@ none_word what = (words_apart what).0
 abbrev pub over_word : SharedAct → Turned
 over_word what = (words_apart what).1
 
--- what is refused as it is: what each step may be refused as, and a task that is not there
+-- the home of a step does not serve
+abbrev pub is_closed : Result Gave Refusal → Bool
+is_closed (Err QueueDoesNotExist) = true
+is_closed other = false
+
+-- what is refused as it is: what each step may be refused as, a home that does not serve, and a task that is not there
 abbrev pub IsTold : SharedAct → Refusal → Type 0
-IsTold LeaveDead e = IsOfAnyStep e
-IsTold (LeaveTask number) e = IsOfAnyStep e ⊎ (e ≡ ResourceNotFoundException)
-IsTold (Enter number) e = IsOfAnyStep e
-IsTold (TurnBack number) e = IsOfAnyStep e
-IsTold (GiveBack number) e = IsOfAnyStep e
-IsTold (Drop number) e = IsOfAnyStep e
+IsTold (LeaveTask number) e = IsOfAnyStep e ⊎ (e ≡ QueueDoesNotExist) ⊎ (e ≡ ResourceNotFoundException)
+IsTold other e = IsOfAnyStep e ⊎ (e ≡ QueueDoesNotExist)
 
 -- The word for a step that moves a message: its own where it was done, the one for nothing, `full` where there is no room, and the one for a step that cannot be done any more.
 abbrev pub WordFor : SharedAct → Result Gave Refusal → Result Turned Refusal → Type 0
@@ -91,13 +89,12 @@ WordFor what by answered =
     ⊎ ((by ≡ Err UnsupportedOperation) × (answered ≡ Ok (over_word what)))
     ⊎ ((e : Refusal) × IsTold what e × (by ≡ Err e) × (answered ≡ Err e))
 
--- DeadTurn: the queue is looked up by its name, and a dead letter leaves one of its homes, by that name.
+-- The queue is looked up by its name, and a dead letter leaves one of its homes, by that name.
 abbrev pub LeaveFits : ℕ → List ℕ → List Done → Result Turned Refusal → Type 0
 LeaveFits homes name trace answered =
     ((e : Refusal) × MayRefuse (Resolve name) e × (trace ≡ named name (Err e) ∷ []) × (answered ≡ Err e))
     ⊎ ((queue : NamedQueue) × (home : ℕ) × (by : Result Gave Refusal) × (home < homes)
-    × (trace ≡ named name (Ok (Found queue)) ∷ shared_step (Some name) (home_numbered queue.number home) LeaveDead by ∷ [])
-    × (WordFor LeaveDead by answered ⊎ ((by ≡ Err QueueDoesNotExist) × (answered ≡ Err QueueDoesNotExist))))
+    × (trace ≡ named name (Ok (Found queue)) ∷ shared_step (Some name) (home_numbered queue.number home) LeaveDead by ∷ []) × WordFor LeaveDead by answered)
 
 -- a home of the queue that an item goes to
 abbrev pub home_ahead : NextItem → ℕ → HomeId
@@ -110,20 +107,20 @@ comes_in next = if next.homeward then GiveBack next.number else Enter next.numbe
 abbrev pub goes_back : NextItem → SharedAct
 goes_back next = if next.homeward then Drop next.number else TurnBack next.number
 
--- An item comes in at a home. A home that refuses it as not serving is asked to send it back, or to drop it; one that refuses this so as well was never opened, or is not there.
+-- An item comes in at a home. A home that does not serve is asked to send it back, or to drop it; one that does not serve this either was never opened, or is not there.
 abbrev pub Brings : NextItem → HomeId → List Done → Result Turned Refusal → Type 0
 Brings next home trace answered =
-    ((by : Result Gave Refusal) × (trace ≡ shared_step None home (comes_in next) by ∷ []) × WordFor (comes_in next) by answered)
-    ⊎ ((by : Result Gave Refusal) × (trace ≡ shared_step None home (comes_in next) (Err QueueDoesNotExist) ∷ shared_step None home (goes_back next) by ∷ [])
-    × (WordFor (goes_back next) by answered ⊎ ((by ≡ Err QueueDoesNotExist) × (answered ≡ Ok word.Full))))
+    ((by : Result Gave Refusal) × (trace ≡ shared_step None home (comes_in next) by ∷ []) × (is_closed by ≡ false) × WordFor (comes_in next) by answered)
+    ⊎ ((closed : Result Gave Refusal) × (by : Result Gave Refusal) × (trace ≡ shared_step None home (comes_in next) closed ∷ shared_step None home (goes_back next) by ∷ []) × (is_closed closed ≡ true)
+    × (((is_closed by ≡ false) × WordFor (goes_back next) by answered) ⊎ ((is_closed by ≡ true) × (answered ≡ Ok word.Full))))
 
--- EnterTurn: the item after the one that was tried last is brought to one of the homes of the queue that it goes to. It counts as tried whatever is answered then.
-abbrev pub BringFits : ℕ → Progress → Progress → List Done → Result Turned Refusal → Type 0
+-- The item after the one that was tried last is brought to one of the homes of the queue that it goes to. It counts as tried whatever is answered then.
+abbrev pub BringFits : ℕ → ℕ → ℕ → List Done → Result Turned Refusal → Type 0
 BringFits homes before after trace answered =
-    ((e : Refusal) × MayRefuse (Peek before.item) e × (trace ≡ peeking before.item (Err e) ∷ []) × (answered ≡ Err e) × (after ≡ before))
-    ⊎ ((trace ≡ peeking before.item (Ok (Peeked None)) ∷ []) × (answered ≡ Ok word.Nothing) × (after ≡ before))
-    ⊎ ((next : NextItem) × (home : ℕ) × (rest : List Done) × (home < homes) × (trace ≡ peeking before.item (Ok (Peeked (Some next))) ∷ rest) × Brings next (home_ahead next home) rest answered
-    × (after ≡ with_item next.number before))
+    ((e : Refusal) × MayRefuse (Peek before) e × (trace ≡ peeking before (Err e) ∷ []) × (answered ≡ Err e) × (after ≡ before))
+    ⊎ ((trace ≡ peeking before (Ok (Peeked None)) ∷ []) × (answered ≡ Ok word.Nothing) × (after ≡ before))
+    ⊎ ((next : NextItem) × (home : ℕ) × (rest : List Done) × (home < homes) × (trace ≡ peeking before (Ok (Peeked (Some next))) ∷ rest) × Brings next (home_ahead next home) rest answered
+    × (after ≡ next.number))
 
 -- A walk after a home was asked for a message. It stays where the task is at its rate, and where memory, the clock or a count refused the step; a home that has none counts in the row; and
 -- any other answer ends the row.
@@ -136,10 +133,10 @@ walk_after homes walk (Err Worn) = walk
 walk_after homes walk other = after_other homes walk
 
 -- A message leaves the home of the task's source that the walk is at.
-abbrev pub LeavesFor : ℕ → ℕ → Task → Walk → Walk → List Done → Result Turned Refusal → Type 0
-LeavesFor homes number task before after trace answered =
-    (by : Result Gave Refusal) × (trace ≡ shared_step None (home_numbered task.source.number before.home) (LeaveTask number) by ∷ []) × (after ≡ walk_after homes before by)
-    × (WordFor (LeaveTask number) by answered ⊎ ((by ≡ Err QueueDoesNotExist) × (answered ≡ Err QueueDoesNotExist)))
+abbrev pub LeavesFor : ℕ → Task → Walk → Walk → List Done → Result Turned Refusal → Type 0
+LeavesFor homes task before after trace answered =
+    (by : Result Gave Refusal) × (trace ≡ shared_step None (home_numbered task.source.number before.home) (LeaveTask before.task) by ∷ []) × (after ≡ walk_after homes before by)
+    × WordFor (LeaveTask before.task) by answered
 
 -- the walk after the task was to finish: where it waits, the row starts again
 abbrev pub walk_waiting : Walk → Result LedgerReply Refusal → Walk
@@ -153,31 +150,27 @@ finish_word (Err UnsupportedOperation) = Ok word.Waiting
 finish_word (Err e) = Err e
 
 -- The task is to finish.
-abbrev pub Finishes : ℕ → Walk → Walk → List Done → Result Turned Refusal → Type 0
-Finishes number before after trace answered =
-    (by : Result LedgerReply Refusal) × (trace ≡ ledger_step (Finish number) by ∷ []) × (after ≡ walk_waiting before by) × (answered ≡ finish_word by)
+abbrev pub Finishes : Walk → Walk → List Done → Result Turned Refusal → Type 0
+Finishes before after trace answered =
+    (by : Result LedgerReply Refusal) × (trace ≡ ledger_step (Finish before.task) by ∷ []) × (after ≡ walk_waiting before by) × (answered ≡ finish_word by)
 
 -- the task takes messages, and not each home in a row had none
 abbrev pub goes_on : ℕ → Task → Walk → Bool
 goes_on homes task walk = is_running task.status && nat_lt walk.nothings homes
 
 -- What is done for a task that was read, by a walk for it, and the walk after that. A task that is over has ended.
-abbrev pub ServesTask : ℕ → ℕ → Task → Walk → Walk → List Done → Result Turned Refusal → Type 0
-ServesTask homes number task before after trace answered =
+abbrev pub ServesTask : ℕ → Task → Walk → Walk → List Done → Result Turned Refusal → Type 0
+ServesTask homes task before after trace answered =
     ((is_active task.status ≡ false) × (trace ≡ []) × (answered ≡ Ok word.Ended) × (after ≡ before))
-    ⊎ ((goes_on homes task before ≡ true) × LeavesFor homes number task before after trace answered)
-    ⊎ ((is_active task.status ≡ true) × (goes_on homes task before ≡ false) × Finishes number before after trace answered)
+    ⊎ ((goes_on homes task before ≡ true) × LeavesFor homes task before after trace answered)
+    ⊎ ((is_active task.status ≡ true) × (goes_on homes task before ≡ false) × Finishes before after trace answered)
 
--- TaskTurn: the task is read, and then served by the walk for it, which is kept from then on. A text that is no handle names no task.
-abbrev pub TaskFits : ℕ → Option ℕ → Progress → Progress → List Done → Result Turned Refusal → Type 0
-TaskFits homes None before after trace answered = (trace ≡ []) × (answered ≡ Err ResourceNotFoundException) × (after ≡ before)
-TaskFits homes (Some number) before after trace answered =
-    ((e : Refusal) × MayRefuse (ReadTask number) e × (trace ≡ task_read number (Err e) ∷ []) × (answered ≡ Err e) × (after ≡ before))
-    ⊎ ((task : Task) × (walk : Walk) × (rest : List Done) × (trace ≡ task_read number (Ok (TaskFound task)) ∷ rest) × ServesTask homes number task (walk_for number before.walk) walk rest answered
-    × (after ≡ with_walk walk before))
+-- The task of a walk is read, and then served by the walk.
+abbrev pub ServeFits : ℕ → Walk → Walk → List Done → Result Turned Refusal → Type 0
+ServeFits homes before after trace answered =
+    ((e : Refusal) × MayRefuse (ReadTask before.task) e × (trace ≡ task_read before.task (Err e) ∷ []) × (answered ≡ Err e) × (after ≡ before))
+    ⊎ ((task : Task) × (rest : List Done) × (trace ≡ task_read before.task (Ok (TaskFound task)) ∷ rest) × ServesTask homes task before after rest answered)
 
--- These steps are the turn's, and its word and how far its actor is after it are made of them.
-abbrev pub TurnFits : ℕ → Turn → Progress → Progress → List Done → Result Turned Refusal → Type 0
-TurnFits homes (turn.DeadTurn name) before after trace answered = LeaveFits homes name trace answered × (after ≡ before)
-TurnFits homes turn.EnterTurn before after trace answered = BringFits homes before after trace answered
-TurnFits homes (turn.TaskTurn number) before after trace answered = TaskFits homes number before after trace answered
+-- an actor has so many records more, or fewer: with the next numbers, at rising stamps above all that it had seen before
+abbrev pub GainsAtMost : ℕ → Journal → Journal → Type 0
+GainsAtMost most before after = (ns : List RecordValue) × Gains ns before after × (length ns ≤ most)

@@ -5,7 +5,6 @@ mod batch;
 pub mod client;
 pub mod lock_steps;
 mod message;
-pub mod progress;
 pub mod turns;
 pub mod until;
 pub mod walk;

@@ -1,71 +1,44 @@
-//! What each turn does, over any steps: one step of moving messages, beside reads.
-ghost use Rattle.std.specs.Prelude.{◌≡◌, ◌<◌, IfErr, IfNone, IfOk, IfSome, Ok, Err, if◌then◌else◌};
+//! What each turn does, over any steps: one step of moving messages, beside reads. What it makes of the item that was tried
+//! last, or of the walk, which it is lent, is there after it, whatever it answers.
+ghost use Rattle.std.specs.Prelude.{◌≡◌, ◌<◌, IfErr, if◌then◌else◌};
 ghost use Rattle.sq_actions.specs.Asks.{MayRefuseMove, moved_of};
 ghost use Rattle.sq_actions.specs.Performs.{Performs, LeavesRecords};
-ghost use Rattle.sq_actions.specs.Turns.{TurnFits, LeaveFits, BringFits, Brings, TaskFits, ServesTask, LeavesFor, Finishes, WordFor, comes_in, finish_word, goes_back, goes_on, home_ahead, left_word, none_word, over_word, walk_after, walk_waiting, word_of};
+ghost use Rattle.sq_actions.specs.Turns.{LeaveFits, BringFits, Brings, ServeFits, ServesTask, LeavesFor, Finishes, WordFor, comes_in, finish_word, goes_back, goes_on, home_ahead, is_closed, left_word, none_word, over_word, walk_after, walk_waiting, word_of};
 ghost use Rattle.sq_model.specs.Tasks.{is_active};
 
 use crate::lock_steps::LockSteps;
-use crate::progress::Progress;
 use crate::walk::Walk;
 use sq_base::ids::{HomeId, HomeNo};
 use sq_base::name::QueueName;
 use sq_base::refusal::Refusal;
-use sq_calls::turns::{Turn, Turned};
-use sq_model::item::TaskNo;
+use sq_calls::turns::Turned;
 use sq_model::ledger::LedgerReply;
 use sq_model::replies::HomeReply;
 use sq_model::task::{Task, TaskStatus};
 use sq_sample::sampler::HomeCount;
 use sq_steps::act::{NamedHome, NextItem, SharedAct, TaskAct};
 
-/// Does a turn; what it makes of its actor's progress, which it is lent, is there after it, whatever it answers.
-pub fn turn<S: LockSteps>(
-    steps: &mut S,
-    progress: &mut Progress,
-    turn: &Turn,
-) -> Result<Turned, Refusal>
-    ensures answered { Performs S.stepped (TurnFits (S.counts steps.old).homes turn.now progress.old progress.new) steps.old result steps.new }
-    ensures leaves_records { LeavesRecords (TurnFits (S.counts steps.old).homes turn.now progress.old progress.new) (S.journal steps.old) result (S.journal steps.new) }
-{
-    word(steps, progress, turn)
-}
-
-// The word of a turn, by the steps of its kind.
-fn word<S: LockSteps>(
-    steps: &mut S,
-    progress: &mut Progress,
-    turn: &Turn,
-) -> Result<Turned, Refusal>
-    ensures { Performs S.stepped (TurnFits (S.counts steps.old).homes turn.now progress.old progress.new) steps.old result steps.new }
-{
-    match turn {
-        Turn::DeadTurn(name) => leave(steps, name),
-        Turn::EnterTurn => bring(steps, progress),
-        Turn::TaskTurn(number) => serve(steps, progress, number),
-    }
-}
-
-// A dead letter leaves one of the homes of a queue.
-fn leave<S: LockSteps>(steps: &mut S, name: &QueueName) -> Result<Turned, Refusal>
-    ensures { Performs S.stepped (LeaveFits (S.counts steps.old).homes name.now) steps.old result steps.new }
+/// A dead letter leaves one of the homes of a queue; the word is `nothing` where that home has none. Refused as
+/// QueueDoesNotExist, and as any step may be.
+pub fn leave<S: LockSteps>(steps: &mut S, name: &QueueName) -> Result<Turned, Refusal>
+    ensures answered { Performs S.stepped (LeaveFits (S.counts steps.old).homes name.now) steps.old result steps.new }
+    ensures leaves_records { LeavesRecords (LeaveFits (S.counts steps.old).homes name.now) (S.journal steps.old) result (S.journal steps.new) }
 {
     let of = steps.resolve(name)?;
     let home = NamedHome::found(&of, steps.pick());
     let answered = steps.shared_step(&home, SharedAct::LeaveDead);
-    match word_for(SharedAct::LeaveDead, answered)? {
-        Some(word) => Ok(word),
-        None => Err(Refusal::QueueDoesNotExist),
-    }
+    word_for(SharedAct::LeaveDead, answered)
 }
 
-// The next item in transit is brought to one of the homes of the queue that it goes to; it counts as tried now.
-fn bring<S: LockSteps>(steps: &mut S, progress: &mut Progress) -> Result<Turned, Refusal>
-    ensures { Performs S.stepped (BringFits (S.counts steps.old).homes progress.old progress.new) steps.old result steps.new }
+/// The item in transit that comes after the one that was tried last, which `tried` names (0 at first), comes in at one of the
+/// homes of the queue that it goes to; where that home is closed it is turned back, or dropped. It counts as tried then.
+pub fn bring<S: LockSteps>(steps: &mut S, tried: &mut u64) -> Result<Turned, Refusal>
+    ensures answered { Performs S.stepped (BringFits (S.counts steps.old).homes tried.old tried.new) steps.old result steps.new }
+    ensures leaves_records { LeavesRecords (BringFits (S.counts steps.old).homes tried.old tried.new) (S.journal steps.old) result (S.journal steps.new) }
 {
-    match steps.peek(progress.item)? {
+    match steps.peek(*tried)? {
         Some(next) => {
-            progress.item = next.number.get();
+            *tried = next.number.get();
             let home = home_ahead(&next, steps.pick());
             bring_to(steps, &next, home)
         }
@@ -79,38 +52,29 @@ fn bring_to<S: LockSteps>(steps: &mut S, next: &NextItem, id: HomeId) -> Result<
 {
     let home = NamedHome { name: None, id };
     let answered = steps.shared_step(&home, move_of(next, false));
-    match word_for(move_of(next, false), answered)? {
-        Some(word) => return Ok(word),
-        None => {}
+    if !is_closed(&answered) {
+        return word_for(move_of(next, false), answered);
     }
     let answered = steps.shared_step(&home, move_of(next, true));
-    match word_for(move_of(next, true), answered)? {
-        Some(word) => Ok(word),
-        None => Ok(Turned::Full),
+    if is_closed(&answered) {
+        return Ok(Turned::Full);
     }
+    word_for(move_of(next, true), answered)
 }
 
-// A message leaves for the task of a number, or that task is to finish. Without a number there is none.
-fn serve<S: LockSteps>(
-    steps: &mut S,
-    progress: &mut Progress,
-    number: &Option<TaskNo>,
-) -> Result<Turned, Refusal>
-    ensures { Performs S.stepped (TaskFits (S.counts steps.old).homes number.now progress.old progress.new) steps.old result steps.new }
+/// A message leaves for the task of a walk, at the home of the task's source that the walk is at; or the task is to finish,
+/// where each home in a row had none, or where it was cancelled. The walk is its actor's for this task.
+pub fn serve<S: LockSteps>(steps: &mut S, walk: &mut Walk) -> Result<Turned, Refusal>
+    ensures answered { Performs S.stepped (ServeFits (S.counts steps.old).homes walk.old walk.new) steps.old result steps.new }
+    ensures leaves_records { LeavesRecords (ServeFits (S.counts steps.old).homes walk.old walk.new) (S.journal steps.old) result (S.journal steps.new) }
 {
-    let Some(number) = number else {
-        return Err(Refusal::ResourceNotFoundException);
-    };
-    let task = steps.read_task(*number)?;
-    let mut walk = progress.walk_for(*number);
-    let word = serve_on(steps, &task, &mut walk);
-    progress.walk = Some(walk);
-    word
+    let task = steps.read_task(walk.task)?;
+    serve_on(steps, &task, walk)
 }
 
 // What is done for a task, as the walk for it is.
 fn serve_on<S: LockSteps>(steps: &mut S, task: &Task, walk: &mut Walk) -> Result<Turned, Refusal>
-    ensures { Performs S.stepped (ServesTask (S.counts steps.old).homes walk.old.task task.now walk.old walk.new) steps.old result steps.new }
+    ensures { Performs S.stepped (ServesTask (S.counts steps.old).homes task.now walk.old walk.new) steps.old result steps.new }
 {
     if goes_on(steps.homes(), task, walk) {
         leave_for(steps, task, walk)
@@ -124,7 +88,7 @@ fn serve_on<S: LockSteps>(steps: &mut S, task: &Task, walk: &mut Walk) -> Result
 // A message leaves the home that the walk is at.
 fn leave_for<S: LockSteps>(steps: &mut S, task: &Task, walk: &mut Walk) -> Result<Turned, Refusal>
     requires few { walk.old.nothings < 4294967295 }
-    ensures { Performs S.stepped (LeavesFor (S.counts steps.old).homes walk.old.task task.now walk.old walk.new) steps.old result steps.new }
+    ensures { Performs S.stepped (LeavesFor (S.counts steps.old).homes task.now walk.old walk.new) steps.old result steps.new }
 {
     let id = HomeId {
         queue: task.source.number,
@@ -135,15 +99,12 @@ fn leave_for<S: LockSteps>(steps: &mut S, task: &Task, walk: &mut Walk) -> Resul
     let home = NamedHome { name: None, id };
     let answered = steps.shared_step(&home, SharedAct::LeaveTask(number));
     *walk = walk_after(homes, *walk, &answered);
-    match word_for(SharedAct::LeaveTask(number), answered)? {
-        Some(word) => Ok(word),
-        None => Err(Refusal::QueueDoesNotExist),
-    }
+    word_for(SharedAct::LeaveTask(number), answered)
 }
 
 // The task is to finish.
 fn finish<S: LockSteps>(steps: &mut S, walk: &mut Walk) -> Result<Turned, Refusal>
-    ensures { Performs S.stepped (Finishes walk.old.task walk.old walk.new) steps.old result steps.new }
+    ensures { Performs S.stepped (Finishes walk.old walk.new) steps.old result steps.new }
 {
     let answered = steps.ledger_step(&TaskAct::Finish(walk.task));
     *walk = walk_waiting(*walk, &answered);
@@ -228,22 +189,26 @@ fn move_of(next: &NextItem, closed: bool) -> SharedAct
     }
 }
 
-// The word for a step that moves a message; none where the home does not serve.
+// Whether the home of a step does not serve.
+fn is_closed(answered: &Result<Option<HomeReply>, Refusal>) -> bool
+    ensures { result ≡ is_closed (moved_of answered.now) }
+{
+    matches!(answered, Err(Refusal::QueueDoesNotExist))
+}
+
+// The word for a step that moves a message.
 fn word_for(
     what: SharedAct,
     answered: Result<Option<HomeReply>, Refusal>,
-) -> Result<Option<Turned>, Refusal>
+) -> Result<Turned, Refusal>
     requires { IfErr answered (MayRefuseMove what) }
-    ensures word { IfOk result (λ word. IfSome word (λ word. WordFor what (moved_of answered) (Ok word))) }
-    ensures closed { IfOk result (λ word. IfNone word (answered ≡ Err Refusal.QueueDoesNotExist)) }
-    ensures refused { IfErr result (λ e. WordFor what (moved_of answered) (Err e)) }
+    ensures { WordFor what (moved_of answered) result }
 {
     match answered {
-        Ok(Some(reply)) => Ok(Some(word_of(what, &reply))),
-        Ok(None) => Ok(Some(none_word(what))),
-        Err(Refusal::OverLimit) => Ok(Some(Turned::Full)),
-        Err(Refusal::UnsupportedOperation) => Ok(Some(over_word(what))),
-        Err(Refusal::QueueDoesNotExist) => Ok(None),
+        Ok(Some(reply)) => Ok(word_of(what, &reply)),
+        Ok(None) => Ok(none_word(what)),
+        Err(Refusal::OverLimit) => Ok(Turned::Full),
+        Err(Refusal::UnsupportedOperation) => Ok(over_word(what)),
         Err(refusal) => Err(refusal),
     }
 }

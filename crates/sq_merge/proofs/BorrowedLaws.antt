@@ -43,3 +43,11 @@ at_world Fits old new answered h leaves =
       record { trace = h.trace; path = inside.0; fits = h.fits },
       subst (λ (n : ℕ). LeavesRecords Fits (journal_of old.actor old.world.now.journals) answered (journal_of n new.world.now.journals)) (ap (λ n. n.2) inside.1) leaves,
     )
+
+-- steps that fit one way, as steps that fit another way
+pub at_world_as : {A : Type 0} (Fits Did : List Done → Result A Refusal → Type 0) (old new : WorldSteps) (answered : Result A Refusal) → ((ds : List Done) → Did ds answered → Fits ds answered) → Performs WorldStepped Did old answered new
+    → LeavesRecords Did (journal_of old.actor old.world.now.journals) answered (journal_of new.actor new.world.now.journals)
+    → (new.world.ghost_name ≡ old.world.ghost_name) × (new.world.now.progress ≡ old.world.now.progress) × Performs (ActorStepped old.actor old.clock) Fits old.world.now answered new.world.now
+    × LeavesRecords Fits (journal_of old.actor old.world.now.journals) answered (journal_of old.actor new.world.now.journals)
+at_world_as Fits Did old new answered fitting h leaves =
+    at_world Fits old new answered (record { trace = h.trace; path = h.path; fits = fitting h.trace h.fits }) (record { trace = leaves.trace; records = leaves.records; are = leaves.are; gains = leaves.gains; fits = fitting leaves.trace leaves.fits })

@@ -11,13 +11,12 @@ use Rattle.sq_calls.specs.declared.turns.Turn.{Turn}
 use Rattle.sq_calls.specs.declared.turns.Turned.{Turned}
 use Rattle.sq_model.proofs.ElementLaws.{some_same}
 use Rattle.sq_audit.proofs.ActorLaws.{same_number}
-use Rattle.sq_actions.specs.declared.progress.Progress.{Progress}
-use Rattle.sq_actions.specs.Performs.{TurnFits, LeavesRecords, Performs}
-use Rattle.sq_actions.specs.Progresses.{no_progress}
+use Rattle.sq_actions.specs.Performs.{LeavesRecords, Performs}
 use Rattle.sq_model.specs.RecordValues.{Journal}
 use Rattle.sq_merge.specs.declared.progress.ActorProgress.{ActorProgress}
-use Rattle.sq_merge.specs.WorldSteps.{ActorStepped, TurnStepped}
-use Rattle.sq_merge.specs.Progresses.{is_progress_of, at_progress, progress_of, put_where, put_progress, added_where, with_progress}
+use Rattle.sq_merge.specs.declared.progress.Progress.{Progress}
+use Rattle.sq_merge.specs.WorldSteps.{ActorStepped, TurnFits, TurnStepped}
+use Rattle.sq_merge.specs.Progresses.{is_progress_of, at_progress, no_progress, progress_of, put_where, put_progress, added_where, with_progress}
 use Rattle.sq_merge.specs.inside.Progresses.{progress_place}
 use Rattle.sq_merge.specs.WorldValue.{WorldValue}
 

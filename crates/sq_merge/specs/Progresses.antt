@@ -1,8 +1,26 @@
 -- How far the turns of each actor are. Own.
-use Rattle.std.specs.Prelude.{ℕ, Bool, ◌==◌, List, [], ◌∷◌, ◌++◌, find, Option, Some, None, position, slice_set, unwrap_or}
-use Rattle.sq_actions.specs.declared.progress.Progress.{Progress}
-use Rattle.sq_actions.specs.Progresses.{no_progress}
+use Rattle.std.specs.Prelude.{ℕ, Bool, ◌==◌, List, [], ◌∷◌, ◌++◌, if◌then◌else◌, find, Option, Some, None, position, Result, Err, slice_set, unwrap_or}
+use Rattle.sq_base.specs.declared.refusal.Refusal.{Refusal}
+use Rattle.sq_base.specs.declared.refusal.Refusal.TheVariants.{ResourceNotFoundException}
+use Rattle.sq_calls.specs.declared.turns.Turned.{Turned}
+use Rattle.sq_actions.specs.declared.walk.Walk.{Walk}
+use Rattle.sq_actions.specs.Walks.{new_walk, task_walked}
 use Rattle.sq_merge.specs.declared.progress.ActorProgress.{ActorProgress}
+use Rattle.sq_merge.specs.declared.progress.Progress.{Progress}
+
+-- an actor that tried no item and named no task
+abbrev pub no_progress : Progress
+no_progress = record { item = 0; walk = None }
+
+-- the walk for this task: a new one where another task was named last, or none
+abbrev pub walk_for : ℕ → Option Walk → Walk
+walk_for task None = new_walk task
+walk_for task (Some walk) = if task_walked walk == task then walk else new_walk task
+
+-- after a turn for a task that told this: with this walk, but where the task is not there
+abbrev pub having_walked : Result Turned Refusal → Walk → Progress → Progress
+having_walked (Err ResourceNotFoundException) walk p = p
+having_walked told walk p = record p { walk = Some walk }
 
 abbrev pub is_progress_of : ℕ → ActorProgress → Bool
 is_progress_of actor p = p.actor == actor

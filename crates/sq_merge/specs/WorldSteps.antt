@@ -1,16 +1,18 @@
 -- What the steps of a call do to a world, and what a turn does.
-use Rattle.std.specs.Prelude.{◌≡◌, ◌⊎◌, ℕ, List, Some, None, position, Result, Ok, Err}
+use Rattle.std.specs.Prelude.{◌≡◌, ◌⊎◌, ℕ, List, [], Some, None, position, Result, Ok, Err}
 use Rattle.sq_base.specs.declared.refusal.Refusal.{Refusal}
-use Rattle.sq_base.specs.declared.refusal.Refusal.TheVariants.{NoMemory}
+use Rattle.sq_base.specs.declared.refusal.Refusal.TheVariants.{NoMemory, ResourceNotFoundException}
 use Rattle.sq_calls.specs.declared.turns.Turn.{Turn}
+use Rattle.sq_calls.specs.declared.turns.Turn.TheVariants as turn
 use Rattle.sq_calls.specs.declared.turns.Turned.{Turned}
 use Rattle.sq_model.specs.Directories.{number_named}
 use Rattle.sq_history.specs.Acts.{call_of}
 use Rattle.sq_actions.specs.Asks.{Ask, Resolve, AskDirectory, AskHome, AskShared, Peek, Redriven, AskLedger, ReadTask, Gave, Found, Answered, Replied, Nothing, Peeked, Ends, Told, TaskFound, Done, HomeCounts}
-use Rattle.sq_actions.specs.declared.progress.Progress.{Progress}
-use Rattle.sq_actions.specs.Performs.{TurnFits, LeavesRecords, Performs}
+use Rattle.sq_actions.specs.declared.walk.Walk.{Walk}
+use Rattle.sq_actions.specs.Performs.{BringFits, LeaveFits, LeavesRecords, Performs, ServeFits}
 use Rattle.sq_steps.specs.Journals.{journal_of}
-use Rattle.sq_merge.specs.Progresses.{is_progress_of, with_progress, progress_of, put_progress}
+use Rattle.sq_merge.specs.declared.progress.Progress.{Progress}
+use Rattle.sq_merge.specs.Progresses.{having_walked, is_progress_of, with_progress, progress_of, put_progress, walk_for}
 use Rattle.sq_merge.specs.WorldValue.{WorldValue}
 use Rattle.sq_merge.specs.Worlds.{HomeStepped, HomeRefused, DirectoryStepped, DirectoryRefused, NameRefused, having_read_directory, SharedStepped, NothingLeaves, SharedRefused, ItemRead, IsUnread, EndsRead, EndsUnread, LedgerStepped, LedgerRefused, TaskRead, TaskUnread}
 
@@ -49,6 +51,13 @@ ActorStepped actor now w ask (Err e) t = ActorRefused actor now w ask e × (t �
 -- what an actor has after steps that fit so, with what was told: their records
 abbrev pub ActorLeaves : {A : Type 0} → ℕ → (List Done → Result A Refusal → Type 0) → WorldValue → Result A Refusal → WorldValue → Type 0
 ActorLeaves actor Fits old told new = LeavesRecords Fits (journal_of actor old.journals) told (journal_of actor new.journals)
+
+-- These steps are the turn's, and its word and how far its actor is after it are made of them. A text that is no handle names no task.
+abbrev pub TurnFits : ℕ → Turn → Progress → Progress → List Done → Result Turned Refusal → Type 0
+TurnFits homes (turn.DeadTurn name) before after trace answered = LeaveFits homes name trace answered × (after ≡ before)
+TurnFits homes turn.EnterTurn before after trace answered = BringFits homes before.item after.item trace answered × (after ≡ record before { item = after.item })
+TurnFits homes (turn.TaskTurn None) before after trace answered = (trace ≡ []) × (answered ≡ Err ResourceNotFoundException) × (after ≡ before)
+TurnFits homes (turn.TaskTurn (Some number)) before after trace answered = (walk : Walk) × ServeFits homes (walk_for number before.walk) walk trace answered × (after ≡ having_walked answered walk before)
 
 -- A turn of an actor at a clock reading. The actor has memory for its progress first; then the steps of the turn are done, which leave all progress as it is; and what the turn made of the actor's progress is put there.
 pub record TurnStepped (actor now : ℕ) (turn : Turn) (old : WorldValue) (answered : Result Turned Refusal) (new : WorldValue) : Type 0 where

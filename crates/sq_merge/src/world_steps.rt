@@ -1,14 +1,14 @@
 //! An actor at a world that it borrows, with its clock reading.
 ghost use Rattle.std.specs.Prelude.{◌≡◌, Some};
-ghost use Rattle.sq_merge.specs.WorldSteps.{world_counts, ActorLeaves, ActorStepped};
+ghost use Rattle.sq_merge.specs.WorldSteps.{world_counts, ActorLeaves, ActorStepped, TurnFits};
 ghost use Rattle.sq_merge.specs.inside.WorldSteps.{IsKnownTo};
 ghost use Rattle.sq_merge.specs.inside.WorldStepLaws.{actor_leaves};
 ghost use Rattle.sq_steps.specs.Journals.{journal_of};
-ghost use Rattle.sq_actions.specs.Performs.{CallFits, TurnFits, UntilFits, Performs};
+ghost use Rattle.sq_actions.specs.Performs.{CallFits, UntilFits, Performs};
 
+use crate::progress::Progress;
 use crate::world::World;
 use sq_actions::lock_steps::LockSteps;
-use sq_actions::progress::Progress;
 use sq_actions::until::call_until;
 use sq_actions::{client, turns};
 use sq_base::ids::{HomeNo, QueueNo};
@@ -163,5 +163,15 @@ pub(crate) fn turn_at(
     ensures answered { Performs (ActorStepped world_steps.old.actor world_steps.old.clock) (TurnFits (world_counts world_steps.old.world.now).homes turn.now progress.old progress.new) world_steps.old.world.now result world_steps.new.world.now }
     ensures leaves_records { ActorLeaves world_steps.old.actor (TurnFits (world_counts world_steps.old.world.now).homes turn.now progress.old progress.new) world_steps.old.world.now result world_steps.new.world.now }
 {
-    turns::turn(world_steps, progress, turn)
+    match turn {
+        Turn::DeadTurn(name) => turns::leave(world_steps, name),
+        Turn::EnterTurn => turns::bring(world_steps, &mut progress.item),
+        Turn::TaskTurn(Some(number)) => {
+            let mut walk = progress.walk_for(*number);
+            let told = turns::serve(world_steps, &mut walk);
+            progress.keep(walk, &told);
+            told
+        }
+        Turn::TaskTurn(None) => Err(Refusal::ResourceNotFoundException),
+    }
 }

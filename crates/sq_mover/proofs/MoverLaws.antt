@@ -3,22 +3,15 @@ use Rattle.std.proofs.Common.{◌≡◌, ◌∙◌, ℕ, ◌+◌, ◌≤◌, Lis
 use Rattle.std.proofs.Math.Numerals.{add-one}
 use Rattle.std.proofs.lemmas.List.{length-append}
 use Rattle.sq_model.specs.RecordValues.{RecordValue, Journal}
-use Rattle.sq_calls.specs.declared.turns.Turn.{Turn}
-use Rattle.sq_calls.specs.declared.turns.Turn.TheVariants as turn
 use Rattle.sq_calls.specs.declared.turns.Turned.{Turned}
 use Rattle.sq_base.specs.declared.refusal.Refusal.{Refusal}
 use Rattle.std.specs.Prelude.{Result, Ok, Err, OnOk, OnErr, Some}
-use Rattle.sq_actions.specs.declared.progress.Progress.{Progress}
 use Rattle.sq_actions.specs.declared.walk.Walk.{Walk}
-use Rattle.sq_actions.specs.Performs.{TurnFits, LeavesRecords}
-use Rattle.sq_actions.specs.Progresses.{no_progress, with_item, with_walk}
-use Rattle.sq_actions.specs.Walks.{task_walked}
+use Rattle.sq_actions.specs.Performs.{BringFits, GainsAtMost, ServeFits}
 use Rattle.sq_actions.proofs.PathLaws.{no_gain, read_gain, gains_more}
-use Rattle.sq_actions.proofs.TurnRecordLaws.{one_record}
 use Rattle.sq_queue.specs.Sections.{Surroundings}
 use Rattle.sq_queue.specs.SessionValue.{SessionValue}
 use Rattle.sq_queue.specs.Services.{HasRead}
-use Rattle.sq_mover.specs.Movers.{GainsAtMost}
 use Rattle.sq_mover.specs.MoverValue.{MoverValue, after_walk, brought, walk_kept}
 use Rattle.sq_mover.specs.MoverTurns.{BringsNext, GetsSpare, IsPassedOver, MakesTurn, ServesFor, TakesTurn, TakesTurns}
 
@@ -35,32 +28,6 @@ pub gains_asked : {X E : Type 0} (answered : Result X E) (s t : SessionValue) �
 gains_asked (Ok x) s t read err = gains_read 0 s t read
 gains_asked (Err e) s t read err = gains_none 0 s t err
 
--- a turn was done
-pub gains_turn : (homes : ℕ) (what : Turn) (before after : Progress) (s t : SessionValue) (answered : Result Turned Refusal) → LeavesRecords (TurnFits homes what before after) s.journal answered t.journal → GainsAtMost 1 s.journal t.journal
-gains_turn homes what before after s t answered left =
-    let few = one_record homes what before after s.journal t.journal answered left in
-    let all = ap (λ (xs : List RecordValue). length xs) left.gains.added in
-    (left.records, left.gains, omega (arith, few, all, length-append s.journal.records left.records))
-
--- a dead letter left, and its actor is as far as before
-pub dead_left : (homes : ℕ) (name : List ℕ) (first before after : Progress) (a b : Journal) (answered : Result Turned Refusal)
-    → before ≡ first → LeavesRecords (TurnFits homes (turn.DeadTurn name) before after) a answered b → LeavesRecords (TurnFits homes (turn.DeadTurn name) first first) a answered b
-dead_left homes name first before after a b answered same left =
-    subst (λ (p : Progress). LeavesRecords (TurnFits homes (turn.DeadTurn name) p p) a answered b) same (subst (λ (p : Progress). LeavesRecords (TurnFits homes (turn.DeadTurn name) before p) a answered b) left.fits.1 left)
-
--- how far an actor is after a turn that brings an item, whichever item it tried
-item_kept : (item : ℕ) (before after : Progress) → after ≡ with_item item before → after ≡ with_item after.item before
-item_kept item before after e = e ∙ sym (ap (λ (p : Progress). with_item p.item before) e)
-
-pub item_left : (homes : ℕ) (before after : Progress) (a b : Journal) (answered : Result Turned Refusal) → LeavesRecords (TurnFits homes turn.EnterTurn before after) a answered b → after ≡ with_item after.item before
-item_left homes before after a b answered left = elim left.fits [
-  | inl refused ↦ item_kept before.item before after refused.4
-  | inr found ↦ elim found [
-    | inl none ↦ item_kept before.item before after none.2
-    | inr some ↦ item_kept some.0.number before after some.6
-  ]
-]
-
 -- one after another
 pub gains_both : (m n : ℕ) (a b c : Journal) → GainsAtMost m a b → GainsAtMost n b c → GainsAtMost (m + n) a c
 gains_both m n a b c h k = (h.0 ++ k.0, gains_more a b c h.0 k.0 h.1 k.1, let x = h.2 in let y = k.2 in omega (arith, x, y, length-append h.0 k.0))
@@ -75,20 +42,12 @@ turns_more at made m mid n s read t told before turn passed = subst (λ (k : ℕ
 
 -- an item came in, which counts as tried, and the sweep goes on
 pub brings : (at : Surroundings) (tried : ℕ) (m n : MoverValue) (s t : SessionValue) (told : Result Turned Refusal)
-    → MakesTurn at turn.EnterTurn (with_item tried no_progress) (with_item n.tried no_progress) s told t → tried ≡ m.tried → n ≡ brought n.tried m → BringsNext at m s told n t
-brings at tried m n s t told made same new = (new, subst (λ (item : ℕ). MakesTurn at turn.EnterTurn (with_item item no_progress) (with_item n.tried no_progress) s told t) same made)
+    → MakesTurn at (BringFits at.counts.homes tried n.tried) s told t → tried ≡ m.tried → n ≡ brought n.tried m → BringsNext at m s told n t
+brings at tried m n s t told made same new = (new, subst (λ (item : ℕ). MakesTurn at (BringFits at.counts.homes item n.tried) s told t) same made)
 
 -- a task was served by the walk that was kept for it, which is kept as it is then
 pub served : (at : Surroundings) (task spare : ℕ) (m n : MoverValue) (s t : SessionValue) (told : Result Turned Refusal) (before after : Walk) (last : List Walk)
-    → before ≡ walk_kept task last → task_walked before ≡ task → last ≡ m.last.walks → GetsSpare m.this spare → n ≡ after_walk after spare m
-    → MakesTurn at (turn.TaskTurn (Some (task_walked before))) (with_walk before no_progress) (with_walk after no_progress) s told t
+    → before ≡ walk_kept task last → last ≡ m.last.walks → GetsSpare m.this spare → n ≡ after_walk after spare m → MakesTurn at (ServeFits at.counts.homes before after) s told t
     → ServesFor at (Some task) m s told n t
-served at task spare m n s t told before after last kept same of_last has new made =
-    inr (
-      after,
-      spare,
-      has,
-      new,
-      subst (λ (walk : Walk). MakesTurn at (turn.TaskTurn (Some task)) (with_walk walk no_progress) (with_walk after no_progress) s told t) (kept ∙ ap (walk_kept task) of_last)
-          (subst (λ (number : ℕ). MakesTurn at (turn.TaskTurn (Some number)) (with_walk before no_progress) (with_walk after no_progress) s told t) same made),
-    )
+served at task spare m n s t told before after last kept of_last has new made =
+    inr (after, spare, has, new, subst (λ (walk : Walk). MakesTurn at (ServeFits at.counts.homes walk after) s told t) (kept ∙ ap (walk_kept task) of_last) made)

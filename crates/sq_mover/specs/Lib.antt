@@ -1,3 +1,2 @@
 pub mod MoverValue
-pub mod Movers
 pub mod MoverTurns

@@ -4,28 +4,23 @@ use Rattle.sq_base.specs.declared.refusal.Refusal.{Refusal}
 use Rattle.sq_base.specs.declared.refusal.Refusal.TheVariants.{NoMemory}
 use Rattle.sq_model.specs.declared.task.NamedQueue.{NamedQueue}
 use Rattle.sq_model.specs.declared.task.Task.{Task}
-use Rattle.sq_calls.specs.declared.turns.Turn.{Turn}
-use Rattle.sq_calls.specs.declared.turns.Turn.TheVariants as turn
 use Rattle.sq_calls.specs.declared.turns.Turned.{Turned}
 use Rattle.sq_calls.specs.declared.turns.Turned.TheVariants as word
-use Rattle.sq_actions.specs.declared.progress.Progress.{Progress}
 use Rattle.sq_actions.specs.declared.walk.Walk.{Walk}
-use Rattle.sq_actions.specs.Asks.{IsOfAnyStep}
-use Rattle.sq_actions.specs.Performs.{TurnFits, LeavesRecords}
-use Rattle.sq_actions.specs.Progresses.{no_progress, with_item, with_walk}
+use Rattle.sq_actions.specs.Asks.{Done, IsOfAnyStep}
+use Rattle.sq_actions.specs.Performs.{BringFits, LeaveFits, LeavesRecords, Performs, ServeFits}
 use Rattle.sq_directory.specs.DirectoryHistory.{DirectoryHistory}
 use Rattle.sq_queue.specs.LockedParts.{LockedPart, TheDirectory}
-use Rattle.sq_queue.specs.Sections.{Surroundings}
+use Rattle.sq_queue.specs.Sections.{IsSection, Surroundings}
 use Rattle.sq_queue.specs.SessionValue.{SessionValue}
-use Rattle.sq_queue.specs.Services.{LastTaskRead, NamesRead, TurnMade}
+use Rattle.sq_queue.specs.Services.{LastTaskRead, NamesRead}
 use Rattle.sq_mover.specs.declared.mover.Stage.TheVariants.{Leave, Serve, Bring}
-use Rattle.sq_mover.specs.MoverValue.{MoverValue, WalksValue, sweeping, staged, brought, after_walk, counted, walk_kept}
-use Rattle.sq_mover.specs.Movers.{active_of}
+use Rattle.sq_mover.specs.MoverValue.{MoverValue, WalksValue, active_of, sweeping, staged, brought, after_walk, counted, walk_kept}
 
--- This turn was made, by an actor that was so far before it and is so far after it. Each of its steps is one of a part that the gate saw, where a refusal has its cause; and what it leaves with its session fits what it told.
-pub record MakesTurn (at : Surroundings) (what : Turn) (before after : Progress) (s : SessionValue) (told : Result Turned Refusal) (t : SessionValue) : Type 0 where
-  pub sections : TurnMade at what before after s told t
-  pub leaves_records : LeavesRecords (TurnFits at.counts.homes what before after) s.journal told t.journal
+-- A turn was made whose steps fit so. Each is one of a part that the gate saw, where a refusal has its cause; and what it leaves with its session fits what it told.
+pub record MakesTurn (at : Surroundings) (Fits : List Done → Result Turned Refusal → Type 0) (s : SessionValue) (told : Result Turned Refusal) (t : SessionValue) : Type 0 where
+  pub sections : Performs (IsSection at) Fits s told t
+  pub leaves_records : LeavesRecords Fits s.journal told t.journal
 
 -- it was refused for want of memory, and nothing changed
 abbrev pub RunsOut : MoverValue → SessionValue → Result Turned Refusal → MoverValue → SessionValue → Type 0
@@ -33,11 +28,11 @@ RunsOut m s told n t = (told ≡ Err NoMemory) × (n ≡ m) × (t ≡ s)
 
 -- a dead letter leaves the queue of this name; a task is served there next
 abbrev pub DeadLeaves : Surroundings → List ℕ → MoverValue → SessionValue → Result Turned Refusal → MoverValue → SessionValue → Type 0
-DeadLeaves at name m s told n t = (n ≡ staged Serve m) × MakesTurn at (turn.DeadTurn name) no_progress no_progress s told t
+DeadLeaves at name m s told n t = (n ≡ staged Serve m) × MakesTurn at (LeaveFits at.counts.homes name) s told t
 
 -- the item after the one that was tried last comes in, and the sweep goes on to the next queue
 abbrev pub BringsNext : Surroundings → MoverValue → SessionValue → Result Turned Refusal → MoverValue → SessionValue → Type 0
-BringsNext at m s told n t = (n ≡ brought n.tried m) × MakesTurn at turn.EnterTurn (with_item m.tried no_progress) (with_item n.tried no_progress) s told t
+BringsNext at m s told n t = (n ≡ brought n.tried m) × MakesTurn at (BringFits at.counts.homes m.tried n.tried) s told t
 
 -- there is memory for no walk more of this sweep; or for one more, and for as many as before
 abbrev pub HasNoSpare : WalksValue → Type 0
@@ -51,7 +46,7 @@ abbrev pub ServesFor : Surroundings → Option ℕ → MoverValue → SessionVal
 ServesFor at None m s told n t = BringsNext at m s told n t
 ServesFor at (Some task) m s told n t =
     (HasNoSpare m.this × RunsOut m s told n t)
-    ⊎ ((walk : Walk) × (spare : ℕ) × GetsSpare m.this spare × (n ≡ after_walk walk spare m) × MakesTurn at (turn.TaskTurn (Some task)) (with_walk (walk_kept task m.last.walks) no_progress) (with_walk walk no_progress) s told t)
+    ⊎ ((walk : Walk) × (spare : ℕ) × GetsSpare m.this spare × (n ≡ after_walk walk spare m) × MakesTurn at (ServeFits at.counts.homes (walk_kept task m.last.walks) walk) s told t)
 
 -- the last task of a source is read, as the gate saw the ledger, and served where it is not over
 abbrev pub ServesSource : Surroundings → ℕ → MoverValue → SessionValue → Result Turned Refusal → MoverValue → SessionValue → Type 0

@@ -1,8 +1,10 @@
 -- What contracts see of a mover, and what becomes of it.
-use Rattle.std.specs.Prelude.{ℕ, ◌+◌, ◌-◌, ◌^◌, ◌==◌, min, Bool, true, false, List, [], ◌∷◌, ◌++◌, if◌then◌else◌, Result, Ok, Err, vec_capacity}
+use Rattle.std.specs.Prelude.{ℕ, ◌+◌, ◌-◌, ◌^◌, ◌==◌, min, Bool, true, false, List, [], ◌∷◌, ◌++◌, if◌then◌else◌, Option, Some, None, Result, Ok, Err, vec_capacity}
 use Rattle.std.specs.Global.{Vec}
 use Rattle.sq_base.specs.declared.refusal.Refusal.{Refusal}
 use Rattle.sq_model.specs.declared.task.NamedQueue.{NamedQueue}
+use Rattle.sq_model.specs.declared.task.Task.{Task}
+use Rattle.sq_model.specs.Tasks.{is_active}
 use Rattle.sq_calls.specs.declared.turns.Turned.{Turned}
 use Rattle.sq_calls.specs.declared.turns.Turned.TheVariants as word
 use Rattle.sq_actions.specs.declared.walk.Walk.{Walk}
@@ -85,3 +87,8 @@ has_moved word.Ended = false
 abbrev pub counted : Result Turned Refusal → MoverValue → MoverValue
 counted (Ok told) m = if has_moved told then record m { moved = one_more m.moved } else m
 counted (Err e) m = m
+
+-- the number of a task that is not over
+abbrev pub active_of : Option Task → Option ℕ
+active_of None = None
+active_of (Some task) = if is_active task.status then Some task.number else None

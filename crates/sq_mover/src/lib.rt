@@ -2,5 +2,4 @@
 #![tactic(auto)]
 
 pub mod mover;
-pub mod turns;
 mod walks;

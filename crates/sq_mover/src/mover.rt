@@ -1,12 +1,11 @@
 //! A mover, turn after turn, over all queues.
 ghost use Rattle.std.specs.Prelude.{◌≡◌, ◌≤◌, Err, IfErr, IfOk, OnErr, OnOk, length, slice_get};
 ghost use Rattle.sq_actions.specs.Asks.{IsOfAnyStep};
+ghost use Rattle.sq_actions.specs.Performs.{GainsAtMost};
 ghost use Rattle.sq_queue.specs.Around.{around};
-ghost use Rattle.sq_mover.specs.Movers.{GainsAtMost, active_of};
 ghost use Rattle.sq_mover.specs.MoverTurns.{EndsEarly, HasQueues, IsPassedOver, ServesFor, ServesSource, SweepsOn, TakesTurn, TakesTurns, TurnsAt, TurnsAtAny};
-ghost use Rattle.sq_mover.specs.MoverValue.{begun, brought, counted, has_moved, new_mover};
+ghost use Rattle.sq_mover.specs.MoverValue.{active_of, begun, brought, counted, has_moved, new_mover};
 
-use crate::turns::{dead_turn, enter_turn, task_turn};
 use crate::walks::Walks;
 use sq_base::ids::QueueNo;
 use sq_base::refusal::Refusal;
@@ -166,7 +165,7 @@ impl Mover {
         match self.stage {
             Stage::Leave => {
                 self.stage = Stage::Serve;
-                dead_turn(service, rt, session, &queue.name)
+                service.leave(rt, session, &queue.name)
             }
             Stage::Serve => {
                 self.stage = Stage::Bring;
@@ -174,7 +173,7 @@ impl Mover {
             }
             Stage::Bring => {
                 self.go_on();
-                enter_turn(service, rt, session, &mut self.tried)
+                service.bring(rt, session, &mut self.tried)
             }
         }
     }
@@ -208,11 +207,11 @@ impl Mover {
     {
         let Some(task) = active(task) else {
             self.go_on();
-            return enter_turn(service, rt, session, &mut self.tried);
+            return service.bring(rt, session, &mut self.tried);
         };
         self.walks.reserve()?;
         let mut walk = self.walks.of(task);
-        let told = task_turn(service, rt, session, &mut walk);
+        let told = service.serve(rt, session, &mut walk);
         self.walks.keep(walk);
         told
     }

@@ -1,6 +1,5 @@
 //! The walks of a mover over the homes that tasks take messages from.
 ghost use Rattle.std.specs.Prelude.{◌≡◌, ◌<◌, ◌≤◌, [], ◌∷◌, ◌++◌, OnOk, OnErr, IfErr, vec_capacity, vec_len};
-ghost use Rattle.sq_actions.specs.Walks.{task_walked};
 ghost use Rattle.sq_mover.specs.MoverValue.{walk_kept};
 
 use sq_actions::walk::Walk;
@@ -30,8 +29,7 @@ impl Walks {
 
     /// The walk for a task: as the last sweep left it, or a new one.
     pub(crate) fn of(&self, task: TaskNo) -> Walk
-        ensures kept { result ≡ walk_kept task self.now.last.items }
-        ensures task { task_walked result ≡ task }
+        ensures { result ≡ walk_kept task self.now.last.items }
     {
         for walk in &self.last {
             if walk.task() == task {

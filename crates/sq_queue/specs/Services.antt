@@ -10,10 +10,7 @@ use Rattle.sq_ledger.specs.LedgerHistory.{LedgerHistory}
 use Rattle.sq_base.specs.declared.refusal.Refusal.{Refusal}
 use Rattle.sq_calls.specs.declared.calls.Answer.{Answer}
 use Rattle.sq_calls.specs.declared.calls.Call.{Call}
-use Rattle.sq_calls.specs.declared.turns.Turn.{Turn}
-use Rattle.sq_calls.specs.declared.turns.Turned.{Turned}
-use Rattle.sq_actions.specs.declared.progress.Progress.{Progress}
-use Rattle.sq_actions.specs.Performs.{CallFits, Performs, TurnFits, UntilFits}
+use Rattle.sq_actions.specs.Performs.{CallFits, Performs, UntilFits}
 use Rattle.sq_queue.specs.LockedParts.{LockedPart, TheDirectory, TheLedger}
 use Rattle.sq_queue.specs.Sections.{Surroundings, IsSection}
 use Rattle.sq_queue.specs.SessionValue.{SessionValue, having_read}
@@ -37,7 +34,3 @@ CallDone at call before told after = Performs (IsSection at) (CallFits at.counts
 -- it did so many steps of a call, or all of it
 abbrev pub UntilDone : Surroundings → ℕ → Call → SessionValue → Result (Option Answer) Refusal → SessionValue → Type 0
 UntilDone at steps call before told after = Performs (IsSection at) (UntilFits steps (CallFits at.counts call)) before told after
-
--- it did a turn, and is so far before it and so far after it
-abbrev pub TurnMade : Surroundings → Turn → Progress → Progress → SessionValue → Result Turned Refusal → SessionValue → Type 0
-TurnMade at turn from to before told after = Performs (IsSection at) (TurnFits at.counts.homes turn from to) before told after

@@ -1,15 +1,17 @@
-//! The calls of a session.
-ghost use Rattle.sq_actions.specs.Performs.{CallFits, TurnFits, UntilFits, LeavesRecords};
+//! The calls and turns of a session.
+ghost use Rattle.sq_actions.specs.Performs.{BringFits, CallFits, GainsAtMost, LeaveFits, LeavesRecords, Performs, ServeFits, UntilFits};
 ghost use Rattle.sq_queue.specs.Around.{around, service_counts};
-ghost use Rattle.sq_queue.specs.Services.{CallDone, TurnMade, UntilDone};
+ghost use Rattle.sq_queue.specs.Sections.{IsSection};
+ghost use Rattle.sq_queue.specs.Services.{CallDone, UntilDone};
 
 use crate::service::{Clock, Gate, Serving};
 use crate::session::Session;
-use crate::session_steps::{SessionSteps, call_in, call_until_in, turn_in};
-use sq_actions::progress::Progress;
+use crate::session_steps::{SessionSteps, bring_in, call_in, call_until_in, leave_in, serve_in};
+use sq_actions::walk::Walk;
+use sq_base::name::QueueName;
 use sq_base::refusal::Refusal;
 use sq_calls::calls::{Answer, Call};
-use sq_calls::turns::{Turn, Turned};
+use sq_calls::turns::Turned;
 use sq_store::slots::SlotStore;
 use std::sync::Wait;
 use std::sync::ledger::Ledger;
@@ -48,19 +50,51 @@ impl<C: Clock + Drop, G: Gate + Drop, D: Ledger, T: Ledger> Serving<C, G, D, T, 
         call_until_in(&mut session_steps, call, steps)
     }
 
-    /// A turn of a mover that is so far: one step of moving messages, beside reads, as `World::turn` in `sq_merge`. How far it is
-    /// after it stands in `progress`. Where an item left, the gate is told of it with no lock held.
-    pub fn turn<R: Wait>(
+    /// A message that was received too often leaves one home of the queue of this name, for the queue that its redrive policy
+    /// names, as a DeadTurn of `World::turn` in `sq_merge`. The gate is told of an item that left, with no lock held.
+    pub fn leave<R: Wait>(
         &self,
         rt: &R,
         session: &mut Session<D, T>,
-        progress: &mut Progress,
-        turn: &Turn,
+        queue: &QueueName,
     ) -> Result<Turned, Refusal>
-        ensures sections { TurnMade (around C.tells G.saw self.now) turn.now progress.old progress.new session.old result session.new }
-        ensures leaves_records { LeavesRecords (TurnFits self.now.per_queue turn.now progress.old progress.new) session.old.journal result session.new.journal }
+        ensures sections { Performs (IsSection (around C.tells G.saw self.now)) (LeaveFits self.now.per_queue queue.now) session.old result session.new }
+        ensures leaves_records { LeavesRecords (LeaveFits self.now.per_queue queue.now) session.old.journal result session.new.journal }
+        ensures at_most_one { GainsAtMost 1 session.old.journal session.new.journal }
     {
         let mut session_steps = SessionSteps::new(rt, self, session);
-        turn_in(&mut session_steps, progress, turn)
+        leave_in(&mut session_steps, queue)
+    }
+
+    /// The item in transit that comes after the one that was tried last, which `tried` names (0 at first), comes in where it goes
+    /// to, as by an EnterTurn.
+    pub fn bring<R: Wait>(
+        &self,
+        rt: &R,
+        session: &mut Session<D, T>,
+        tried: &mut u64,
+    ) -> Result<Turned, Refusal>
+        ensures sections { Performs (IsSection (around C.tells G.saw self.now)) (BringFits self.now.per_queue tried.old tried.new) session.old result session.new }
+        ensures leaves_records { LeavesRecords (BringFits self.now.per_queue tried.old tried.new) session.old.journal result session.new.journal }
+        ensures at_most_one { GainsAtMost 1 session.old.journal session.new.journal }
+    {
+        let mut session_steps = SessionSteps::new(rt, self, session);
+        bring_in(&mut session_steps, tried)
+    }
+
+    /// A message leaves for the move task of a walk, or the task is to finish, as by a TaskTurn. The gate is told of an item that
+    /// left, with no lock held.
+    pub fn serve<R: Wait>(
+        &self,
+        rt: &R,
+        session: &mut Session<D, T>,
+        walk: &mut Walk,
+    ) -> Result<Turned, Refusal>
+        ensures sections { Performs (IsSection (around C.tells G.saw self.now)) (ServeFits self.now.per_queue walk.old walk.new) session.old result session.new }
+        ensures leaves_records { LeavesRecords (ServeFits self.now.per_queue walk.old walk.new) session.old.journal result session.new.journal }
+        ensures at_most_one { GainsAtMost 1 session.old.journal session.new.journal }
+    {
+        let mut session_steps = SessionSteps::new(rt, self, session);
+        serve_in(&mut session_steps, walk)
     }
 }

@@ -52,7 +52,7 @@ pub trait Gate {
     fn at_ledger(&self, ledger: &TransitLedger)
         ensures { saw self.now (TheLedger ledger.now.history) };
 
-    /// Called by a turn after an item left, with no lock held.
+    /// Called after an item left, with no lock held.
     fn between(&self, item: u64);
 }
 

@@ -1,20 +1,20 @@
 //! The steps of a session's calls, each under the lock of its part.
-ghost use Rattle.std.specs.Prelude.{◌≡◌, None};
-ghost use Rattle.sq_actions.specs.Performs.{CallFits, TurnFits, UntilFits, LeavesRecords, Performs};
+ghost use Rattle.std.specs.Prelude.{◌≡◌};
+ghost use Rattle.sq_actions.specs.Performs.{BringFits, CallFits, LeaveFits, LeavesRecords, Performs, ServeFits, UntilFits};
 ghost use Rattle.sq_queue.specs.Around.{around, service_counts};
 ghost use Rattle.sq_queue.specs.Sections.{IsSection};
 
 use crate::service::{Clock, Gate, Service, take_lock};
 use crate::session::Session;
 use sq_actions::lock_steps::LockSteps;
-use sq_actions::progress::Progress;
 use sq_actions::until::call_until;
+use sq_actions::walk::Walk;
 use sq_actions::{client, turns};
 use sq_base::ids::HomeNo;
 use sq_base::name::QueueName;
 use sq_base::refusal::Refusal;
 use sq_calls::calls::{Answer, Call};
-use sq_calls::turns::{Turn, Turned};
+use sq_calls::turns::Turned;
 use sq_history::act::HomeAct;
 use sq_history::homes::no_such_home;
 use sq_model::directory::{DirectoryCall, DirectoryReply};
@@ -34,8 +34,6 @@ pub(crate) struct SessionSteps<'a, C, G, D: Ledger, T: Ledger, R> {
     pub(crate) rt: &'a R,
     pub(crate) service: &'a Service<C, G, D, T>,
     pub(crate) session: &'a mut Session<D, T>,
-    /// The number of the item that left, if one did.
-    pub(crate) left: Option<u64>,
 }
 
 impl<'a, C, G, D: Ledger, T: Ledger, R> SessionSteps<'a, C, G, D, T, R> {
@@ -48,13 +46,11 @@ impl<'a, C, G, D: Ledger, T: Ledger, R> SessionSteps<'a, C, G, D, T, R> {
         ensures same_reference { result.session.ghost_name ≡ session.entry.ghost_name }
         ensures session { result.session.now ≡ session.old }
         ensures service { result.service.now ≡ service.now }
-        ensures left { result.left ≡ None }
     {
         SessionSteps {
             rt,
             service,
             session,
-            left: None,
         }
     }
 }
@@ -124,7 +120,9 @@ impl<'a, C: Clock + Drop, G: Gate + Drop, D: Ledger, T: Ledger, R: Wait> LockSte
         let mut ledger = take_lock(self.rt, &self.service.ledger);
         self.service.gate.at_ledger(&ledger.ledger);
         let told = ledger.share(self.service.alloc, &mut part, self.session, now, at, what);
-        self.left = left_of(&told);
+        drop(ledger);
+        drop(part);
+        tell_gate(&self.service.gate, &told);
         told
     }
 
@@ -173,11 +171,10 @@ impl<'a, C: Clock + Drop, G: Gate + Drop, D: Ledger, T: Ledger, R: Wait> LockSte
         section_leaves (around C.tells G.saw s.service.now) s.session.now t.session.now ask answered h.0 };
 }
 
-// The number of the item that left, if one did.
-fn left_of(told: &Result<Option<HomeReply>, Refusal>) -> Option<u64> {
-    match told {
-        Ok(Some(HomeReply::Left(item))) => Some(item.get().number.get()),
-        _ => None,
+// Tells the gate of an item that left, if one did.
+fn tell_gate<G: Gate>(gate: &G, told: &Result<Option<HomeReply>, Refusal>) {
+    if let Ok(Some(HomeReply::Left(item))) = told {
+        gate.between(item.get().number.get());
     }
 }
 
@@ -206,24 +203,38 @@ pub(crate) fn call_until_in<C: Clock + Drop, G: Gate + Drop, D: Ledger, T: Ledge
     call_until(session_steps, call, limit)
 }
 
-// Does a turn with the session that is borrowed; the gate is told of an item that left, with no lock held.
-pub(crate) fn turn_in<C: Clock + Drop, G: Gate + Drop, D: Ledger, T: Ledger, R: Wait>(
+// A dead letter leaves, with the session that is borrowed.
+pub(crate) fn leave_in<C: Clock + Drop, G: Gate + Drop, D: Ledger, T: Ledger, R: Wait>(
     session_steps: &mut SessionSteps<'_, C, G, D, T, R>,
-    progress: &mut Progress,
-    turn: &Turn,
+    queue: &QueueName,
 ) -> Result<Turned, Refusal>
     ensures same_reference { session_steps.new.session.ghost_name ≡ session_steps.old.session.ghost_name }
-    ensures sections { Performs (IsSection (around C.tells G.saw session_steps.old.service.now)) (TurnFits session_steps.old.service.now.per_queue turn.now progress.old progress.new) session_steps.old.session.now result session_steps.new.session.now }
-    ensures leaves_records { LeavesRecords (TurnFits session_steps.old.service.now.per_queue turn.now progress.old progress.new) session_steps.old.session.now.journal result session_steps.new.session.now.journal }
+    ensures sections { Performs (IsSection (around C.tells G.saw session_steps.old.service.now)) (LeaveFits session_steps.old.service.now.per_queue queue.now) session_steps.old.session.now result session_steps.new.session.now }
+    ensures leaves_records { LeavesRecords (LeaveFits session_steps.old.service.now.per_queue queue.now) session_steps.old.session.now.journal result session_steps.new.session.now.journal }
 {
-    let told = turns::turn(session_steps, progress, turn);
-    tell_gate(&session_steps.service.gate, &session_steps.left);
-    told
+    turns::leave(session_steps, queue)
 }
 
-// Tells the gate of an item that left, if one did.
-fn tell_gate<G: Gate>(gate: &G, left: &Option<u64>) {
-    if let Some(item) = left {
-        gate.between(*item);
-    }
+// The next item in transit comes in, with the session that is borrowed.
+pub(crate) fn bring_in<C: Clock + Drop, G: Gate + Drop, D: Ledger, T: Ledger, R: Wait>(
+    session_steps: &mut SessionSteps<'_, C, G, D, T, R>,
+    tried: &mut u64,
+) -> Result<Turned, Refusal>
+    ensures same_reference { session_steps.new.session.ghost_name ≡ session_steps.old.session.ghost_name }
+    ensures sections { Performs (IsSection (around C.tells G.saw session_steps.old.service.now)) (BringFits session_steps.old.service.now.per_queue tried.old tried.new) session_steps.old.session.now result session_steps.new.session.now }
+    ensures leaves_records { LeavesRecords (BringFits session_steps.old.service.now.per_queue tried.old tried.new) session_steps.old.session.now.journal result session_steps.new.session.now.journal }
+{
+    turns::bring(session_steps, tried)
+}
+
+// A task is served, with the session that is borrowed.
+pub(crate) fn serve_in<C: Clock + Drop, G: Gate + Drop, D: Ledger, T: Ledger, R: Wait>(
+    session_steps: &mut SessionSteps<'_, C, G, D, T, R>,
+    walk: &mut Walk,
+) -> Result<Turned, Refusal>
+    ensures same_reference { session_steps.new.session.ghost_name ≡ session_steps.old.session.ghost_name }
+    ensures sections { Performs (IsSection (around C.tells G.saw session_steps.old.service.now)) (ServeFits session_steps.old.service.now.per_queue walk.old walk.new) session_steps.old.session.now result session_steps.new.session.now }
+    ensures leaves_records { LeavesRecords (ServeFits session_steps.old.service.now.per_queue walk.old walk.new) session_steps.old.session.now.journal result session_steps.new.session.now.journal }
+{
+    turns::serve(session_steps, walk)
 }

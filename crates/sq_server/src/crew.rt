@@ -53,7 +53,8 @@ fn add<R: Clock + Wait, D: Ledger, T: Ledger>(
     Ok(())
 }
 
-/// So many threads that call, and then so many movers: where not all threads can be had, these come last.
+/// So many movers, and then so many threads that call. Of two halves of a list that are to be done at once, the system's threads
+/// do the front one last where no thread can be made for it: so no mover, which waits for connections to end, is done before one.
 pub(crate) fn crew<R: Clock + Wait, D: Ledger, T: Ledger>(
     service: &Served<'_, R, D, T, SlotStore>,
     callers: u32,
@@ -64,8 +65,8 @@ pub(crate) fn crew<R: Clock + Wait, D: Ledger, T: Ledger>(
     ensures refused { IfErr result (λ e. (e ≡ Refusal.NoMemory) ⊎ (e ≡ Refusal.Worn)) }
 {
     let mut crew = Vec::with_capacity(service.alloc, callers as usize + movers as usize)?;
-    add(service, &mut crew, callers, Role::Call)?;
     add(service, &mut crew, movers, Role::Move)?;
+    add(service, &mut crew, callers, Role::Call)?;
     Ok(crew)
 }
 

@@ -1,7 +1,6 @@
 //! A service in a box, and its sessions: a function that has one on its own stack is proved with all that it is made of.
 ghost use Rattle.std.specs.Prelude.{◌≡◌, ◌⊎◌, [], ℕ, IfErr, IfOk, IfSome, OnOk, length, vec_len};
-ghost use Rattle.sq_actions.specs.Performs.{CallFits, LeavesRecords};
-ghost use Rattle.sq_mover.specs.Movers.{GainsAtMost};
+ghost use Rattle.sq_actions.specs.Performs.{CallFits, GainsAtMost, LeavesRecords};
 ghost use Rattle.sq_model.specs.Options.{IsServed};
 ghost use Rattle.sq_queue.specs.Around.{service_counts};
 ghost use Rattle.sq_queue.specs.Seats.{HasSeats, IsNamedBy};

@@ -4,7 +4,6 @@ use sq_base::refusal::Refusal;
 use sq_calls::calls::{Answer, Call};
 use sq_calls::turns::{Turn, Turned};
 use sq_model::item::TaskNo;
-use sq_mover::turns::{dead_turn, enter_turn, task_turn};
 use sq_queue::service::{Clock, Open, Service};
 use sq_queue::session::Session;
 use sq_tests_kit::hidden::Hidden;
@@ -34,7 +33,7 @@ pub struct Actor<D: Ledger, T: Ledger> {
     number: u32,
     session: Hidden<Session<D, T>>,
     tried: u64,
-    walk: Option<(TaskNo, Walk)>,
+    walk: Option<Walk>,
 }
 
 impl<D: Ledger, T: Ledger> Actor<D, T> {
@@ -61,8 +60,8 @@ impl<D: Ledger, T: Ledger> Actor<D, T> {
         turn: &Turn,
     ) -> Result<Turned, Refusal> {
         match turn {
-            Turn::DeadTurn(name) => dead_turn(service, rt, self.session.get_mut(), name),
-            Turn::EnterTurn => { enter_turn(service, rt, self.session.get_mut(), &mut self.tried) }
+            Turn::DeadTurn(name) => service.leave(rt, self.session.get_mut(), name),
+            Turn::EnterTurn => service.bring(rt, self.session.get_mut(), &mut self.tried),
             Turn::TaskTurn(Some(task)) => self.serve(rt, service, *task),
             Turn::TaskTurn(None) => Err(Refusal::ResourceNotFoundException),
         }
@@ -71,8 +70,8 @@ impl<D: Ledger, T: Ledger> Actor<D, T> {
     // The walk that is kept for a task, or a new one.
     fn walk_for(&self, task: TaskNo) -> Walk {
         match &self.walk {
-            Some((of, walk)) => { if *of == task { *walk } else { Walk::new(task) } }
-            None => Walk::new(task),
+            Some(walk) if walk.task() == task => *walk,
+            _ => Walk::new(task),
         }
     }
 
@@ -84,9 +83,9 @@ impl<D: Ledger, T: Ledger> Actor<D, T> {
         task: TaskNo,
     ) -> Result<Turned, Refusal> {
         let mut walk = self.walk_for(task);
-        let told = task_turn(service, rt, self.session.get_mut(), &mut walk);
+        let told = service.serve(rt, self.session.get_mut(), &mut walk);
         if told != Err(Refusal::ResourceNotFoundException) {
-            self.walk = Some((task, walk));
+            self.walk = Some(walk);
         }
         told
     }

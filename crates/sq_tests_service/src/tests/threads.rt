@@ -2,8 +2,7 @@
 use super::asks::{Ask, named};
 use super::shared::{Client, HELD, NOTHING, QUEUE, Setting};
 use super::stories::{Deed, Scene, must, tell};
-use sq_actions::progress::Progress;
-use sq_calls::turns::Turn;
+use sq_actions::walk::Walk;
 use sq_model::item::TaskNo;
 use sq_tests_kit::choices::Choices;
 use std::process::Abort;
@@ -62,20 +61,39 @@ fn rare_ask(choices: &mut Choices) -> Ask {
     }
 }
 
-// A turn of a mover.
-fn some_turn(rt: &impl Abort, choices: &mut Choices) -> Turn {
-    match choices.below(3) {
-        0 => Turn::DeadTurn(named(rt, one_of(choices))),
-        1 => Turn::EnterTurn,
-        _ => Turn::TaskTurn(TaskNo::new(1 + choices.below(4))),
-    }
+// How far a client's turns are: the item that it tried last, and its walk for the task that it served last.
+#[derive(Drop)]
+struct Turns {
+    tried: u64,
+    walk: Walk,
+}
+
+// A turn of a mover; a new walk begins where another task was served last.
+fn turn_once<D: Ledger, T: Ledger, R: Wait + Abort>(
+    at: &Scene<'_, '_, D, T, R>,
+    client: &mut Client<D, T>,
+    turns: &mut Turns,
+    choices: &mut Choices,
+) {
+    let (rt, service) = (at.rt, at.service.service());
+    let _ = match choices.below(3) {
+        0 => service.leave(rt, client.session(), &named(rt, one_of(choices))),
+        1 => service.bring(rt, client.session(), &mut turns.tried),
+        _ => {
+            let task = TaskNo::new(1 + choices.below(4)).expect(rt, "a number");
+            if turns.walk.task() != task {
+                turns.walk = Walk::new(task);
+            }
+            service.serve(rt, client.session(), &mut turns.walk)
+        }
+    };
 }
 
 // One call or turn of a client at a queue; 1 where it sent a message.
 fn act_once<D: Ledger, T: Ledger, R: Wait + Abort>(
     at: &Scene<'_, '_, D, T, R>,
     client: &mut Client<D, T>,
-    progress: &mut Progress,
+    turns: &mut Turns,
     choices: &mut Choices,
 ) -> u64 {
     let name = one_of(choices);
@@ -87,11 +105,7 @@ fn act_once<D: Ledger, T: Ledger, R: Wait + Abort>(
         7 => {
             at.heard(client, rare_ask(choices));
         }
-        _ => {
-            let turn = some_turn(at.rt, choices);
-            let service = at.service.service();
-            let _ = service.turn(at.rt, client.session(), progress, &turn);
-        }
+        _ => turn_once(at, client, turns, choices),
     }
     0
 }
@@ -102,13 +116,16 @@ pub fn random<D: Ledger, T: Ledger, R: Wait + Abort>(
     client: &mut Client<D, T>,
     calls: u64,
 ) -> u64 {
-    let mut progress = Progress::new();
+    let mut turns = Turns {
+        tried: 0,
+        walk: Walk::new(TaskNo::first()),
+    };
     let mut choices = Choices {
         state: at.index as u64,
     };
     let mut sent = 0u64;
     for _ in 0..calls {
-        let more = act_once(at, client, &mut progress, &mut choices);
+        let more = act_once(at, client, &mut turns, &mut choices);
         sent = sent.saturating_add(more);
         at.signs.time.fetch_add(20, Ordering::SeqCst);
     }

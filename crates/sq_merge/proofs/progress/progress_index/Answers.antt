@@ -24,4 +24,4 @@ returns-clause-index c =
 pub returns-clause-added : goal.returns-clause-added
 returns-clause-added c =
     let pos : position (is_progress_of c.args.actor) c.args.all.now.items ≡ None = search rules in
-    rw (c.push_within_capacity.ensures, c.try_reserve.ensures.items, c.new-progress.ensures, pos) (refl {A = List ActorProgress})
+    rw (c.push_within_capacity.ensures, c.try_reserve.ensures.items, pos) (refl {A = List ActorProgress})

@@ -1,4 +1,4 @@
-use Rattle.sq_mover.specs.Movers.{GainsAtMost}
+use Rattle.sq_actions.specs.Performs.{GainsAtMost}
 use Rattle.sq_queue.specs.Around.{around}
 use Rattle.sq_mover.specs.MoverTurns.{TakesTurns}
 use Rattle.sq_mover.specs.MoverValue.{begun}

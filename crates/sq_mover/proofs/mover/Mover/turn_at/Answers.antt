@@ -7,6 +7,6 @@ pub returns-in-Bring-clause-turns : goal.returns-in-Bring-clause-turns
 returns-in-Bring-clause-turns g c = record {
   leave = search rules;
   serve = search rules;
-  bring = λ e. brings (around g.C.Clock.tells g.G.Gate.saw c.args.service.now) c.self-in-Bring.inside.tried c.args.self.now _ c.args.session.now c.enter_turn.new.session c.enter_turn.result
-      (record { sections = c.enter_turn.ensures.sections; leaves_records = c.enter_turn.ensures.leaves_records }) (search rules) (search rules);
+  bring = λ e. brings (around g.C.Clock.tells g.G.Gate.saw c.args.service.now) c.self-in-Bring.inside.tried c.args.self.now _ c.args.session.now c.bring.new.session c.bring.result
+      (record { sections = c.bring.ensures.sections; leaves_records = c.bring.ensures.leaves_records }) (search rules) (search rules);
 }
