@@ -11,12 +11,17 @@ HERE = os.path.dirname(os.path.realpath(__file__))
 SECONDS = 60
 
 
+def lines_of(text):
+    """The lines of some bytes, each with its line feed, at which alone a line ends."""
+    return re.findall(rb"[^\n]*\n|[^\n]+\Z", text)
+
+
 class Ended:
     """What a program wrote, and how it ended."""
 
     def __init__(self, status, output, error, asked):
         self.status, self.error, self.asked = status, error, asked
-        self.replies = output.splitlines(keepends=True)
+        self.replies = lines_of(output)
 
 
 class Counts:

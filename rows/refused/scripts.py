@@ -3,7 +3,7 @@ import json
 import os
 import re
 
-from refused.program import is_out_of_memory
+from refused.program import is_out_of_memory, lines_of
 
 ROWS = os.path.dirname(os.path.dirname(os.path.realpath(__file__)))
 # The most bytes that a row may read to be run here: each of its runs reads them all.
@@ -18,6 +18,13 @@ NOT_OPEN = b'{"Error":{"Code":"QueueDoesNotExist","Number":9}}\n'
 MOVED = {"left": 1, "entered": -1, "back": -1, "dropped": -1}
 
 
+# Rows where a second try comes too late to be answered as in the row, as once a home is full, or a first step that stands shows later: of
+# these no run is held against replays yet.
+OPEN = {"audit_of_a_queue_made_again", "batch_entries_are_refused_alone", "batch_fills_a_home", "dead_letters_keep_their_age",
+        "dead_letters_reach_each_home", "enter_turns_go_round", "handles_go_to_their_home", "messages_come_home", "purge_under_flight",
+        "queue_deleted_under_flight", "room_to_come_in", "turns_out_of_time"}
+
+
 class Row:
     """A line of rows.txt that runs as a script to its end."""
 
@@ -27,7 +34,7 @@ class Row:
         self.title = " ".join([name, *words[1:-1]])
         self.ways = {}
         with open(os.path.join(ROWS, name + ".out"), encoding="utf-8") as text:
-            self.wanted = text.read().splitlines()[:len(lines)]
+            self.wanted = text.read().split("\n")[:len(lines)]
 
     def run(self, program, first=0, many=1):
         return program.run(self.words, b"".join(self.lines), first, many)
@@ -86,7 +93,10 @@ def every_row():
             if status != "0" or most:
                 left.append((title, f"it ends with status {status}" if status != "0" else "its output is bounded"))
                 continue
-            lines = bytes_of(name).splitlines(keepends=True)
+            if name in OPEN:
+                left.append((title, "not worked out is yet what is right after a second try, or if a first step stands"))
+                continue
+            lines = lines_of(bytes_of(name))
             if sum(map(len, lines)) > LONGEST:
                 left.append((title, f"it reads {sum(map(len, lines)):,} bytes"))
             else:
@@ -229,12 +239,12 @@ class Run:
 
     def is_alike(self, at, reply, told):
         """Whether a reply is one of these or of the row, but for numbers and homes, or is that of a queue whose homes are not open. What
-        comes in at none of them stays in transit, so that a turn may give any reply."""
-        return self.is_turn(at) or reply == NOT_OPEN or self.row.is_answer(at, reply) or is_like(reply, told)
+        comes in at none of them stays in transit, so that a turn may give any reply, and a queue may have any count of messages."""
+        return self.is_turn(at) or reply == NOT_OPEN or reply.startswith(b'{"Attributes":{"Approximate') or self.row.is_answer(at, reply) or is_like(reply, told)
 
     def all_is_done(self, ways):
-        """What is told to be refused is not done to its last step."""
-        if not list(self.differs_from_replay(ways[2])):
+        """What is told to be refused is not done to its last step. At several homes that need not show in a reply."""
+        if self.row.has_one_home() and not list(self.differs_from_replay(ways[2])):
             yield "all goes on as if it were done"
 
     def places_wrong(self, ways, is_alike):

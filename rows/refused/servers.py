@@ -1,5 +1,6 @@
 """A server with eight clients and two movers, some of whose allocations are refused while they call."""
 import collections
+import contextlib
 import hashlib
 import importlib.machinery
 import importlib.util
@@ -20,6 +21,8 @@ CONNECTIONS = CLIENTS + SPARE
 WORDS = ["--movers", "2", "--homes", "2", "--idle", "30"]
 # From when on the allocations are counted that are refused: the n-th is one of the first NEAR but among the calls.
 BEGIN, CALLS, END, NEAR = "from its begin on", "once it has queues", "once all is taken", 300
+# Connections of a server that is asked nothing, and its longest run in seconds.
+FEW, SOON = 3, 20
 # The longest run, and the longest that a message is on its way while all is quiet, in seconds.
 SECONDS, QUIET = 60, 1.0
 
@@ -48,8 +51,8 @@ class Gone(Exception):
 class Server(serve.Server):
     """A server that is started so that allocations can be refused."""
 
-    def __init__(self, program):
-        words = ["serve", "--listen", "127.0.0.1:0", "--connections", str(CONNECTIONS), *WORDS]
+    def __init__(self, program, connections=CONNECTIONS):
+        words = ["serve", "--listen", "127.0.0.1:0", "--connections", str(connections), *WORDS]
         pipes = {"stdin": subprocess.DEVNULL, "stdout": subprocess.PIPE, "stderr": subprocess.PIPE}
         self.process = program.started(words, text=True, **pipes)
         line = self.process.stdout.readline()
@@ -121,6 +124,28 @@ class Caller:
         serve.want(told == {}, told)
 
 
+def brief_faults(program, number):
+    """How many allocations a server makes whose connections ask nothing, and what is wrong with it where one of them is refused. It ends once
+    its clients have hung up, also where a thread cannot be made."""
+    counts = program.counts()
+    counts.refuse(number)
+    server, faults = Server(program, FEW), []
+    late = threading.Timer(SOON, lambda: (faults.append(f"it has not ended after {SOON} s"), server.process.kill()))
+    late.start()
+    try:
+        for _ in range(FEW if server.port is not None else 0):
+            with contextlib.suppress(ConnectionError):
+                server.client().close()
+        output, error = server.process.communicate()
+    finally:
+        late.cancel()
+        server.process.kill()
+    lost = server.process.returncode == 1 and not output.strip() and is_out_of_memory(error) is not None
+    if not faults and not lost and (server.process.returncode, output, error) != (0, serve.YES + "\n", ""):
+        faults.append(f"it ends with {server.process.returncode}, {output!r}, {error!r}")
+    return counts.asked(), faults
+
+
 class Run:
     """One run of a server."""
 
@@ -184,6 +209,12 @@ class Run:
 
     def clients_of(self, server, counts):
         left = self.until_done(self.set_up, server, SPARE - 1)
+        if not left:
+            # Each connection was cut off before the queues were there: those that are left hang up.
+            self.noted["no queues"] += 1
+            for _ in range(CONNECTIONS - SPARE + 1):
+                server.client().close()
+            return
         if self.where == CALLS:
             counts.refuse(self.first, self.many)
         threads = [threading.Thread(target=self.guarded, args=(self.cycles, server, number)) for number in range(CLIENTS)]
@@ -250,7 +281,9 @@ class Run:
     def missing(self):
         """What was told as sent and is not yet where it is to come to."""
         found = set(self.told["given", "q"]) | set(self.told["given", "d"]) | set(self.told["given", "e"])
-        return (set(self.told["sent", "q"]) | set(self.told["sent", "r"])) - found
+        # Movers without a thread of their own come once all connections have ended, so that dead letters may still be where they were.
+        sent = self.told["sent", "q"] + (self.told["sent", "r"] if self.where != BEGIN else [])
+        return set(sent) - found
 
     def look_at_end(self, server, output, error):
         status = server.process.returncode

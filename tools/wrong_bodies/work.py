@@ -19,6 +19,7 @@ MEMORY = 3_500_000  # what a check takes, in KiB
 ENDED = {0, 1, 2}  # the statuses of a check that came to its end: not 3, where the prover could not tell, nor a signal
 BY_PROOF = "refused by its proof alone"
 LATER = 30  # s
+NO_FUNCTION = "no_such_function"  # where a check is to be of this one alone, it ends before any proof
 LOWEST = "19"
 
 
@@ -120,8 +121,9 @@ class Work:
                 leave_unoffered(crate, texts, function.path, it.suffix, it.aside)
         return texts
 
-    def with_tries(self, crate, tries):
-        """Checks a copy of the crate with these edits. Returns what was said, and of which edits the text does not read."""
+    def with_tries(self, crate, tries, only=None):
+        """Checks a copy of the crate with these edits: their functions, or the one that is named. Returns what was said, and of which
+        edits the text does not read."""
         with self.lock:
             self.rooms += 1
             room = f"{self.folder}/{self.rooms}"
@@ -134,8 +136,8 @@ class Work:
             # A check replaces what it keeps, and never writes it in place: links serve.
             if os.path.isdir(self.kept(crate)):
                 shutil.copytree(self.kept(crate), f"{room}/out/incremental", copy_function=os.link)
-            only = [word for it in map(end_of, tries) if it for word in ("--only", it)]
-            check = self.check(crate, room, tries, only, {it: text for it, text in texts.items() if it.startswith("proofs/")})
+            words = [word for it in ([only] if only else map(end_of, tries)) if it for word in ("--only", it)]
+            check = self.check(crate, room, tries, words, {it: text for it, text in texts.items() if it.startswith("proofs/")})
             with self.lock:
                 if not os.path.isdir(f"{self.folder}/{crate.name}.kept") and os.path.isdir(f"{room}/out/incremental"):
                     os.rename(f"{room}/out/incremental", f"{self.folder}/{crate.name}.kept")
@@ -148,6 +150,15 @@ class Work:
                 place = function_at(path, texts[path], int(line))
                 unread.update({it: f"{path}:{line}: {words}" for it in tries if not it.function or it.function.path + it.suffix == place})
         return check, unread
+
+    def read_round(self, crate, tries):
+        """Tells of each edit whether its text reads, by a check that proves nothing."""
+        check, unread = self.with_tries(crate, tries, NO_FUNCTION)
+        for it in tries:
+            if it in unread:
+                it.edit.tell("BAD EDIT", f"it does not read: {unread[it][:200]}")
+        if check.status not in (1, 2) or (check.status == 1) != bool(unread):
+            raise SystemExit(f"wrong-bodies: {crate.name} does not read, whatever the edits: {check.text.strip()[-200:]}")
 
     def try_round(self, crate, tries):
         """Tries edits by one check, and once more those of which it does not tell. Each has its verdict then, if there was time. A round

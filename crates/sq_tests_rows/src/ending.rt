@@ -4,7 +4,7 @@ ghost use Rattle.sq_queue.specs.Seats.{IsNamedBy};
 
 use crate::memory::{ByWorld, serve_from_memory};
 use crate::stage::Stage;
-use crate::trial::{Calls, Trial};
+use crate::trial::{Failures, Trial};
 use sq_audit::merge::merge;
 use sq_audit::parts::Parts;
 use sq_base::refusal::Refusal;
@@ -99,7 +99,7 @@ fn verdict_without<W: Write, E: Write>(
 fn answer_by_world<I: Read, W: Write, E: Write>(
     alloc: Global,
     mode: &ScriptMode,
-    calls: Calls,
+    calls: Failures,
     input: &mut Counted<I>,
     output: &mut Counted<W>,
     errors: &mut E,

@@ -1,6 +1,6 @@
 //! Lines that are answered from memory, by a session of a service or by a world.
 use crate::stage::Stage;
-use crate::trial::Calls;
+use crate::trial::Failures;
 use sq_audit::parts::Parts;
 use sq_base::refusal::Refusal;
 use sq_lines::counted::Counted;
@@ -28,12 +28,12 @@ fn all_of<I: Read>(alloc: Global, input: &mut I) -> Result<Vec<u8>, ServeFault> 
 }
 
 // A reader of these bytes, a byte a call.
-fn reader<'a>(bytes: &'a Vec<u8>, calls: Calls) -> Counted<Piecewise<'a>> {
+fn reader<'a>(bytes: &'a Vec<u8>, calls: Failures) -> Counted<Piecewise<'a>> {
     Counted::new(Piecewise::new(bytes.as_slice(), 1, calls.read))
 }
 
 // A writer that takes a byte a call.
-fn writer(alloc: Global, calls: Calls) -> Counted<Bytewise> {
+fn writer(alloc: Global, calls: Failures) -> Counted<Bytewise> {
     Counted::new(if calls.is_silent {
         Bytewise::silent(alloc, calls.write)
     } else {
@@ -59,7 +59,7 @@ pub fn serve_from_memory<'a, I: Read, W: Write, R: Wait, D: Ledger, T: Ledger>(
     rt: &R,
     alloc: Global,
     stage: &mut Stage<'a, R, D, T, SlotStore>,
-    calls: Calls,
+    calls: Failures,
     input: &mut I,
     output: &mut Counted<W>,
 ) -> Result<u64, ServeFault> {
@@ -103,7 +103,7 @@ impl ByWorld {
     pub fn answer<I: Read, W: Write>(
         &mut self,
         alloc: Global,
-        calls: Calls,
+        calls: Failures,
         input: &mut I,
         output: &mut Counted<W>,
     ) -> Result<u64, ServeFault> {

@@ -10,14 +10,14 @@ pub enum Trial {
     /// The record of a step is taken out, and a server's verdict is given on what is left.
     Drop { actor: u32, number: u64 },
     /// The lines are served from memory, by a session of the service.
-    Serve(Calls),
+    Serve(Failures),
     /// The lines are answered from memory by a world, as `sqd script` answers them.
-    World(Calls),
+    World(Failures),
 }
 
 /// Which calls fail of a reader and a writer of one byte a call, counted from 1; 0 where none does.
 #[derive(Clone, Copy, PartialEq, Eq, Debug)]
-pub struct Calls {
+pub struct Failures {
     pub read: u32,
     pub write: u32,
     /// The write takes no byte, and tells no error.
@@ -35,8 +35,8 @@ fn small(words: &[&str], at: usize) -> Option<u32> {
 }
 
 // The calls that two words say.
-fn calls(words: &[&str], is_silent: bool) -> Option<Calls> {
-    Some(Calls {
+fn failures_of(words: &[&str], is_silent: bool) -> Option<Failures> {
+    Some(Failures {
         read: small(words, 2)?,
         write: small(words, 3)?,
         is_silent,
@@ -54,10 +54,10 @@ pub fn trial_of(words: &[&str]) -> Option<(Trial, usize)> {
             actor: small(words, 2)?,
             number: number(words, 3)?,
         },
-        "serve" => Trial::Serve(calls(words, false)?),
-        "serve-silent" => Trial::Serve(calls(words, true)?),
-        "world" => Trial::World(calls(words, false)?),
-        "world-silent" => Trial::World(calls(words, true)?),
+        "serve" => Trial::Serve(failures_of(words, false)?),
+        "serve-silent" => Trial::Serve(failures_of(words, true)?),
+        "world" => Trial::World(failures_of(words, false)?),
+        "world-silent" => Trial::World(failures_of(words, true)?),
         _ => return Some((Trial::Answer, 0)),
     };
     Some((trial, 3))
