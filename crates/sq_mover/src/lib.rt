@@ -2,4 +2,5 @@
 #![tactic(auto)]
 
 pub mod mover;
+pub mod turns;
 mod walks;

@@ -4,6 +4,7 @@ use sq_base::refusal::Refusal;
 use sq_calls::calls::{Answer, Call};
 use sq_calls::turns::{Turn, Turned};
 use sq_model::item::TaskNo;
+use sq_mover::turns::{dead_turn, enter_turn, task_turn};
 use sq_queue::service::{Clock, Open, Service};
 use sq_queue::session::Session;
 use sq_tests_kit::hidden::Hidden;
@@ -60,8 +61,8 @@ impl<D: Ledger, T: Ledger> Actor<D, T> {
         turn: &Turn,
     ) -> Result<Turned, Refusal> {
         match turn {
-            Turn::DeadTurn(name) => service.leave(rt, self.session.get_mut(), name),
-            Turn::EnterTurn => service.bring(rt, self.session.get_mut(), &mut self.tried),
+            Turn::DeadTurn(name) => dead_turn(service, rt, self.session.get_mut(), name),
+            Turn::EnterTurn => enter_turn(service, rt, self.session.get_mut(), &mut self.tried),
             Turn::TaskTurn(Some(task)) => self.serve(rt, service, *task),
             Turn::TaskTurn(None) => Err(Refusal::ResourceNotFoundException),
         }
@@ -83,7 +84,7 @@ impl<D: Ledger, T: Ledger> Actor<D, T> {
         task: TaskNo,
     ) -> Result<Turned, Refusal> {
         let mut walk = self.walk_for(task);
-        let told = service.serve(rt, self.session.get_mut(), &mut walk);
+        let told = task_turn(service, rt, self.session.get_mut(), &mut walk);
         if told != Err(Refusal::ResourceNotFoundException) {
             self.walk = Some(walk);
         }

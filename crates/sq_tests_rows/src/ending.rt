@@ -38,6 +38,14 @@ fn answered<'a, I: Read, W: Write, R: Wait, D: Ledger, T: Ledger>(
     }
 }
 
+// What is told where no world or service can be made.
+fn not_made<E: Write>(refusal: Refusal, errors: &mut E) -> u8 {
+    match refusal {
+        Refusal::InvalidParameterValue => fail(errors, Failure::BadOptions),
+        _ => no_memory(errors),
+    }
+}
+
 // The status of a run that told this.
 fn status_of<E: Write>(told: Result<u64, ServeFault>, errors: &mut E) -> u8 {
     match told {
@@ -106,8 +114,7 @@ fn answer_by_world<I: Read, W: Write, E: Write>(
 ) -> u8 {
     let mut world = match ByWorld::new(alloc, mode.options) {
         Ok(world) => world,
-        Err(Refusal::InvalidParameterValue) => return fail(errors, Failure::BadOptions),
-        Err(_) => return no_memory(errors),
+        Err(refusal) => return not_made(refusal, errors),
     };
     let told = world.answer(alloc, calls, input, output);
     let status = status_of(told, errors);
@@ -143,8 +150,7 @@ fn answer_by_service<R: Wait, I: Read, W: Write, E: Write, D: Ledger, T: Ledger>
     );
     let mut stage = match made {
         Ok(stage) => stage,
-        Err(Refusal::InvalidParameterValue) => return fail(errors, Failure::BadOptions),
-        Err(_) => return no_memory(errors),
+        Err(refusal) => return not_made(refusal, errors),
     };
     let told = answered(rt, alloc, &mut stage, trial, input, output);
     let status = status_of(told, errors);

@@ -7,6 +7,7 @@ use sq_base::refusal::Refusal;
 use sq_calls::turns::Turned;
 use sq_model::item::TaskNo;
 use sq_mover::mover::{Mover, run_mover};
+use sq_mover::turns::{dead_turn, enter_turn, task_turn};
 use std::alloc::Global;
 use std::process::Abort;
 use std::sync::Wait;
@@ -113,16 +114,16 @@ pub fn words<D: Ledger, T: Ledger, R: Wait + Abort>(
 ) -> u64 {
     let (rt, service) = (at.rt, at.service.service());
     let mut tried = 0;
-    let dead = word(service.leave(rt, client.session(), &named(rt, b'q')));
-    let entered = word(service.bring(rt, client.session(), &mut tried));
+    let dead = word(dead_turn(service, rt, client.session(), &named(rt, b'q')));
+    let entered = word(enter_turn(service, rt, client.session(), &mut tried));
     assert!(rt; at.heard(client, Ask::Start(b'd', None)).done, "a task");
     let mut walk = Walk::new(TaskNo::new(1).expect(rt, "a number"));
     let mut words = dead.saturating_mul(10).saturating_add(entered);
     for turn in 2..8usize {
         let next = if turn == 5 {
-            word(service.bring(rt, client.session(), &mut tried))
+            word(enter_turn(service, rt, client.session(), &mut tried))
         } else {
-            word(service.serve(rt, client.session(), &mut walk))
+            word(task_turn(service, rt, client.session(), &mut walk))
         };
         words = words.saturating_mul(10).saturating_add(next);
     }
