@@ -37,10 +37,11 @@ class Judge:
         told = Reply(text)
         return told.is_compact() and any(self.model.is_audit(it, told.told) for it in states)
 
-    def faults(self, first, talk, audit):
-        """What is wrong with replies from this line on, each with the number of its line and what that asks, and with the audit."""
-        states = self.before[first]
-        for at, asked, text in talk:
+    def faults(self, talk, audit):
+        """What is wrong with a talk, each item of which is the number of a line, what was asked and the reply, and with the audit after it."""
+        same = next((it for it, (at, _, text) in enumerate(talk) if it != at or text != self.replies[at]), len(talk))
+        states = self.before[same if same < len(talk) else -1] if same < len(self.before) else self.before[-1]
+        for at, asked, text in talk[same:]:
             reply = Reply(text)
             if not reply.is_compact():
                 yield f"line {at + 1} is answered {text!r}"
@@ -54,5 +55,5 @@ class Judge:
                 yield f"line {at + 1} cannot be answered {text!r} then"
                 return
             states = after
-        if audit is not None and not self.is_audit(states, audit):
+        if not self.is_audit(states, audit):
             yield f"the audit cannot be {audit!r} then"

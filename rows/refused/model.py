@@ -83,11 +83,8 @@ class Model:
 
     def after(self, states, asked, reply):
         """The states in which this reply leaves some states, none where it is a wrong one."""
-        found = {}
-        for state in states:
-            for it in self.after_one(state, asked, reply):
-                found[it.key()] = it
-        return list(found.values())
+        found = [it for state in states for it in self.after_one(state, asked, reply)]
+        return found if len(found) < 2 else list({it.key(): it for it in found}.values())
 
     def after_one(self, state, asked, reply):
         action = self.ACTIONS.get(asked.get("Action"))
