@@ -26,6 +26,10 @@ class Judge:
         if not self.is_audit(states, replies[-1]):
             raise ValueError(f"the audit of the row is {replies[-1]!r}, and by the model it cannot be")
 
+    def has_event(self, at):
+        """Whether a line is answered by an event at the least."""
+        return max(it.least for it in self.before[at]) < min(it.least for it in self.before[at + 1])
+
     def known(self, states, line, reply):
         try:
             return self.model.after(states, line, reply)
@@ -35,7 +39,7 @@ class Judge:
 
     def is_audit(self, states, text):
         told = Reply(text)
-        return told.is_compact() and any(self.model.is_audit(it, told.told) for it in states)
+        return told.is_formed() and any(self.model.is_audit(it, told.told) for it in states)
 
     def faults(self, talk, audit):
         """What is wrong with a talk, each item of which is the number of a line, what was asked and the reply, and with the audit after it."""
@@ -43,7 +47,7 @@ class Judge:
         states = self.before[same if same < len(talk) else -1] if same < len(self.before) else self.before[-1]
         for at, asked, text in talk[same:]:
             reply = Reply(text)
-            if not reply.is_compact():
+            if not reply.is_formed():
                 yield f"line {at + 1} is answered {text!r}"
                 return
             if at in self.alone:

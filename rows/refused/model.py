@@ -13,6 +13,11 @@ HANDLE = re.compile(r"(?:2-)?([0-9a-f]{12})-([0-9a-f]{3})-([0-9a-f]{8})-([0-9a-f
 TASK = re.compile(r"task-([0-9a-f]{16})")
 # What an entry is refused for that is not its sender's fault.
 OURS = {"NoMemory", "ClockRange", "Worn"}
+CODES = {it: number for number, it in enumerate((
+    "NoMemory", "ClockRange", "Worn", "InvalidRequest", "InvalidAttributeName", "InvalidAttributeValue", "InvalidParameterValue", "InvalidAddress",
+    "QueueDoesNotExist", "QueueNameExists", "QueueDeletedRecently", "PurgeQueueInProgress", "InvalidMessageContents", "OverLimit",
+    "ReceiptHandleIsInvalid", "MessageNotInflight", "EmptyBatchRequest", "TooManyEntriesInBatchRequest", "InvalidBatchEntryId",
+    "BatchEntryIdsNotDistinct", "BatchRequestTooLong", "ResourceNotFoundException", "UnsupportedOperation", "TableFull"), 1)}
 CLOSED = "closed"
 
 Settings = collections.namedtuple("Settings", "delay retention timeout target most")
@@ -46,8 +51,8 @@ class State:
         return new
 
     def key(self):
-        return tuple([tuple(sorted(getattr(self, it).items(), key=repr)) if it != "queues" else tuple(self.queues.items()) for it in self.DICTS]
-                     + [getattr(self, it) for it in self.PLAIN])
+        """What two states that are the same have in common."""
+        return (tuple(self.queues), *(frozenset(getattr(self, it).items()) for it in self.DICTS), *(getattr(self, it) for it in self.PLAIN))
 
 
 class Reply:
@@ -58,9 +63,10 @@ class Reply:
         self.code = self.told["Error"]["Code"] if "Error" in self.told else None
         self.is_out = self.code == "NoMemory"
 
-    def is_compact(self):
-        """Whether it is compact JSON with its members in order."""
-        return json.dumps(self.told, separators=(",", ":"), ensure_ascii=False, sort_keys=True).encode() + b"\n" == self.text
+    def is_formed(self):
+        """Whether it is compact JSON with its members in order, and a refusal has its number."""
+        is_known = self.code is None or self.told == {"Error": {"Code": self.code, "Number": CODES.get(self.code)}}
+        return is_known and json.dumps(self.told, separators=(",", ":"), ensure_ascii=False, sort_keys=True).encode() + b"\n" == self.text
 
 
 class Unread(Exception):
@@ -84,7 +90,7 @@ class Model:
     def after(self, states, asked, reply):
         """The states in which this reply leaves some states, none where it is a wrong one."""
         found = [it for state in states for it in self.after_one(state, asked, reply)]
-        return found if len(found) < 2 else list({it.key(): it for it in found}.values())
+        return found if len(found) <= len(states) else list({it.key(): it for it in found}.values())
 
     def after_one(self, state, asked, reply):
         action = self.ACTIONS.get(asked.get("Action"))
@@ -103,10 +109,10 @@ class Model:
         if state.now >= LATEST:
             return None
         nought = (0, 0)
-        before = [state.last.get(it, nought) for it in parts]
-        if len(parts) == 1:
-            return self.above(max(before[0], state.seen.get(actor, nought)), state.now)
-        return self.above(max(self.above(max(before), state.now), state.seen.get(actor, nought)), state.now)
+        seen, first = state.seen.get(actor, nought), state.last.get(parts[0], nought)
+        if len(parts) == 2:
+            first = self.above(max(first, state.last.get(parts[1], nought)), state.now)
+        return self.above(max(first, seen), state.now)
 
     def above(self, before, now):
         if not self.is_exact:
@@ -169,18 +175,13 @@ class Model:
         for key in self.keys(queue):
             if reply.is_out:
                 yield state.copy()
-            home = state.homes.get(key)
-            after = change(state, key, home, self.stamp(state, actor, key))
-            if after:
-                self.commit(state, actor, self.stamp(state, actor, key), key)
+            stamp = self.stamp(state, actor, key)
+            if change(state, key, state.homes.get(key), stamp):
+                self.commit(state, actor, stamp, key)
         if not reply.is_out:
             yield state
 
     # ---- the directory
-
-    def directory_step(self, state, actor, reply):
-        """The stamp of a step of the directory; nothing where the clock refuses it, as this reply must say."""
-        return self.stamp(state, actor, "directory")
 
     def create(self, state, actor, asked, reply):
         name, given = asked["QueueName"], read_attributes(asked.get("Attributes", {}))
@@ -516,50 +517,48 @@ class Model:
     def handle_of(self, queue, text):
         """A home of the queue, with the slot, serial and receive count of a handle."""
         handle = HANDLE.fullmatch(text)
-        number, home, slot, serial, count = (int(it, 16) for it in handle.groups()) if handle else (0, 0, 0, 0, 0)
-        return ((number, home), slot, serial, count) if handle and number == queue.number and home < self.homes else None
+        if not handle:
+            return None
+        number, home, slot, serial, count = (int(it, 16) for it in handle.groups())
+        return ((number, home), slot, serial, count) if number == queue.number and home < self.homes and serial < 2**62 and count else None
 
-    def with_handle(self, state, actor, queue, asked, code):
-        """The home of a handle, the stamp of a step there, its rows and the row of the handle: as many times as the slot of a row is
-        unknown. A refusal before that is one state."""
+    def at_handle(self, state, actor, queue, asked):
+        """The home of a handle, the stamp of a step there, its rows and the row of the handle, if it is there; or a refusal before that."""
         handle = self.handle_of(queue, asked["ReceiptHandle"])
-        key = handle[0] if handle else None
+        key, slot, serial, count = handle or (None, 0, 0, 0)
         home = state.homes.get(key)
         refusal = "ReceiptHandleIsInvalid" if not handle else "ClockRange" if state.now >= LATEST else None
-        refusal = refusal or ("QueueDoesNotExist" if home in (None, CLOSED) else "ReceiptHandleIsInvalid" if handle[2] >= home.next else None)
+        refusal = refusal or ("QueueDoesNotExist" if home in (None, CLOSED) else "ReceiptHandleIsInvalid" if serial >= home.next else None)
         if refusal:
-            return [state] if code == refusal else [], []
+            return refusal, None
         stamp = self.stamp(state, actor, key)
         rows = self.kept(home, stamp[0])
-        row = next((it for it in rows if it.serial == handle[2] and it.receives == handle[3] and it.slot in (None, handle[1])), None)
-        ways = [row] if row is None or row.slot is not None else [row, None]
-        return [], [(state if len(ways) == 1 else state.copy(), key, home, stamp, rows, it) for it in ways]
+        # A row that was never received has no handle, and one that was has shown its slot.
+        return None, (key, home, stamp, rows, next((it for it in rows if (it.slot, it.serial, it.receives) == (slot, serial, count)), None))
 
     def delete_one(self, state, actor, queue, asked, code, _):
-        refused, ways = self.with_handle(state, actor, queue, asked, code)
-        yield from refused
-        for state, key, home, stamp, rows, row in ways:
-            if code is None:
-                self.put(state, key, home, rows)
-                if row:
-                    self.put(state, key, home, rows)
-                    state.gone[row.lineage] = "deleted"
-                    state.homes[key] = home._replace(rows=tuple(it for it in rows if it is not row))
-                self.commit(state, actor, stamp, key)
-                yield state
+        refusal, found = self.at_handle(state, actor, queue, asked)
+        if refusal == code and found:
+            key, home, stamp, rows, row = found
+            self.put(state, key, home, rows)
+            if row:
+                state.gone[row.lineage] = "deleted"
+                state.homes[key] = home._replace(rows=tuple(it for it in rows if it is not row))
+            self.commit(state, actor, stamp, key)
+        if refusal == code:
+            yield state
 
     def change_one(self, state, actor, queue, asked, code, _):
-        refused, ways = self.with_handle(state, actor, queue, asked, code)
-        yield from refused
-        for state, key, home, stamp, rows, row in ways:
+        refusal, found = self.at_handle(state, actor, queue, asked)
+        if found:
+            key, home, stamp, rows, row = found
             until = stamp[0] + 1000 * asked["VisibilityTimeout"]
-            held = row is not None and row.receives and stamp[0] < row.visible
+            held = row and row.receives and stamp[0] < row.visible
             refusal = "MessageNotInflight" if not held else "InvalidParameterValue" if until > row.last + HOURS_12 else None
-            if refusal != code:
-                continue
-            if not refusal:
+            if not refusal and not code:
                 self.put(state, key, home, tuple(it._replace(visible=until) if it is row else it for it in rows))
                 self.commit(state, actor, stamp, key)
+        if refusal == code:
             yield state
 
     # ---- batches
@@ -973,10 +972,6 @@ def change_entry_refusal(entry):
 
 
 # ---- attributes and policies
-
-def read_number(given):
-    return int(given)
-
 
 def read_attributes(given):
     """The attributes of a line: numbers, and policies as they are printed."""

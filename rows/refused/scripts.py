@@ -129,6 +129,10 @@ class Run:
     def refused(self):
         return [at for at, part in enumerate(self.parts) if part]
 
+    def talk(self):
+        """The number of each line, what it asks, and its reply."""
+        return list(zip(range(len(self.row.asked)), self.row.asked, self.replies))
+
     def faults(self, program):
         """What is wrong with it."""
         if self.status == 1:
@@ -140,7 +144,7 @@ class Run:
         elif not self.refused():
             yield from self.differs(self.row.replies)
         else:
-            yield from self.row.judge.faults(list(zip(range(len(self.row.asked)), self.row.asked, self.replies)), self.replies[-1])
+            yield from self.row.judge.faults(self.talk(), self.replies[-1])
             yield from self.replayed_wrong(program)
 
     def ends_early(self):
