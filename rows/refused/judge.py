@@ -1,5 +1,6 @@
 """Whether replies and an audit may come of the lines of a row, by the model."""
-from refused.model import Model, Reply, State, Unread
+from model import Model
+from model.values import Reply, State, Unread
 
 # What a line is refused as for itself, whatever the queues are.
 ALONE = {"InvalidRequest", "UnsupportedOperation", "InvalidAttributeName", "InvalidAttributeValue", "InvalidParameterValue", "InvalidAddress",

@@ -1,7 +1,7 @@
 """Wrong outputs, each of which the judge must tell: a run in which one thing is changed."""
 import json
 
-from refused.model import digest
+from model.values import digest
 
 
 def text_of(told):
@@ -9,10 +9,13 @@ def text_of(told):
 
 
 class Told:
-    """Replies with their audit, one of which is to be changed. With a place that is not in the list the last is taken."""
+    """Replies with their audit, one of which is to be changed: which one, a number says. Whether no choice of homes is hidden, and whether
+    it is known which steps stand."""
 
-    def __init__(self, talk, audit, at, is_exact):
-        self.talk, self.audit, self.at, self.is_exact = talk, json.loads(audit), at, is_exact
+    def __init__(self, row, talk, audit, at):
+        refused = [line for line, _, text in talk if b'"NoMemory"' in text]
+        self.row, self.talk, self.audit, self.at = row, talk, json.loads(audit), at
+        self.is_exact, self.is_settled = row.has_one_home(), all(map(row.is_in_one_step, refused))
 
     def changed(self, change):
         """With one reply changed, the one at the place among those that can be; nothing where none can."""
@@ -50,7 +53,7 @@ def message_is_said_to_be_dropped(told):
 def event_is_lost(told):
     merged = told.audit["Merged"]
     at = told.at % len(merged) if merged else 0
-    return told.audited(merged[:at] + merged[at + 1:], told.audit["Places"]) if merged and told.is_exact else None
+    return told.audited(merged[:at] + merged[at + 1:], told.audit["Places"]) if merged and told.is_settled else None
 
 
 def sent_id_is_another(told):
@@ -99,7 +102,7 @@ def number_of_another_refusal(told):
 
 def refusal_of_another_name(told):
     def change(_, reply):
-        return {"Error": {"Code": "TableFull", "Number": 24}} if reply.get("Error", {}).get("Code") == "NoMemory" else None
+        return {"Error": {"Code": "Worn", "Number": 3}} if reply.get("Error", {}).get("Code") == "NoMemory" else None
     return told.changed(change)
 
 
@@ -123,12 +126,12 @@ def turn_did_nothing(told):
     return told.changed(change)
 
 
-def one_more_counted(told):
+def far_more_are_counted(told):
     name = "ApproximateNumberOfMessages"
 
     def change(_, reply):
         counts = reply.get("Attributes", {})
-        return {"Attributes": {**counts, name: str(int(counts[name]) + 1)}} if name in counts else None
+        return {"Attributes": {**counts, name: str(int(counts[name]) + 1000)}} if name in counts else None
     return told.changed(change)
 
 
@@ -136,21 +139,25 @@ def queue_is_listed_that_is_none(told):
     return told.changed(lambda _, reply: {"QueueUrls": [*reply["QueueUrls"], "http://localhost/000000000000/none"]} if "QueueUrls" in reply else None)
 
 
-PLANTS = [message_is_lost, message_is_listed_twice, message_is_said_to_be_dropped, event_is_lost, sent_id_is_another, given_twice, not_given,
-          other_body, other_handle, number_of_another_refusal, refusal_of_another_name, refused_entry_has_another_id,
-          refused_entry_is_the_senders_fault, turn_did_nothing, one_more_counted, queue_is_listed_that_is_none]
-
-
-def done_all_the_same(row, talk):
+def done_all_the_same(told):
     """The row as if what was refused had been done, if that is an event."""
-    refused = next((at for at, (_, _, text) in enumerate(talk) if b'"NoMemory"' in text), None)
-    is_event = refused is not None and row.has_one_home() and row.judge.has_event(refused)
-    return ([talk[at] if at == refused else (at, row.asked[at], row.replies[at]) for at in range(len(row.asked))], row.replies[-1]) if is_event else None
+    row, refused = told.row, next((at for at, (_, _, text) in enumerate(told.talk) if b'"NoMemory"' in text), None)
+    if refused is None or not told.is_exact or not row.judge.has_event(refused):
+        return None
+    return [told.talk[at] if at == refused else (at, row.asked[at], row.replies[at]) for at in range(len(row.asked))], row.replies[-1]
+
+
+PLANTS = [done_all_the_same, message_is_lost, message_is_listed_twice, message_is_said_to_be_dropped, event_is_lost, sent_id_is_another,
+          given_twice, not_given, other_body, other_handle, number_of_another_refusal, refusal_of_another_name, refused_entry_has_another_id,
+          refused_entry_is_the_senders_fault, turn_did_nothing, far_more_are_counted, queue_is_listed_that_is_none]
 
 
 def planted(row, talk, audit, number):
-    """One wrong output, by a number, with what is wrong with it; nothing where none can be made of this run."""
-    which = number % (len(PLANTS) + 1)
-    if which == len(PLANTS):
-        return "done_all_the_same", done_all_the_same(row, talk)
-    return PLANTS[which].__name__, PLANTS[which](Told(talk, audit, number, row.has_one_home()))
+    """One wrong output that can be made of a run, the first from a number on, with its name."""
+    told = Told(row, talk, audit, number // len(PLANTS))
+    for at in range(len(PLANTS)):
+        plant = PLANTS[(number + at) % len(PLANTS)]
+        made = plant(told)
+        if made:
+            return plant.__name__, made
+    return None, None
