@@ -147,6 +147,7 @@ class Messages(Steps):
         yield from self.by_handle(state, actor, asked, reply, self.change_one)
 
     def by_handle(self, state, actor, asked, reply, one):
+        """What is done with the handle of one message."""
         if reply.is_out:
             yield state.copy()
         queue = self.by_name(state, actor, named(asked))
@@ -163,7 +164,8 @@ class Messages(Steps):
         if not handle:
             return None
         number, home, slot, serial, count = (int(it, 16) for it in handle.groups())
-        return ((number, home), slot, serial, count) if number == queue.number and home < self.homes and serial < 2**62 and count else None
+        is_of_queue = number == queue.number and home < self.homes and serial < 2**62 and count
+        return ((number, home), slot, serial, count) if is_of_queue else None
 
     def at_handle(self, state, actor, queue, asked):
         """The home of a handle, the stamp of a step there, its rows and the row of the handle, if it is there; or a refusal before that."""
@@ -177,7 +179,8 @@ class Messages(Steps):
         stamp = self.stamp(state, actor, key)
         rows = self.kept(home, stamp[0])
         # A row that was never received has no handle, and one that was has shown its slot.
-        return None, (key, home, stamp, rows, next((it for it in rows if (it.slot, it.serial, it.receives) == (slot, serial, count)), None))
+        row = next((it for it in rows if (it.slot, it.serial, it.receives) == (slot, serial, count)), None)
+        return None, (key, home, stamp, rows, row)
 
     def delete_one(self, state, actor, queue, asked, code, _):
         refusal, found = self.at_handle(state, actor, queue, asked)
@@ -213,7 +216,12 @@ class Messages(Steps):
     def change_batch(self, state, actor, asked, reply):
         yield from self.batch(state, actor, asked, reply, self.change_one, change_entry_refusal)
 
+    def has_step(self, queue, entry):
+        """Whether a home is asked for an entry."""
+        return ALLOWED.fullmatch(entry["MessageBody"]) if "MessageBody" in entry else self.handle_of(queue, entry["ReceiptHandle"])
+
     def batch(self, state, actor, asked, reply, one, own_refusal):
+        """Each entry of a batch, one after another."""
         if reply.is_out:
             yield state.copy()
         queue = self.by_name(state, actor, named(asked))
@@ -235,8 +243,10 @@ class Messages(Steps):
         yield from states
 
     def entry(self, state, actor, queue, entry, code, told, one, own_refusal):
+        """An entry is done for itself. It may be refused for want of memory once nothing else before its step refuses it."""
         if code == "NoMemory":
-            yield state
+            if not own_refusal(entry) and self.has_step(queue, entry):
+                yield state
         elif own_refusal(entry):
             if code == own_refusal(entry):
                 yield state

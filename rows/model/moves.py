@@ -7,6 +7,7 @@ class Moves(Steps):
     """Actions on tasks, and turns."""
 
     def start(self, state, actor, asked, reply):
+        """A task is started, once it is read whether messages may move between its queues."""
         if reply.is_out:
             yield state.copy()
         self.read(state, actor, "directory")
@@ -15,15 +16,8 @@ class Moves(Steps):
             return
         source = state.queues.get(named_by_arn(asked["SourceArn"]))
         destination = state.queues.get(named_by_arn(asked["DestinationArn"])) if "DestinationArn" in asked else None
-        refusal = None
-        if not source or ("DestinationArn" in asked and not destination):
-            refusal = "ResourceNotFoundException"
-        elif not any(it.target == source.number for it in state.queues.values()):
-            refusal = "UnsupportedOperation"
         stamp = self.stamp(state, actor, "ledger")
-        refusal = refusal or ("ClockRange" if stamp is None else None)
-        active = [it for it in state.tasks.values() if is_active(it)]
-        refusal = refusal or ("UnsupportedOperation" if any(it.source[0] == source.number for it in active) else "OverLimit" if len(active) >= 100 else None)
+        refusal = "ResourceNotFoundException" if not source or ("DestinationArn" in asked and not destination) else self.start_refusal(state, source, stamp)
         if refusal:
             yield from same(state, reply, refusal)
             return
@@ -34,13 +28,25 @@ class Moves(Steps):
             self.commit(state, actor, stamp, "ledger")
             yield state
 
+    @staticmethod
+    def start_refusal(state, source, stamp):
+        """The first check of a start that fails, of queues that are there."""
+        active = [it for it in state.tasks.values() if is_active(it)]
+        if not any(it.target == source.number for it in state.queues.values()):
+            return "UnsupportedOperation"
+        if stamp is None:
+            return "ClockRange"
+        if any(it.source[0] == source.number for it in active):
+            return "UnsupportedOperation"
+        return "OverLimit" if len(active) >= 100 else None
+
     def cancel(self, state, actor, asked, reply):
         if reply.is_out:
             yield state
             return
         number = task_number(asked["TaskHandle"])
         stamp, task = self.stamp(state, actor, "ledger"), state.tasks.get(number)
-        refusal = "ResourceNotFoundException" if number is None else "ClockRange" if stamp is None else None if task else "ResourceNotFoundException"
+        refusal = "ClockRange" if stamp is None and number is not None else None if task else "ResourceNotFoundException"
         refusal = refusal or (None if task.status == "RUNNING" else "UnsupportedOperation")
         if refusal:
             yield from same(state, reply, refusal)
@@ -81,6 +87,7 @@ class Moves(Steps):
                 yield from self.leave_dead(state, actor, queue, key, reply)
 
     def leave_dead(self, state, actor, queue, key, reply):
+        """Any dead row of a home leaves it."""
         home, stamp = state.homes.get(key), self.stamp(state, actor, key, "ledger")
         if home in (None, CLOSED):
             yield from same(state, reply, "QueueDoesNotExist")
@@ -106,6 +113,7 @@ class Moves(Steps):
         state.next_item += 1
 
     def enter_turn(self, state, actor, asked, reply):
+        """The item after the one that the actor tried last is tried, whatever is answered then."""
         if reply.is_out:
             yield state.copy()
         self.read(state, actor, "ledger")
@@ -131,18 +139,16 @@ class Moves(Steps):
         if home is None:
             yield from same_word(state, reply, "full")
             return
-        if home != CLOSED:
-            rows = self.kept(home, stamp[0])
-            word = "full" if len(rows) >= self.rows else "back" if item.homeward else "entered"
-            if reply.told != {"Turn": word}:
-                return
-            if word != "full":
-                row = came_back(item.row, home.next, stamp[0]) if item.homeward else came_in(item, key, home.next, stamp[0])
-                self.put(state, key, home, rows + (row,), next=home.next + 1)
-        else:
+        rows = () if home == CLOSED else self.kept(home, stamp[0])
+        if home == CLOSED:
             word = "dropped" if item.homeward else "turned"
-            if reply.told != {"Turn": word}:
-                return
+        else:
+            word = "full" if len(rows) >= self.rows else "back" if item.homeward else "entered"
+        if reply.told != {"Turn": word}:
+            return
+        if word in ("back", "entered"):
+            row = came_back(item.row, home.next, stamp[0]) if item.homeward else came_in(item, key, home.next, stamp[0])
+            self.put(state, key, home, rows + (row,), next=home.next + 1)
         if word != "full":
             self.move_on(state, item, word)
             self.commit(state, actor, stamp, key, "ledger")
@@ -190,6 +196,7 @@ class Moves(Steps):
             yield from self.finish(state, actor, task, walk, reply)
 
     def finish(self, state, actor, task, walk, reply):
+        """A task ends, or waits for its items."""
         stamp = self.stamp(state, actor, "ledger")
         if stamp is None:
             yield from same(state, reply, "ClockRange")

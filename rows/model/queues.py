@@ -1,4 +1,6 @@
 """The list of queues, and what their homes do as it changes."""
+import collections
+
 from model.policies import agrees, allow_text, may_have, read_attributes, redrive_text, with_attributes
 from model.steps import Steps
 from model.values import ARN, CLOSED, COUNTS, MINUTE, NUMBERS, URL, Home, Queue, Settings, named, same
@@ -8,6 +10,7 @@ class Queues(Steps):
     """Actions on names and attributes."""
 
     def create(self, state, actor, asked, reply):
+        """The queue is made, if it is not there, and then its homes take its settings, those that do not serve are opened."""
         name, given = asked["QueueName"], read_attributes(asked.get("Attributes", {}))
         if reply.is_out:
             yield state.copy()
@@ -26,6 +29,7 @@ class Queues(Steps):
         yield from self.configure(state, actor, state.queues[name], reply)
 
     def create_refusal(self, state, name, given, moment):
+        """The first check of a creation that fails, after the clock."""
         queue = state.queues.get(name)
         if queue:
             return None if agrees(queue, given) else "QueueNameExists"
@@ -36,6 +40,7 @@ class Queues(Steps):
         return None if state.made < self.queues else "TableFull"
 
     def configure(self, state, actor, queue, reply):
+        """Each home takes the settings of its queue, if their version is above its own."""
         numbers = dict(queue.attributes)
         settings = Settings(numbers["DelaySeconds"], numbers["MessageRetentionPeriod"], numbers["VisibilityTimeout"], queue.target,
                             queue.redrive[1] if queue.redrive else None)
@@ -45,10 +50,9 @@ class Queues(Steps):
                 return False
             if home is None:
                 state.homes[key] = Home(settings, queue.version, 0, ())
-            elif home.version < queue.version:
-                self.put(state, key, home, self.kept(home, stamp[0]), settings=settings, version=queue.version)
             else:
-                self.put(state, key, home, self.kept(home, stamp[0]))
+                newer = {"settings": settings, "version": queue.version} if home.version < queue.version else {}
+                self.put(state, key, home, self.kept(home, stamp[0]), **newer)
             return True
         yield from self.each_home(state, actor, queue.number, reply, change)
 
@@ -58,7 +62,8 @@ class Queues(Steps):
             yield state.copy()
         stamp = self.stamp(state, actor, "directory")
         queue = state.queues.get(name)
-        refusal = "ClockRange" if stamp is None else "QueueDoesNotExist" if not queue else None if may_have(state, name, given) else "InvalidAttributeValue"
+        refusal = "ClockRange" if stamp is None else "QueueDoesNotExist" if not queue else None
+        refusal = refusal or (None if may_have(state, name, given) else "InvalidAttributeValue")
         if refusal:
             yield from same(state, reply, refusal)
             return
@@ -84,9 +89,7 @@ class Queues(Steps):
         def change(state, key, home, stamp):
             if home in (None, CLOSED):
                 return False
-            kept = self.kept(home, stamp[0])
-            self.put(state, key, home, kept)
-            state.gone.update({it.lineage: "purged" for it in kept})
+            self.let_go(state, home, stamp, "purged")
             state.homes[key] = home._replace(rows=())
             return True
         if reply.is_out or reply.told == {}:
@@ -109,13 +112,16 @@ class Queues(Steps):
             if home == CLOSED:
                 return False
             if home:
-                kept = self.kept(home, stamp[0])
-                self.put(state, key, home, kept)
-                state.gone.update({it.lineage: "closed" for it in kept})
+                self.let_go(state, home, stamp, "closed")
             state.homes[key] = CLOSED
             return True
         if reply.is_out or reply.told == {}:
             yield from self.each_home(state, actor, queue.number, reply, change)
+
+    def let_go(self, state, home, stamp, word):
+        """All rows of a home are gone: those that have expired, and the others by this word."""
+        kept = self.kept(home, stamp[0])
+        state.gone.update({it.lineage: word if it in kept else "expired" for it in home.rows})
 
     def tell(self, state, actor, reply, refusal, told):
         """A step of the directory that only tells."""
@@ -156,21 +162,32 @@ class Queues(Steps):
         self.commit(state, actor, stamp, "directory")
         shown = {**{it: str(number) for it, number in queue.attributes}, "QueueArn": ARN + queue.name,
                  "RedrivePolicy": redrive_text(queue.redrive), "RedriveAllowPolicy": allow_text(queue.allow)}
-        counts = [0, 0, 0]
-        if any(it in COUNTS for it in names):
-            for key in self.keys(queue.number):
-                if reply.is_out:
-                    yield state.copy()
-                home = state.homes.get(key)
-                if home in (None, CLOSED):
-                    yield from same(state, reply, "QueueDoesNotExist")
-                    return
-                stamp = self.stamp(state, actor, key)
-                rows = self.kept(home, stamp[0])
-                visible, flying = sum(1 for it in rows if it.visible <= stamp[0]), self.in_flight(rows, stamp[0])
-                counts = [counts[0] + visible, counts[1] + len(rows) - visible - flying, counts[2] + flying]
-                self.put(state, key, home, rows)
-                self.commit(state, actor, stamp, key)
-            shown.update({it: str(many) for it, many in zip(COUNTS, counts)})
-        if reply.told == {"Attributes": {it: shown[it] for it in names if shown[it] is not None}}:
+        if not any(it in COUNTS for it in names):
+            if reply.told == shown_of(names, shown):
+                yield state
+            return
+        yield from self.counted(state, actor, queue, names, shown, reply)
+
+    def counted(self, state, actor, queue, names, shown, reply):
+        """Each home counts its messages, and one that does not serve ends that."""
+        counts = collections.Counter(dict.fromkeys(COUNTS, 0))
+        for key in self.keys(queue.number):
+            if reply.is_out:
+                yield state.copy()
+            home = state.homes.get(key)
+            if home in (None, CLOSED):
+                yield from same(state, reply, "QueueDoesNotExist")
+                return
+            stamp = self.stamp(state, actor, key)
+            rows = self.kept(home, stamp[0])
+            visible, in_flight = sum(it.visible <= stamp[0] for it in rows), self.in_flight(rows, stamp[0])
+            counts.update(dict(zip(COUNTS, (visible, len(rows) - visible - in_flight, in_flight))))
+            self.put(state, key, home, rows)
+            self.commit(state, actor, stamp, key)
+        if reply.told == shown_of(names, {**shown, **{it: str(many) for it, many in counts.items()}}):
             yield state
+
+
+def shown_of(names, shown):
+    """The attributes of these names, without policies that are not set."""
+    return {"Attributes": {it: shown[it] for it in names if shown[it] is not None}}
