@@ -2,7 +2,7 @@
 import collections
 
 from model.steps import Steps
-from model.values import ALLOWED, CLOSED, HANDLE, HOURS_12, LATEST, OURS, Row, digest, id_text, named, same
+from model.values import ALLOWED, CLOSED, HANDLE, HOURS_12, LATEST, OURS, Row, Unread, digest, id_text, named, same
 
 
 class Messages(Steps):
@@ -144,6 +144,8 @@ class Messages(Steps):
         yield from self.by_handle(state, actor, asked, reply, self.delete_one)
 
     def change(self, state, actor, asked, reply):
+        if change_entry_refusal(asked):
+            raise Unread("a timeout")
         yield from self.by_handle(state, actor, asked, reply, self.change_one)
 
     def by_handle(self, state, actor, asked, reply, one):

@@ -1,22 +1,35 @@
 """The attributes of a queue, and its policies."""
 import json
+import re
 
-from model.values import ARN, named_by_arn
+from model.values import ARN, Unread, named_by_arn
 
+RANGES = {"DelaySeconds": (0, 900), "MessageRetentionPeriod": (60, 1_209_600), "ReceiveMessageWaitTimeSeconds": (0, 20),
+          "VisibilityTimeout": (0, 43_200)}
+
+
+def number_of(given, least, most):
+    """A number of an attribute, which is a whole number or a text of digits, in its range."""
+    is_whole = isinstance(given, int) and not isinstance(given, bool)
+    if not is_whole and not re.fullmatch("[0-9]{1,20}", given):
+        raise Unread("a number")
+    if not least <= int(given) <= most:
+        raise Unread("a range")
+    return int(given)
 
 
 def read_attributes(given):
     """The attributes of a line: numbers, and policies as they are printed."""
     found = {}
     for name, value in given.items():
+        if name in RANGES:
+            found[name] = number_of(value, *RANGES[name])
+            continue
+        policy = json.loads(value) if value else None
         if name == "RedrivePolicy":
-            policy = json.loads(value) if value else None
-            found[name] = (named_by_arn(policy["deadLetterTargetArn"]), int(policy["maxReceiveCount"])) if policy else None
-        elif name == "RedriveAllowPolicy":
-            policy = json.loads(value) if value else None
-            found[name] = (policy["redrivePermission"], tuple(map(named_by_arn, policy.get("sourceQueueArns") or ()))) if policy else None
+            found[name] = policy and (named_by_arn(policy["deadLetterTargetArn"]), number_of(policy["maxReceiveCount"], 1, 1_000))
         else:
-            found[name] = int(value)
+            found[name] = policy and (policy["redrivePermission"], tuple(map(named_by_arn, policy.get("sourceQueueArns") or ())))
     return found
 
 

@@ -73,7 +73,7 @@ class Again:
 
     def end(self, rest, status, error):
         """Holds all that was answered against what may be."""
-        told = len(self.talk) - self.tried.total()
+        told = len(self.talk) - sum(self.tried.values())
         if status == 1:
             if is_out_of_memory(error) not in ((told, "audit") if told == len(self.row.lines) else (told,)) or self.tried:
                 self.faults.append(f"it ends with {error!r} after {told} lines")

@@ -45,7 +45,7 @@ class Judge:
     def faults(self, talk, audit):
         """What is wrong with a talk, each item of which is the number of a line, what was asked and the reply, and with the audit after it."""
         same = next((it for it, (at, _, text) in enumerate(talk) if it != at or text != self.replies[at]), len(talk))
-        states = self.before[same if same < len(talk) else -1] if same < len(self.before) else self.before[-1]
+        states = self.before[same]
         for at, asked, text in talk[same:]:
             reply = Reply(text)
             if not reply.is_formed():

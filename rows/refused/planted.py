@@ -140,8 +140,8 @@ def queue_is_listed_that_is_none(told):
 
 
 def done_all_the_same(told):
-    """The row as if what was refused had been done, if that is an event."""
-    row, refused = told.row, next((at for at, (_, _, text) in enumerate(told.talk) if b'"NoMemory"' in text), None)
+    """The row as if a line that was refused had been done, if that is an event."""
+    row, refused = told.row, next((at for at, (_, _, text) in enumerate(told.talk) if text.startswith(b'{"Error":{"Code":"NoMemory"')), None)
     if refused is None or not told.is_exact or not row.judge.has_event(refused):
         return None
     return [told.talk[at] if at == refused else (at, row.asked[at], row.replies[at]) for at in range(len(row.asked))], row.replies[-1]
