@@ -32,6 +32,7 @@ class Judge:
         return max(it.least for it in self.before[at]) < min(it.least for it in self.before[at + 1])
 
     def known(self, states, line, reply):
+        """The states after a line of the row, none if it cannot be answered so."""
         try:
             return self.model.after(states, line, reply)
         except (Unread, KeyError, TypeError, ValueError, AttributeError):
@@ -39,6 +40,7 @@ class Judge:
             return []
 
     def is_audit(self, states, text):
+        """Whether an audit is that of one of these states."""
         told = Reply(text)
         return told.is_formed() and any(self.model.is_audit(it, told.told) for it in states)
 
