@@ -1,11 +1,11 @@
 -- What the steps of a call get for a reply, and why they are refused, whatever the parts that they are done on lie in.
 use Rattle.std.proofs.Common.{◌≡◌, ◌⊎◌, ℕ, ◌+◌, Bool, true, false, not, ◌&&◌, ◌||◌, List, length, Option, Some, None, Result, Ok, Err, subst, inl, inr}
-use Rattle.std.specs.Prelude.{max, nat_le, if◌then◌else◌}
+use Rattle.std.specs.Prelude.{max, nat_le, nat_lt, if◌then◌else◌}
 use Rattle.sq_base.specs.Stamps.{stamp_end, next_at, after, stamped}
 use Rattle.sq_base.specs.StampValue.{StampValue}
 use Rattle.sq_base.specs.declared.ids.HomeId.{HomeId}
 use Rattle.sq_base.specs.declared.refusal.Refusal.{Refusal}
-use Rattle.sq_base.specs.declared.refusal.Refusal.TheVariants.{NoMemory, ClockRange, Worn, InvalidAttributeValue, InvalidParameterValue, PurgeQueueInProgress, QueueDoesNotExist, OverLimit, ReceiptHandleIsInvalid, ResourceNotFoundException, MessageNotInflight, UnsupportedOperation}
+use Rattle.sq_base.specs.declared.refusal.Refusal.TheVariants.{NoMemory, ClockRange, Worn, InvalidAttributeValue, InvalidParameterValue, PurgeQueueInProgress, QueueDoesNotExist, OverLimit, ReceiptHandleIsInvalid, ResourceNotFoundException, MessageNotInflight, UnsupportedOperation, HomeDraining}
 use Rattle.std.specs.List.{list_any}
 use Rattle.sq_base.specs.declared.row.Row.{Row}
 use Rattle.sq_model.specs.Directories.{Directory, DirectoryStep, MoveEnds, agrees, create_refusal, deleted_recently, directory_refusal, last_version, may_have, can_redrive, move_between, move_from, move_to, purged_recently, queue_of, refused_at}
@@ -21,14 +21,15 @@ use Rattle.sq_model.specs.declared.directory.DirectoryCall.TheVariants as asks
 use Rattle.sq_model.specs.declared.directory.DirectoryReply.{DirectoryReply}
 use Rattle.sq_model.specs.declared.directory.DirectoryReply.TheVariants as answers
 use Rattle.sq_model.specs.declared.directory.Queue.{Queue}
-use Rattle.sq_model.specs.Rows.{ms, is_dead, is_held, is_late, is_live}
+use Rattle.sq_model.specs.Rows.{ms, is_at_rest, is_dead, is_held, is_late, is_live}
 use Rattle.sq_model.specs.declared.task.Task.{Task}
 use Rattle.sq_model.specs.Tasks.{is_running}
 use Rattle.sq_model.specs.Ledgers.{Ledger, LedgerStep, cancel_refusal, finish_refusal, in_transit, is_of_source, item_of, last_number, ledger_refusal, transit_refusal, task_of}
 use Rattle.sq_model.specs.Shared.{after_given, is_entering, is_returning, is_throttled, shared_refusal, task_refusal}
 use Rattle.sq_model.specs.declared.shared.SharedAct.{SharedAct}
 use Rattle.sq_model.specs.declared.shared.SharedAct.TheVariants as move
-use Rattle.sq_model.specs.Homes.{Home, Unopened, Serving, Closed, last_serial, slots, HomeStep, home_refusal, full_refusal, refused_if, unexpired_rows}
+use Rattle.sq_model.specs.Homes.{Home, Unopened, Serving, Closed, last_serial, slots, HomeStep, accepts, home_refusal, full_refusal, is_draining, refused_if, unexpired_rows}
+use Rattle.sq_model.specs.declared.home_mode.HomeMode.{HomeMode}
 use Rattle.sq_model.specs.declared.place.Site.{Site}
 use Rattle.sq_model.specs.declared.replies.HomeReply.{HomeReply}
 use Rattle.sq_model.specs.declared.replies.HomeReply.TheVariants as reply
@@ -56,6 +57,8 @@ reply_is site home m (act.Delete receipt) reply.Done after h = tt
 reply_is site home m (act.Change receipt timeout) reply.Done after h = tt
 reply_is site home m act.Purge reply.Done after h = tt
 reply_is site home m act.Count (reply.Counted counts) after h = tt
+reply_is site home m act.StartDrain reply.Done after h = tt
+reply_is site home m act.FinishDrain reply.Done after h = tt
 reply_is site Unopened m a by after h = elim h [ ]
 reply_is site (Serving its) m a by after h = elim h [ ]
 reply_is site Closed m a by after h = elim h [ ]
@@ -90,7 +93,10 @@ refusal_is site Unopened m act.Close e h = absurd cc
 refusal_is site Closed m act.Close e h = inr (inl cc)
 refusal_is site (Serving its) m (act.Send body delay) e h =
     let kept : List Row = unexpired_rows its m in
-    elim (two_cases (nat_le last_serial its.next || nat_le slots (length kept)) (nat_le site.limits.rows (length kept)) Worn OverLimit e h) [ inl worn ↦ inl (inr (inr worn)) | inr over ↦ inr (inr over) ]
+    elim (three_cases (not (accepts its.mode)) (nat_le last_serial its.next || nat_le slots (length kept)) (nat_le site.limits.rows (length kept)) HomeDraining Worn OverLimit e h) [
+      | inl draining ↦ inr (inr (inl draining))
+      | inr rest ↦ elim rest [ inl worn ↦ inl (inr (inr worn)) | inr over ↦ inr (inr (inr over)) ]
+    ]
 refusal_is site Unopened m (act.Send body delay) e h = inr (inl cc)
 refusal_is site Closed m (act.Send body delay) e h = inr (inl cc)
 refusal_is site (Serving its) m (act.Look max timeout) e h = absurd cc
@@ -110,6 +116,12 @@ refusal_is site Closed m act.Purge e h = inr (inl cc)
 refusal_is site (Serving its) m act.Count e h = absurd cc
 refusal_is site Unopened m act.Count e h = inr (inl cc)
 refusal_is site Closed m act.Count e h = inr (inl cc)
+refusal_is site (Serving its) m act.StartDrain e h = absurd cc
+refusal_is site Unopened m act.StartDrain e h = inr (inl cc)
+refusal_is site Closed m act.StartDrain e h = inr (inl cc)
+refusal_is site (Serving its) m act.FinishDrain e h = inr (inr (one_case (not (is_draining its.mode) || nat_lt 0 (length (unexpired_rows its m))) UnsupportedOperation e h))
+refusal_is site Unopened m act.FinishDrain e h = inr (inl cc)
+refusal_is site Closed m act.FinishDrain e h = inr (inl cc)
 
 -- why no stamp is given
 if_err : {X : Type 0} (test : Bool) (r e : Refusal) (other : Result X Refusal) → (if test then Err r else other) ≡ Err e → (e ≡ r) ⊎ (other ≡ Err e)
@@ -156,21 +168,30 @@ task_cases home number (Some task) later e own h = elim (refused_cases (not (is_
 ]
 
 -- why an item does not come in at a home that serves, where it is not for this home or else
-arrival_is : (site : Site) (n : ℕ) (rows : List Row) (other : Bool) (e : Refusal) → full_refusal site.limits n rows (refused_if other UnsupportedOperation None) ≡ Some e → IsOfAnyStep e ⊎ (e ≡ QueueDoesNotExist) ⊎ (e ≡ OverLimit) ⊎ (e ≡ UnsupportedOperation)
-arrival_is site n rows other e h =
-    elim (three_cases (nat_le last_serial n || nat_le slots (length rows)) (nat_le site.limits.rows (length rows)) other Worn OverLimit UnsupportedOperation e h) [ inl worn ↦ inl (inr (inr worn)) | inr rest ↦ inr (inr rest) ]
+arrival_is : (site : Site) (mode : HomeMode) (n : ℕ) (rows : List Row) (other : Bool) (e : Refusal) → full_refusal site.limits mode n rows (refused_if other UnsupportedOperation None) ≡ Some e
+    → IsOfAnyStep e ⊎ (e ≡ QueueDoesNotExist) ⊎ (e ≡ HomeDraining) ⊎ (e ≡ OverLimit) ⊎ (e ≡ UnsupportedOperation)
+arrival_is site mode n rows other e h =
+    elim (refused_cases (not (accepts mode)) HomeDraining _ e h) [
+      | inl draining ↦ inr (inr (inl draining))
+      | inr taking ↦ elim (three_cases (nat_le last_serial n || nat_le slots (length rows)) (nat_le site.limits.rows (length rows)) other Worn OverLimit UnsupportedOperation e taking) [ inl worn ↦ inl (inr (inr worn)) | inr rest ↦ inr (inr (inr rest)) ]
+    ]
 
 shared_is : (site : Site) (home : Home) (l : Ledger) (m : ℕ) (what : SharedAct) (e : Refusal) → shared_refusal site home l m what ≡ Some e → IsOfAnyStep e ⊎ (e ≡ QueueDoesNotExist) ⊎ IsOfMove what e
 unfolding shared_refusal
 shared_is site Unopened l m what e h = inr (inl cc)
 shared_is site (Serving its) l m move.LeaveDead e h = elim (dead_cases l (list_any (is_dead its.settings m) (unexpired_rows its m)) e h) [ inl any ↦ inl any | inr over ↦ inr (inr over) ]
+shared_is site (Serving its) l m move.LeaveDrain e h = elim (refused_cases (not (is_draining its.mode)) UnsupportedOperation _ e h) [
+  | inl over ↦ inr (inr (inl over))
+  | inr rest ↦ elim (dead_cases l (list_any (is_at_rest m) (unexpired_rows its m)) e rest) [ inl any ↦ inl any | inr full ↦ inr (inr (inr full)) ]
+]
 shared_is site (Serving its) l m (move.LeaveTask number) e h =
     task_cases site.home number (task_of number l) _ e (λ later. dead_cases l (not (is_throttled m (task_of number l)) && list_any (is_live its.settings m) (unexpired_rows its m)) e later) h
-shared_is site (Serving its) l m (move.Enter number) e h = arrival_is site its.next (unexpired_rows its m) (not (is_entering site.home (item_of number l))) e h
+shared_is site (Serving its) l m (move.Enter number) e h = arrival_is site its.mode its.next (unexpired_rows its m) (not (is_entering site.home (item_of number l))) e h
 shared_is site (Serving its) l m (move.TurnBack number) e h = inr (inr cc)
-shared_is site (Serving its) l m (move.GiveBack number) e h = arrival_is site its.next (unexpired_rows its m) (not (is_returning site.home (item_of number l))) e h
+shared_is site (Serving its) l m (move.GiveBack number) e h = arrival_is site its.mode its.next (unexpired_rows its m) (not (is_returning site.home (item_of number l))) e h
 shared_is site (Serving its) l m (move.Drop number) e h = inr (inr cc)
 shared_is site Closed l m move.LeaveDead e h = inr (inl cc)
+shared_is site Closed l m move.LeaveDrain e h = inr (inl cc)
 shared_is site Closed l m (move.LeaveTask number) e h = task_cases site.home number (task_of number l) None e (λ later. absurd (no_refusal e later)) h
 shared_is site Closed l m (move.Enter number) e h = inr (inl cc)
 shared_is site Closed l m (move.TurnBack number) e h = inr (inr (one_case (not (is_entering site.home (item_of number l))) UnsupportedOperation e h))

@@ -30,6 +30,7 @@ use Rattle.sq_actions.specs.Asks.{AskDirectory, AskHome, AskShared, AskLedger, A
 -- the call of a step of both has the item that was asked
 call_is : (l : Ledger) (what : SharedAct) (call : HomeCall) → IsCallOf l what call → IsCallFor what call
 call_is l move.LeaveDead call h = h
+call_is l move.LeaveDrain call h = h
 call_is l (move.LeaveTask number) call h = h
 call_is l (move.Enter number) call h = (h.0, found_number (λ i. i.number) number l.items h.0 h.1, h.2)
 call_is l (move.TurnBack number) call h = (h.0, found_number (λ i. i.number) number l.items h.0 h.1, h.2)

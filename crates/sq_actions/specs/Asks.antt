@@ -5,7 +5,7 @@ use Rattle.sq_base.specs.StampValue.{StampValue}
 use Rattle.sq_base.specs.Stamps.{Below}
 use Rattle.sq_base.specs.declared.ids.HomeId.{HomeId}
 use Rattle.sq_base.specs.declared.refusal.Refusal.{Refusal}
-use Rattle.sq_base.specs.declared.refusal.Refusal.TheVariants.{NoMemory, ClockRange, Worn, InvalidAttributeValue, InvalidParameterValue, PurgeQueueInProgress, QueueDeletedRecently, QueueDoesNotExist, QueueNameExists, OverLimit, ReceiptHandleIsInvalid, ResourceNotFoundException, MessageNotInflight, TableFull, UnsupportedOperation}
+use Rattle.sq_base.specs.declared.refusal.Refusal.TheVariants.{NoMemory, ClockRange, Worn, InvalidAttributeValue, InvalidParameterValue, PurgeQueueInProgress, QueueDeletedRecently, QueueDoesNotExist, QueueNameExists, OverLimit, ReceiptHandleIsInvalid, ResourceNotFoundException, MessageNotInflight, TableFull, UnsupportedOperation, HomeDraining}
 use Rattle.sq_model.specs.declared.directory.DirectoryCall.{DirectoryCall}
 use Rattle.sq_model.specs.declared.directory.DirectoryCall.TheVariants as asks
 use Rattle.sq_model.specs.declared.directory.DirectoryReply.{DirectoryReply}
@@ -103,6 +103,8 @@ IsReplyTo (act.Delete receipt) reply.Done = Unit {0}
 IsReplyTo (act.Change receipt timeout) reply.Done = Unit {0}
 IsReplyTo act.Purge reply.Done = Unit {0}
 IsReplyTo act.Count (reply.Counted counts) = Unit {0}
+IsReplyTo act.StartDrain reply.Done = Unit {0}
+IsReplyTo act.FinishDrain reply.Done = Unit {0}
 IsReplyTo act other = ⊥
 
 -- what the ledger tells of a step of its own
@@ -121,12 +123,14 @@ IsOfAnyStep e = (e ≡ NoMemory) ⊎ (e ≡ ClockRange) ⊎ (e ≡ Worn)
 abbrev pub IsOfAct : HomeAct → Refusal → Type 0
 IsOfAct (act.Configure settings version) e = ⊥
 IsOfAct act.Close e = ⊥
-IsOfAct (act.Send body delay) e = e ≡ OverLimit
+IsOfAct (act.Send body delay) e = (e ≡ HomeDraining) ⊎ (e ≡ OverLimit)
 IsOfAct (act.Look max timeout) e = ⊥
 IsOfAct (act.Delete receipt) e = e ≡ ReceiptHandleIsInvalid
 IsOfAct (act.Change receipt timeout) e = (e ≡ ReceiptHandleIsInvalid) ⊎ (e ≡ MessageNotInflight) ⊎ (e ≡ InvalidParameterValue)
 IsOfAct act.Purge e = ⊥
 IsOfAct act.Count e = ⊥
+IsOfAct act.StartDrain e = ⊥
+IsOfAct act.FinishDrain e = e ≡ UnsupportedOperation
 
 -- and what may refuse this call of the directory
 abbrev pub MayRefuseDirectory : DirectoryCall → Refusal → Type 0
@@ -142,10 +146,11 @@ MayRefuseDirectory (asks.Read name) e = e ≡ QueueDoesNotExist
 -- and what may refuse this step of a home and the ledger
 abbrev pub IsOfMove : SharedAct → Refusal → Type 0
 IsOfMove move.LeaveDead e = e ≡ OverLimit
+IsOfMove move.LeaveDrain e = (e ≡ UnsupportedOperation) ⊎ (e ≡ OverLimit)
 IsOfMove (move.LeaveTask number) e = (e ≡ ResourceNotFoundException) ⊎ (e ≡ UnsupportedOperation) ⊎ (e ≡ OverLimit)
-IsOfMove (move.Enter number) e = (e ≡ OverLimit) ⊎ (e ≡ UnsupportedOperation)
+IsOfMove (move.Enter number) e = (e ≡ HomeDraining) ⊎ (e ≡ OverLimit) ⊎ (e ≡ UnsupportedOperation)
 IsOfMove (move.TurnBack number) e = e ≡ UnsupportedOperation
-IsOfMove (move.GiveBack number) e = (e ≡ OverLimit) ⊎ (e ≡ UnsupportedOperation)
+IsOfMove (move.GiveBack number) e = (e ≡ HomeDraining) ⊎ (e ≡ OverLimit) ⊎ (e ≡ UnsupportedOperation)
 IsOfMove (move.Drop number) e = e ≡ UnsupportedOperation
 
 -- what may refuse a step of a home and the ledger
@@ -187,6 +192,7 @@ pub record IsLedgerRecord (what : TaskAct) (answered : LedgerReply) (n : RecordV
 -- the call of a step of a home and the ledger: for the task, or with the item, of this number
 abbrev pub IsCallFor : SharedAct → HomeCall → Type 0
 IsCallFor move.LeaveDead call = call ≡ at_home.LeaveDead
+IsCallFor move.LeaveDrain call = call ≡ at_home.LeaveDrain
 IsCallFor (move.LeaveTask number) call = call ≡ at_home.LeaveTask number
 IsCallFor (move.Enter number) call = (item : Item) × (item.number ≡ number) × (call ≡ at_home.Enter item)
 IsCallFor (move.TurnBack number) call = (item : Item) × (item.number ≡ number) × (call ≡ at_home.TurnBack item)

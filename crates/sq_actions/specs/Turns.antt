@@ -2,7 +2,7 @@
 use Rattle.std.specs.Prelude.{◌≡◌, ◌⊎◌, ℕ, ◌<◌, ◌≤◌, length, Bool, true, false, ◌&&◌, nat_lt, List, [], ◌∷◌, if◌then◌else◌, Option, Some, None, Result, Ok, Err}
 use Rattle.sq_base.specs.declared.ids.HomeId.{HomeId}
 use Rattle.sq_base.specs.declared.refusal.Refusal.{Refusal}
-use Rattle.sq_base.specs.declared.refusal.Refusal.TheVariants.{NoMemory, ClockRange, Worn, QueueDoesNotExist, OverLimit, ResourceNotFoundException, UnsupportedOperation}
+use Rattle.sq_base.specs.declared.refusal.Refusal.TheVariants.{NoMemory, ClockRange, Worn, QueueDoesNotExist, OverLimit, ResourceNotFoundException, UnsupportedOperation, HomeDraining}
 use Rattle.sq_model.specs.declared.replies.HomeReply.{HomeReply}
 use Rattle.sq_model.specs.declared.replies.HomeReply.TheVariants.{NoLiveRow}
 use Rattle.sq_model.specs.declared.replies.HomeReply.TheVariants as reply
@@ -13,7 +13,7 @@ use Rattle.sq_model.specs.Tasks.{is_active, is_running}
 use Rattle.sq_calls.specs.declared.turns.Turned.{Turned}
 use Rattle.sq_calls.specs.declared.turns.Turned.TheVariants as word
 use Rattle.sq_model.specs.declared.shared.SharedAct.{SharedAct}
-use Rattle.sq_model.specs.declared.shared.SharedAct.TheVariants.{LeaveDead, LeaveTask, Enter, TurnBack, GiveBack, Drop}
+use Rattle.sq_model.specs.declared.shared.SharedAct.TheVariants.{LeaveDead, LeaveDrain, LeaveTask, Enter, TurnBack, GiveBack, Drop}
 use Rattle.sq_model.specs.declared.task.NamedQueue.{NamedQueue}
 use Rattle.sq_steps.specs.declared.act.NextItem.{NextItem}
 use Rattle.sq_steps.specs.declared.act.TaskAct.TheVariants.{Finish}
@@ -49,15 +49,17 @@ left_word (reply.Entered entered) = word.Left
 -- the word for a step that was done
 abbrev pub word_of : SharedAct → HomeReply → Turned
 word_of LeaveDead reply = word.Left
+word_of LeaveDrain reply = word.Left
 word_of (LeaveTask number) reply = left_word reply
 word_of (Enter number) reply = word.Entered
 word_of (TurnBack number) reply = word.Turned
 word_of (GiveBack number) reply = word.Back
 word_of (Drop number) reply = word.Dropped
 
--- Two words of a step: where nothing was done and nothing is wrong, since the task is at its rate, or no dead letter is there to leave; and where it cannot be done any more, since the task takes no messages now, or the item is not there for it.
+-- Two words of a step: where nothing was done and nothing is wrong, since the task is at its rate, or no message is there to leave; and where it cannot be done any more, since the task takes no messages now, the home does not drain, or the item is not there for it.
 abbrev pub words_apart : SharedAct → Turned × Turned
 words_apart LeaveDead = (word.Nothing, word.Nothing)
+words_apart LeaveDrain = (word.Nothing, word.Ended)
 words_apart (LeaveTask number) = (word.Throttled, word.Ended)
 words_apart (Enter number) = (word.Nothing, word.Nothing)
 words_apart (TurnBack number) = (word.Nothing, word.Nothing)
@@ -80,12 +82,13 @@ abbrev pub IsTold : SharedAct → Refusal → Type 0
 IsTold (LeaveTask number) e = IsOfAnyStep e ⊎ (e ≡ QueueDoesNotExist) ⊎ (e ≡ ResourceNotFoundException)
 IsTold other e = IsOfAnyStep e ⊎ (e ≡ QueueDoesNotExist)
 
--- The word for a step that moves a message: its own where it was done, the one for nothing, `full` where there is no room, and the one for a step that cannot be done any more.
+-- The word for a step that moves a message: its own where it was done, the one for nothing, `full` where there is no room or the home takes no messages, and the one for a step that cannot be done any more.
 abbrev pub WordFor : SharedAct → Result Gave Refusal → Result Turned Refusal → Type 0
 WordFor what by answered =
     ((reply : HomeReply) × (by ≡ Ok (Replied reply)) × (answered ≡ Ok (word_of what reply)))
     ⊎ ((by ≡ Ok Nothing) × (answered ≡ Ok (none_word what)))
     ⊎ ((by ≡ Err OverLimit) × (answered ≡ Ok word.Full))
+    ⊎ ((by ≡ Err HomeDraining) × (answered ≡ Ok word.Full))
     ⊎ ((by ≡ Err UnsupportedOperation) × (answered ≡ Ok (over_word what)))
     ⊎ ((e : Refusal) × IsTold what e × (by ≡ Err e) × (answered ≡ Err e))
 

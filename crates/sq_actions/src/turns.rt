@@ -207,7 +207,7 @@ fn word_for(
     match answered {
         Ok(Some(reply)) => Ok(word_of(what, &reply)),
         Ok(None) => Ok(none_word(what)),
-        Err(Refusal::OverLimit) => Ok(Turned::Full),
+        Err(Refusal::OverLimit | Refusal::HomeDraining) => Ok(Turned::Full),
         Err(Refusal::UnsupportedOperation) => Ok(over_word(what)),
         Err(refusal) => Err(refusal),
     }
@@ -218,7 +218,7 @@ fn word_of(what: SharedAct, reply: &HomeReply) -> Turned
     ensures { result ≡ word_of what reply.now }
 {
     match what {
-        SharedAct::LeaveDead => Turned::Left,
+        SharedAct::LeaveDead | SharedAct::LeaveDrain => Turned::Left,
         SharedAct::LeaveTask(_) => left_word(reply),
         SharedAct::Enter(_) => Turned::Entered,
         SharedAct::TurnBack(_) => Turned::Turned,
@@ -253,7 +253,7 @@ fn over_word(what: SharedAct) -> Turned
     ensures { result ≡ over_word what }
 {
     match what {
-        SharedAct::LeaveTask(_) => Turned::Ended,
+        SharedAct::LeaveDrain | SharedAct::LeaveTask(_) => Turned::Ended,
         _ => Turned::Nothing,
     }
 }

@@ -9,7 +9,7 @@ use Rattle.std.proofs.lemmas.Option.{slice_get_within, slice_get_read}
 use Rattle.sq_base.specs.Stamps.{Below}
 use Rattle.sq_base.specs.declared.ids.HomeId.{HomeId}
 use Rattle.sq_model.specs.declared.calls.HomeCall.{HomeCall}
-use Rattle.sq_model.specs.declared.calls.HomeCall.TheVariants.{LeaveDead, LeaveTask, Enter, TurnBack, GiveBack, Drop}
+use Rattle.sq_model.specs.declared.calls.HomeCall.TheVariants.{LeaveDead, LeaveDrain, LeaveTask, Enter, TurnBack, GiveBack, Drop}
 use Rattle.sq_model.specs.declared.ledger.LedgerCall.{LedgerCall}
 use Rattle.sq_model.specs.declared.ledger.LedgerCall.TheVariants.{AtHome, StartTask, CancelTask, ListTasks, FinishTask}
 use Rattle.sq_model.specs.declared.ledger.LedgerReply.{LedgerReply}
@@ -429,6 +429,7 @@ module _ (per_queue : ℕ) (homes : List HistoryValue) (numbered : IsNumbered pe
 shares : (v : Ledger) (m : ℕ) (call : LedgerCall) (reply : LedgerReply) (after : Ledger) → LedgerStep v m call reply after → is_shared_as is_alone call ≡ false
 unfolding LedgerStep
 shares v m (AtHome home LeaveDead) reply after h = refl
+shares v m (AtHome home LeaveDrain) reply after h = refl
 shares v m (AtHome home (LeaveTask number)) reply after h = refl
 shares v m (AtHome home (Enter item)) reply after h = refl
 shares v m (AtHome home (TurnBack item)) reply after h = refl

@@ -1,7 +1,7 @@
 -- The numbers and the names of refusals.
 use Rattle.std.specs.Prelude.{ℕ, List, codes}
 use Rattle.sq_base.specs.declared.refusal.Refusal.{Refusal}
-use Rattle.sq_base.specs.declared.refusal.Refusal.TheVariants.{NoMemory, ClockRange, Worn, InvalidRequest, InvalidAttributeName, InvalidAttributeValue, InvalidParameterValue, InvalidAddress, QueueDoesNotExist, QueueNameExists, QueueDeletedRecently, PurgeQueueInProgress, InvalidMessageContents, OverLimit, ReceiptHandleIsInvalid, MessageNotInflight, EmptyBatchRequest, TooManyEntriesInBatchRequest, InvalidBatchEntryId, BatchEntryIdsNotDistinct, BatchRequestTooLong, ResourceNotFoundException, UnsupportedOperation, TableFull}
+use Rattle.sq_base.specs.declared.refusal.Refusal.TheVariants.{NoMemory, ClockRange, Worn, InvalidRequest, InvalidAttributeName, InvalidAttributeValue, InvalidParameterValue, InvalidAddress, QueueDoesNotExist, QueueNameExists, QueueDeletedRecently, PurgeQueueInProgress, InvalidMessageContents, OverLimit, ReceiptHandleIsInvalid, MessageNotInflight, EmptyBatchRequest, TooManyEntriesInBatchRequest, InvalidBatchEntryId, BatchEntryIdsNotDistinct, BatchRequestTooLong, ResourceNotFoundException, UnsupportedOperation, TableFull, HomeDraining}
 
 -- the numbers are own
 abbrev pub number_of : Refusal → ℕ
@@ -29,8 +29,9 @@ number_of BatchRequestTooLong = 21
 number_of ResourceNotFoundException = 22
 number_of UnsupportedOperation = 23
 number_of TableFull = 24
+number_of HomeDraining = 25
 
--- as in the SQS API Reference, but for NoMemory, ClockRange, Worn and TableFull, which are own
+-- as in the SQS API Reference, but for NoMemory, ClockRange, Worn, TableFull and HomeDraining, which are own
 abbrev pub name_of : Refusal → List ℕ
 name_of NoMemory = codes "NoMemory"
 name_of ClockRange = codes "ClockRange"
@@ -56,3 +57,4 @@ name_of BatchRequestTooLong = codes "BatchRequestTooLong"
 name_of ResourceNotFoundException = codes "ResourceNotFoundException"
 name_of UnsupportedOperation = codes "UnsupportedOperation"
 name_of TableFull = codes "TableFull"
+name_of HomeDraining = codes "HomeDraining"

@@ -14,7 +14,7 @@ pub struct Handle {
     pub home: HomeNo,
     pub slot: u32,
     pub serial: Serial,
-    /// 1 for the first receive of the row at its home.
+    /// 1 for the first receive of the row at its home; a row that came from a drained home goes on from what was counted there.
     pub receive: Receives,
 }
 

@@ -4,8 +4,8 @@ ghost use Rattle.sq_base.specs.Refusals.{number_of, name_of};
 
 use std::alloc::{AllocError, AllocFailed};
 
-/// The names are those of the SQS API Reference, but for `NoMemory`, `ClockRange`, `Worn` and
-/// `TableFull`, which are own. The numbers are own.
+/// The names are those of the SQS API Reference, but for `NoMemory`, `ClockRange`, `Worn`,
+/// `TableFull` and `HomeDraining`, which are own. The numbers are own.
 #[derive(Clone, Copy, PartialEq, Eq, Debug)]
 pub enum Refusal {
     /// No memory was found.
@@ -36,10 +36,12 @@ pub enum Refusal {
     UnsupportedOperation = 23,
     /// No further queue may be made.
     TableFull = 24,
+    /// The home takes no more messages: it is drained, or is about to be.
+    HomeDraining = 25,
 }
 
 impl Refusal {
-    /// The number of the refusal, from 1 to 24. Own.
+    /// The number of the refusal, from 1 to 25. Own.
     pub fn number(self) -> u8
         ensures { result ≡ number_of self }
     {
@@ -75,6 +77,7 @@ impl Refusal {
             Refusal::ResourceNotFoundException => "ResourceNotFoundException",
             Refusal::UnsupportedOperation => "UnsupportedOperation",
             Refusal::TableFull => "TableFull",
+            Refusal::HomeDraining => "HomeDraining",
         }
     }
 }

@@ -13,7 +13,7 @@ pub struct Row {
     /// Given by the home that holds the row, from 0 upwards and never twice.
     pub serial: Serial,
     pub slot: u32,
-    /// The receive number: how often it was received, as its home counts.
+    /// The receive number: how often it was received, as its home counts, and before it a home that was drained.
     pub receives: u32,
     pub enqueued: u64,
     pub visible_from: u64,

@@ -6,7 +6,7 @@ use Rattle.sq_model.specs.declared.calls.HomeCall.TheVariants as call
 use Rattle.sq_model.specs.Homes.{Home, home_refusal}
 use Rattle.sq_shard.specs.Looks.{GivesAny}
 use Rattle.sq_history.specs.declared.act.HomeAct.{HomeAct}
-use Rattle.sq_history.specs.declared.act.HomeAct.TheVariants.{Configure, Close, Send, Look, Delete, Change, Purge, Count}
+use Rattle.sq_history.specs.declared.act.HomeAct.TheVariants.{Configure, Close, Send, Look, Delete, Change, Purge, Count, StartDrain, FinishDrain}
 
 abbrev pub call_of : HomeAct → HomeCall
 call_of (Configure t w) = call.Configure t w
@@ -17,6 +17,8 @@ call_of (Delete receipt) = call.Delete receipt
 call_of (Change receipt timeout) = call.Change receipt timeout
 call_of Purge = call.Purge
 call_of Count = call.Count
+call_of StartDrain = call.StartDrain
+call_of FinishDrain = call.FinishDrain
 
 -- a copy of the act takes memory
 abbrev pub HasBytes : HomeAct → Type 0
@@ -28,6 +30,8 @@ HasBytes (Delete receipt) = ⊥
 HasBytes (Change receipt timeout) = ⊥
 HasBytes Purge = ⊥
 HasBytes Count = ⊥
+HasBytes StartDrain = ⊥
+HasBytes FinishDrain = ⊥
 
 -- memory is got for what its event and its record hold together: settings
 abbrev pub HoldsAny : HomeCall → Type 0

@@ -6,18 +6,21 @@ use Rattle.sq_base.specs.declared.refusal.Refusal.{Refusal}
 use Rattle.sq_base.specs.declared.refusal.Refusal.TheVariants.{NoMemory}
 use Rattle.sq_base.specs.declared.row.Row.{Row}
 use Rattle.sq_model.specs.declared.calls.HomeCall.{HomeCall}
-use Rattle.sq_model.specs.declared.calls.HomeCall.TheVariants.{LeaveDead, LeaveTask}
+use Rattle.sq_model.specs.declared.calls.HomeCall.TheVariants.{LeaveTask}
 use Rattle.sq_model.specs.declared.event.Actor.{Actor}
 use Rattle.sq_model.specs.declared.item.Item.{Item}
 use Rattle.sq_model.specs.declared.place.Site.{Site}
 use Rattle.sq_model.specs.declared.replies.HomeReply.{HomeReply}
+use Rattle.sq_model.specs.declared.shared.HomeLeave.{HomeLeave}
+use Rattle.sq_model.specs.declared.shared.HomeLeave.TheVariants.{Dead, Drain}
 use Rattle.sq_model.specs.declared.shared.ItemAct.{ItemAct}
+use Rattle.sq_model.specs.HomeLeaves.{leave_call}
 use Rattle.sq_model.specs.declared.replies.HomeReply.TheVariants.{Left, NoLiveRow, NoOrigin, SourceClosed}
 use Rattle.sq_model.specs.declared.task.Task.{Task}
-use Rattle.sq_model.specs.Homes.{Home, Unopened, Serving, Closed, home_refusal, unexpired_rows}
-use Rattle.sq_model.specs.Rows.{is_dead}
+use Rattle.sq_model.specs.Homes.{Home, Unopened, Serving, Closed, home_refusal, is_draining, unexpired_rows}
+use Rattle.sq_model.specs.Rows.{is_at_rest, is_dead}
 use Rattle.sq_model.specs.Tasks.{target_of}
-pub use Rattle.sq_shard.specs.Moves.{IsLiveAt, PutsRow, has_live_row, item_refusal}
+pub use Rattle.sq_shard.specs.Moves.{IsLiveAt, PutsRow, has_live_row, item_refusal, leave_target}
 use Rattle.sq_history.specs.HistoryValue.{HistoryValue}
 use Rattle.sq_history.specs.Histories.{RecordsShared}
 use Rattle.sq_history.specs.declared.shared.HomeHalf.{HomeHalf}
@@ -48,12 +51,23 @@ HasDead (Serving its) m = list_any (is_dead its.settings m) (unexpired_rows its 
 HasDead Unopened m = ⊥
 HasDead Closed m = ⊥
 
--- Why no dead message leaves a home's rows: no memory was found for copies of one that may leave; the home's first check that fails; or the ledger takes none in.
-abbrev pub IsDeadRefused : Site → Home → ℕ → Result ℕ Refusal → Refusal → Type 0
-IsDeadRefused site home m number e =
-    ((e ≡ NoMemory) × HasDead home m × ((n : ℕ) × (number ≡ Ok n)))
-    ⊎ (home_refusal site home m LeaveDead ≡ Some e)
-    ⊎ (HasDead home m × (number ≡ Err e))
+-- the home drains, and a message that is not in flight is there
+abbrev pub HasToDrain : Home → ℕ → Type 0
+HasToDrain (Serving its) m = (is_draining its.mode ≡ true) × (list_any (is_at_rest m) (unexpired_rows its m) ≡ true)
+HasToDrain Unopened m = ⊥
+HasToDrain Closed m = ⊥
+
+-- a message that may leave so is there
+abbrev pub MayOneLeave : HomeLeave → Home → ℕ → Type 0
+MayOneLeave Dead home m = HasDead home m
+MayOneLeave Drain home m = HasToDrain home m
+
+-- Why no message leaves a home's rows so: no memory was found for copies of one that may leave; the home's first check that fails; or the ledger takes none in.
+abbrev pub IsLeaveRefused : HomeLeave → Site → Home → ℕ → Result ℕ Refusal → Refusal → Type 0
+IsLeaveRefused what site home m number e =
+    ((e ≡ NoMemory) × MayOneLeave what home m × ((n : ℕ) × (number ≡ Ok n)))
+    ⊎ (home_refusal site home m (leave_call what) ≡ Some e)
+    ⊎ (MayOneLeave what home m × (number ≡ Err e))
 
 -- the item is there
 abbrev pub HasItem : Option Item → Type 0

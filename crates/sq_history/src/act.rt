@@ -35,6 +35,8 @@ pub enum HomeAct {
     Change(Receipt, Timeout),
     Purge,
     Count,
+    StartDrain,
+    FinishDrain,
 }
 
 impl HomeAct {
@@ -52,6 +54,8 @@ impl HomeAct {
             HomeAct::Change(receipt, timeout) => HomeAct::Change(*receipt, *timeout),
             HomeAct::Purge => HomeAct::Purge,
             HomeAct::Count => HomeAct::Count,
+            HomeAct::StartDrain => HomeAct::StartDrain,
+            HomeAct::FinishDrain => HomeAct::FinishDrain,
         })
     }
 
@@ -89,6 +93,16 @@ impl HomeAct {
             }
             HomeAct::Purge => (HomeCall::Purge, HomeCall::Purge, HomeCall::Purge),
             HomeAct::Count => (HomeCall::Count, HomeCall::Count, HomeCall::Count),
+            HomeAct::StartDrain => (
+                HomeCall::StartDrain,
+                HomeCall::StartDrain,
+                HomeCall::StartDrain,
+            ),
+            HomeAct::FinishDrain => (
+                HomeCall::FinishDrain,
+                HomeCall::FinishDrain,
+                HomeCall::FinishDrain,
+            ),
         })
     }
 }
@@ -133,6 +147,14 @@ pub(crate) fn ask<S: Store>(
             SmallReply::Done
         }
         HomeCall::Count => SmallReply::Counted(shard.count(moment)?),
+        HomeCall::StartDrain => {
+            shard.start_drain(moment)?;
+            SmallReply::Done
+        }
+        HomeCall::FinishDrain => {
+            shard.finish_drain(moment)?;
+            SmallReply::Done
+        }
         _ => unreachable!(),
     };
     Ok(Answer::of(told))

@@ -2,8 +2,8 @@
 #![tactic(auto)]
 
 pub mod act;
-mod dead_leave;
 pub mod events;
+mod home_leave;
 pub mod homes;
 pub mod record;
 pub mod recorded;

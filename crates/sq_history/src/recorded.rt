@@ -82,10 +82,11 @@ impl<S: Store> Recorded<S> {
 
     /// Does one act, at its stamp. What it tells is what its record says.
     /// Refused as NoMemory (the history has no spare memory, or settings are held), ClockRange, Worn, and then as the
-    /// home's call, or as NoMemory for a send's row (it shows no spare memory) and the rows that a look gives: QueueDoesNotExist (not serving; closed already, where
-    /// it is configured or closed), Worn and OverLimit (a send, for want of serials or full), ReceiptHandleIsInvalid (a
-    /// serial that was never given), MessageNotInflight (a change, with no row in flight on which slot, serial and
-    /// receive number agree), InvalidParameterValue (a change, later than 12 hours after the last receive).
+    /// home's call, or as NoMemory for a send's row (it shows no spare memory) and the rows that a look gives: QueueDoesNotExist (not
+    /// serving; closed already, where it is configured or closed), HomeDraining (a send, where the home drains or is drained), Worn and
+    /// OverLimit (a send, for want of serials or full), ReceiptHandleIsInvalid (a serial that was never given), MessageNotInflight (a
+    /// change, with no row in flight on which slot, serial and receive number agree), InvalidParameterValue (a change, later than 12
+    /// hours after the last receive), UnsupportedOperation (the end of a drain, where it does not drain or holds a message).
     pub fn step(
         &mut self,
         alloc: Global,

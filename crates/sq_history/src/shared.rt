@@ -3,20 +3,20 @@ ghost use Rattle.std.specs.Prelude.{◌≡◌, ◌⊎◌, ◌++◌, ◌∷◌, [
 ghost use Rattle.sq_base.specs.Stamps.{Below, start};
 ghost use Rattle.sq_model.specs.Replays.{StampsRise};
 ghost use Rattle.sq_model.specs.declared.item.Item.{Item as Moved};
-ghost use Rattle.sq_model.specs.declared.item.Reason.TheVariants.{DeadLetter};
 ghost use Rattle.sq_model.specs.declared.task.Task.{Task as Taking};
-ghost use Rattle.sq_model.specs.declared.calls.HomeCall.TheVariants.{LeaveDead, LeaveTask};
+ghost use Rattle.sq_model.specs.declared.calls.HomeCall.TheVariants.{LeaveTask};
 ghost use Rattle.sq_model.specs.declared.replies.HomeReply.TheVariants.{Left};
 ghost use Rattle.sq_model.specs.Homes.{HomeStep, IsFrom, IsIdle};
+ghost use Rattle.sq_model.specs.HomeLeaves.{leave_call, leave_reason};
 ghost use Rattle.sq_model.specs.ItemActs.{call_with, replied_by};
-ghost use Rattle.sq_shard.specs.Moves.{KeepsSpareRows, item_refusal};
-ghost use Rattle.sq_history.specs.Halves.{DoesHalf, HasItem, IsActRefused, IsDeadRefused, IsHalfRefused, IsTaker, IsTaskAnswer, IsTaskRefused, IsThrottled, IsWithout};
+ghost use Rattle.sq_shard.specs.Moves.{KeepsSpareRows, item_refusal, leave_target};
+ghost use Rattle.sq_history.specs.Halves.{DoesHalf, HasItem, IsActRefused, IsHalfRefused, IsLeaveRefused, IsTaker, IsTaskAnswer, IsTaskRefused, IsThrottled, IsWithout};
 ghost use Rattle.sq_history.specs.inside.Halves.{AreCopies};
 ghost use Rattle.sq_history.specs.Histories.{new_event, new_record};
 ghost use Rattle.sq_log.specs.Spares.{IsReady, KeepsSpare};
 
 use crate::act::{Answer, SmallReply};
-use crate::dead_leave::leave_dead;
+use crate::home_leave::{leave_call, leave_home};
 use crate::record::HomeRecord;
 use crate::recorded::{Recorded, add_step};
 use crate::task_leave::{TaskAnswer, leave_for_task};
@@ -29,7 +29,7 @@ use sq_model::calls::HomeCall;
 use sq_model::event::Actor;
 use sq_model::item::{HeldItem, Item, ItemNo};
 use sq_model::replies::{EnteredRow, HomeReply};
-use sq_model::shared::ItemAct;
+use sq_model::shared::{HomeLeave, ItemAct};
 use sq_shard::shard::Shard;
 use sq_store::store::Store;
 use sq_task::leave::TaskLeave;
@@ -114,38 +114,39 @@ impl<S: Store> Recorded<S> {
         self.shard.site().home
     }
 
-    /// A dead message, any of them, leaves for its dead-letter queue: it is told with the item that it becomes. None where
-    /// none is dead, which is no event. The number of the item is what the ledger gives, or why it takes none in.
-    /// Refused as NoMemory (the history has no spare memory), as the stamp, as QueueDoesNotExist (not serving), and where a
-    /// message is dead as the ledger, and then as NoMemory (it is copied).
-    pub fn leave_dead(
+    /// A message leaves, any that may: a dead one for its dead-letter queue, or one that is not in flight for another home of its
+    /// queue. It is told with the item that it becomes. None where there is none, which is no event. The number of the item is what
+    /// the ledger gives, or why it takes none in.
+    /// Refused as NoMemory (the history has no spare memory), as the stamp, as QueueDoesNotExist (not serving),
+    /// UnsupportedOperation (a drain, and it does not drain), and where a message may leave as the ledger, and then as NoMemory
+    /// (it is copied).
+    #[tactic(auto, using(crate::proofs::HalfLaws::leave_shared, crate::proofs::HalfLaws::leave_keeps_spare))]
+    pub fn leave(
         &mut self,
         step: &StampedStep,
+        what: HomeLeave,
         number: Result<ItemNo, Refusal>,
     ) -> Result<Option<(HomeHalf, Item)>, Refusal>
         requires above_last { IfOk step.now.stamp (Below self.old.last) }
         requires above_seen { IfOk step.now.stamp (Below step.now.by.seen) }
-        ensures leaves { IfOk result (λ left. IfSome left (λ l. DoesHalf self.old self.new step.now.by step.now.stamp step.now.name LeaveDead l.0)) }
+        ensures leaves { IfOk result (λ left. IfSome left (λ l. DoesHalf self.old self.new step.now.by step.now.stamp step.now.name (leave_call what) l.0)) }
         ensures item { IfOk result (λ left. IfSome left (λ l. l.0.its_record.reply ≡ Left l.1)) }
-        ensures from { IfOk result (λ left. IfSome left (λ l. IsFrom self.old.site.home DeadLetter l.1)) }
+        ensures from { IfOk result (λ left. IfSome left (λ l. IsFrom self.old.site.home (leave_reason what) l.1)) }
+        ensures target { IfOk result (λ left. IfSome left (λ l. leave_target what self.old.site self.old.home ≡ Some l.1.target)) }
         ensures number { IfOk result (λ left. IfSome left (λ l. number ≡ Ok l.1.number)) }
-        ensures none { IfOk result (λ left. IfNone left (IsWithout step.now.stamp (λ m. IsIdle self.old.home m LeaveDead))) }
+        ensures none { IfOk result (λ left. IfNone left (IsWithout step.now.stamp (λ m. IsIdle self.old.home m (leave_call what)))) }
         ensures kept { IfOk result (λ left. IfNone left (self.new ≡ self.old)) }
-        ensures refusal { IfErr result (IsHalfRefused self.old ⊥ step.now.stamp (λ m e. IsDeadRefused self.old.site self.old.home m number e)) }
+        ensures refusal { IfErr result (IsHalfRefused self.old ⊥ step.now.stamp (λ m e. IsLeaveRefused what self.old.site self.old.home m number e)) }
         ensures err { OnErr result (self.new ≡ self.old) }
     {
         self.log.reserve()?;
         let stamp = step.stamp?;
-        let found = leave_dead(step.alloc, &mut self.shard, stamp.moment, number)?;
+        let found = leave_home(step.alloc, &mut self.shard, what, stamp.moment, number)?;
         let Some((item, answers)) = found else {
             return Ok(None);
         };
         let home = self.shard.site().home;
-        let calls = (
-            HomeCall::LeaveDead,
-            HomeCall::LeaveDead,
-            HomeCall::LeaveDead,
-        );
+        let calls = (leave_call(what), leave_call(what), leave_call(what));
         let half = note(&mut self.log, step, stamp, &home, calls, answers);
         Ok(Some((half, item)))
     }
@@ -195,8 +196,8 @@ impl<S: Store> Recorded<S> {
 
     /// This is done with the item here, which is copied before the clock.
     /// Refused as NoMemory (the history has no spare memory, or the item is copied), and as the stamp. Then where its row comes
-    /// in as QueueDoesNotExist (not serving), Worn (no serial is left), OverLimit (full), and where it is sent back or dropped
-    /// as QueueDoesNotExist (never opened), UnsupportedOperation (serving). Then as UnsupportedOperation (no item, or not one
+    /// in as QueueDoesNotExist (not serving), HomeDraining (it drains, or is drained), Worn (no serial is left), OverLimit (full), and
+    /// where it is sent back or dropped as QueueDoesNotExist (never opened), UnsupportedOperation (serving). Then as UnsupportedOperation (no item, or not one
     /// for this home), and as NoMemory (its row comes in where the home shows no spare memory).
     pub fn item_step(
         &mut self,

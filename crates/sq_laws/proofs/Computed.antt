@@ -12,9 +12,11 @@ use Rattle.sq_model.specs.declared.directory.DirectoryCall.TheVariants as direct
 use Rattle.sq_model.specs.declared.directory.DirectoryReply.{DirectoryReply}
 use Rattle.sq_model.specs.declared.directory.DirectoryReply.TheVariants as answers
 use Rattle.sq_model.specs.declared.directory.Queue.{Queue}
+use Rattle.sq_model.specs.declared.home_mode.HomeMode.{HomeMode}
+use Rattle.sq_model.specs.declared.home_mode.HomeMode.TheVariants.{Accepting, Drained}
 use Rattle.sq_model.specs.declared.item.Item.{Item}
 use Rattle.sq_model.specs.declared.item.Reason.{Reason}
-use Rattle.sq_model.specs.declared.item.Reason.TheVariants.{DeadLetter, Task as ForTask}
+use Rattle.sq_model.specs.declared.item.Reason.TheVariants.{Task as ForTask}
 use Rattle.sq_model.specs.declared.ledger.LedgerCall.{LedgerCall}
 use Rattle.sq_model.specs.declared.ledger.LedgerCall.TheVariants.{AtHome as CallAtHome, CancelTask, FinishTask, ListTasks, StartTask}
 use Rattle.sq_model.specs.declared.ledger.LedgerReply.{LedgerReply}
@@ -24,14 +26,17 @@ use Rattle.sq_model.specs.declared.place.Limits.{Limits}
 use Rattle.sq_model.specs.declared.place.Site.{Site}
 use Rattle.sq_model.specs.declared.replies.HomeReply.{HomeReply}
 use Rattle.sq_model.specs.declared.replies.HomeReply.TheVariants.{Counted, Done, Entered, Left, Looked, NoLiveRow, NoOrigin, Sent}
+use Rattle.sq_model.specs.declared.shared.HomeLeave.{HomeLeave}
+use Rattle.sq_model.specs.declared.shared.HomeLeave.TheVariants.{Dead, Drain}
 use Rattle.sq_model.specs.declared.task.FailureReason.TheVariants as because
 use Rattle.sq_model.specs.declared.task.NamedQueue.{NamedQueue}
 use Rattle.sq_model.specs.declared.task.Task.{Task}
 use Rattle.sq_model.specs.Directories.{Directory, DirectoryStep, agrees, attributes_at, changed_queue, deleted_recently, may_have, new_queue, purged_recently, queue_of, queues_without, settings_at}
-use Rattle.sq_model.specs.Homes.{Closed, Contents, MayHoldOneMore, Home, HomeStep, IsFrom, Serving, Unopened, counts_of, dead_target, entered_row, fresh_id, last_serial, may_enter, may_return, returned_row, sent_row, slots}
+use Rattle.sq_model.specs.HomeLeaves.{leave_call, leave_reason}
+use Rattle.sq_model.specs.Homes.{Closed, Contents, MayHoldOneMore, Home, HomeStep, IsFrom, Serving, Unopened, accepts, counts_of, dead_target, entered_row, fresh_id, is_draining, last_serial, may_enter, may_return, once_draining, returned_row, sent_row, slots}
 use Rattle.sq_model.specs.Ledgers.{TakesOneMore, Ledger, LedgerStep, MayTake, changed_for, changed_task, in_transit, is_active_at, is_of_source, is_own, item_of, items_without, last_number, most_active, task_of, tasks_of, turned_if}
 use Rattle.sq_model.specs.Replays.{HomeEvent}
-use Rattle.sq_model.specs.Rows.{RisesFrom, Takes, is_dead, is_free, is_live, ms, received, received_if, flights_left, serials_of, unexpired, without}
+use Rattle.sq_model.specs.Rows.{RisesFrom, Takes, is_at_rest, is_dead, is_free, is_live, ms, received, received_if, flights_left, serials_of, unexpired, without}
 use Rattle.sq_model.specs.Systems.{HomeAt, IsRun, IsStep, LedgerGoes, MomentsRise, OfDirectory, OfHome, OfLedger, RunFrom, System, Tag, is_alone, opening, stamp_of, Opening}
 use Rattle.sq_model.specs.Tasks.{cancelled_as, destination_or, failed_as, finished_as, is_active, is_running, may_leave, new_task, target_of, with_back, with_dropped, with_left, with_moved, with_status}
 use Rattle.sq_model.proofs.RowLaws.{first_is_look, rises_unexpired}
@@ -43,15 +48,16 @@ use Rattle.sq_laws.proofs.SharedLaws.{and_both, by_its_number, is_false}
 under : (a b : ℕ) → nat_lt a b ≡ true → a < b
 under a b h = grind (arith, common_steps)
 
-abbrev pub can_hold : Limits → ℕ → ℕ → List Row → Bool
-can_hold l next slot rows = nat_lt next last_serial && (nat_lt (length rows) slots && (nat_lt (length rows) l.rows && is_free slot rows))
+abbrev pub can_hold : Limits → HomeMode → ℕ → ℕ → List Row → Bool
+can_hold l mode next slot rows = accepts mode && (nat_lt next last_serial && (nat_lt (length rows) slots && (nat_lt (length rows) l.rows && is_free slot rows)))
 
-held_more : (l : Limits) (next slot : ℕ) (rows : List Row) → can_hold l next slot rows ≡ true → MayHoldOneMore l next slot rows
-held_more l next slot rows h =
-    let worn = and_both _ _ h in
+held_more : (l : Limits) (mode : HomeMode) (next slot : ℕ) (rows : List Row) → can_hold l mode next slot rows ≡ true → MayHoldOneMore l mode next slot rows
+held_more l mode next slot rows h =
+    let accepting = and_both _ _ h in
+    let worn = and_both _ _ accepting.1 in
     let left = and_both _ _ worn.1 in
     let within = and_both _ _ left.1 in
-    record { not_worn = under _ _ worn.0; slot_left = under _ _ left.0; within = under _ _ within.0; free = within.1 }
+    record { accepting = accepting.0; not_worn = under _ _ worn.0; slot_left = under _ _ left.0; within = under _ _ within.0; free = within.1 }
 
 abbrev pub takes_one_more : Ledger → Bool
 takes_one_more l = nat_lt l.next_item last_number && nat_lt (length l.items) l.limit
@@ -127,7 +133,7 @@ module _ (site : Site) (its : Contents) (l : Ledger) (e : HomeEvent) where
 
   abbrev pub sends : List ℕ → Option ℕ → Outcome
   sends body delay = record {
-    done = can_hold site.limits its.next slot kept;
+    done = can_hold site.limits its.mode its.next slot kept;
     call = asks.Send body delay;
     reply = Sent (record { id = fresh_id site.home its.next; slot = slot });
     home = Serving (record its { next = its.next + 1; rows = kept ++ sent_row site.home its.next slot e.stamp.moment (e.stamp.moment + ms (unwrap_or delay its.settings.delay)) body ∷ [] });
@@ -154,24 +160,58 @@ module _ (site : Site) (its : Contents) (l : Ledger) (e : HomeEvent) where
   abbrev pub with_item : Item → List Task → Ledger
   with_item item tasks = record l { items = l.items ++ item ∷ []; next_item = l.next_item + 1; tasks = tasks }
 
-  abbrev pub dead_leaves : Option ℕ → Option Row → Outcome
-  dead_leaves (Some target) (Some row) = record {
-    done = takes_one_more l;
-    call = asks.LeaveDead;
-    reply = Left (leaving row target DeadLetter);
-    home = Serving (record its { rows = rest_of (is_dead its.settings e.stamp.moment) kept });
-    ledger = with_item (leaving row target DeadLetter) l.tasks;
+  -- a row for which no task asks, the first of those that may leave
+  abbrev pub leaves_home : HomeLeave → (Row → Bool) → Bool → ℕ → Row → Outcome
+  leaves_home why may ready target row = record {
+    done = ready && takes_one_more l;
+    call = leave_call why;
+    reply = Left (leaving row target (leave_reason why));
+    home = Serving (record its { rows = rest_of may kept });
+    ledger = with_item (leaving row target (leave_reason why)) l.tasks;
   }
+
+  from_home : (why : HomeLeave) (target : ℕ) (row : Row) → IsFrom site.home (leave_reason why) (leaving row target (leave_reason why))
+  from_home why target row = record { from = refl; because = refl; forward = refl }
+
+  abbrev pub dead_leaves : Option ℕ → Option Row → Outcome
+  dead_leaves (Some target) (Some row) = leaves_home Dead (is_dead its.settings e.stamp.moment) true target row
   dead_leaves target found = not_done asks.LeaveDead (Serving its) l
 
   dead_left : (target : Option ℕ) (found : Option Row) → dead_target its.settings.redrive ≡ target → find (is_dead its.settings e.stamp.moment) kept ≡ found → (dead_leaves target found).done ≡ true → IsDone site (Serving its) l e (dead_leaves target found)
   unfolding HomeStep LedgerStep
   dead_left (Some target) (Some row) to is h =
       let t = first_taken (is_dead its.settings e.stamp.moment) kept row is in
-      let from : IsFrom site.home DeadLetter (leaving row target DeadLetter) = record { from = refl; because = refl; forward = refl } in
+      let from = from_home Dead target row in
       record { step = (from, sym to, t.1, (_, t.0, refl)); in_ledger = (from, (one_more_fits l h, refl, refl)) }
   dead_left (Some target) None to is h = absurd cc
   dead_left None found to is h = absurd cc
+
+  abbrev pub drain_leaves : Option Row → Outcome
+  drain_leaves None = not_done asks.LeaveDrain (Serving its) l
+  drain_leaves (Some row) = leaves_home Drain (is_at_rest e.stamp.moment) (is_draining its.mode) site.home.queue row
+
+  drain_left : (found : Option Row) → find (is_at_rest e.stamp.moment) kept ≡ found → (drain_leaves found).done ≡ true → IsDone site (Serving its) l e (drain_leaves found)
+  unfolding HomeStep LedgerStep
+  drain_left None is h = absurd cc
+  drain_left (Some row) is h =
+      let both = and_both _ _ h in
+      let t = first_taken (is_at_rest e.stamp.moment) kept row is in
+      let from = from_home Drain site.home.queue row in
+      record { step = (from, refl, both.0, t.1, (_, t.0, refl)); in_ledger = (from, refl, (one_more_fits l both.1, refl, refl)) }
+
+  -- ---- the drain itself
+
+  abbrev pub starts_drain : Outcome
+  starts_drain = record { done = true; call = asks.StartDrain; reply = Done; home = Serving (record its { mode = once_draining its.mode; rows = kept }); ledger = l }
+
+  abbrev pub finishes_drain : List Row → Outcome
+  finishes_drain [] = record { done = is_draining its.mode; call = asks.FinishDrain; reply = Done; home = Serving (record its { mode = Drained; rows = [] }); ledger = l }
+  finishes_drain (row ∷ rows) = not_done asks.FinishDrain (Serving its) l
+
+  drain_finished : (rows : List Row) → kept ≡ rows → (finishes_drain rows).done ≡ true → IsDone site (Serving its) l e (finishes_drain rows)
+  unfolding HomeStep
+  drain_finished [] is h = record { step = (h, is, refl); in_ledger = refl }
+  drain_finished (row ∷ rows) is h = absurd cc
 
   -- ---- of a task
 
@@ -242,7 +282,7 @@ module _ (site : Site) (its : Contents) (l : Ledger) (e : HomeEvent) where
   -- ---- of an item
 
   abbrev pub comes_in : Bool → HomeCall → Row → Ledger → Outcome
-  comes_in may call row after = record { done = may && can_hold site.limits its.next slot kept; call = call; reply = Entered (record { serial = its.next; slot = slot }); home = Serving (record its { next = its.next + 1; rows = kept ++ row ∷ [] }); ledger = after }
+  comes_in may call row after = record { done = may && can_hold site.limits its.mode its.next slot kept; call = call; reply = Entered (record { serial = its.next; slot = slot }); home = Serving (record its { next = its.next + 1; rows = kept ++ row ∷ [] }); ledger = after }
 
   abbrev pub item_comes : HomeCall → Option Item → Outcome
   item_comes (asks.Enter asked) (Some item) = comes_in (may_enter site.home item) (asks.Enter item) (entered_row site.home its.next slot e.stamp.moment item) (without_item l item with_moved)
@@ -251,8 +291,8 @@ module _ (site : Site) (its : Contents) (l : Ledger) (e : HomeEvent) where
 
   item_came : (call : HomeCall) (number : ℕ) (found : Option Item) → item_of number l ≡ found → (item_comes call found).done ≡ true → IsDone site (Serving its) l e (item_comes call found)
   unfolding HomeStep LedgerStep
-  item_came (asks.Enter asked) number (Some item) is h = let both = and_both _ _ h in record { step = (both.0, held_more _ _ _ _ both.1, refl, refl); in_ledger = (both.0, (by_its_number number l item is, refl)) }
-  item_came (asks.GiveBack asked) number (Some item) is h = let both = and_both _ _ h in record { step = (both.0, held_more _ _ _ _ both.1, refl, refl); in_ledger = (both.0, (by_its_number number l item is, refl)) }
+  item_came (asks.Enter asked) number (Some item) is h = let both = and_both _ _ h in record { step = (both.0, held_more _ _ _ _ _ both.1, refl, refl); in_ledger = (both.0, (by_its_number number l item is, refl)) }
+  item_came (asks.GiveBack asked) number (Some item) is h = let both = and_both _ _ h in record { step = (both.0, held_more _ _ _ _ _ both.1, refl, refl); in_ledger = (both.0, (by_its_number number l item is, refl)) }
   item_came call number found is h = absurd cc
 
 -- at a home that is closed
@@ -273,13 +313,16 @@ module _ (site : Site) (l : Ledger) (e : HomeEvent) where
   item_went_on call number found is h = absurd cc
 
 abbrev pub at_home : Site → Home → Ledger → HomeEvent → HomeCall → Outcome
-at_home site Unopened l e (asks.Configure t w) = record { done = true; call = asks.Configure t w; reply = Done; home = Serving (record { settings = t; version = w; next = 0; rows = [] }); ledger = l }
+at_home site Unopened l e (asks.Configure t w) = record { done = true; call = asks.Configure t w; reply = Done; home = Serving (record { settings = t; version = w; mode = Accepting; next = 0; rows = [] }); ledger = l }
 at_home site (Serving its) l e asks.Close = record { done = true; call = asks.Close; reply = Done; home = Closed; ledger = l }
 at_home site (Serving its) l e (asks.Send body delay) = sends site its l e body delay
 at_home site (Serving its) l e (asks.Look max timeout) = looks site its l e max timeout
 at_home site (Serving its) l e (asks.Delete receipt) = alone site its l e (nat_lt receipt.serial its.next) (asks.Delete receipt) Done (without receipt (kept site its l e))
 at_home site (Serving its) l e asks.Purge = alone site its l e true asks.Purge Done []
 at_home site (Serving its) l e asks.Count = alone site its l e true asks.Count (Counted (counts_of e.stamp.moment (kept site its l e))) (kept site its l e)
+at_home site (Serving its) l e asks.StartDrain = starts_drain site its l e
+at_home site (Serving its) l e asks.FinishDrain = finishes_drain site its l e (kept site its l e)
+at_home site (Serving its) l e asks.LeaveDrain = drain_leaves site its l e (find (is_at_rest e.stamp.moment) (kept site its l e))
 at_home site (Serving its) l e asks.LeaveDead = dead_leaves site its l e (dead_target its.settings.redrive) (find (is_dead its.settings e.stamp.moment) (kept site its l e))
 at_home site (Serving its) l e (asks.LeaveTask number) = task_leaves site its l e number (task_of number l) (find (is_live its.settings e.stamp.moment) (kept site its l e))
 at_home site (Serving its) l e (asks.Enter item) = item_comes site its l e (asks.Enter item) (item_of item.number l)
@@ -292,11 +335,14 @@ pub home_done : (site : Site) (home : Home) (l : Ledger) (e : HomeEvent) (call :
 unfolding HomeStep
 home_done site Unopened l e (asks.Configure t w) h = record { step = refl; in_ledger = refl }
 home_done site (Serving its) l e asks.Close h = record { step = refl; in_ledger = refl }
-home_done site (Serving its) l e (asks.Send body delay) h = record { step = (held_more _ _ _ _ h, refl, refl); in_ledger = refl }
+home_done site (Serving its) l e (asks.Send body delay) h = record { step = (held_more _ _ _ _ _ h, refl, refl); in_ledger = refl }
 home_done site (Serving its) l e (asks.Look max timeout) h = looked site its l e max timeout h
 home_done site (Serving its) l e (asks.Delete receipt) h = record { step = (under _ _ h, refl); in_ledger = refl }
 home_done site (Serving its) l e asks.Purge h = record { step = refl; in_ledger = refl }
 home_done site (Serving its) l e asks.Count h = record { step = (refl, refl); in_ledger = refl }
+home_done site (Serving its) l e asks.StartDrain h = record { step = refl; in_ledger = refl }
+home_done site (Serving its) l e asks.FinishDrain h = drain_finished site its l e _ refl h
+home_done site (Serving its) l e asks.LeaveDrain h = drain_left site its l e _ refl h
 home_done site (Serving its) l e asks.LeaveDead h = dead_left site its l e (dead_target its.settings.redrive) _ refl refl h
 home_done site (Serving its) l e (asks.LeaveTask number) h = task_left site its l e number (task_of number l) _ refl refl h
 home_done site (Serving its) l e (asks.Enter item) h = item_came site its l e (asks.Enter item) item.number (item_of item.number l) refl h

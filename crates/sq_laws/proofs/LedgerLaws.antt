@@ -8,7 +8,7 @@ use Rattle.std.proofs.lemmas.Bool.{eqb-true}
 use Rattle.std.proofs.lemmas.List.{reverse-append}
 use Rattle.std.proofs.lemmas.List.Elements.{Contains-append_right}
 use Rattle.std.proofs.lemmas.Grind.{common_steps}
-use Rattle.sq_model.specs.declared.calls.HomeCall.TheVariants.{LeaveDead, LeaveTask, Enter, TurnBack, GiveBack, Drop}
+use Rattle.sq_model.specs.declared.calls.HomeCall.TheVariants.{LeaveDead, LeaveDrain, LeaveTask, Enter, TurnBack, GiveBack, Drop}
 use Rattle.sq_model.specs.declared.item.Item.{Item}
 use Rattle.sq_model.specs.declared.ledger.LedgerCall.{LedgerCall}
 use Rattle.sq_model.specs.declared.ledger.LedgerCall.TheVariants as asks
@@ -21,7 +21,7 @@ use Rattle.sq_model.specs.Tasks.{is_active, is_running}
 use Rattle.sq_model.specs.Ledgers.{Ledger, LedgerEvent, LedgerStep, IsAbove, IsAfter, IsLastTask, IsLedger, IsNextItem, IsLatest, ItemsRise, NumbersRise, OnlyLastActive, TasksCount, all_given, cancel_refusal, finish_refusal, in_transit, is_active_at, is_of_source, is_own, is_still_active, item_given, last_task, ledger_refusal, opening_ledger, peek, task_given, task_of, tasks_of}
 use Rattle.sq_laws.proofs.LedgerLists.{all_with, none_true, some_same}
 use Rattle.sq_laws.proofs.LedgerSteps.{step_keeps}
-use Rattle.sq_laws.proofs.Progress.{above, neither, passed}
+use Rattle.sq_laws.proofs.Progress.{above, neither, no_more, passed}
 use Rattle.sq_laws.proofs.Refusals.{below}
 use Rattle.sq_model.proofs.SlotLaws.{not_false}
 
@@ -53,9 +53,6 @@ ledger_allowed l m (asks.FinishTask number) answers.Finished after s = finishes 
 ledger_allowed l m call reply after s = elim s [ ]
 
 -- ---- and where none does one can be done
-
-no_more : (n : ℕ) → nat_lt 0 n ≡ false → n ≡ 0
-no_more n h = grind (arith, common_steps)
 
 abbrev Possible : Ledger → ℕ → LedgerCall → Type 0
 Possible l m call = (reply : LedgerReply) × (after : Ledger) × LedgerStep l m call reply after
@@ -105,6 +102,7 @@ record Gives (l : Ledger) (reply : LedgerReply) (after : Ledger) : Type 0 where
 gives : (l : Ledger) (m : ℕ) (call : LedgerCall) (reply : LedgerReply) (after : Ledger) → LedgerStep l m call reply after → Gives l reply after
 unfolding LedgerStep
 gives l m (asks.AtHome home LeaveDead) (answers.AtHome (Left item)) after s = record { item = gives_one _ _ _ s.1.1 (ap (λ (x : Ledger). x.next_item) s.1.2); task = gives_none _ _ (ap (λ (x : Ledger). x.next_task) s.1.2) }
+gives l m (asks.AtHome home LeaveDrain) (answers.AtHome (Left item)) after s = record { item = gives_one _ _ _ s.2.1 (ap (λ (x : Ledger). x.next_item) s.2.2); task = gives_none _ _ (ap (λ (x : Ledger). x.next_task) s.2.2) }
 gives l m (asks.AtHome home (LeaveTask number)) (answers.AtHome (Left item)) after s = record { item = gives_one _ _ _ s.2.1 (ap (λ (x : Ledger). x.next_item) s.2.2); task = gives_none _ _ (ap (λ (x : Ledger). x.next_task) s.2.2) }
 gives l m (asks.AtHome home (LeaveTask number)) (answers.AtHome NoLiveRow) after s = record { item = gives_none _ _ (ap (λ (x : Ledger). x.next_item) s.1); task = gives_none _ _ (ap (λ (x : Ledger). x.next_task) s.1) }
 gives l m (asks.AtHome home (LeaveTask number)) (answers.AtHome (NoOrigin serial)) after s = record { item = gives_none _ _ (ap (λ (x : Ledger). x.next_item) s.2); task = gives_none _ _ (ap (λ (x : Ledger). x.next_task) s.2) }

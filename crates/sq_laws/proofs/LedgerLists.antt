@@ -1,5 +1,5 @@
 -- Lists of items and of tasks, as one of a number is put in, changed or taken out.
-use Rattle.std.proofs.Common.{◌≡◌, ℕ, suc, ◌+◌, ◌<◌, ◌≤◌, Bool, true, false, not, cond, List, [], ◌∷◌, ◌++◌, length, map, refl, sym, ap, ◌∙◌, subst, arith, Some}
+use Rattle.std.proofs.Common.{◌≡◌, ℕ, zero, suc, ◌+◌, ◌<◌, ◌≤◌, Bool, true, false, not, cond, List, [], ◌∷◌, ◌++◌, length, map, refl, sym, ap, ◌∙◌, subst, arith, Some, slice_get, slice_set}
 use Rattle.std.specs.Prelude.{◌==◌, count_by, filter, find, if◌then◌else◌}
 use Rattle.std.specs.List.{AllByRecursion}
 use Rattle.std.proofs.lemmas.Grind.{common_steps}
@@ -7,7 +7,7 @@ use Rattle.std.proofs.lemmas.Bool.{eqb-true}
 use Rattle.std.proofs.lemmas.List.Sums.{sum_by-cons, sum_by_push}
 use Rattle.sq_model.specs.declared.item.Item.{Item}
 use Rattle.sq_model.specs.declared.item.Reason.{Reason}
-use Rattle.sq_model.specs.declared.item.Reason.TheVariants.{DeadLetter, Task as ForTask}
+use Rattle.sq_model.specs.declared.item.Reason.TheVariants.{DeadLetter, Task as ForTask, Drain}
 use Rattle.sq_model.specs.declared.task.Task.{Task}
 use Rattle.sq_model.specs.Ledgers.{has_number, items_without, is_task, is_for, in_transit, changed_task, turned_if, turned, ItemsRise, TasksCount}
 
@@ -50,6 +50,17 @@ module _ {X : Type 0} where
         | true ↦ (λ f. subst P (some_same y x f) h.0)
         | false ↦ (λ f. found_of_all P test xs x h.1 f)
       ] e
+
+  -- one at an index, and one that is put there
+  pub all_get : (P : X → Type 0) (xs : List X) (i : ℕ) (x : X) → slice_get xs i ≡ Some x → AllByRecursion P xs → P x
+  all_get P [] i x e h = absurd cc
+  all_get P (y ∷ xs) zero x e h = subst P (some_same y x e) h.0
+  all_get P (y ∷ xs) (suc i) x e h = all_get P xs i x e h.1
+
+  pub all_set : (P : X → Type 0) (xs : List X) (i : ℕ) (new : X) → P new → AllByRecursion P xs → AllByRecursion P (slice_set xs i new)
+  all_set P [] i new p h = tt
+  all_set P (x ∷ xs) zero new p h = (p, h.1)
+  all_set P (x ∷ xs) (suc i) new p h = (h.0, all_set P xs i new p h.1)
 
   pub filtered_length : (keep : X → Bool) (xs : List X) → length (filter keep xs) ≤ length xs
   filtered_length keep [] = omega arith
@@ -133,6 +144,7 @@ HasStarted next item = (number : ℕ) → item.reason ≡ ForTask number → (1 
 
 none_for : (task : ℕ) (reason : Reason) → ((number : ℕ) → reason ≡ ForTask number → (1 ≤ number) × (number < task)) → is_for task reason ≡ false
 none_for task DeadLetter h = refl
+none_for task Drain h = refl
 none_for task (ForTask number) h = not_it number task (h number refl).1
 
 -- none of a task that was not started yet

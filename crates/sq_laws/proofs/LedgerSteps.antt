@@ -5,15 +5,17 @@ use Rattle.std.specs.List.{AllByRecursion, list_any}
 use Rattle.std.proofs.lemmas.Grind.{common_steps}
 use Rattle.std.proofs.lemmas.Bool.{eqb-true}
 use Rattle.std.proofs.lemmas.List.Sums.{sum_by-cons}
-use Rattle.sq_model.specs.declared.calls.HomeCall.TheVariants.{LeaveDead, LeaveTask, Enter, TurnBack, GiveBack, Drop}
+use Rattle.sq_model.specs.declared.calls.HomeCall.TheVariants.{LeaveDead, LeaveDrain, LeaveTask, Enter, TurnBack, GiveBack, Drop}
 use Rattle.sq_model.specs.declared.item.Item.{Item}
 use Rattle.sq_model.specs.declared.item.Reason.{Reason}
-use Rattle.sq_model.specs.declared.item.Reason.TheVariants.{DeadLetter, Task as ForTask}
+use Rattle.sq_model.specs.declared.item.Reason.TheVariants.{DeadLetter, Task as ForTask, Drain}
 use Rattle.sq_model.specs.declared.ledger.LedgerCall.{LedgerCall}
 use Rattle.sq_model.specs.declared.ledger.LedgerCall.TheVariants as asks
 use Rattle.sq_model.specs.declared.ledger.LedgerReply.{LedgerReply}
 use Rattle.sq_model.specs.declared.ledger.LedgerReply.TheVariants as answers
 use Rattle.sq_model.specs.declared.replies.HomeReply.TheVariants.{Done, Left, NoLiveRow, NoOrigin, SourceClosed, Entered}
+use Rattle.sq_model.specs.declared.shared.HomeLeave.{HomeLeave}
+use Rattle.sq_model.specs.declared.shared.HomeLeave.TheVariants as leave
 use Rattle.sq_model.specs.declared.task.FailureReason.{FailureReason}
 use Rattle.sq_model.specs.declared.task.FailureReason.TheVariants as because
 use Rattle.sq_model.specs.declared.task.NamedQueue.{NamedQueue}
@@ -22,6 +24,7 @@ use Rattle.sq_model.specs.declared.task.TaskStatus.{TaskStatus}
 use Rattle.sq_model.specs.declared.task.TaskStatus.TheVariants.{Running, Completed, Cancelling, Cancelled, Failed}
 use Rattle.sq_model.specs.Tasks.{is_active, is_running, is_ended, may_leave, new_task, rate_of, left_in, second_of, with_left, with_moved, with_back, with_dropped, with_status, failed_as, cancelled_as, finished_as}
 use Rattle.sq_model.specs.Ledgers.{Ledger, LedgerStep, TakesIn, GivesOut, items_without, is_task, is_of_source, is_active_at, is_for, in_transit, changed_task, changed_for, turned_if, last_number, most_active, TasksCount, HasTask, LeftBelow, OnlyLastActive, IsTask, IsLedger}
+use Rattle.sq_model.specs.HomeLeaves.{leave_reason}
 use Rattle.sq_laws.proofs.LedgerLists.{all_append, all_with, all_filtered, all_mapped, filtered_length, mapped_length, one_longer, count_append, rise_append, items_low, rise_without, rise_turned, turned_reason, count_without, count_turned, HasStarted, none_started, tasks_append, KeepsNumber, tasks_changed, found_below, is_there, all_changed, only_found, count_changed}
 
 -- ---- one task
@@ -165,8 +168,14 @@ all_both {X} P Q (x ∷ xs) p q = ((p.0, q.0), all_both P Q xs p.1 q.1)
 counted_in : (items : List Item) (item : Item) (task : ℕ) → in_transit task (items ++ item ∷ []) ≡ in_transit task items + cond (is_for task item.reason) 1 0
 counted_in items item task = count_append (λ (x : Item). is_for task x.reason) items item
 
-dead_letter_in : (items : List Item) (item : Item) (task : ℕ) → item.reason ≡ DeadLetter → in_transit task (items ++ item ∷ []) ≡ in_transit task items
-dead_letter_in items item task e = counted_in items item task ∙ (ap (λ (r : Reason). in_transit task items + cond (is_for task r) 1 0) e ∙ omega arith)
+-- what leaves a home where no task asks for it is for no task
+for_no_task : (task : ℕ) (why : HomeLeave) → is_for task (leave_reason why) ≡ false
+for_no_task task leave.Dead = refl
+for_no_task task leave.Drain = refl
+
+none_in : (items : List Item) (item : Item) (task : ℕ) (why : HomeLeave) → item.reason ≡ leave_reason why → in_transit task (items ++ item ∷ []) ≡ in_transit task items
+none_in items item task why e =
+    counted_in items item task ∙ (ap (λ (b : Bool). in_transit task items + cond b 1 0) (ap (is_for task) e ∙ for_no_task task why) ∙ omega arith)
 
 one_in : (items : List Item) (item : Item) (number task : ℕ) (b : Bool) → item.reason ≡ ForTask number → is_for task (ForTask number) ≡ b → in_transit task (items ++ item ∷ []) ≡ in_transit task items + cond b 1 0
 one_in items item number task b e f =
@@ -207,6 +216,7 @@ left_same next number f tasks k h = all_changed (LeftBelow next) (LeftBelow next
 
 left_for : (next : ℕ) (reason : Reason) (f : Task → Task) (tasks : List Task) → ((t : Task) → (f t).left ≡ t.left) → AllByRecursion (LeftBelow next) tasks → AllByRecursion (LeftBelow next) (changed_for reason f tasks)
 left_for next DeadLetter f tasks k h = h
+left_for next Drain f tasks k h = h
 left_for next (ForTask number) f tasks k h = left_same next number f tasks k h
 
 left_later : (next : ℕ) (tasks : List Task) → AllByRecursion (LeftBelow next) tasks → AllByRecursion (LeftBelow (next + 1)) tasks
@@ -228,8 +238,12 @@ IsAmong tasks item = (number : ℕ) → item.reason ≡ ForTask number → (task
 are_among : (items : List Item) (next : ℕ) (tasks : List Task) → TasksCount 1 tasks → next ≡ length tasks + 1 → AllByRecursion (HasStarted next) items → AllByRecursion (IsAmong tasks) items
 are_among items next tasks count e h = all_with (HasStarted next) (IsAmong tasks) items (λ item started number because. let b = started number because in is_there number 1 tasks count b.0 (omega (arith, b.1, e))) h
 
-dead_has_none : (next : ℕ) (item : Item) → item.reason ≡ DeadLetter → HasStarted next item
-dead_has_none next item e number f = let same : DeadLetter ≡ ForTask number = sym e ∙ f in absurd cc
+no_task : (why : HomeLeave) (number : ℕ) → leave_reason why ≡ ForTask number → ⊥
+no_task leave.Dead number e = absurd cc
+no_task leave.Drain number e = absurd cc
+
+none_to_start : (next : ℕ) (item : Item) (why : HomeLeave) → item.reason ≡ leave_reason why → HasStarted next item
+none_to_start next item why e number f = absurd (no_task why number (sym e ∙ f))
 
 same_task : (a b : ℕ) → ForTask a ≡ ForTask b → a ≡ b
 same_task a b e = cc
@@ -255,6 +269,12 @@ taken_in l item tasks after h taken started left t = rw taken.2 (record {
   last_active = t.last_active;
   few_active = t.few_active;
 })
+
+-- where no task asked for it the tasks are as they were
+home_left : (l : Ledger) (item : Item) (why : HomeLeave) (after : Ledger) → IsLedger l → item.reason ≡ leave_reason why → TakesIn l item l.tasks after → IsLedger after
+home_left l item why after h because taken =
+    taken_in l item l.tasks after h taken (none_to_start l.next_task item why because) (left_later l.next_item l.tasks h.left_below)
+    (items_other l.items (l.items ++ item ∷ []) l.next_task l.tasks (λ task. none_in l.items item task why because) (tasks_of_ledger l h))
 
 -- ---- an item goes out
 
@@ -288,11 +308,15 @@ own_counted items other f t c less h = record {
   rate = c.rate t h.rate;
 }
 
+of_no_task : (l : Ledger) (item : Item) (why : HomeLeave) → IsLedger l → find (λ x. x.number == item.number) l.items ≡ Some item → item.reason ≡ leave_reason why → AreTasks (items_without item.number l.items) l.next_task l.tasks
+of_no_task l item why h found e =
+    items_other l.items (items_without item.number l.items) l.next_task l.tasks (λ task. let k = one_out l item task false h found (ap (is_for task) e ∙ for_no_task task why) in omega (arith, k)) (tasks_of_ledger l h)
+
 -- the tasks, once an item went out
 tasks_out : (l : Ledger) (item : Item) (f : Task → Task) (reason : Reason) → IsLedger l → find (λ x. x.number == item.number) l.items ≡ Some item → item.reason ≡ reason → CountsOne f
     → AreTasks (items_without item.number l.items) l.next_task (changed_for reason f l.tasks)
-tasks_out l item f DeadLetter h found e c =
-    items_other l.items (items_without item.number l.items) l.next_task l.tasks (λ task. let k = one_out l item task false h found (ap (is_for task) e) in omega (arith, k)) (tasks_of_ledger l h)
+tasks_out l item f DeadLetter h found e c = of_no_task l item leave.Dead h found e
+tasks_out l item f Drain h found e c = of_no_task l item leave.Drain h found e
 tasks_out l item f (ForTask number) h found e c =
     let other = items_without item.number l.items in
     tasks_after l.items other l.next_task number f l.tasks c.change (tasks_of_ledger l h)
@@ -322,6 +346,7 @@ given_out l item f after h out c =
 
 failed_for : (items : List Item) (next : ℕ) (why : FailureReason) (reason : Reason) (tasks : List Task) → AreTasks items next tasks → AreTasks items next (changed_for reason (with_status (failed_as why)) tasks)
 failed_for items next why DeadLetter tasks h = h
+failed_for items next why Drain tasks h = h
 failed_for items next why (ForTask number) tasks h = failed_after items next number why tasks h
 
 started_turned : (next number : ℕ) (item : Item) → HasStarted next item → HasStarted next (turned_if number item)
@@ -430,9 +455,8 @@ started_task l source destination rate m after h not_worn none few e =
 
 pub step_keeps : (l : Ledger) (m : ℕ) (call : LedgerCall) (reply : LedgerReply) (after : Ledger) → LedgerStep l m call reply after → IsLedger l → IsLedger after
 unfolding LedgerStep
-step_keeps l m (asks.AtHome home LeaveDead) (answers.AtHome (Left item)) after s h =
-    taken_in l item l.tasks after h s.1 (dead_has_none l.next_task item s.0.because) (left_later l.next_item l.tasks h.left_below)
-    (items_other l.items (l.items ++ item ∷ []) l.next_task l.tasks (λ task. dead_letter_in l.items item task s.0.because) (tasks_of_ledger l h))
+step_keeps l m (asks.AtHome home LeaveDead) (answers.AtHome (Left item)) after s h = home_left l item leave.Dead after h s.0.because s.1
+step_keeps l m (asks.AtHome home LeaveDrain) (answers.AtHome (Left item)) after s h = home_left l item leave.Drain after h s.0.because s.2
 step_keeps l m (asks.AtHome home (LeaveTask number)) (answers.AtHome (Left item)) after s h =
     let task = s.1.0 in let may = s.1.1 in
     taken_in l item (changed_task number (with_left m) l.tasks) after h s.2

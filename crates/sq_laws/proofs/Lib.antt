@@ -18,3 +18,4 @@ pub mod RunLaws
 pub mod ReceiveLaws
 pub mod PairLaws
 pub mod Computed
+pub mod DrainLaws

@@ -1,5 +1,5 @@
 -- In a step of a home no message is lost and none is made twice.
-use Rattle.std.proofs.Common.{◌≡◌, ℕ, ◌+◌, Bool, true, false, not, cond, List, [], ◌∷◌, ◌++◌, map, refl, arith, unwrap_or}
+use Rattle.std.proofs.Common.{◌≡◌, ℕ, ◌+◌, Bool, true, false, not, cond, List, [], ◌∷◌, ◌++◌, map, refl, ap, arith, unwrap_or}
 use Rattle.std.specs.Prelude.{nat_lt, ◌&&◌, ◌==◌, filter, if◌then◌else◌}
 use Rattle.std.specs.List.{list_any}
 use Rattle.std.proofs.lemmas.List.Sums.{sum_by-append, sum_by-cons, sum_by_push}
@@ -10,7 +10,7 @@ use Rattle.sq_base.specs.declared.settings.Settings.{Settings}
 use Rattle.sq_model.specs.declared.place.Site.{Site}
 use Rattle.sq_model.specs.declared.calls.Receipt.{Receipt}
 use Rattle.sq_model.specs.declared.calls.HomeCall.{HomeCall}
-use Rattle.sq_model.specs.declared.calls.HomeCall.TheVariants.{Configure, Close, Send, Look, Delete, Change, Purge, Count, LeaveDead, LeaveTask, Enter, TurnBack, GiveBack, Drop}
+use Rattle.sq_model.specs.declared.calls.HomeCall.TheVariants.{Configure, Close, Send, Look, Delete, Change, Purge, Count, StartDrain, FinishDrain, LeaveDead, LeaveDrain, LeaveTask, Enter, TurnBack, GiveBack, Drop}
 use Rattle.sq_model.specs.declared.replies.HomeReply.{HomeReply}
 use Rattle.sq_model.specs.declared.replies.HomeReply.TheVariants.{Done, Sent, Looked, Over, Counted, Left, NoLiveRow, NoOrigin, SourceClosed, Entered}
 use Rattle.sq_model.specs.Rows.{ms, is_expired, unexpired, is_live, is_named, is_held, serials_of, received, received_if, changed_if, Takes}
@@ -95,8 +95,12 @@ home_law x site (Serving its) m (Change receipt timeout) Done after h =
     rw h.3 (omega (arith, expire_law x its.settings m its.rows, rows_map x (changed_if m receipt (m + ms timeout)) (unexpired_rows its m) (changed_line m receipt (m + ms timeout))))
 home_law x site (Serving its) m Purge Done after h = rw h (omega (arith, all_law x its.settings m its.rows Purged))
 home_law x site (Serving its) m Count (Counted counts) after h = rw h.1 (omega (arith, expire_law x its.settings m its.rows))
+home_law x site (Serving its) m StartDrain Done after h = rw h (omega (arith, expire_law x its.settings m its.rows))
+home_law x site (Serving its) m FinishDrain Done after h = rw h.2 (omega (arith, expire_law x its.settings m its.rows, ap (rows_with x) h.1))
 home_law x site (Serving its) m LeaveDead (Left item) after h =
     rw h.3.2 (omega (arith, expire_law x its.settings m its.rows, takes_law x item.row (unexpired_rows its m) h.3.0 h.3.1))
+home_law x site (Serving its) m LeaveDrain (Left item) after h =
+    rw h.4.2 (omega (arith, expire_law x its.settings m its.rows, takes_law x item.row (unexpired_rows its m) h.4.0 h.4.1))
 home_law x site (Serving its) m (LeaveTask task) (Left item) after h =
     rw h.2.2 (omega (arith, expire_law x its.settings m its.rows, takes_law x item.row (unexpired_rows its m) h.2.0 h.2.1))
 home_law x site (Serving its) m (LeaveTask task) NoLiveRow after h = rw h.1 (omega (arith, expire_law x its.settings m its.rows))

@@ -7,10 +7,10 @@ use Rattle.std.proofs.lemmas.List.Sums.{sum_by-cons}
 use Rattle.sq_base.specs.StampValue.{StampValue}
 use Rattle.sq_base.specs.Stamps.{start}
 use Rattle.sq_model.specs.declared.event.Event.{Event}
-use Rattle.sq_model.specs.declared.calls.HomeCall.TheVariants.{LeaveDead, LeaveTask, Enter, TurnBack, GiveBack, Drop}
+use Rattle.sq_model.specs.declared.calls.HomeCall.TheVariants.{LeaveDead, LeaveDrain, LeaveTask, Enter, TurnBack, GiveBack, Drop}
 use Rattle.sq_model.specs.declared.item.Item.{Item}
 use Rattle.sq_model.specs.declared.item.Reason.{Reason}
-use Rattle.sq_model.specs.declared.item.Reason.TheVariants.{DeadLetter, Task as ForTask}
+use Rattle.sq_model.specs.declared.item.Reason.TheVariants.{DeadLetter, Task as ForTask, Drain}
 use Rattle.sq_model.specs.declared.ledger.LedgerCall.{LedgerCall}
 use Rattle.sq_model.specs.declared.ledger.LedgerCall.TheVariants as asks
 use Rattle.sq_model.specs.declared.ledger.LedgerReply.{LedgerReply}
@@ -115,6 +115,7 @@ paced_by number m k f task reply l after p e none same =
 paced_for : (number m : ℕ) (reason : Reason) (f : Task → Task) (task : Task) (reply : LedgerReply) (l after : Ledger) → KeepsPace f → task_of number l ≡ Some task → leaves_for number reply ≡ false → after.tasks ≡ changed_for reason f l.tasks
     → Paced number m task reply after
 paced_for number m DeadLetter f task reply l after p e none same = paced_still number m task reply l after e none same
+paced_for number m Drain f task reply l after p e none same = paced_still number m task reply l after e none same
 paced_for number m (ForTask k) f task reply l after p e none same = paced_by number m k f task reply l after p e none same
 
 left_number : (m : ℕ) → KeepsNumber (with_left m)
@@ -155,6 +156,8 @@ step_paced : (number : ℕ) (task : Task) (l : Ledger) (m : ℕ) (call : LedgerC
 unfolding LedgerStep
 step_paced number task l m (asks.AtHome home LeaveDead) (answers.AtHome (Left item)) after e s =
     paced_still number m task _ l after e (ap (is_for number) s.0.because) (ap (λ (x : Ledger). x.tasks) s.1.2)
+step_paced number task l m (asks.AtHome home LeaveDrain) (answers.AtHome (Left item)) after e s =
+    paced_still number m task _ l after e (ap (is_for number) s.0.because) (ap (λ (x : Ledger). x.tasks) s.2.2)
 step_paced number task l m (asks.AtHome home (LeaveTask k)) (answers.AtHome (Left item)) after e s =
     paced_leave number m k item task s.1.0 l after s.0.because s.1.1.found s.1.2 e (ap (λ (x : Ledger). x.tasks) s.2.2)
 step_paced number task l m (asks.AtHome home (LeaveTask k)) (answers.AtHome NoLiveRow) after e s = paced_still number m task _ l after e refl (tasks_same l after s.1)
@@ -279,6 +282,7 @@ new_by number k f reply l after n e none same = record { none_leaves = none; lat
 
 new_for : (number : ℕ) (reason : Reason) (f : Task → Task) (reply : LedgerReply) (l after : Ledger) → KeepsNumber f → task_of number l ≡ None → leaves_for number reply ≡ false → after.tasks ≡ changed_for reason f l.tasks → StaysNew number reply after
 new_for number DeadLetter f reply l after n e none same = new_still number reply l after e none same
+new_for number Drain f reply l after n e none same = new_still number reply l after e none same
 new_for number (ForTask k) f reply l after n e none same = new_by number k f reply l after n e none same
 
 not_its : (number k : ℕ) (l : Ledger) (taking : Task) → task_of number l ≡ None → task_of k l ≡ Some taking → (b : Bool) → (k == number) ≡ b → b ≡ false
@@ -293,6 +297,7 @@ new_started number new after i s false e = inl e
 step_new : (number : ℕ) (l : Ledger) (m : ℕ) (call : LedgerCall) (reply : LedgerReply) (after : Ledger) → task_of number l ≡ None → LedgerStep l m call reply after → StaysNew number reply after
 unfolding LedgerStep
 step_new number l m (asks.AtHome home LeaveDead) (answers.AtHome (Left item)) after e s = new_still number _ l after e (ap (is_for number) s.0.because) (ap (λ (x : Ledger). x.tasks) s.1.2)
+step_new number l m (asks.AtHome home LeaveDrain) (answers.AtHome (Left item)) after e s = new_still number _ l after e (ap (is_for number) s.0.because) (ap (λ (x : Ledger). x.tasks) s.2.2)
 step_new number l m (asks.AtHome home (LeaveTask k)) (answers.AtHome (Left item)) after e s =
     new_by number k (with_left m) _ l after (left_number m) e (ap (is_for number) s.0.because ∙ not_its number k l s.1.0 e s.1.1.found (k == number) refl) (ap (λ (x : Ledger). x.tasks) s.2.2)
 step_new number l m (asks.AtHome home (LeaveTask k)) (answers.AtHome NoLiveRow) after e s = new_still number _ l after e refl (tasks_same l after s.1)

@@ -6,22 +6,21 @@ use Rattle.sq_base.specs.StampValue.{StampValue}
 use Rattle.sq_base.specs.Stamps.{Below, after}
 use Rattle.sq_base.specs.declared.refusal.Refusal.{Refusal}
 use Rattle.sq_base.specs.declared.row.Row.{Row}
-use Rattle.sq_base.specs.declared.settings.Settings.{Settings}
 use Rattle.sq_model.specs.declared.calls.HomeCall.{HomeCall}
 use Rattle.sq_model.specs.declared.calls.HomeCall.TheVariants as asks
 use Rattle.sq_model.specs.declared.item.Item.{Item}
-use Rattle.sq_model.specs.declared.item.Reason.TheVariants.{DeadLetter, Task as ForTask}
+use Rattle.sq_model.specs.declared.item.Reason.TheVariants.{DeadLetter, Task as ForTask, Drain}
 use Rattle.sq_model.specs.declared.ledger.LedgerCall.TheVariants.{AtHome as CallAtHome}
 use Rattle.sq_model.specs.declared.ledger.LedgerReply.TheVariants.{AtHome as ReplyAtHome}
 use Rattle.sq_model.specs.declared.place.Site.{Site}
 use Rattle.sq_model.specs.declared.replies.HomeReply.{HomeReply}
 use Rattle.sq_model.specs.declared.replies.HomeReply.TheVariants.{Done, Left, NoLiveRow, NoOrigin, SourceClosed, Entered}
 use Rattle.sq_model.specs.declared.shared.SharedAct.{SharedAct}
-use Rattle.sq_model.specs.declared.shared.SharedAct.TheVariants.{LeaveDead, LeaveTask, Enter, TurnBack, GiveBack, Drop}
+use Rattle.sq_model.specs.declared.shared.SharedAct.TheVariants.{LeaveDead, LeaveDrain, LeaveTask, Enter, TurnBack, GiveBack, Drop}
 use Rattle.sq_model.specs.declared.task.NamedQueue.{NamedQueue}
 use Rattle.sq_model.specs.declared.task.Task.{Task}
-use Rattle.sq_model.specs.Rows.{Takes, is_dead, is_live}
-use Rattle.sq_model.specs.Homes.{Contents, Home, Unopened, Serving, Closed, HasSlot, HomeStep, IsFrom, home_refusal, may_enter, may_return, unexpired_rows}
+use Rattle.sq_model.specs.Rows.{Takes, is_at_rest, is_dead, is_live}
+use Rattle.sq_model.specs.Homes.{Contents, Home, Unopened, Serving, Closed, HasSlot, HomeStep, IsFrom, home_refusal, is_draining, may_enter, may_return, unexpired_rows}
 use Rattle.sq_model.specs.Tasks.{destination_or, is_running, may_leave, target_of}
 use Rattle.sq_model.specs.Ledgers.{TakesOneMore, Ledger, LedgerStep, MayTake, is_of_source, item_of, transit_refusal, task_of}
 use Rattle.sq_model.specs.Shared.{IsCallOf, HasSharedStep, IsUnrecorded, SharedStep, after_given, is_entering, is_returning, is_throttled, shared_refusal, shared_stamp, task_refusal}
@@ -57,6 +56,12 @@ unfolding HomeStep LedgerStep shared_refusal
 allowed_leave_dead site (Serving its) l m (Left item) after later h k = either _ _ (one_more_passes l k.1.0)
 allowed_leave_dead site home l m reply after later h k = elim h [ ]
 
+allowed_leave_drain : (site : Site) (home : Home) (l : Ledger) (m : ℕ) (reply : HomeReply) (after : Home) (later : Ledger) → HomeStep site home m asks.LeaveDrain reply after
+    → LedgerStep l m (CallAtHome site.home asks.LeaveDrain) (ReplyAtHome reply) later → shared_refusal site home l m LeaveDrain ≡ None
+unfolding HomeStep LedgerStep shared_refusal
+allowed_leave_drain site (Serving its) l m (Left item) after later h k = rw h.2 (either _ _ (one_more_passes l k.2.0))
+allowed_leave_drain site home l m reply after later h k = elim h [ ]
+
 allowed_leave_task : (site : Site) (home : Home) (l : Ledger) (m number : ℕ) (reply : HomeReply) (after : Home) (later : Ledger) → HomeStep site home m (asks.LeaveTask number) reply after
     → LedgerStep l m (CallAtHome site.home (asks.LeaveTask number)) (ReplyAtHome reply) later → shared_refusal site home l m (LeaveTask number) ≡ None
 unfolding HomeStep LedgerStep shared_refusal
@@ -69,6 +74,7 @@ allowed_leave_task site home l m number reply after later h k = elim h [ ]
 -- the act is not a leave
 abbrev IsOfItem : SharedAct → Type 0
 IsOfItem LeaveDead = ⊥
+IsOfItem LeaveDrain = ⊥
 IsOfItem (LeaveTask number) = ⊥
 IsOfItem act = Unit {0}
 
@@ -76,6 +82,7 @@ IsOfItem act = Unit {0}
 item_alike : (site : Site) (home : Home) (l : Ledger) (m : ℕ) (act : SharedAct) (call : HomeCall) → IsCallOf l act call → IsOfItem act → shared_refusal site home l m act ≡ home_refusal site home m call
 unfolding home_refusal shared_refusal
 item_alike site home l m LeaveDead call is of = absurd of
+item_alike site home l m LeaveDrain call is of = absurd of
 item_alike site home l m (LeaveTask number) call is of = absurd of
 item_alike site Unopened l m (Enter number) call is of = rw is.2 refl
 item_alike site Unopened l m (TurnBack number) call is of = rw is.2 refl
@@ -102,6 +109,8 @@ pub shared_allowed : (site : Site) (home : Home) (l : Ledger) (m : ℕ) (act : S
     → SharedStep site home l m call reply after later → shared_refusal site home l m act ≡ None
 shared_allowed site home l m LeaveDead call reply after later is s =
     allowed_leave_dead site home l m reply after later (half site home m call _ reply after is s.at_home) (other_half site l m call _ reply later is s.in_ledger)
+shared_allowed site home l m LeaveDrain call reply after later is s =
+    allowed_leave_drain site home l m reply after later (half site home m call _ reply after is s.at_home) (other_half site l m call _ reply later is s.in_ledger)
 shared_allowed site home l m (LeaveTask number) call reply after later is s =
     allowed_leave_task site home l m number reply after later (half site home m call _ reply after is s.at_home) (other_half site l m call _ reply later is s.in_ledger)
 shared_allowed site home l m (Enter number) call reply after later is s = item_alike site home l m (Enter number) call is tt ∙ step_allowed site home m call reply after s.at_home
@@ -134,6 +143,16 @@ dead_goes site its l m true e h =
     let item : Item = record { number = l.next_item; row = t.0; source = site.home.queue; target = target.0; reason = DeadLetter; homeward = false } in
     let from : IsFrom site.home DeadLetter item = record { from = refl; because = refl; forward = refl } in
     goes_on site (Serving its) l m LeaveDead asks.LeaveDead (Left item) _ _ refl tt (from, target.1, t.3, (t.1, t.2, refl)) (from, (one_more_fits l h, refl, refl))
+
+drain_goes : (site : Site) (its : Contents) (l : Ledger) (m : ℕ) (b : Bool) → is_draining its.mode ≡ true → list_any (is_at_rest m) (unexpired_rows its m) ≡ b → (if b then transit_refusal l else None) ≡ None
+    → IsUnrecorded site (Serving its) l m LeaveDrain ⊎ HasSharedStep site (Serving its) l m LeaveDrain
+unfolding HomeStep LedgerStep
+drain_goes site its l m false draining e h = inl (draining, e)
+drain_goes site its l m true draining e h =
+    let t = takes_one (is_at_rest m) (unexpired_rows its m) e in
+    let item : Item = record { number = l.next_item; row = t.0; source = site.home.queue; target = site.home.queue; reason = Drain; homeward = false } in
+    let from : IsFrom site.home Drain item = record { from = refl; because = refl; forward = refl } in
+    goes_on site (Serving its) l m LeaveDrain asks.LeaveDrain (Left item) _ _ refl tt (from, refl, draining, t.3, (t.1, t.2, refl)) (from, refl, (one_more_fits l h, refl, refl))
 
 -- a live row leaves for a task, where it has somewhere to go, and else the task fails
 leaves_to : (site : Site) (its : Contents) (l : Ledger) (m number : ℕ) (task : Task) → MayTake l site.home.queue number task → may_leave m task ≡ true → TakesOneMore l
@@ -212,20 +231,24 @@ pub shared_possible : (site : Site) (home : Home) (l : Ledger) (m : ℕ) (act : 
 unfolding HomeStep LedgerStep shared_refusal
 shared_possible site Unopened l m act h = absurd cc
 shared_possible site (Serving its) l m LeaveDead h = dead_goes site its l m (list_any (is_dead its.settings m) (unexpired_rows its m)) refl h
+shared_possible site (Serving its) l m LeaveDrain h =
+    let p = passed (not (is_draining its.mode)) _ _ h in
+    drain_goes site its l m (list_any (is_at_rest m) (unexpired_rows its m)) (not_false _ p.0) refl p.1
 shared_possible site (Serving its) l m (LeaveTask number) h =
     let f = found_task site l number (task_of number l) _ refl h in
     task_goes site its l m number f.0.0 f.0.2 (is_throttled m (task_of number l)) (list_any (is_live its.settings m) (unexpired_rows its m)) refl refl f.1
 shared_possible site (Serving its) l m (Enter number) h =
-    let p = one_more_left _ _ _ _ h in
+    let p = one_more_left _ _ _ _ _ h in
     let i = entering_item site l number (item_of number l) refl (not_false _ (passed _ _ _ p.1).0) in
     goes_on site (Serving its) l m (Enter number) (asks.Enter i.0) (Entered (record { serial = its.next; slot = p.0.0 })) _ _ (i.0, i.1, refl) p.0.1 (i.2, p.0.2, refl, refl) (i.2, (by_its_number number l i.0 i.1, refl))
 shared_possible site (Serving its) l m (TurnBack number) h = absurd cc
 shared_possible site (Serving its) l m (GiveBack number) h =
-    let p = one_more_left _ _ _ _ h in
+    let p = one_more_left _ _ _ _ _ h in
     let i = returning_item site l number (item_of number l) refl (not_false _ (passed _ _ _ p.1).0) in
     goes_on site (Serving its) l m (GiveBack number) (asks.GiveBack i.0) (Entered (record { serial = its.next; slot = p.0.0 })) _ _ (i.0, i.1, refl) p.0.1 (i.2, p.0.2, refl, refl) (i.2, (by_its_number number l i.0 i.1, refl))
 shared_possible site (Serving its) l m (Drop number) h = absurd cc
 shared_possible site Closed l m LeaveDead h = absurd cc
+shared_possible site Closed l m LeaveDrain h = absurd cc
 shared_possible site Closed l m (LeaveTask number) h =
     let f = found_task site l number (task_of number l) None refl h in
     goes_on site Closed l m (LeaveTask number) (asks.LeaveTask number) SourceClosed _ _ refl tt refl ((f.0.0, f.0.2), refl)
@@ -248,16 +271,24 @@ not_both : (a b : Bool) → a ≡ b → a ≡ true → b ≡ false → ⊥
 not_both true b e t f = let same : true ≡ false = e ∙ f in absurd cc
 not_both false b e t f = absurd cc
 
-dead_there : (s : Settings) (m : ℕ) (row : Row) (before after : List Row) → is_dead s m row ≡ true → list_any (is_dead s m) (before ++ row ∷ after) ≡ true
-dead_there s m row [] after e = rw e refl
-dead_there s m row (x ∷ before) after e = or_right (is_dead s m x) _ (dead_there s m row before after e)
+-- a row of a kind is there
+one_there : (p : Row → Bool) (row : Row) (before after : List Row) → p row ≡ true → list_any p (before ++ row ∷ after) ≡ true
+one_there p row [] after e = rw e refl
+one_there p row (x ∷ before) after e = or_right (p x) _ (one_there p row before after e)
+
+-- what is taken out of rows of which none is of a kind is not of it
+none_taken : (p : Row → Bool) (row : Row) (rows rest : List Row) → Takes row rows rest → p row ≡ true → list_any p rows ≡ false → ⊥
+none_taken p row rows rest t is none = not_both (list_any p rows) (list_any p rows) refl (ap (list_any p) t.at ∙ one_there p row t.before t.after is) none
 
 no_dead_leave : (site : Site) (its : Contents) (m : ℕ) (reply : HomeReply) (after : Home) → HomeStep site (Serving its) m asks.LeaveDead reply after → list_any (is_dead its.settings m) (unexpired_rows its m) ≡ false → ⊥
 unfolding HomeStep
-no_dead_leave site its m (Left item) after h none =
-    let t = h.3.1 in
-    not_both (list_any (is_dead its.settings m) (unexpired_rows its m)) (list_any (is_dead its.settings m) (unexpired_rows its m)) refl (ap (list_any (is_dead its.settings m)) t.at ∙ dead_there its.settings m item.row t.before t.after h.2) none
+no_dead_leave site its m (Left item) after h none = none_taken (is_dead its.settings m) item.row (unexpired_rows its m) h.3.0 h.3.1 h.2 none
 no_dead_leave site its m reply after h none = elim h [ ]
+
+no_drain_leave : (site : Site) (its : Contents) (m : ℕ) (reply : HomeReply) (after : Home) → HomeStep site (Serving its) m asks.LeaveDrain reply after → list_any (is_at_rest m) (unexpired_rows its m) ≡ false → ⊥
+unfolding HomeStep
+no_drain_leave site its m (Left item) after h none = none_taken (is_at_rest m) item.row (unexpired_rows its m) h.4.0 h.4.1 h.3 none
+no_drain_leave site its m reply after h none = elim h [ ]
 
 one_pace : (l : Ledger) (number m : ℕ) (task other : Task) → task_of number l ≡ Some task → task_of number l ≡ Some other → may_leave m task ≡ true → may_leave m other ≡ false → ⊥
 one_pace l number m task other e f may none = not_both (may_leave m task) (may_leave m other) (ap (may_leave m) (some_same task other (sym e ∙ f))) may none
@@ -274,6 +305,8 @@ pub unrecorded_is_none : (site : Site) (home : Home) (l : Ledger) (m : ℕ) (act
     → IsUnrecorded site home l m act → ⊥
 unrecorded_is_none site (Serving its) l m LeaveDead call reply after later is step none =
     no_dead_leave site its m reply after (half site (Serving its) m call _ reply after is step.at_home) none
+unrecorded_is_none site (Serving its) l m LeaveDrain call reply after later is step none =
+    no_drain_leave site its m reply after (half site (Serving its) m call _ reply after is step.at_home) none.1
 unrecorded_is_none site (Serving its) l m (LeaveTask number) call reply after later is step none =
     no_late_leave site its l m number reply after later none.0 (half site (Serving its) m call _ reply after is step.at_home) (other_half site l m call _ reply later is step.in_ledger) none.1.found none.2
 unrecorded_is_none site home l m act call reply after later is step none = elim none [ ]

@@ -9,7 +9,7 @@ use Rattle.sq_base.specs.declared.row.Row.{Row}
 use Rattle.sq_base.specs.declared.settings.Settings.{Settings}
 use Rattle.sq_model.specs.declared.place.Site.{Site}
 use Rattle.sq_model.specs.declared.calls.HomeCall.{HomeCall}
-use Rattle.sq_model.specs.declared.calls.HomeCall.TheVariants.{Configure, Close, Send, Look, Delete, Change, Purge, Count, LeaveDead, LeaveTask, Enter, TurnBack, GiveBack, Drop}
+use Rattle.sq_model.specs.declared.calls.HomeCall.TheVariants.{Configure, Close, Send, Look, Delete, Change, Purge, Count, StartDrain, FinishDrain, LeaveDead, LeaveDrain, LeaveTask, Enter, TurnBack, GiveBack, Drop}
 use Rattle.sq_base.specs.declared.ids.HomeId.{HomeId}
 use Rattle.sq_model.specs.declared.item.Item.{Item}
 use Rattle.sq_model.specs.declared.ledger.LedgerCall.{LedgerCall}
@@ -87,6 +87,7 @@ transit_law : (x : MessageId) (l : Ledger) (m : ℕ) (call : LedgerCall) (reply 
     → items_with x after.items + outs x call ≡ items_with x l.items + ins x reply
 unfolding LedgerStep
 transit_law x l m (asks.AtHome home LeaveDead) (answers.AtHome (Left item)) after s h = rw s.1.2 (omega (arith, items_push x l.items item, row_one x item.row))
+transit_law x l m (asks.AtHome home LeaveDrain) (answers.AtHome (Left item)) after s h = rw s.2.2 (omega (arith, items_push x l.items item, row_one x item.row))
 transit_law x l m (asks.AtHome home (LeaveTask number)) (answers.AtHome (Left item)) after s h = rw s.2.2 (omega (arith, items_push x l.items item, row_one x item.row))
 transit_law x l m (asks.AtHome home (LeaveTask number)) (answers.AtHome NoLiveRow) after s h = rw s.1 (omega arith)
 transit_law x l m (asks.AtHome home (LeaveTask number)) (answers.AtHome (NoOrigin serial)) after s h = rw s.2 (omega arith)
@@ -221,7 +222,10 @@ serial_law x site (Serving its) m (Delete receipt) Done after h = rw h.1 (omega 
 serial_law x site (Serving its) m (Change receipt timeout) Done after h = rw h.3 (omega arith)
 serial_law x site (Serving its) m Purge Done after h = rw h (omega arith)
 serial_law x site (Serving its) m Count (Counted counts) after h = rw h.1 (omega arith)
+serial_law x site (Serving its) m StartDrain Done after h = rw h (omega arith)
+serial_law x site (Serving its) m FinishDrain Done after h = rw h.2 (omega arith)
 serial_law x site (Serving its) m LeaveDead (Left item) after h = rw h.3.2 (omega arith)
+serial_law x site (Serving its) m LeaveDrain (Left item) after h = rw h.4.2 (omega arith)
 serial_law x site (Serving its) m (LeaveTask task) (Left item) after h = rw h.2.2 (omega arith)
 serial_law x site (Serving its) m (LeaveTask task) NoLiveRow after h = rw h.1 (omega arith)
 serial_law x site (Serving its) m (LeaveTask task) (NoOrigin serial) after h = rw h.1 (omega arith)

@@ -5,3 +5,6 @@ pub mod WorkedRun
 pub mod WorkedTasks
 pub mod WorkedQueues
 pub mod Creations
+pub mod Receives
+pub mod Drains
+pub mod WorkedDrain

@@ -4,6 +4,7 @@ use Rattle.sq_base.specs.declared.ids.HomeId.{HomeId}
 use Rattle.sq_base.specs.declared.message_id.MessageId.{MessageId}
 use Rattle.sq_base.specs.declared.row.Row.{Row}
 use Rattle.sq_base.specs.declared.settings.Settings.{Settings}
+use Rattle.sq_model.specs.declared.home_mode.HomeMode.TheVariants.{Accepting}
 use Rattle.sq_model.specs.declared.place.Site.{Site}
 use Rattle.sq_model.specs.declared.item.Item.{Item}
 use Rattle.sq_model.specs.declared.item.Reason.TheVariants.{DeadLetter, Task}
@@ -77,7 +78,7 @@ worked_receipt receive = record { slot = 0; serial = 0; receive = receive }
 
 -- a home that gave serials below next
 abbrev pub with_rows : Settings → ℕ → List Row → Home
-with_rows s next rows = Serving (record { settings = s; version = 1; next = next; rows = rows })
+with_rows s next rows = Serving (record { settings = s; version = 1; mode = Accepting; next = next; rows = rows })
 
 -- on its way to queue 1
 abbrev pub dead_hello : Item

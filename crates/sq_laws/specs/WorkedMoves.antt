@@ -3,6 +3,7 @@ use Rattle.std.specs.Prelude.{ℕ, zero, suc, ◌+◌, Bool, true, false, List, 
 use Rattle.sq_base.specs.declared.row.Row.{Row}
 use Rattle.sq_model.specs.declared.item.Item.{Item}
 use Rattle.sq_model.specs.declared.item.Reason.TheVariants.{Task as ForTask}
+use Rattle.sq_model.specs.declared.home_mode.HomeMode.TheVariants.{Accepting}
 use Rattle.sq_model.specs.declared.place.Site.{Site}
 use Rattle.sq_model.specs.declared.task.NamedQueue.{NamedQueue}
 use Rattle.sq_model.specs.declared.task.Task.{Task}
@@ -58,7 +59,7 @@ abbrev pub task_item : Item
 task_item = record { number = 1; row = letter; source = 1; target = 2; reason = ForTask 1; homeward = false }
 
 abbrev pub letters_with : List Row → Home
-letters_with rows = Serving (record { settings = plain; version = 1; next = 1; rows = rows })
+letters_with rows = Serving (record { settings = plain; version = 1; mode = Accepting; next = 1; rows = rows })
 
 abbrev pub with_task : ℕ → Task → Ledger
 with_task next_item task = worked_ledger [] next_item (task ∷ []) 2

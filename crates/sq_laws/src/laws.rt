@@ -16,6 +16,7 @@ ghost use Rattle.sq_model.specs.Matches.{HomeHistory, IsPaired, IsUnmatched, is_
 ghost use Rattle.sq_model.specs.Passages.{is_leave};
 ghost use Rattle.sq_model.specs.Merges.{LedgerIsAlone, of_home, of_directory, of_ledger, history_at, IsMerged};
 ghost use Rattle.sq_model.specs.Places.{run_ends, run_sends, homes_with};
+ghost use Rattle.sq_laws.specs.Receives.{DrainsCameInCounted, IsSystemCounted};
 ghost use Rattle.sq_model.specs.Lineages.{home_ends, home_sends, home_outs, home_ins, items_with, rows_of, rows_with, ends_with, sends_with};
 
 /// A step is given only where no check fails.
@@ -24,7 +25,7 @@ pub fn steps_are_allowed()
         → HomeStep site home m call reply after → home_refusal site home m call ≡ None }
 {}
 
-/// Where no check fails there is a step, but for a dead letter's leave that finds no dead row.
+/// Where no check fails there is a step, but for a dead letter's leave that finds no dead row, or a drain's that finds none at rest.
 pub fn steps_are_possible()
     ensures { (site : Site) (home : Home) (m : ℕ) (call : HomeCall) → IsRising home → home_refusal site home m call ≡ None
         → IsIdle home m call ⊎ ((reply : HomeReply) × (after : Home) × HasSlot reply × HomeStep site home m call reply after) }
@@ -67,9 +68,12 @@ pub fn merged_histories_are_a_run()
         → IsRun o run after }
 {}
 
-/// In a home that is the replay of its history, the last receive of a row is none exactly where its receive number is 0.
+/// The last receive of a row is none exactly where its receive number is 0: in a run of the whole system, of each row of each home and
+/// of each message in transit. In a home that is the replay of its history it is so of each row, where it was so of each message that
+/// came in, or came back, by a drain: such a one keeps both.
 pub fn receives_are_counted()
-    ensures { (site : Site) (events : List HomeEvent) (home : Home) → Replays (HomeStep site) Unopened events home → All IsCounted (rows_of home) }
+    ensures in_a_run { (o : Opening) (run : List Tag) (after : System) → RunFrom (opening o) run after → IsSystemCounted after }
+    ensures at_a_home { (site : Site) (events : List HomeEvent) (home : Home) → Replays (HomeStep site) Unopened events home → DrainsCameInCounted events → All IsCounted (rows_of home) }
 {}
 
 /// Where the steps that homes and the ledger share are paired, none is without its partner.

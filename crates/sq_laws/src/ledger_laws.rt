@@ -33,7 +33,8 @@ pub fn shared_steps_are_allowed()
         → IsCallOf l act call → SharedStep site home l m call reply after l_after → shared_refusal site home l m act ≡ None }
 {}
 
-/// Where no check fails there is a step, but for a dead letter's leave that finds no dead row and a task's leave that is throttled.
+/// Where no check fails there is a step, but for a dead letter's leave that finds no dead row, a drain's that finds none at rest and a
+/// task's leave that is throttled.
 pub fn shared_steps_are_possible()
     ensures { (site : Site) (home : Home) (l : Ledger) (m : ℕ) (act : SharedAct) → shared_refusal site home l m act ≡ None
         → IsUnrecorded site home l m act ⊎ HasSharedStep site home l m act }

@@ -5,6 +5,7 @@ ghost use Rattle.std.specs.Prelude.{◌≡◌, ℕ, true, false, List, [], ◌�
 ghost use Rattle.sq_base.specs.declared.refusal.Refusal.TheVariants.{InvalidParameterValue, MessageNotInflight, OverLimit, ReceiptHandleIsInvalid};
 ghost use Rattle.sq_base.specs.declared.message_id.MessageId.{MessageId};
 ghost use Rattle.sq_base.specs.declared.row.Row.{Row};
+ghost use Rattle.sq_model.specs.declared.home_mode.HomeMode.TheVariants.{Accepting};
 ghost use Rattle.sq_model.specs.declared.calls.HomeCall.TheVariants.{Configure, Send, Look, Delete, Change, Purge};
 ghost use Rattle.sq_model.specs.declared.replies.HomeReply.TheVariants.{Done, Sent, Looked, Over};
 ghost use Rattle.sq_model.specs.Rows.{is_delayed, is_in_flight, is_dead, is_live, is_expired};
@@ -55,15 +56,15 @@ pub fn a_delayed_message_is_live_at_the_end_of_its_delay()
 pub fn a_longer_retention_brings_no_message_back()
     ensures kept { is_expired (kept_for 60) 60999 hello ≡ false }
     ensures expired { is_expired (kept_for 60) 61000 hello ≡ true }
-    ensures in_time { HomeStep wide (Serving (record { settings = kept_for 60; version = 1; next = 1; rows = hello ∷ [] })) 60999 (Configure (kept_for 120) 2) Done (Serving (record { settings = kept_for 120; version = 2; next = 1; rows = hello ∷ [] })) }
-    ensures too_late { (after : Home) → HomeStep wide (Serving (record { settings = kept_for 60; version = 1; next = 1; rows = hello ∷ [] })) 61000 (Configure (kept_for 120) 2) Done after → after ≡ Serving (record { settings = kept_for 120; version = 2; next = 1; rows = [] }) }
+    ensures in_time { HomeStep wide (Serving (record { settings = kept_for 60; version = 1; mode = Accepting; next = 1; rows = hello ∷ [] })) 60999 (Configure (kept_for 120) 2) Done (Serving (record { settings = kept_for 120; version = 2; mode = Accepting; next = 1; rows = hello ∷ [] })) }
+    ensures too_late { (after : Home) → HomeStep wide (Serving (record { settings = kept_for 60; version = 1; mode = Accepting; next = 1; rows = hello ∷ [] })) 61000 (Configure (kept_for 120) 2) Done after → after ≡ Serving (record { settings = kept_for 120; version = 2; mode = Accepting; next = 1; rows = [] }) }
 {}
 
 /// Settings whose version is not above the home's set nothing, and what has expired goes.
 pub fn an_older_version_sets_nothing()
-    ensures older { (after : Home) → HomeStep wide (Serving (record { settings = plain; version = 2; next = 1; rows = hello ∷ [] })) 2000 (Configure strict 1) Done after → after ≡ Serving (record { settings = plain; version = 2; next = 1; rows = hello ∷ [] }) }
-    ensures unchanged { (after : Home) → HomeStep wide (Serving (record { settings = plain; version = 2; next = 1; rows = hello ∷ [] })) 2000 (Configure strict 2) Done after → after ≡ Serving (record { settings = plain; version = 2; next = 1; rows = hello ∷ [] }) }
-    ensures expires { (after : Home) → HomeStep wide (Serving (record { settings = kept_for 60; version = 2; next = 1; rows = hello ∷ [] })) 61000 (Configure strict 2) Done after → after ≡ Serving (record { settings = kept_for 60; version = 2; next = 1; rows = [] }) }
+    ensures older { (after : Home) → HomeStep wide (Serving (record { settings = plain; version = 2; mode = Accepting; next = 1; rows = hello ∷ [] })) 2000 (Configure strict 1) Done after → after ≡ Serving (record { settings = plain; version = 2; mode = Accepting; next = 1; rows = hello ∷ [] }) }
+    ensures unchanged { (after : Home) → HomeStep wide (Serving (record { settings = plain; version = 2; mode = Accepting; next = 1; rows = hello ∷ [] })) 2000 (Configure strict 2) Done after → after ≡ Serving (record { settings = plain; version = 2; mode = Accepting; next = 1; rows = hello ∷ [] }) }
+    ensures expires { (after : Home) → HomeStep wide (Serving (record { settings = kept_for 60; version = 2; mode = Accepting; next = 1; rows = hello ∷ [] })) 61000 (Configure strict 2) Done after → after ≡ Serving (record { settings = kept_for 60; version = 2; mode = Accepting; next = 1; rows = [] }) }
 {}
 
 /// With one message in flight, where no more may be, and another one live, a look answers `Over` and nothing else.

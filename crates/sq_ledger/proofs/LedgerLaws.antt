@@ -8,11 +8,11 @@ use Rattle.sq_base.specs.Stamps.{start}
 use Rattle.sq_base.specs.declared.ids.HomeId.{HomeId}
 use Rattle.sq_base.specs.declared.refusal.Refusal.TheVariants.{Worn}
 use Rattle.sq_model.specs.declared.calls.HomeCall.{HomeCall}
-use Rattle.sq_model.specs.declared.calls.HomeCall.TheVariants.{LeaveDead, LeaveTask}
+use Rattle.sq_model.specs.declared.calls.HomeCall.TheVariants.{LeaveDead, LeaveDrain, LeaveTask}
 use Rattle.sq_model.specs.declared.event.Actor.{Actor}
 use Rattle.sq_model.specs.declared.item.Item.{Item}
 use Rattle.sq_model.specs.declared.item.Reason.{Reason}
-use Rattle.sq_model.specs.declared.item.Reason.TheVariants.{DeadLetter, Task as ForTask}
+use Rattle.sq_model.specs.declared.item.Reason.TheVariants.{DeadLetter, Task as ForTask, Drain}
 use Rattle.sq_model.specs.declared.ledger.LedgerCall.{LedgerCall}
 use Rattle.sq_model.specs.declared.ledger.LedgerCall.TheVariants as asks
 use Rattle.sq_model.specs.declared.ledger.LedgerReply.{LedgerReply}
@@ -61,6 +61,7 @@ counted_item p number (x ∷ items) item e t =
 as_many : (reason : Reason) (f : Task → Task) (tasks : List Task) → length (changed_for reason f tasks) ≡ length tasks
 as_many DeadLetter f tasks = refl
 as_many (ForTask number) f tasks = mapped_length _ tasks
+as_many Drain f tasks = refl
 
 -- so the number of the next one is the same
 pub next_is : (items : List Item) (next : ℕ) (tasks : List Task) (limit number : ℕ) → length tasks + 1 ≡ number
@@ -77,6 +78,8 @@ pub taken_in : (items : List Item) (next : ℕ) (tasks : List Task) (limit m : �
 unfolding LedgerStep
 taken_in items next tasks limit m home LeaveDead reply item spare number leaves is_left =
     rw is_left (leaves, (spare, number, ap (λ (r : Reason). ledger_with (items ++ item ∷ []) (next + 1) (changed_for r (with_left m) tasks) limit) leaves.because))
+taken_in items next tasks limit m home LeaveDrain reply item spare number leaves is_left =
+    rw is_left (leaves.0, leaves.1, (spare, number, ap (λ (r : Reason). ledger_with (items ++ item ∷ []) (next + 1) (changed_for r (with_left m) tasks) limit) leaves.0.because))
 taken_in items next tasks limit m home (LeaveTask task) reply item spare number leaves is_left =
     rw is_left (leaves.0, leaves.1, (spare, number, ap (λ (r : Reason). ledger_with (items ++ item ∷ []) (next + 1) (changed_for r (with_left m) tasks) limit) leaves.0.because ∙ for_reason (items ++ item ∷ []) (next + 1) tasks limit (ForTask task) (with_left m)))
 taken_in items next tasks limit m home call reply item spare number leaves is_left = elim leaves [ ]
@@ -144,14 +147,12 @@ moves_of l h number item act found task reason =
     let all = in_transit_of l.items there.0 (found_of_all (IsTask l.items) (is_task task) l.tasks there.0 h.each there.1) in
     (there.0, there.1, may_be act there.0 (omega (arith, counted, all)))
 
-no_reason : (reason : Reason) (number : ℕ) → reason ≡ DeadLetter → reason ≡ ForTask number → ⊥
-no_reason reason number dead is = let k : DeadLetter ≡ ForTask number = sym dead ∙ is in absurd cc
-
 same_number : (a b : ℕ) (reason : Reason) → reason ≡ ForTask a → reason ≡ ForTask b → a ≡ b
 same_number a b reason first second = let k : ForTask a ≡ ForTask b = sym first ∙ second in cc
 
 leaves_of : (l : Ledger) → IsLedger l → (m : ℕ) (home : HomeId) (call : HomeCall) (item : Item) → TakesOneMore l → IsLeaving l m home call item → MayChangeFor (to.Left m) item.reason l.tasks
-leaves_of l h m home LeaveDead item spare leaves number reason = absurd (no_reason item.reason number leaves.because reason)
+leaves_of l h m home LeaveDead item spare leaves number reason = let k : DeadLetter ≡ ForTask number = sym leaves.because ∙ reason in absurd cc
+leaves_of l h m home LeaveDrain item spare leaves number reason = let k : Drain ≡ ForTask number = sym leaves.0.because ∙ reason in absurd cc
 leaves_of l h m home (LeaveTask asked) item spare leaves number reason =
     let same = same_number asked number item.reason leaves.0.because reason in
     let may = leaves.1.1 in

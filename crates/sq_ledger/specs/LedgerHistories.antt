@@ -6,10 +6,10 @@ use Rattle.sq_base.specs.declared.ids.HomeId.{HomeId}
 use Rattle.sq_base.specs.declared.refusal.Refusal.{Refusal}
 use Rattle.sq_base.specs.declared.refusal.Refusal.TheVariants.{NoMemory}
 use Rattle.sq_model.specs.declared.calls.HomeCall.{HomeCall}
-use Rattle.sq_model.specs.declared.calls.HomeCall.TheVariants.{LeaveDead, LeaveTask}
+use Rattle.sq_model.specs.declared.calls.HomeCall.TheVariants.{LeaveDead, LeaveDrain, LeaveTask}
 use Rattle.sq_model.specs.declared.event.Actor.{Actor}
 use Rattle.sq_model.specs.declared.item.Item.{Item}
-use Rattle.sq_model.specs.declared.item.Reason.TheVariants.{DeadLetter, Task as ForTask}
+use Rattle.sq_model.specs.declared.item.Reason.TheVariants.{DeadLetter, Task as ForTask, Drain}
 use Rattle.sq_model.specs.declared.ledger.LedgerCall.{LedgerCall}
 use Rattle.sq_model.specs.declared.ledger.LedgerCall.TheVariants as asks
 use Rattle.sq_model.specs.declared.ledger.LedgerReply.{LedgerReply}
@@ -84,9 +84,10 @@ pub record DoesItem (act : ItemAct) (home : HomeId) (call : HomeCall) (reply : H
   pub may : may_act act home item ≡ true
   pub replies : IsItemReply act reply
 
--- A message leaves this home as this item: a dead one, or one for a task that takes messages from there and whose rate allows it, to where the task moves it.
+-- A message leaves this home as this item: a dead one, one of a drain for another home of its queue, or one for a task that takes messages from there and whose rate allows it, to where the task moves it.
 abbrev pub IsLeaving : Ledger → ℕ → HomeId → HomeCall → Item → Type 0
 IsLeaving l m home LeaveDead item = IsFrom home DeadLetter item
+IsLeaving l m home LeaveDrain item = IsFrom home Drain item × (item.target ≡ home.queue)
 IsLeaving l m home (LeaveTask number) item = IsFrom home (ForTask number) item × ((task : Task) × MayTake l home.queue number task × (may_leave m task ≡ true) × (Some item.target ≡ target_of task item.row))
 -- no other call lets a message out
 IsLeaving l m home call item = ⊥

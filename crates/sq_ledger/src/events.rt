@@ -29,6 +29,7 @@ pub fn is_alone(call: &HomeCall) -> bool
     !matches!(
         call,
         HomeCall::LeaveDead
+            | HomeCall::LeaveDrain
             | HomeCall::LeaveTask(_)
             | HomeCall::Enter(_)
             | HomeCall::TurnBack(_)
@@ -41,7 +42,10 @@ pub fn is_alone(call: &HomeCall) -> bool
 pub fn is_leave(call: &HomeCall) -> bool
     ensures { result ≡ is_leave call.now }
 {
-    matches!(call, HomeCall::LeaveDead | HomeCall::LeaveTask(_))
+    matches!(
+        call,
+        HomeCall::LeaveDead | HomeCall::LeaveDrain | HomeCall::LeaveTask(_)
+    )
 }
 
 // Whether a call and its reply are those of an event.

@@ -38,7 +38,7 @@ pub struct SharedEvent<'a> {
     pub kept: (HomeCall, HomeReply),
 }
 
-/// The messages between two queues, as items with numbers, the tasks that move messages, and the history of all steps, those
+/// The messages in transit, as items with numbers, the tasks that move messages, and the history of all steps, those
 /// that the ledger shares with homes and its own: the ledger is always the replay of it. Moments are in ms. Own.
 ///
 /// A shared step is done at a home and here, at one stamp. It is begun with `prepare`, and with `next_number` or `task_leave` where

@@ -193,7 +193,7 @@ impl Tasks {
         ensures reserved { self.new.reserved ≡ self.old.reserved }
     {
         match reason {
-            Reason::DeadLetter => {}
+            Reason::DeadLetter | Reason::Drain => {}
             Reason::Task(number) => self.change(number, change),
         }
     }

@@ -1,13 +1,13 @@
--- The ledger: the messages between two queues, and the tasks that move messages. The steps that it shares with a home are here as the ledger sees them.
+-- The ledger: the messages in transit, and the tasks that move messages. The steps that it shares with a home are here as the ledger sees them.
 use Rattle.std.specs.Prelude.{◌≡◌, ◌⊎◌, ℕ, ◌+◌, ◌<◌, ◌≤◌, Bool, true, false, not, ◌&&◌, ◌||◌, ◌==◌, List, [], ◌∷◌, ◌++◌, length, count_by, filter, map, find, take, reverse, nat_lt, nat_le, if◌then◌else◌, Option, Some, None, option_map, option_to_list, slice_get}
 use Rattle.std.specs.List.{AllByRecursion, Contains, list_any}
 use Rattle.std.specs.Option.{option_or}
 use Rattle.sq_base.specs.declared.refusal.Refusal.{Refusal}
 use Rattle.sq_base.specs.declared.refusal.Refusal.TheVariants.{Worn, OverLimit, ResourceNotFoundException, UnsupportedOperation}
-use Rattle.sq_model.specs.declared.calls.HomeCall.TheVariants.{LeaveDead, LeaveTask, Enter, TurnBack, GiveBack, Drop}
+use Rattle.sq_model.specs.declared.calls.HomeCall.TheVariants.{LeaveDead, LeaveDrain, LeaveTask, Enter, TurnBack, GiveBack, Drop}
 use Rattle.sq_model.specs.declared.item.Item.{Item}
 use Rattle.sq_model.specs.declared.item.Reason.{Reason}
-use Rattle.sq_model.specs.declared.item.Reason.TheVariants.{DeadLetter, Task as ForTask}
+use Rattle.sq_model.specs.declared.item.Reason.TheVariants.{DeadLetter, Task as ForTask, Drain}
 use Rattle.sq_model.specs.declared.ledger.LedgerCall.{LedgerCall}
 use Rattle.sq_model.specs.declared.ledger.LedgerCall.TheVariants as asks
 use Rattle.sq_model.specs.declared.ledger.LedgerReply.{LedgerReply}
@@ -75,10 +75,12 @@ changed_task number change tasks = map (λ task. if is_task number task then cha
 abbrev pub changed_for : Reason → (Task → Task) → List Task → List Task
 changed_for DeadLetter change tasks = tasks
 changed_for (ForTask number) change tasks = changed_task number change tasks
+changed_for Drain change tasks = tasks
 
 abbrev pub is_for : ℕ → Reason → Bool
 is_for number DeadLetter = false
 is_for number (ForTask task) = task == number
+is_for number Drain = false
 
 -- how many items of a task are in transit
 abbrev pub in_transit : ℕ → List Item → ℕ
@@ -126,6 +128,8 @@ is_still_active (Some task) = is_active task.status
 unfoldable pub LedgerStep : Ledger → ℕ → LedgerCall → LedgerReply → Ledger → Type 0
 LedgerStep l m (asks.AtHome home LeaveDead) (answers.AtHome (Left item)) after =
     IsFrom home DeadLetter item × TakesIn l item l.tasks after
+LedgerStep l m (asks.AtHome home LeaveDrain) (answers.AtHome (Left item)) after =
+    IsFrom home Drain item × (item.target ≡ home.queue) × TakesIn l item l.tasks after
 LedgerStep l m (asks.AtHome home (LeaveTask number)) (answers.AtHome (Left item)) after =
     IsFrom home (ForTask number) item
     × ((task : Task) × MayTake l home.queue number task × (may_leave m task ≡ true) × (Some item.target ≡ target_of task item.row))

@@ -10,6 +10,7 @@ pub mod Tasks
 pub mod Ledgers
 pub mod Shared
 pub mod ItemActs
+pub mod HomeLeaves
 pub mod Systems
 pub mod Places
 pub mod Merges

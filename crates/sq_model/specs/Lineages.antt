@@ -4,7 +4,7 @@ use Rattle.sq_base.specs.declared.message_id.MessageId.{MessageId}
 use Rattle.sq_base.specs.declared.row.Row.{Row}
 use Rattle.sq_base.specs.declared.settings.Settings.{Settings}
 use Rattle.sq_model.specs.declared.calls.HomeCall.{HomeCall}
-use Rattle.sq_model.specs.declared.calls.HomeCall.TheVariants.{Configure, Close, Send, Look, Delete, Change, Purge, Count, LeaveDead, LeaveTask, Enter, TurnBack, GiveBack, Drop}
+use Rattle.sq_model.specs.declared.calls.HomeCall.TheVariants.{Configure, Close, Send, Look, Delete, Change, Purge, Count, StartDrain, FinishDrain, LeaveDead, LeaveDrain, LeaveTask, Enter, TurnBack, GiveBack, Drop}
 use Rattle.sq_model.specs.declared.item.Item.{Item}
 use Rattle.sq_model.specs.declared.replies.HomeReply.{HomeReply}
 use Rattle.sq_model.specs.Rows.{is_expired, is_named}
@@ -35,7 +35,10 @@ home_ends (Serving its) m (Send body delay) = ended Expired (expired its.setting
 home_ends (Serving its) m (Look max timeout) = ended Expired (expired its.settings m its.rows)
 home_ends (Serving its) m (Change receipt timeout) = ended Expired (expired its.settings m its.rows)
 home_ends (Serving its) m Count = ended Expired (expired its.settings m its.rows)
+home_ends (Serving its) m StartDrain = ended Expired (expired its.settings m its.rows)
+home_ends (Serving its) m FinishDrain = ended Expired (expired its.settings m its.rows)
 home_ends (Serving its) m LeaveDead = ended Expired (expired its.settings m its.rows)
+home_ends (Serving its) m LeaveDrain = ended Expired (expired its.settings m its.rows)
 home_ends (Serving its) m (LeaveTask task) = ended Expired (expired its.settings m its.rows)
 home_ends (Serving its) m (Enter item) = ended Expired (expired its.settings m its.rows)
 home_ends (Serving its) m (TurnBack item) = ended Expired (expired its.settings m its.rows)

@@ -1,8 +1,8 @@
--- What each call of a home, and each reply, has to do with messages between two queues.
+-- What each call of a home, and each reply, has to do with messages in transit.
 use Rattle.std.specs.Prelude.{Bool, true, false, Option, Some, None}
 use Rattle.sq_base.specs.declared.message_id.MessageId.{MessageId}
 use Rattle.sq_model.specs.declared.calls.HomeCall.{HomeCall}
-use Rattle.sq_model.specs.declared.calls.HomeCall.TheVariants.{Configure, Close, Send, Look, Delete, Change, Purge, Count, LeaveDead, LeaveTask, Enter, TurnBack, GiveBack, Drop}
+use Rattle.sq_model.specs.declared.calls.HomeCall.TheVariants.{Configure, Close, Send, Look, Delete, Change, Purge, Count, StartDrain, FinishDrain, LeaveDead, LeaveDrain, LeaveTask, Enter, TurnBack, GiveBack, Drop}
 use Rattle.sq_model.specs.declared.item.Item.{Item}
 use Rattle.sq_model.specs.declared.replies.HomeReply.{HomeReply}
 use Rattle.sq_model.specs.declared.replies.HomeReply.TheVariants.{Done, Sent, Looked, Over, Counted, Left, NoLiveRow, NoOrigin, SourceClosed, Entered}
@@ -21,7 +21,10 @@ passage_of (Delete receipt) = Alone
 passage_of (Change receipt timeout) = Alone
 passage_of Purge = Alone
 passage_of Count = Alone
+passage_of StartDrain = Alone
+passage_of FinishDrain = Alone
 passage_of LeaveDead = Leaves
+passage_of LeaveDrain = Leaves
 passage_of (LeaveTask task) = Leaves
 passage_of (Enter item) = ComesIn item
 passage_of (TurnBack item) = GoesBack item

@@ -28,6 +28,10 @@ is_delayed m row = (row.receives == 0) && nat_lt m row.visible_from
 abbrev pub is_in_flight : ℕ → Row → Bool
 is_in_flight m row = nat_lt 0 row.receives && nat_lt m row.visible_from
 
+-- not in flight: visible, or never received
+abbrev pub is_at_rest : ℕ → Row → Bool
+is_at_rest m row = not (is_in_flight m row)
+
 -- received as often as the policy allows
 abbrev pub is_spent : Option Redrive → Row → Bool
 is_spent None row = false

@@ -35,8 +35,14 @@ pub enum HomeCall {
     Purge,
     /// How many messages are visible, in flight and delayed.
     Count,
+    /// The home takes no messages from now on; at one that drains, or is drained, it changes nothing. Own.
+    StartDrain,
+    /// Ends the drain of a home that holds no message. Own.
+    FinishDrain,
     /// A dead message leaves for the dead-letter queue.
     LeaveDead,
+    /// A message that is not in flight leaves a home that drains, for another home of its queue. Own.
+    LeaveDrain,
     /// A message leaves for a move task.
     LeaveTask(TaskNo),
     /// A message comes in at its target.

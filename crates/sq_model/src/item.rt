@@ -1,4 +1,4 @@
-//! A message between two queues.
+//! A message that left one home and is in no other.
 ghost use Rattle.std.specs.Prelude.{◌≡◌, ◌+◌, ◌<◌, ◌≤◌, ◌⊎◌, IfOk, IfErr, IfSome, IfNone};
 ghost use Rattle.sq_model.specs.Homes as homes;
 
@@ -105,41 +105,72 @@ impl TaskNo {
     }
 }
 
-/// Why a message is moved (SQS Developer Guide, dead-letter queues and redrive).
+/// Why a message is moved (SQS Developer Guide, dead-letter queues and redrive; a drain is own).
 #[derive(Clone, Copy, PartialEq, Eq, Debug)]
 pub enum Reason {
     DeadLetter,
     Task(TaskNo),
+    /// Its home is drained.
+    Drain,
 }
 
-/// The age and the receive count with which a message comes in at a home. Own.
+/// With what a message comes in at a home. Own.
 #[derive(Clone, Copy)]
 pub struct Carried {
     /// When it was enqueued, in ms.
     pub enqueued: u64,
-    /// How often it was received at this home.
+    /// The moment from which on it is visible, in ms.
+    pub visible_from: u64,
+    /// How often it was received.
     pub receives: u32,
+    /// The moment of its last receive, in ms.
+    pub last_receive: Option<u64>,
 }
 
 impl Carried {
-    /// With what a message comes in at its target at a moment (ms). A dead letter keeps its age; a move task makes a new
-    /// message (SQS Developer Guide, dead-letter queues and redrive).
-    pub fn by(reason: &Reason, moment: u64, enqueued: u64) -> Carried
-        ensures { result ≡ homes.carried reason.now moment enqueued }
+    /// With what a message comes in at its target at a moment (ms). A dead letter keeps its age, and a move task makes a new
+    /// message (SQS Developer Guide, dead-letter queues and redrive); a drain keeps all.
+    pub fn by(reason: &Reason, moment: u64, row: &Row) -> Carried
+        ensures { result ≡ homes.carried reason.now moment row.now }
     {
         match reason {
-            Reason::DeadLetter => Carried::back(enqueued),
-            Reason::Task(_) => Carried::back(moment),
+            Reason::DeadLetter => Carried::anew(row.enqueued, moment),
+            Reason::Task(_) => Carried::anew(moment, moment),
+            Reason::Drain => Carried::all(row),
         }
     }
 
-    /// With what a message comes back to its source: its age. Own.
-    pub fn back(enqueued: u64) -> Carried
-        ensures { result ≡ homes.carried_back enqueued }
+    /// With what a message comes back to its source at a moment (ms): its age, and what a drain keeps. Own.
+    pub fn back(reason: &Reason, moment: u64, row: &Row) -> Carried
+        ensures { result ≡ homes.carried_back reason.now moment row.now }
+    {
+        match reason {
+            Reason::DeadLetter | Reason::Task(_) => Carried::anew(row.enqueued, moment),
+            Reason::Drain => Carried::all(row),
+        }
+    }
+
+    // As one that was never received, and is visible from a moment on.
+    fn anew(enqueued: u64, visible_from: u64) -> Carried
+        ensures { result ≡ homes.carried_anew enqueued visible_from }
     {
         Carried {
             enqueued,
+            visible_from,
             receives: 0,
+            last_receive: None,
+        }
+    }
+
+    // As it stood where it left.
+    fn all(row: &Row) -> Carried
+        ensures { result ≡ homes.carried_all row.now }
+    {
+        Carried {
+            enqueued: row.enqueued,
+            visible_from: row.visible_from,
+            receives: row.receives,
+            last_receive: row.last_receive,
         }
     }
 }

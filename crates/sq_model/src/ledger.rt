@@ -1,4 +1,4 @@
-//! What the ledger of messages between queues is asked, and what it answers.
+//! What the ledger of messages in transit is asked, and what it answers.
 use crate::calls::HomeCall;
 use crate::item::TaskNo;
 use crate::listed::Listed;

@@ -5,6 +5,7 @@ pub mod calls;
 pub mod directory;
 pub mod event;
 pub mod held;
+pub mod home_mode;
 pub mod item;
 pub mod ledger;
 pub mod listed;

@@ -28,7 +28,7 @@ pub struct Site {
 #[derive(Clone, Copy, PartialEq, Eq, Debug)]
 pub enum Place {
     InHome,
-    /// Between two queues.
+    /// Between two homes.
     InTransit,
     Deleted,
     /// Past its retention, and left out by a step.

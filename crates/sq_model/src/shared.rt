@@ -6,6 +6,8 @@ use crate::item::{ItemNo, TaskNo};
 pub enum SharedAct {
     /// A dead message leaves for the dead-letter queue.
     LeaveDead,
+    /// A message that is not in flight leaves a home that drains, for another home of its queue.
+    LeaveDrain,
     /// A message leaves for a move task.
     LeaveTask(TaskNo),
     /// A message comes in at its target.
@@ -16,6 +18,15 @@ pub enum SharedAct {
     GiveBack(ItemNo),
     /// A message that was sent back to a closed source is dropped.
     Drop(ItemNo),
+}
+
+/// Which messages leave a home, where no task asks for them.
+#[derive(Clone, Copy, PartialEq, Eq, Debug)]
+pub enum HomeLeave {
+    /// A dead one, for the dead-letter queue.
+    Dead,
+    /// One that is not in flight, of a home that drains.
+    Drain,
 }
 
 /// What is done with a message in transit.

@@ -7,17 +7,19 @@ use Rattle.std.proofs.lemmas.List.Elements.{All-head, All-tail}
 use Rattle.std.proofs.lemmas.Bool.Decides.{eqb_tells}
 use Rattle.sq_base.specs.declared.row.Row.{Row}
 use Rattle.sq_base.specs.declared.settings.Settings.{Settings}
+use Rattle.sq_model.specs.declared.home_mode.HomeMode.{HomeMode}
+use Rattle.sq_model.specs.declared.home_mode.HomeMode.TheVariants.{Drained}
 use Rattle.sq_model.specs.declared.place.Site.{Site}
 use Rattle.sq_model.specs.declared.calls.Receipt.{Receipt}
 use Rattle.sq_model.specs.declared.calls.HomeCall.{HomeCall}
-use Rattle.sq_model.specs.declared.calls.HomeCall.TheVariants.{Configure, Close, Send, Look, Delete, Change, Purge, Count, LeaveDead, LeaveTask, Enter, TurnBack, GiveBack, Drop}
+use Rattle.sq_model.specs.declared.calls.HomeCall.TheVariants.{Configure, Close, Send, Look, Delete, Change, Purge, Count, StartDrain, FinishDrain, LeaveDead, LeaveDrain, LeaveTask, Enter, TurnBack, GiveBack, Drop}
 use Rattle.sq_model.specs.declared.item.Item.{Item}
 use Rattle.sq_model.specs.declared.replies.EnteredRow.{EnteredRow}
 use Rattle.sq_model.specs.declared.replies.HomeReply.{HomeReply}
 use Rattle.sq_model.specs.declared.replies.HomeReply.TheVariants.{Done, Sent, Looked, Over, Counted, Left, NoLiveRow, NoOrigin, SourceClosed, Entered}
 use Rattle.sq_base.specs.declared.ids.HomeId.{HomeId}
 use Rattle.sq_model.specs.Rows.{ms, is_visible, is_dead, is_live, is_held, serials_of, has_serial, received, received_if, changed_if, RisesFrom, IsLook, Takes}
-use Rattle.sq_model.specs.Homes.{Contents, Home, Unopened, Serving, Closed, HomeStep, IsRising, carried, carried_back, sent_row, entered_row, returned_row, unexpired_rows}
+use Rattle.sq_model.specs.Homes.{Contents, Home, Unopened, Serving, Closed, HomeStep, IsRising, carried, carried_back, once_draining, sent_row, entered_row, returned_row, unexpired_rows}
 use Rattle.sq_model.specs.Lineages.{Cause, Expired, Deleted, Purged, ClosedAway, Dropped, Ending, ended, expired, home_drops, home_ends, home_ins, home_outs, home_sends}
 use Rattle.sq_model.proofs.RowLaws.{rises_filter, rises_unexpired, rises_push, rises_received, rises_changed, rises_without}
 use Rattle.sq_places.specs.declared.state.RowState.{RowState}
@@ -209,10 +211,14 @@ past_all : (its : Contents) (m : ℕ) (cause : Cause)
     → (ended Expired (expired its.settings m its.rows) ++ ended cause (unexpired_rows its m)) ++ [] ≡ state_ends (policy_of its) m (Leaves (λ row. true) cause) (map state_of its.rows)
 past_all its m cause = append-nil _ ∙ all_left its m cause
 
--- the rows change, their states do not
+-- the rows and the mode change, the states of the rows do not
+stays_in : (its : Contents) (mode : HomeMode) (m : ℕ) (kept : List Row) → map state_of kept ≡ map state_of (unexpired_rows its m) → RisesFrom 0 kept its.next
+    → Mirrors (Serving its) (policy_of its) (policy_of its) m Stays (ended Expired (expired its.settings m its.rows) ++ []) (Serving (record its { mode = mode; rows = kept }))
+stays_in its mode m kept same rising = record { rising = rising; goes_by = refl; states = same ∙ kept_rows its m; ends = only_past its m; split = tt }
+
 stays : (its : Contents) (m : ℕ) (kept : List Row) → map state_of kept ≡ map state_of (unexpired_rows its m) → RisesFrom 0 kept its.next
     → Mirrors (Serving its) (policy_of its) (policy_of its) m Stays (ended Expired (expired its.settings m its.rows) ++ []) (Serving (record its { rows = kept }))
-stays its m kept same rising = record { rising = rising; goes_by = refl; states = same ∙ kept_rows its m; ends = only_past its m; split = tt }
+stays its m kept same rising = stays_in its its.mode m kept same rising
 
 none_passes : (a b : Bool) → b ≡ false → (a && b) ≡ false
 none_passes true b e = e
@@ -285,10 +291,10 @@ comes_in its m row state rising serial is = record {
 }
 
 entered_same : (home : HomeId) (n m : ℕ) (item : Item) (entered : EnteredRow) → entered.serial ≡ n → state_of (entered_row home n entered.slot m item) ≡ entered_state m item entered
-entered_same home n m item entered e = ap (λ (k : ℕ). row_with (carried item.reason m item.row.enqueued) item.row.lineage k entered.slot) (sym e)
+entered_same home n m item entered e = ap (λ (k : ℕ). row_with (carried item.reason m item.row) item.row.lineage k entered.slot) (sym e)
 
-returned_same : (n m : ℕ) (item : Item) (entered : EnteredRow) → entered.serial ≡ n → state_of (returned_row n entered.slot m item) ≡ returned_state item entered
-returned_same n m item entered e = ap (λ (k : ℕ). row_with (carried_back item.row.enqueued) item.row.lineage k entered.slot) (sym e)
+returned_same : (n m : ℕ) (item : Item) (entered : EnteredRow) → entered.serial ≡ n → state_of (returned_row n entered.slot m item) ≡ returned_state m item entered
+returned_same n m item entered e = ap (λ (k : ℕ). row_with (carried_back item.reason m item.row) item.row.lineage k entered.slot) (sym e)
 
 serving_mirrors : (site : Site) (its : Contents) (m : ℕ) (call : HomeCall) (reply : HomeReply) (after : Home) → HomeStep site (Serving its) m call reply after → RisesFrom 0 its.rows its.next
     → Mirrors (Serving its) (policy_of its) (next_policy (policy_of its) call) m (effect_of m call reply) (home_ends (Serving its) m call ++ home_drops call) after
@@ -338,14 +344,17 @@ serving_mirrors site its m (Change receipt timeout) Done after h rising =
 serving_mirrors site its m Purge Done after h rising =
     rw h (record { rising = omega arith; goes_by = refl; states = sym (filter_none (kept_states (policy_of its) m (map state_of its.rows))); ends = past_all its m Purged; split = tt })
 serving_mirrors site its m Count (Counted counts) after h rising = rw h.1 (stays its m (unexpired_rows its m) refl (rises_unexpired its.settings m 0 its.rows its.next rising))
+serving_mirrors site its m StartDrain Done after h rising = rw h (stays_in its (once_draining its.mode) m (unexpired_rows its m) refl (rises_unexpired its.settings m 0 its.rows its.next rising))
+serving_mirrors site its m FinishDrain Done after h rising = rw h.2 (stays_in its Drained m [] (ap (map state_of) (sym h.1)) (omega arith))
 serving_mirrors site its m LeaveDead (Left item) after h rising = rw h.3.2 (departs its m h.3.0 item.row rising h.3.1)
+serving_mirrors site its m LeaveDrain (Left item) after h rising = rw h.4.2 (departs its m h.4.0 item.row rising h.4.1)
 serving_mirrors site its m (LeaveTask task) (Left item) after h rising = rw h.2.2 (departs its m h.2.0 item.row rising h.2.1)
 serving_mirrors site its m (LeaveTask task) NoLiveRow after h rising = rw h.1 (stays its m (unexpired_rows its m) refl (rises_unexpired its.settings m 0 its.rows its.next rising))
 serving_mirrors site its m (LeaveTask task) (NoOrigin serial) after h rising = rw h.1 (stays its m (unexpired_rows its m) refl (rises_unexpired its.settings m 0 its.rows its.next rising))
 serving_mirrors site its m (Enter item) (Entered entered) after h rising =
     rw h.3 (comes_in its m (entered_row site.home its.next entered.slot m item) (entered_state m item entered) rising refl (entered_same site.home its.next m item entered h.2))
 serving_mirrors site its m (GiveBack item) (Entered entered) after h rising =
-    rw h.3 (comes_in its m (returned_row its.next entered.slot m item) (returned_state item entered) rising refl (returned_same its.next m item entered h.2))
+    rw h.3 (comes_in its m (returned_row its.next entered.slot m item) (returned_state m item entered) rising refl (returned_same its.next m item entered h.2))
 serving_mirrors site its m call reply after h rising = elim h [ ]
 
 none_past : (policy : Option Policy) (m : ℕ) → past_states policy m [] ≡ []
@@ -397,7 +406,10 @@ passes site (Serving its) m (Delete receipt) Done after h = record { sends = ref
 passes site (Serving its) m (Change receipt timeout) Done after h = record { sends = refl; outs = refl; ins = refl }
 passes site (Serving its) m Purge Done after h = record { sends = refl; outs = refl; ins = refl }
 passes site (Serving its) m Count (Counted counts) after h = record { sends = refl; outs = refl; ins = refl }
+passes site (Serving its) m StartDrain Done after h = record { sends = refl; outs = refl; ins = refl }
+passes site (Serving its) m FinishDrain Done after h = record { sends = refl; outs = refl; ins = refl }
 passes site (Serving its) m LeaveDead (Left item) after h = record { sends = refl; outs = refl; ins = refl }
+passes site (Serving its) m LeaveDrain (Left item) after h = record { sends = refl; outs = refl; ins = refl }
 passes site (Serving its) m (LeaveTask task) (Left item) after h = record { sends = refl; outs = refl; ins = refl }
 passes site (Serving its) m (LeaveTask task) NoLiveRow after h = record { sends = refl; outs = refl; ins = refl }
 passes site (Serving its) m (LeaveTask task) (NoOrigin serial) after h = record { sends = refl; outs = refl; ins = refl }

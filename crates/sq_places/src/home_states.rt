@@ -91,16 +91,19 @@ fn change(
         HomeCall::Configure(_, _)
         | HomeCall::Change(_, _)
         | HomeCall::Count
+        | HomeCall::StartDrain
+        | HomeCall::FinishDrain
         | HomeCall::TurnBack(_) => Ok(()),
         HomeCall::Send(_, _)
         | HomeCall::Look(_, _)
         | HomeCall::LeaveDead
+        | HomeCall::LeaveDrain
         | HomeCall::LeaveTask(_) => apply_reply(rows, moment, reply),
         HomeCall::Delete(receipt) => delete(rows, receipt, ends),
         HomeCall::Purge => rows.clear(Place::Purged, ends),
         HomeCall::Close => rows.clear(Place::ClosedAway, ends),
         HomeCall::Enter(item) => enter(rows, moment, item.get(), reply),
-        HomeCall::GiveBack(item) => come_back(rows, item.get(), reply),
+        HomeCall::GiveBack(item) => come_back(rows, moment, item.get(), reply),
         HomeCall::Drop(item) => drop_item(item.get(), ends),
     }
 }
@@ -145,12 +148,17 @@ fn enter(rows: &mut HomeRows, moment: u64, item: &Item, reply: &HomeReply) -> Re
     Ok(())
 }
 
-fn come_back(rows: &mut HomeRows, item: &Item, reply: &HomeReply) -> Result<(), Refusal>
-    ensures rows { OnOk result ((moment : ℕ) → rows.new ≡ audits.rows_after moment (entry_effect (returned_state item.now) reply.now) rows.old) }
+fn come_back(
+    rows: &mut HomeRows,
+    moment: u64,
+    item: &Item,
+    reply: &HomeReply,
+) -> Result<(), Refusal>
+    ensures rows { OnOk result (rows.new ≡ audits.rows_after moment (entry_effect (returned_state moment item.now) reply.now) rows.old) }
     ensures err { IfErr result (λ e. e ≡ Refusal.NoMemory) }
 {
     if let HomeReply::Entered(row) = reply {
-        rows.put(returned(item, row))?;
+        rows.put(returned(item, row, moment))?;
     }
     Ok(())
 }

@@ -178,16 +178,19 @@ fn changed(
         HomeCall::Configure(_, _)
         | HomeCall::Change(_, _)
         | HomeCall::Count
+        | HomeCall::StartDrain
+        | HomeCall::FinishDrain
         | HomeCall::TurnBack(_) => state,
         HomeCall::Send(_, _)
         | HomeCall::Look(_, _)
         | HomeCall::LeaveDead
+        | HomeCall::LeaveDrain
         | HomeCall::LeaveTask(_) => answered(x, index, moment, reply, state),
         HomeCall::Delete(receipt) => deleted(index, receipt, state),
         HomeCall::Purge => cleared(index, Place::Purged, state),
         HomeCall::Close => cleared(index, Place::ClosedAway, state),
         HomeCall::Enter(item) => came_in(x, index, moment, item.get(), reply, state),
-        HomeCall::GiveBack(item) => came_back(x, index, item.get(), reply, state),
+        HomeCall::GiveBack(item) => came_back(x, index, moment, item.get(), reply, state),
         HomeCall::Drop(item) => dropped(x, item.get(), state),
     }
 }
@@ -255,15 +258,16 @@ fn came_in(
 fn came_back(
     x: &MessageId,
     index: u32,
+    moment: u64,
     item: &Item,
     reply: &HomeReply,
     state: MessageState,
 ) -> MessageState
-    ensures { (moment : ℕ) → result ≡ tracks.state_after x.now index moment (entry_effect (returned_state item.now) reply.now) state }
+    ensures { result ≡ tracks.state_after x.now index moment (entry_effect (returned_state moment item.now) reply.now) state }
 {
     match reply {
         HomeReply::Entered(row) if item.row.lineage == *x => {
-            MessageState::Here(index, returned(item, row))
+            MessageState::Here(index, returned(item, row, moment))
         }
         _ => state,
     }

@@ -62,19 +62,19 @@ pub fn sent(message: &SentMessage, moment: u64) -> RowState
     }
 }
 
-/// The row of an item that comes in at its target at a moment. A dead letter keeps its age.
+/// The row of an item that comes in at its target at a moment. A dead letter keeps its age, and a message of a drained home its receives too.
 pub fn entered(item: &Item, entered: &EnteredRow, moment: u64) -> RowState
     ensures { result ≡ states.entered_state moment item.now entered.now }
 {
-    let keeps = Carried::by(&item.reason, moment, item.row.enqueued);
+    let keeps = Carried::by(&item.reason, moment, &item.row);
     row_with(keeps, item.row.lineage, entered)
 }
 
-/// The row of an item that comes back to its source.
-pub fn returned(item: &Item, entered: &EnteredRow) -> RowState
-    ensures { result ≡ states.returned_state item.now entered.now }
+/// The row of an item that comes back to its source at a moment.
+pub fn returned(item: &Item, entered: &EnteredRow, moment: u64) -> RowState
+    ensures { result ≡ states.returned_state moment item.now entered.now }
 {
-    let keeps = Carried::back(item.row.enqueued);
+    let keeps = Carried::back(&item.reason, moment, &item.row);
     row_with(keeps, item.row.lineage, entered)
 }
 

@@ -11,7 +11,7 @@ use Rattle.sq_base.specs.declared.handle.Handle.{Handle}
 use Rattle.sq_base.specs.declared.ids.HomeId.{HomeId}
 use Rattle.sq_base.specs.declared.message_id.MessageId.{MessageId}
 use Rattle.sq_base.specs.declared.refusal.Refusal.{Refusal}
-use Rattle.sq_base.specs.declared.refusal.Refusal.TheVariants.{NoMemory, ClockRange, Worn}
+use Rattle.sq_base.specs.declared.refusal.Refusal.TheVariants.{NoMemory, ClockRange, Worn, HomeDraining}
 use Rattle.sq_base.specs.declared.row.Row.{Row}
 use Rattle.sq_base.specs.Handles.{handle_text}
 use Rattle.sq_base.specs.MessageIds.{id_number}
@@ -105,6 +105,7 @@ abbrev pub is_senders_fault : Refusal → Bool
 is_senders_fault NoMemory = false
 is_senders_fault ClockRange = false
 is_senders_fault Worn = false
+is_senders_fault HomeDraining = false
 is_senders_fault e = true
 
 -- an entry of a batch that failed (SQS API Reference, BatchResultErrorEntry: Code, Id, SenderFault)

@@ -76,7 +76,7 @@ fn is_senders_fault(refusal: Refusal) -> bool
     ensures { result ≡ is_senders_fault refusal }
 {
     match refusal {
-        Refusal::NoMemory | Refusal::ClockRange | Refusal::Worn => false,
+        Refusal::NoMemory | Refusal::ClockRange | Refusal::Worn | Refusal::HomeDraining => false,
         _ => true,
     }
 }

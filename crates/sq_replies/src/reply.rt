@@ -85,6 +85,7 @@ fn error_text(refusal: Refusal) -> &'static str
         Refusal::UnsupportedOperation =>
             "{\"Error\":{\"Code\":\"UnsupportedOperation\",\"Number\":23}}",
         Refusal::TableFull => "{\"Error\":{\"Code\":\"TableFull\",\"Number\":24}}",
+        Refusal::HomeDraining => "{\"Error\":{\"Code\":\"HomeDraining\",\"Number\":25}}",
     }
 }
 

@@ -2,7 +2,7 @@
 #![tactic(auto, unfolding(crate::proofs::OnLiterals::replies_on_literals))]
 
 ghost use Rattle.std.specs.Prelude.{◌≡◌, List, [], ◌∷◌, ◌++◌, codes, map, Some, None, Ok};
-ghost use Rattle.sq_base.specs.declared.refusal.Refusal.TheVariants.{NoMemory, ClockRange, Worn, InvalidParameterValue};
+ghost use Rattle.sq_base.specs.declared.refusal.Refusal.TheVariants.{NoMemory, ClockRange, HomeDraining, Worn, InvalidParameterValue};
 ghost use Rattle.sq_calls.specs.declared.calls.Answer.TheVariants.{Queues, Sources, Batch, Started, Cancelled, Tasks};
 ghost use Rattle.sq_calls.specs.declared.calls.Answered.TheVariants.{Turn};
 ghost use Rattle.sq_model.specs.declared.task.FailureReason.TheVariants.{NoOrigin};
@@ -55,5 +55,5 @@ pub fn a_task_is_listed_with_what_it_has()
 pub fn a_batch_tells_failures_and_successes_apart()
     ensures deleted { text_of (Batch (deleted (codes "x") ∷ deleted (codes "y") ∷ [])) ≡ codes "{\"Failed\":[],\"Successful\":[{\"Id\":\"x\"},{\"Id\":\"y\"}]}" }
     ensures sent { text_of (Batch (sent_with (codes "a") 0 (codes "0cc175b9c0f1b6a831c399e269772661") ∷ failed_with (codes "b") InvalidParameterValue ∷ sent_with (codes "c") 1 (codes "4a8a08f09d37b73795649038408b5f33") ∷ [])) ≡ codes "{\"Failed\":[{\"Code\":\"InvalidParameterValue\",\"Id\":\"b\",\"SenderFault\":true}],\"Successful\":[{\"Id\":\"a\",\"MD5OfMessageBody\":\"0cc175b9c0f1b6a831c399e269772661\",\"MessageId\":\"00000000-0001-8000-8000-000000000000\"},{\"Id\":\"c\",\"MD5OfMessageBody\":\"4a8a08f09d37b73795649038408b5f33\",\"MessageId\":\"00000000-0001-8000-8000-000000000001\"}]}" }
-    ensures failed { text_of (Batch (failed_with (codes "x") NoMemory ∷ failed_with (codes "y") ClockRange ∷ failed_with (codes "z") Worn ∷ [])) ≡ codes "{\"Failed\":[{\"Code\":\"NoMemory\",\"Id\":\"x\",\"SenderFault\":false},{\"Code\":\"ClockRange\",\"Id\":\"y\",\"SenderFault\":false},{\"Code\":\"Worn\",\"Id\":\"z\",\"SenderFault\":false}],\"Successful\":[]}" }
+    ensures failed { text_of (Batch (failed_with (codes "x") NoMemory ∷ failed_with (codes "y") ClockRange ∷ failed_with (codes "z") Worn ∷ failed_with (codes "w") HomeDraining ∷ [])) ≡ codes "{\"Failed\":[{\"Code\":\"NoMemory\",\"Id\":\"x\",\"SenderFault\":false},{\"Code\":\"ClockRange\",\"Id\":\"y\",\"SenderFault\":false},{\"Code\":\"Worn\",\"Id\":\"z\",\"SenderFault\":false},{\"Code\":\"HomeDraining\",\"Id\":\"w\",\"SenderFault\":false}],\"Successful\":[]}" }
 {}

@@ -8,6 +8,8 @@ use Rattle.sq_base.specs.declared.refusal.Refusal.TheVariants.{OverLimit}
 use Rattle.sq_base.specs.declared.row.Row.{Row}
 use Rattle.sq_base.specs.declared.settings.Settings.{Settings}
 use Rattle.sq_model.specs.declared.calls.Receipt.{Receipt}
+use Rattle.sq_model.specs.declared.home_mode.HomeMode.{HomeMode}
+use Rattle.sq_model.specs.declared.home_mode.HomeMode.TheVariants.{Accepting}
 use Rattle.sq_model.specs.declared.place.Limits.{Limits}
 use Rattle.sq_model.specs.Homes.{full_refusal, last_serial, slots}
 use Rattle.sq_model.specs.Rows.{unexpired, is_expired, without, is_named}
@@ -38,13 +40,19 @@ upto : (a b : ℕ) → a ≤ b → nat_le a b ≡ true
 upto a b h = grind (arith, common_steps)
 
 -- a home that is full has a slot left, as it may hold fewer rows than there are slots
-pub full_refused : (l : Limits) (next : ℕ) (s : Settings) (m : ℕ) (rows : List Row) (later : Option Refusal)
-    → next < last_serial → l.rows < slots → length rows ≤ l.rows → l.rows ≤ length (unexpired s m rows) → full_refusal l next (unexpired s m rows) later ≡ Some OverLimit
-full_refused l next s m rows later low fits within full =
+pub full_refused : (l : Limits) (mode : HomeMode) (next : ℕ) (s : Settings) (m : ℕ) (rows : List Row) (later : Option Refusal)
+    → mode ≡ Accepting → next < last_serial → l.rows < slots → length rows ≤ l.rows → l.rows ≤ length (unexpired s m rows) → full_refusal l mode next (unexpired s m rows) later ≡ Some OverLimit
+full_refused l mode next s m rows later accepting low fits within full =
     let kept = few_unexpired s m rows l.rows within in
-    rw (above next last_serial low, above (length (unexpired s m rows)) slots (omega (arith, fits, kept)), upto l.rows (length (unexpired s m rows)) full) refl
+    rw (accepting, above next last_serial low, above (length (unexpired s m rows)) slots (omega (arith, fits, kept)), upto l.rows (length (unexpired s m rows)) full) refl
 
 -- and one that is not full, with serials left, refuses no row
-pub one_more_left : (l : Limits) (next : ℕ) (s : Settings) (m : ℕ) (rows : List Row) → next < last_serial → l.rows < slots → length (unexpired s m rows) < l.rows → full_refusal l next (unexpired s m rows) None ≡ None
-one_more_left l next s m rows low fits few =
-    rw (above next last_serial low, above (length (unexpired s m rows)) slots (omega (arith, fits, few)), above (length (unexpired s m rows)) l.rows few) refl
+pub one_more_left : (l : Limits) (mode : HomeMode) (next : ℕ) (s : Settings) (m : ℕ) (rows : List Row)
+    → mode ≡ Accepting → next < last_serial → l.rows < slots → length (unexpired s m rows) < l.rows → full_refusal l mode next (unexpired s m rows) None ≡ None
+one_more_left l mode next s m rows accepting low fits few =
+    rw (accepting, above next last_serial low, above (length (unexpired s m rows)) slots (omega (arith, fits, few)), above (length (unexpired s m rows)) l.rows few) refl
+
+-- where none is counted, none is there
+pub none_left : (rows : List Row) → length rows ≤ 0 → rows ≡ []
+none_left [] le = refl
+none_left (row ∷ rows) le = absurd (omega (arith, le))

@@ -1,18 +1,19 @@
 -- Rows that leave a home: which there are, and what stays.
 use Rattle.std.proofs.Common.{◌≡◌, ℕ, zero, suc, ◌+◌, ◌<◌, ◌≤◌, true, false, List, [], ◌∷◌, ◌++◌, length, Option, Some, None, refl, sym, ap, ◌∙◌, subst, arith}
-use Rattle.std.specs.Prelude.{◌&&◌, ◌||◌, if◌then◌else◌, nat_eq, nat_le}
+use Rattle.std.specs.Prelude.{◌&&◌, ◌||◌, not, if◌then◌else◌, nat_eq, nat_le}
 use Rattle.std.specs.List.{list_any, Contains, slice_index_or}
 use Rattle.std.proofs.lemmas.Bool.{eqb-true}
 use Rattle.std.proofs.lemmas.Grind.{common_steps}
 use Rattle.sq_base.specs.declared.refusal.Refusal.{Refusal}
-use Rattle.sq_base.specs.declared.refusal.Refusal.TheVariants.{Worn, OverLimit}
+use Rattle.sq_base.specs.declared.refusal.Refusal.TheVariants.{Worn, OverLimit, HomeDraining}
 use Rattle.sq_base.specs.declared.row.Row.{Row}
+use Rattle.sq_model.specs.declared.home_mode.HomeMode.{HomeMode}
 use Rattle.sq_model.specs.declared.place.Site.{Site}
 use Rattle.sq_model.specs.declared.calls.HomeCall.TheVariants.{Enter, TurnBack, GiveBack, Drop}
 use Rattle.sq_model.specs.declared.item.Item.{Item}
 use Rattle.sq_model.specs.declared.replies.EnteredRow.{EnteredRow}
 use Rattle.sq_model.specs.declared.replies.HomeReply.TheVariants.{Done, Entered}
-use Rattle.sq_model.specs.Homes.{Contents, Home, HomeStep, last_serial, slots, refused_if, may_enter, may_return, entered_row, returned_row, unexpired_rows}
+use Rattle.sq_model.specs.Homes.{Contents, Home, HomeStep, accepts, last_serial, slots, refused_if, may_enter, may_return, entered_row, returned_row, unexpired_rows}
 use Rattle.sq_model.specs.Homes.{Unopened as Never, Serving as Serves, Closed as Gone}
 use Rattle.sq_model.specs.Rows.{RisesFrom, Takes}
 use Rattle.sq_model.proofs.RowLaws.{rises_weaker, rises_unexpired}
@@ -87,9 +88,10 @@ few_rest rows rest row most takes le =
     let whole : length (takes.before ++ row ∷ takes.after) ≤ most = subst (λ xs. length xs ≤ most) takes.at le in
     rw takes.left (omega (arith, fewer, whole))
 
--- a home that takes a row serves, and has a serial, a slot and spare memory for it
-pub record TakesOne (status : Status) (site : Site) (next : ℕ) (rows : List Row) : Type 0 where
+-- a home that takes a row serves and accepts it, and has a serial, a slot and spare memory for it
+pub record TakesOne (status : Status) (site : Site) (mode : HomeMode) (next : ℕ) (rows : List Row) : Type 0 where
   pub serves : status ≡ Serving
+  pub accepting : accepts mode ≡ true
   pub not_worn : next < last_serial
   pub slot_left : length rows < slots
   pub within : length rows < site.limits.rows
@@ -100,19 +102,28 @@ over a b h = grind (arith, common_steps)
 below : (a b : ℕ) → nat_le b a ≡ false → a < b
 below a b h = grind (arith, common_steps, h)
 
-pub takes_one : (status : Status) (site : Site) (its : Contents) (m : ℕ) → coming_refusal site (home_with status its) m None ≡ None → TakesOne status site its.next (unexpired_rows its m)
+-- where it accepts rows, so does the rest
+takes_next : (site : Site) (mode : HomeMode) (next : ℕ) (rows : List Row) → accepts mode ≡ true
+    → refused_if (nat_le last_serial next || nat_le slots (length rows)) Worn (refused_if (nat_le site.limits.rows (length rows)) OverLimit None) ≡ None → TakesOne Serving site mode next rows
+takes_next site mode next rows accepting h =
+    elim (nat_le last_serial next) as (λ a. nat_le last_serial next ≡ a → (if a || nat_le slots (length rows) then Some Worn else refused_if (nat_le site.limits.rows (length rows)) OverLimit None) ≡ None → TakesOne Serving site mode next rows) [
+      | true ↦ (λ e k. absurd cc)
+      | false ↦ (λ e. elim (nat_le slots (length rows)) as (λ b. nat_le slots (length rows) ≡ b → (if b then Some Worn else refused_if (nat_le site.limits.rows (length rows)) OverLimit None) ≡ None → TakesOne Serving site mode next rows) [
+        | true ↦ (λ f k. absurd cc)
+        | false ↦ (λ f. elim (nat_le site.limits.rows (length rows)) as (λ d. nat_le site.limits.rows (length rows) ≡ d → (if d then Some OverLimit else None) ≡ None → TakesOne Serving site mode next rows) [
+          | true ↦ (λ i k. absurd cc)
+          | false ↦ (λ i k. record { serves = refl; accepting = accepting; not_worn = below next last_serial e; slot_left = below (length rows) slots f; within = below (length rows) site.limits.rows i })
+        ] refl)
+      ] refl)
+    ] refl h
+
+pub takes_one : (status : Status) (site : Site) (its : Contents) (m : ℕ) → coming_refusal site (home_with status its) m None ≡ None → TakesOne status site its.mode its.next (unexpired_rows its m)
 takes_one Unopened site its m h = absurd cc
 takes_one Closed site its m h = absurd cc
 takes_one Serving site its m h =
-    elim (nat_le last_serial its.next) as (λ a. nat_le last_serial its.next ≡ a → (if a || nat_le slots (length (unexpired_rows its m)) then Some Worn else refused_if (nat_le site.limits.rows (length (unexpired_rows its m))) OverLimit None) ≡ None → TakesOne Serving site its.next (unexpired_rows its m)) [
-      | true ↦ (λ e k. absurd cc)
-      | false ↦ (λ e. elim (nat_le slots (length (unexpired_rows its m))) as (λ b. nat_le slots (length (unexpired_rows its m)) ≡ b → (if b then Some Worn else refused_if (nat_le site.limits.rows (length (unexpired_rows its m))) OverLimit None) ≡ None → TakesOne Serving site its.next (unexpired_rows its m)) [
-        | true ↦ (λ f k. absurd cc)
-        | false ↦ (λ f. elim (nat_le site.limits.rows (length (unexpired_rows its m))) as (λ d. nat_le site.limits.rows (length (unexpired_rows its m)) ≡ d → (if d then Some OverLimit else None) ≡ None → TakesOne Serving site its.next (unexpired_rows its m)) [
-          | true ↦ (λ i k. absurd cc)
-          | false ↦ (λ i k. record { serves = refl; not_worn = below its.next last_serial e; slot_left = below (length (unexpired_rows its m)) slots f; within = below (length (unexpired_rows its m)) site.limits.rows i })
-        ] refl)
-      ] refl)
+    elim (accepts its.mode) as (λ v. accepts its.mode ≡ v → (if not v then Some HomeDraining else refused_if (nat_le last_serial its.next || nat_le slots (length (unexpired_rows its m))) Worn (refused_if (nat_le site.limits.rows (length (unexpired_rows its m))) OverLimit None)) ≡ None → TakesOne Serving site its.mode its.next (unexpired_rows its m)) [
+      | true ↦ (λ a k. takes_next site its.mode its.next (unexpired_rows its m) a k)
+      | false ↦ (λ a k. absurd cc)
     ] refl h
 
 -- where a row may come in, what is checked later decides
@@ -121,7 +132,7 @@ later_decides site Never m later h = absurd cc
 later_decides site Gone m later h = absurd cc
 later_decides site (Serves its) m later h =
     let takes = takes_one Serving site its m h in
-    rw (over its.next last_serial takes.not_worn, over (length (unexpired_rows its m)) slots takes.slot_left, over (length (unexpired_rows its m)) site.limits.rows takes.within) refl
+    rw (takes.accepting, over its.next last_serial takes.not_worn, over (length (unexpired_rows its m)) slots takes.slot_left, over (length (unexpired_rows its m)) site.limits.rows takes.within) refl
 
 -- what a home that puts the row of an item last has done
 pub entered_at : (site : Site) (home : Home) (m serial : ℕ) (entered : EnteredRow) (item : Item) (after : Home) → may_enter site.home item ≡ true → IsNextOf home serial → IsPut site home m (entered_row site.home serial 0 m item) entered after

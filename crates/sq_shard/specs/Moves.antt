@@ -8,9 +8,11 @@ use Rattle.sq_model.specs.declared.calls.HomeCall.{HomeCall}
 use Rattle.sq_model.specs.declared.calls.HomeCall.TheVariants.{Send}
 use Rattle.sq_model.specs.declared.calls.HomeCall.TheVariants as call
 use Rattle.sq_model.specs.declared.place.Site.{Site}
-use Rattle.sq_model.specs.Homes.{Home, Unopened, Serving, Closed, dead_target, full_refusal, refused_if, unexpired_rows}
-use Rattle.sq_model.specs.Rows.{is_dead, is_live, Takes}
+use Rattle.sq_model.specs.Homes.{Home, Unopened, Serving, Closed, dead_target, full_refusal, is_draining, refused_if, unexpired_rows}
+use Rattle.sq_model.specs.Rows.{is_at_rest, is_dead, is_live, Takes}
 use Rattle.sq_model.specs.declared.item.Item.{Item}
+use Rattle.sq_model.specs.declared.shared.HomeLeave.{HomeLeave}
+use Rattle.sq_model.specs.declared.shared.HomeLeave.TheVariants.{Dead, Drain}
 use Rattle.sq_model.specs.declared.shared.ItemAct.{ItemAct}
 use Rattle.sq_model.specs.declared.shared.ItemAct.TheVariants.{Enter, TurnBack, GiveBack, Drop}
 use Rattle.sq_model.specs.ItemActs.{is_its}
@@ -21,6 +23,17 @@ abbrev pub IsDeadAt : Home → ℕ → Row → Type 0
 IsDeadAt (Serving its) m row = IsOneOf (is_dead its.settings m) (unexpired_rows its m) row
 IsDeadAt Unopened m row = ⊥
 IsDeadAt Closed m row = ⊥
+
+-- a row of a home that drains, at rest at m
+abbrev pub IsToDrainAt : Home → ℕ → Row → Type 0
+IsToDrainAt (Serving its) m row = (is_draining its.mode ≡ true) × IsOneOf (is_at_rest m) (unexpired_rows its m) row
+IsToDrainAt Unopened m row = ⊥
+IsToDrainAt Closed m row = ⊥
+
+-- a row that may leave so at m
+abbrev pub MayLeaveAt : HomeLeave → Home → ℕ → Row → Type 0
+MayLeaveAt Dead home m row = IsDeadAt home m row
+MayLeaveAt Drain home m row = IsToDrainAt home m row
 
 -- a live row of the home at m
 abbrev pub IsLiveAt : Home → ℕ → Row → Type 0
@@ -51,6 +64,11 @@ abbrev pub target_at : Home → Option ℕ
 target_at (Serving its) = dead_target its.settings.redrive
 target_at Unopened = None
 target_at Closed = None
+
+-- the queue that a row leaves for so: of a drain the home's own
+abbrev pub leave_target : HomeLeave → Site → Home → Option ℕ
+leave_target Dead site home = target_at home
+leave_target Drain site home = Some site.home.queue
 
 -- the home has this row at m
 abbrev pub HasRow : Home → ℕ → Row → Type 0
@@ -85,7 +103,7 @@ PutsRow Drop = ⊥
 
 -- why a home takes no row at m
 abbrev pub coming_refusal : Site → Home → ℕ → Option Refusal → Option Refusal
-coming_refusal site (Serving its) m later = full_refusal site.limits its.next (unexpired_rows its m) later
+coming_refusal site (Serving its) m later = full_refusal site.limits its.mode its.next (unexpired_rows its m) later
 coming_refusal site Unopened m later = Some QueueDoesNotExist
 coming_refusal site Closed m later = Some QueueDoesNotExist
 

@@ -41,22 +41,22 @@ pub fn sent_row(home: &HomeId, serial: Serial, moment: u64, until: u64, body: Bo
     }
 }
 
-// A row at a home that it is new to, before it has a slot: visible at once.
-fn moved_row(keeps: Carried, serial: Serial, moment: u64, row: Row) -> Row
-    ensures { result ≡ homes.moved keeps serial 0 moment row }
+// A row at a home that it is new to, before it has a slot.
+fn moved_row(keeps: Carried, serial: Serial, row: Row) -> Row
+    ensures { result ≡ homes.moved keeps serial 0 row }
 {
     let mut moved = row;
     moved.serial = serial;
     moved.slot = 0;
     moved.enqueued = keeps.enqueued;
-    moved.visible_from = moment;
+    moved.visible_from = keeps.visible_from;
     moved.receives = keeps.receives;
-    moved.last_receive = None;
+    moved.last_receive = keeps.last_receive;
     moved
 }
 
 /// The row of an item that comes in at its target, before it has a slot: a dead letter stays the same message and
-/// remembers its source, and a task makes a new message of it.
+/// remembers its source, a task makes a new message of it, and a message of a drained home stays as it was.
 pub fn entered_row(home: &HomeId, serial: Serial, moment: u64, item: Item) -> Row
     ensures { result ≡ homes.entered_row home.now serial 0 moment item }
 {
@@ -66,14 +66,15 @@ pub fn entered_row(home: &HomeId, serial: Serial, moment: u64, item: Item) -> Ro
         reason,
         ..
     } = item;
-    let keeps = Carried::by(&reason, moment, row.enqueued);
-    let mut row = moved_row(keeps, serial, moment, row);
+    let keeps = Carried::by(&reason, moment, &row);
+    let mut row = moved_row(keeps, serial, row);
     match reason {
         Reason::DeadLetter => row.origin = Some(source),
         Reason::Task(_) => {
             row.id = fresh_id(home, serial);
             row.origin = None;
         }
+        Reason::Drain => {}
     }
     row
 }
@@ -82,9 +83,9 @@ pub fn entered_row(home: &HomeId, serial: Serial, moment: u64, item: Item) -> Ro
 pub fn returned_row(serial: Serial, moment: u64, item: Item) -> Row
     ensures { result ≡ homes.returned_row serial 0 moment item }
 {
-    let Item { row, .. } = item;
-    let keeps = Carried::back(row.enqueued);
-    moved_row(keeps, serial, moment, row)
+    let Item { row, reason, .. } = item;
+    let keeps = Carried::back(&reason, moment, &row);
+    moved_row(keeps, serial, row)
 }
 
 /// Whether an item is one for this home: on its way to it, or on its way back.

@@ -1,20 +1,22 @@
 //! Messages that leave a home or come in, as the home sees it.
 ghost use Rattle.std.specs.Prelude.{◌≡◌, ◌<◌, Bool, true, false, Some, None, option_map, IfOk, IfErr, IfSome, IfNone, OnErr, OnOk};
-ghost use Rattle.sq_model.specs.declared.calls.HomeCall.TheVariants.{LeaveDead, Enter, GiveBack};
+ghost use Rattle.sq_model.specs.declared.calls.HomeCall.TheVariants.{Enter, GiveBack};
 ghost use Rattle.sq_model.specs.Homes.{HomeStep, IsIdle, home_refusal, may_enter, may_return};
+ghost use Rattle.sq_model.specs.HomeLeaves.{leave_call};
 ghost use Rattle.sq_model.specs.ItemActs.{call_with, is_its, may_act, replied_by};
 ghost use Rattle.sq_model.specs.Homes.{Closed as Gone};
 ghost use Rattle.sq_shard.specs.Calls.{HasComeIn};
-ghost use Rattle.sq_shard.specs.Moves.{IsDeadAt, IsLiveAt, HasRow, GoesWithout, IsFor, KeepsSpareRows, PutsRow, has_live_row, is_opened, target_at, unexpired_home, coming_refusal, closed_refusal, item_refusal};
+ghost use Rattle.sq_shard.specs.Moves.{IsLiveAt, HasRow, GoesWithout, IsFor, KeepsSpareRows, MayLeaveAt, PutsRow, has_live_row, is_opened, leave_target, target_at, unexpired_home, coming_refusal, closed_refusal, item_refusal};
 
 use crate::made;
 use crate::shard::{Shard, Status};
 use sq_base::ids::{HomeId, QueueNo};
 use sq_base::refusal::Refusal;
 use sq_base::row::Row;
+use sq_model::home_mode::HomeMode;
 use sq_model::item::Item;
 use sq_model::replies::EnteredRow;
-use sq_model::shared::ItemAct;
+use sq_model::shared::{HomeLeave, ItemAct};
 use sq_store::store::{At, Store};
 
 // The item, where it is there and is one for this home. Refused as UnsupportedOperation.
@@ -35,18 +37,26 @@ fn its<'a>(act: ItemAct, home: &HomeId, item: Option<&'a Item>) -> Result<&'a It
 }
 
 impl<S: Store> Shard<S> {
-    /// A dead message, any of them, as it stands; none where none is dead. Refused as QueueDoesNotExist (not serving).
+    /// A message that may leave so, any of them, as it stands: a dead one, or of a home that drains one that is not in flight.
+    /// None where there is none. Refused as QueueDoesNotExist (not serving), UnsupportedOperation (a drain, and it does not drain).
     #[tactic(auto, unfolding(sq_model::specs::Homes::home_refusal))]
-    pub fn find_dead(&self, moment: u64) -> Result<Option<&Row>, Refusal>
-        ensures found { IfOk result (λ found. IfSome found (λ row. IsDeadAt self.now.home moment row.now)) }
-        ensures none { IfOk result (λ found. IfNone found (IsIdle self.now.home moment LeaveDead)) }
-        ensures refusal { IfErr result (λ e. home_refusal self.now.site self.now.home moment LeaveDead ≡ Some e) }
+    pub fn find_leaving(&self, what: HomeLeave, moment: u64) -> Result<Option<&Row>, Refusal>
+        ensures found { IfOk result (λ found. IfSome found (λ row. MayLeaveAt what self.now.home moment row.now)) }
+        ensures none { IfOk result (λ found. IfNone found (IsIdle self.now.home moment (leave_call what))) }
+        ensures refusal { IfErr result (λ e. home_refusal self.now.site self.now.home moment (leave_call what) ≡ Some e) }
     {
         let Status::Serving = self.status else {
             return Err(Refusal::QueueDoesNotExist);
         };
         let settings = self.settings;
-        Ok(self.store.find_dead(&At { settings, moment }))
+        let at = At { settings, moment };
+        match what {
+            HomeLeave::Dead => Ok(self.store.find_dead(&at)),
+            HomeLeave::Drain => match self.mode {
+                HomeMode::Draining => Ok(self.store.find_at_rest(&at)),
+                HomeMode::Accepting | HomeMode::Drained => Err(Refusal::UnsupportedOperation),
+            },
+        }
     }
 
     /// A live message, any of them, as it stands; none where none is live.
@@ -79,8 +89,18 @@ impl<S: Store> Shard<S> {
         self.store.expire(&At { settings, moment });
     }
 
-    /// The queue that dead messages leave for.
-    pub fn dead_letter_queue(&self) -> Option<QueueNo>
+    /// The queue that messages leave for so: the dead-letter queue, or of a drain the home's own.
+    pub fn leave_target(&self, what: HomeLeave) -> Option<QueueNo>
+        ensures { result ≡ leave_target what self.now.site self.now.home }
+    {
+        match what {
+            HomeLeave::Dead => self.dead_letter_queue(),
+            HomeLeave::Drain => Some(self.site.home.queue),
+        }
+    }
+
+    // The queue that dead messages leave for.
+    fn dead_letter_queue(&self) -> Option<QueueNo>
         ensures { result ≡ target_at self.now.home }
     {
         let Status::Serving = self.status else {
@@ -107,7 +127,7 @@ impl<S: Store> Shard<S> {
     }
 
     /// The item, where this may be done with it here. Refused where its row comes in as QueueDoesNotExist (not serving),
-    /// Worn (no serial is left), OverLimit (full), and where the home is to be closed as QueueDoesNotExist (never opened),
+    /// HomeDraining (it drains, or is drained), Worn (no serial is left), OverLimit (full), and where the home is to be closed as QueueDoesNotExist (never opened),
     /// UnsupportedOperation (serving); then as UnsupportedOperation (no item, or not one for this home).
     #[tactic(auto, using(crate::proofs::MoveLaws::later_decides))]
     pub fn check_item<'a>(

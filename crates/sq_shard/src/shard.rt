@@ -3,7 +3,7 @@ ghost use Rattle.std.specs.Prelude.{◌≡◌, ◌⊎◌, ◌↔◌, ◌<◌, �
 ghost use Rattle.sq_base.specs.Stamps.{stamp_end};
 ghost use Rattle.sq_model.specs.Homes.{HomeStep, home_refusal};
 ghost use Rattle.sq_model.specs.Homes.{Unopened as Never, Closed as Gone};
-ghost use Rattle.sq_model.specs.declared.calls.HomeCall.TheVariants.{Configure, Close, Send, Look, Delete, Change, Purge, Count};
+ghost use Rattle.sq_model.specs.declared.calls.HomeCall.TheVariants.{Configure, Close, Send, Look, Delete, Change, Purge, Count, StartDrain, FinishDrain};
 ghost use Rattle.sq_model.specs.declared.replies.HomeReply.TheVariants.{Sent, Counted};
 ghost use Rattle.sq_base.specs.declared.refusal.Refusal.{Refusal as Refused};
 ghost use Rattle.sq_shard.specs.Calls.{IsDoneOrRefused};
@@ -20,6 +20,7 @@ use sq_base::refusal::Refusal;
 use sq_base::row::Row;
 use sq_base::settings::Settings;
 use sq_model::calls::Receipt;
+use sq_model::home_mode::HomeMode;
 use sq_model::place::Site;
 use sq_model::replies::{Counts, EnteredRow, SentMessage};
 use sq_model::rows::Rows;
@@ -67,6 +68,7 @@ pub struct Shard<S: Store> {
     pub(crate) status: Status,
     pub(crate) settings: Settings,
     version: u64,
+    pub(crate) mode: HomeMode,
     pub(crate) next: Serial,
     pub(crate) store: S,
     spare: usize,
@@ -79,7 +81,7 @@ impl<S: Store> Model for Shard<S> {
 
     ghost Value = { ShardValue };
 
-    ghost view = { λ a. record { site = a.site; home = home_with a.status (record { settings = a.settings; version = a.version; next = a.next; rows = S.rows a.store }); spare = a.spare } };
+    ghost view = { λ a. record { site = a.site; home = home_with a.status (record { settings = a.settings; version = a.version; mode = a.mode; next = a.next; rows = S.rows a.store }); spare = a.spare } };
 
     ghost use Rattle.sq_shard.specs.declared.shard.Status.TheVariants.{Unopened, Closed};
 
@@ -97,6 +99,7 @@ impl<S: Store> Shard<S> {
             status: Status::Unopened,
             settings: Settings::standard(),
             version: 0,
+            mode: HomeMode::Accepting,
             next: Serial::first(),
             store,
             spare: 0,
@@ -127,6 +130,7 @@ impl<S: Store> Shard<S> {
                 self.status = Status::Serving;
                 self.settings = settings;
                 self.version = version;
+                self.mode = HomeMode::Accepting;
                 self.next = Serial::first();
                 Ok(())
             }
@@ -146,8 +150,8 @@ impl<S: Store> Shard<S> {
     }
 
     /// Puts a message last; without a delay the home's is taken.
-    /// Refused as QueueDoesNotExist (not serving), Worn (no serial is left), OverLimit (full), NoMemory (it shows spare memory for no
-    /// row).
+    /// Refused as QueueDoesNotExist (not serving), HomeDraining (it drains, or is drained), Worn (no serial is left), OverLimit (full),
+    /// NoMemory (it shows spare memory for no row).
     #[tactic(auto, unfolding(sq_model::specs::Homes::HomeStep, sq_model::specs::Homes::home_refusal), using(sq_model::proofs::RowLaws::rises_unexpired, crate::proofs::Few::few_unexpired, sq_model::proofs::RowLaws::rises_push, crate::proofs::Few::few_pushed, crate::proofs::Few::full_refused, crate::proofs::Few::one_more_left))]
     pub fn send(
         &mut self,
@@ -172,7 +176,7 @@ impl<S: Store> Shard<S> {
         Ok(SentMessage { id, slot })
     }
 
-    // Refused as QueueDoesNotExist (not serving), Worn (no serial is left), OverLimit (full).
+    // Refused as QueueDoesNotExist (not serving), HomeDraining (it drains, or is drained), Worn (no serial is left), OverLimit (full).
     #[tactic(auto, using(crate::proofs::Few::full_refused, crate::proofs::Few::one_more_left))]
     pub(crate) fn check_coming(&self, moment: u64) -> Result<(), Refusal>
         ensures may_come { OnOk result (coming_refusal self.now.site self.now.home moment None ≡ None) }
@@ -180,6 +184,9 @@ impl<S: Store> Shard<S> {
     {
         let Status::Serving = self.status else {
             return Err(Refusal::QueueDoesNotExist);
+        };
+        let HomeMode::Accepting = self.mode else {
+            return Err(Refusal::HomeDraining);
         };
         if Serial::new(self.next.get() + 1).is_none() {
             return Err(Refusal::Worn);
@@ -374,6 +381,46 @@ impl<S: Store> Shard<S> {
         let settings = self.settings;
         self.store.expire(&At { settings, moment });
         Ok(self.store.count(moment))
+    }
+
+    /// Takes no messages from now on; where it drains, or is drained, it stays so.
+    /// Refused as QueueDoesNotExist (not serving).
+    #[tactic(auto, unfolding(sq_model::specs::Homes::HomeStep, sq_model::specs::Homes::home_refusal), using(sq_model::proofs::RowLaws::rises_unexpired, crate::proofs::Few::few_unexpired))]
+    pub fn start_drain(&mut self, moment: u64) -> Result<(), Refusal>
+        ensures { IsDoneOrRefused StartDrain moment self.old self.new result }
+    {
+        let Status::Serving = self.status else {
+            return Err(Refusal::QueueDoesNotExist);
+        };
+        let settings = self.settings;
+        self.store.expire(&At { settings, moment });
+        self.mode = match self.mode {
+            HomeMode::Accepting | HomeMode::Draining => HomeMode::Draining,
+            HomeMode::Drained => HomeMode::Drained,
+        };
+        Ok(())
+    }
+
+    /// Ends the drain of a home that holds no message.
+    /// Refused as QueueDoesNotExist (not serving), UnsupportedOperation (it does not drain, or holds a message).
+    #[tactic(auto, unfolding(sq_model::specs::Homes::HomeStep, sq_model::specs::Homes::home_refusal), using(sq_model::proofs::RowLaws::rises_unexpired, crate::proofs::Few::few_unexpired, crate::proofs::Few::none_left))]
+    pub fn finish_drain(&mut self, moment: u64) -> Result<(), Refusal>
+        ensures { IsDoneOrRefused FinishDrain moment self.old self.new result }
+    {
+        let Status::Serving = self.status else {
+            return Err(Refusal::QueueDoesNotExist);
+        };
+        let HomeMode::Draining = self.mode else {
+            return Err(Refusal::UnsupportedOperation);
+        };
+        let settings = self.settings;
+        let at = At { settings, moment };
+        if self.store.count_kept(&at) > 0 {
+            return Err(Refusal::UnsupportedOperation);
+        }
+        self.store.expire(&at);
+        self.mode = HomeMode::Drained;
+        Ok(())
     }
 
     /// Closes the home for good, and lets go of its messages.

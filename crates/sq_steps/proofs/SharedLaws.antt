@@ -1,26 +1,29 @@
 -- The halves of a step that a home and the ledger do together, and why neither is done.
 use Rattle.std.proofs.Common.{◌≡◌, ◌⊎◌, ℕ, true, false, List, Option, Some, None, Result, Ok, Err, refl, sym, ◌∙◌, ap, subst, inl, inr}
+use Rattle.std.specs.Prelude.{if◌then◌else◌, not, unwrap_or}
+use Rattle.std.specs.List.{list_any}
 use Rattle.sq_base.specs.declared.refusal.Refusal.{Refusal}
-use Rattle.sq_base.specs.declared.refusal.Refusal.TheVariants.{NoMemory}
+use Rattle.sq_base.specs.declared.refusal.Refusal.TheVariants.{NoMemory, UnsupportedOperation}
 use Rattle.sq_base.specs.StampValue.{StampValue}
 use Rattle.sq_base.specs.declared.ids.HomeId.{HomeId}
 use Rattle.sq_model.specs.declared.calls.HomeCall.{HomeCall}
-use Rattle.sq_model.specs.declared.calls.HomeCall.TheVariants as call
 use Rattle.sq_model.specs.declared.event.Actor.{Actor}
 use Rattle.sq_model.specs.declared.item.Item.{Item}
-use Rattle.sq_model.specs.declared.item.Reason.TheVariants.{DeadLetter}
 use Rattle.sq_model.specs.declared.place.Site.{Site}
 use Rattle.sq_model.specs.declared.replies.HomeReply.{HomeReply}
 use Rattle.sq_model.specs.declared.replies.HomeReply.TheVariants.{Done, Entered}
+use Rattle.sq_model.specs.declared.shared.HomeLeave.{HomeLeave}
+use Rattle.sq_model.specs.declared.shared.HomeLeave.TheVariants.{Dead, Drain}
 use Rattle.sq_model.specs.declared.shared.ItemAct.{ItemAct}
 use Rattle.sq_model.specs.declared.shared.ItemAct.TheVariants.{Enter, TurnBack, GiveBack, Drop}
-use Rattle.sq_model.specs.declared.shared.SharedAct.TheVariants as asks
-use Rattle.sq_model.specs.Homes.{Home, Unopened, Serving, Closed, HomeStep, IsFrom, home_refusal}
+use Rattle.sq_model.specs.Homes.{Home, Unopened, Serving, Closed, HomeStep, IsFrom, IsIdle, home_refusal, is_draining, refused_if, unexpired_rows}
+use Rattle.sq_model.specs.HomeLeaves.{leave_asked, leave_call, leave_reason}
+use Rattle.sq_model.specs.Rows.{is_at_rest}
 use Rattle.sq_model.specs.ItemActs.{asked_with, call_with}
 use Rattle.sq_model.specs.Ledgers.{Ledger, item_of, transit_refusal}
 use Rattle.sq_model.specs.RecordValues.{HomeRecordValue}
-use Rattle.sq_model.specs.Shared.{IsUnrecorded, shared_refusal}
-use Rattle.sq_history.specs.Halves.{item_refusal, DoesHalf, HasDead, HasItem, IsActRefused, IsDeadRefused, IsHalfRefused, PutsRow}
+use Rattle.sq_model.specs.Shared.{IsCallOf, IsUnrecorded, shared_refusal}
+use Rattle.sq_history.specs.Halves.{item_refusal, leave_target, DoesHalf, HasItem, IsActRefused, IsHalfRefused, IsLeaveRefused, MayOneLeave, PutsRow}
 use Rattle.sq_history.specs.declared.shared.HomeHalf.{HomeHalf}
 use Rattle.sq_history.specs.HistoryValue.{HistoryValue}
 use Rattle.sq_ledger.specs.LedgerHistories.{DoesItem, IsLeaving}
@@ -97,44 +100,75 @@ half_does act old new by given name item half does =
     (subst (λ (r : HomeReply). DoesItem act old.site.home (call_with act item) r item) (sym does.ledger_reply)
     (answers_so act old.site old.home half.its_record.stamp.moment item half.its_record.reply new.home does.does.step)))
 
--- ---- a dead message that does not leave
+-- ---- a message that does not leave
 
-leave_passes : (site : Site) (home : Home) (l : Ledger) (m : ℕ) → HasDead home m → shared_refusal site home l m asks.LeaveDead ≡ transit_refusal l
+leave_passes : (what : HomeLeave) (site : Site) (home : Home) (l : Ledger) (m : ℕ) → MayOneLeave what home m → shared_refusal site home l m (leave_asked what) ≡ transit_refusal l
 unfolding shared_refusal
-leave_passes site Unopened l m dead = absurd dead
-leave_passes site Closed l m dead = absurd dead
-leave_passes site (Serving its) l m dead = rw dead refl
+leave_passes Dead site Unopened l m may = absurd may
+leave_passes Dead site Closed l m may = absurd may
+leave_passes Dead site (Serving its) l m may = rw may refl
+leave_passes Drain site Unopened l m may = absurd may
+leave_passes Drain site Closed l m may = absurd may
+leave_passes Drain site (Serving its) l m may = rw (may.0, may.1) refl
 
-leaves_recorded : (site : Site) (home : Home) (l : Ledger) (m : ℕ) → HasDead home m → IsUnrecorded site home l m asks.LeaveDead → ⊥
-leaves_recorded site Unopened l m dead h = h
-leaves_recorded site Closed l m dead h = h
-leaves_recorded site (Serving its) l m dead h = let k : true ≡ false = sym dead ∙ h in cc
+leaves_recorded : (what : HomeLeave) (site : Site) (home : Home) (l : Ledger) (m : ℕ) → MayOneLeave what home m → IsUnrecorded site home l m (leave_asked what) → ⊥
+leaves_recorded Dead site Unopened l m may h = h
+leaves_recorded Dead site Closed l m may h = h
+leaves_recorded Dead site (Serving its) l m may h = let k : true ≡ false = sym may ∙ h in cc
+leaves_recorded Drain site Unopened l m may h = h
+leaves_recorded Drain site Closed l m may h = h
+leaves_recorded Drain site (Serving its) l m may h = let k : true ≡ false = sym may.1 ∙ h.1 in cc
 
-home_first : (site : Site) (home : Home) (l : Ledger) (m : ℕ) (e : Refusal) → home_refusal site home m call.LeaveDead ≡ Some e → shared_refusal site home l m asks.LeaveDead ≡ Some e
+home_first : (what : HomeLeave) (site : Site) (home : Home) (l : Ledger) (m : ℕ) (e : Refusal) → home_refusal site home m (leave_call what) ≡ Some e → shared_refusal site home l m (leave_asked what) ≡ Some e
 unfolding shared_refusal home_refusal
-home_first site Unopened l m e h = h
-home_first site Closed l m e h = h
-home_first site (Serving its) l m e h = absurd cc
+home_first Dead site Unopened l m e h = h
+home_first Dead site Closed l m e h = h
+home_first Dead site (Serving its) l m e h = absurd cc
+home_first Drain site Unopened l m e h = h
+home_first Drain site Closed l m e h = h
+home_first Drain site (Serving its) l m e h =
+    elim (is_draining its.mode) as (λ v. refused_if (not v) UnsupportedOperation None ≡ Some e → refused_if (not v) UnsupportedOperation (if list_any (is_at_rest m) (unexpired_rows its m) then transit_refusal l else None) ≡ Some e) [ true ↦ (λ k. absurd cc) | false ↦ (λ k. k) ] h
 
-dead_out : (old : HistoryValue) (l : Ledger) (m reserved : ℕ) (number : Result ℕ Refusal) (e : Refusal) → ((n : ℕ) → number ≡ Ok n → transit_refusal l ≡ None)
+grows_leave : (what : HomeLeave) (old : HistoryValue) (m : ℕ) → GrowsLast old m (leave_asked what)
+grows_leave Dead old m = tt
+grows_leave Drain old m = tt
+
+leave_out : (what : HomeLeave) (old : HistoryValue) (l : Ledger) (m reserved : ℕ) (number : Result ℕ Refusal) (e : Refusal) → ((n : ℕ) → number ≡ Ok n → transit_refusal l ≡ None)
     → ((r : Refusal) → number ≡ Err r → (transit_refusal l ≡ Some r) ⊎ ((transit_refusal l ≡ None) × (r ≡ NoMemory) × (reserved ≡ 0)))
-    → IsDeadRefused old.site old.home m number e → IsPairRefused old l m asks.LeaveDead e
-dead_out old l m reserved number e passes refuses (inl (out, dead, ok)) = inl (out, (leave_passes old.site old.home l m dead ∙ passes ok.0 ok.1, leaves_recorded old.site old.home l m dead, tt))
-dead_out old l m reserved number e passes refuses (inr (inl h)) = inr (home_first old.site old.home l m e h)
-dead_out old l m reserved number e passes refuses (inr (inr (dead, is))) =
+    → IsLeaveRefused what old.site old.home m number e → IsPairRefused old l m (leave_asked what) e
+leave_out what old l m reserved number e passes refuses (inl (out, may, ok)) =
+    inl (out, (leave_passes what old.site old.home l m may ∙ passes ok.0 ok.1, leaves_recorded what old.site old.home l m may, grows_leave what old m))
+leave_out what old l m reserved number e passes refuses (inr (inl h)) = inr (home_first what old.site old.home l m e h)
+leave_out what old l m reserved number e passes refuses (inr (inr (may, is))) =
     elim (refuses e is) [
-      | inl full ↦ inr (leave_passes old.site old.home l m dead ∙ full)
-      | inr out ↦ inl (out.1, (leave_passes old.site old.home l m dead ∙ out.0, leaves_recorded old.site old.home l m dead, tt))
+      | inl full ↦ inr (leave_passes what old.site old.home l m may ∙ full)
+      | inr out ↦ inl (out.1, (leave_passes what old.site old.home l m may ∙ out.0, leaves_recorded what old.site old.home l m may, grows_leave what old m))
     ]
 
-pub leave_refused : (old : HistoryValue) (l : Ledger) (given : Result StampValue Refusal) (reserved : ℕ) (number : Result ℕ Refusal) (e : Refusal) → ((n : ℕ) → number ≡ Ok n → transit_refusal l ≡ None)
+pub leave_refused : (what : HomeLeave) (old : HistoryValue) (l : Ledger) (given : Result StampValue Refusal) (reserved : ℕ) (number : Result ℕ Refusal) (e : Refusal) → ((n : ℕ) → number ≡ Ok n → transit_refusal l ≡ None)
     → ((r : Refusal) → number ≡ Err r → (transit_refusal l ≡ Some r) ⊎ ((transit_refusal l ≡ None) × (r ≡ NoMemory) × (reserved ≡ 0)))
-    → IsHalfRefused old ⊥ given (λ m x. IsDeadRefused old.site old.home m number x) e → IsHalfRefused old ⊥ given (λ m x. IsPairRefused old l m asks.LeaveDead x) e
-leave_refused old l given reserved number e passes refuses h =
-    half_out old given (λ m x. IsDeadRefused old.site old.home m number x) (λ m x. IsPairRefused old l m asks.LeaveDead x) e
-    (λ k. k) (λ stamp _ not. dead_out old l stamp.moment reserved number e passes refuses not) h
+    → IsHalfRefused old ⊥ given (λ m x. IsLeaveRefused what old.site old.home m number x) e → IsHalfRefused old (CopiesItem l (leave_asked what)) given (λ m x. IsPairRefused old l m (leave_asked what) x) e
+leave_refused what old l given reserved number e passes refuses h =
+    half_out old given (λ m x. IsLeaveRefused what old.site old.home m number x) (λ m x. IsPairRefused old l m (leave_asked what) x) e
+    (λ k. absurd k) (λ stamp _ not. leave_out what old l stamp.moment reserved number e passes refuses not) h
 
--- ---- what the ledger is told of a dead message
+-- where none may leave, that is no event of both
+pub idle_is_unrecorded : (what : HomeLeave) (site : Site) (home : Home) (l : Ledger) (m : ℕ) → IsIdle home m (leave_call what) → IsUnrecorded site home l m (leave_asked what)
+idle_is_unrecorded Dead site Unopened l m idle = idle
+idle_is_unrecorded Dead site Closed l m idle = idle
+idle_is_unrecorded Dead site (Serving its) l m idle = idle
+idle_is_unrecorded Drain site Unopened l m idle = idle
+idle_is_unrecorded Drain site Closed l m idle = idle
+idle_is_unrecorded Drain site (Serving its) l m idle = idle
 
-pub leaving_dead : (l : Ledger) (m : ℕ) (home : HomeId) (c : HomeCall) (item : Item) → c ≡ call.LeaveDead → IsFrom home DeadLetter item → IsLeaving l m home c item
-leaving_dead l m home c item is from = rw is from
+-- ---- a message that leaves
+
+pub leave_is_asked : (l : Ledger) (what : HomeLeave) (c : HomeCall) → c ≡ leave_call what → IsCallOf l (leave_asked what) c
+leave_is_asked l Dead c is = is
+leave_is_asked l Drain c is = is
+
+-- what the ledger is told
+pub leaving : (what : HomeLeave) (l : Ledger) (m : ℕ) (site : Site) (at : Home) (home : HomeId) (c : HomeCall) (item : Item)
+    → c ≡ leave_call what → IsFrom home (leave_reason what) item → site.home ≡ home → leave_target what site at ≡ Some item.target → IsLeaving l m home c item
+leaving Dead l m site at home c item is from here target = rw is from
+leaving Drain l m site at home c item is from here target = rw is (from, sym (ap (λ (t : Option ℕ). unwrap_or t 0) target) ∙ ap (λ (h : HomeId). h.queue) here)

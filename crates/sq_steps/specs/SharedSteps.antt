@@ -43,6 +43,7 @@ pub record IsUnmoved (old : HistoryValue) (ledger : LedgerHistory) (journal : Jo
 -- the item is copied before the clock, where it is there; what leaves is found after it
 abbrev pub CopiesItem : Ledger → SharedAct → Type 0
 CopiesItem l asks.LeaveDead = ⊥
+CopiesItem l asks.LeaveDrain = ⊥
 CopiesItem l (asks.LeaveTask number) = ⊥
 CopiesItem l (asks.Enter number) = HasItem (item_of number l)
 CopiesItem l (asks.TurnBack number) = HasItem (item_of number l)
@@ -56,6 +57,7 @@ GrowsFirst old ledger act = (ledger.spare ≡ 0) ⊎ (old.spare ≡ 0) ⊎ Copie
 -- What memory is got for where nothing refuses the step: for copies of a message that leaves, and a place in the ledger; for a row that comes in where the home shows no spare memory. A closed home, or one without a live message, answers a leave for a task with none.
 abbrev pub GrowsLast : HistoryValue → ℕ → SharedAct → Type 0
 GrowsLast old m asks.LeaveDead = Unit {0}
+GrowsLast old m asks.LeaveDrain = Unit {0}
 GrowsLast old m (asks.LeaveTask number) = has_live_row old.home m ≡ true
 GrowsLast old m (asks.Enter number) = old.spare_rows ≡ 0
 GrowsLast old m (asks.TurnBack number) = ⊥

@@ -2,6 +2,7 @@
 ghost use Rattle.std.specs.Prelude.{◌≡◌, ◌<◌, Ok, IfOk, IfErr, IfSome, IfNone, OnErr};
 ghost use Rattle.sq_base.specs.Stamps.{Below};
 ghost use Rattle.sq_model.specs.declared.shared.SharedAct.TheVariants as asks;
+ghost use Rattle.sq_model.specs.HomeLeaves.{leave_asked};
 ghost use Rattle.sq_model.specs.ItemActs.{asked_with};
 ghost use Rattle.sq_model.specs.Shared.{shared_stamp};
 ghost use Rattle.sq_ledger.specs.LedgerHistories.{IsPrepared, LedgerShares};
@@ -21,7 +22,7 @@ use sq_model::calls::HomeCall;
 use sq_model::event::Actor;
 use sq_model::item::{Item, ItemNo, TaskNo};
 use sq_model::replies::HomeReply;
-use sq_model::shared::ItemAct;
+use sq_model::shared::{HomeLeave, ItemAct};
 use std::alloc::Global;
 
 // The stamp of a step of both: above the last one of each, above what the actor saw, and not before the clock reading.
@@ -64,17 +65,19 @@ fn event_of<'a>(
     }
 }
 
-// A dead message leaves the home, and is an item of the ledger; none where none is dead.
-fn leave_dead(
+// A message leaves the home so, and is an item of the ledger; none where none may leave.
+#[tactic(auto, using(crate::proofs::SharedLaws::idle_is_unrecorded, crate::proofs::SharedLaws::leave_is_asked))]
+fn leave(
     home: &mut Home,
     ledger: &mut TransitLedger,
     step: StampedStep,
+    what: HomeLeave,
 ) -> Result<Option<(HomeReply, HomeRecord)>, Refusal>
     requires { IsPairReady home.old ledger.old step.by step.stamp }
-    ensures { PairEnds home.old home.new ledger.old.history ledger.new.history step.by step.stamp step.name asks.LeaveDead result }
+    ensures { PairEnds home.old home.new ledger.old.history ledger.new.history step.by step.stamp step.name (leave_asked what) result }
 {
     let number = ledger.next_number();
-    let Some((half, item)) = home.leave_dead(&step, number)? else {
+    let Some((half, item)) = home.leave(&step, what, number)? else {
         return Ok(None);
     };
     let event = event_of(half.for_ledger, &step, &half.its_record);
@@ -153,7 +156,8 @@ fn both_halves(
         name,
     };
     let (act, number) = match act {
-        SharedAct::LeaveDead => return leave_dead(home, ledger, step),
+        SharedAct::LeaveDead => return leave(home, ledger, step, HomeLeave::Dead),
+        SharedAct::LeaveDrain => return leave(home, ledger, step, HomeLeave::Drain),
         SharedAct::LeaveTask(number) => return leave_task(home, ledger, step, number),
         SharedAct::Enter(number) => (ItemAct::Enter, number),
         SharedAct::TurnBack(number) => (ItemAct::TurnBack, number),
@@ -170,7 +174,7 @@ fn both_halves(
 /// Refused as NoMemory (the actor's records or either history have no spare memory, or an item is copied), ClockRange, Worn, and then
 /// as the home and the ledger: QueueDoesNotExist (not serving; never opened, where an item is sent back or given up, or one is to
 /// leave for a task), ResourceNotFoundException (no such task), UnsupportedOperation (a task that does not run, or is of another
-/// queue), Worn and OverLimit (a home or the ledger has no number left, or is full), UnsupportedOperation (no item of this number,
+/// queue, or a home that does not drain), HomeDraining (a row is to come in at a home that drains, or is drained), Worn and OverLimit (a home or the ledger has no number left, or is full), UnsupportedOperation (no item of this number,
 /// not one for this home, or a home that serves where it is to be closed); and where nothing refuses it as NoMemory (a message
 /// leaves, or its row comes in where the home shows no spare memory).
 pub fn shared_step(

@@ -5,7 +5,7 @@ use Rattle.std.specs.List.{All, Contains, cons_option, list_any, sum_by}
 use Rattle.std.specs.List.Sorted.{IsPermutation}
 use Rattle.std.proofs.lemmas.Bool.{and_parts}
 use Rattle.std.proofs.lemmas.Grind.{common_steps}
-use Rattle.std.proofs.lemmas.List.{length-append, length-map, take_more}
+use Rattle.std.proofs.lemmas.List.{length-append, length-map, take_all, take_more}
 use Rattle.std.proofs.lemmas.List.Elements.{All-contains_itself, All-filter, All-head, All-tail, filter-append, filter_agree, filter_map-append}
 use Rattle.std.proofs.lemmas.List.Filters.{length-filter_both, sum_by-filter_both}
 use Rattle.std.proofs.lemmas.List.Sorted.{IsPermutation-append, IsPermutation-cons, IsPermutation-filter_both, IsPermutation-middle, IsPermutation-refl, IsPermutation-sym, IsPermutation-trans, length_permutation}
@@ -273,14 +273,18 @@ pub found_at_end : (p : Row → Bool) (rows : List Row) (m : ℕ) (ds : List Dea
     → found_due p rows m ds ≡ found p rows (take rank ds)
 found_at_end p rows m ds rank rise low end = found_all p rows m ds rank rise low (omega (arith, end, count_by-le-length (is_due m) ds))
 
+-- and where no rank is left, all that is there is
+pub found_whole : (p : Row → Bool) (rows : List Row) (ds : List Deadline) (rank : ℕ) → length ds ≤ rank → found p rows ds ≡ found p rows (take rank ds)
+found_whole p rows ds rank end = ap (found p rows) (sym (take_all rank ds end))
+
 -- no row is found in none
-pub found_in_none : (p : Row → Bool) (rows : List Row) (m : ℕ) (ds : List Deadline) → length rows ≡ 0 → found_due p rows m ds ≡ []
-found_in_none p [] m ds none = ap (filter p) (nothing_of (filter (is_due m) ds))
+pub found_in_none : (p : Row → Bool) (rows : List Row) (ds : List Deadline) → length rows ≡ 0 → found p rows ds ≡ []
+found_in_none p [] ds none = ap (filter p) (nothing_of ds)
   where
     nothing_of : (es : List Deadline) → filter_map (row_of []) es ≡ []
     nothing_of [] = refl
     nothing_of (e ∷ es) = nothing_of es
-found_in_none p (row ∷ rows) m ds none = absurd (omega (arith, none))
+found_in_none p (row ∷ rows) ds none = absurd (omega (arith, none))
 
 -- a kept row that passes is one of those that are kept
 pub is_one_of_kept : (p : Row → Bool) (s : Settings) (m slot : ℕ) (rows : List Row) (row : Row) → find (is_in slot) rows ≡ Some row → is_kept_and p s m row ≡ true → IsOneOf p (unexpired s m rows) row
@@ -290,15 +294,28 @@ is_one_of_kept p s m slot rows row at passes =
 
 -- ---- all that is found
 
-by_due : (a b d : Bool) → (a ≡ true → d ≡ true) → (a && b) ≡ ((b && d) && a)
-by_due true true d due = sym (ap (λ (x : Bool). x && true) (due refl))
+by_due : (a b d : Bool) → (b ≡ true → a ≡ true → d ≡ true) → (a && b) ≡ ((b && d) && a)
+by_due true true d due = sym (ap (λ (x : Bool). x && true) (due refl refl))
 by_due true false d due = refl
 by_due false true true due = refl
 by_due false true false due = refl
 by_due false false d due = refl
 
--- those of a class that pass are found, where what passes is visible
-found_of_visible : (class p : Row → Bool) (m : ℕ) (rows : List Row) (ds : List Deadline) → HaveOwnSlots rows → Holds class visible_at rows ds → ((row : Row) → p row ≡ true → is_visible m row ≡ true)
+either_way : (a b : Bool) → (a && b) ≡ (b && a)
+either_way true true = refl
+either_way true false = refl
+either_way false true = refl
+either_way false false = refl
+
+-- those of a class that pass are found
+pub found_of_each : (class p : Row → Bool) (rows : List Row) (ds : List Deadline) → HaveOwnSlots rows → Holds class visible_at rows ds → IsPermutation (filter class (filter p rows)) (found p rows ds)
+found_of_each class p rows ds own held =
+    let same : filter (λ row. class row && p row) rows ≡ filter class (filter p rows) =
+    sym (filter_both p class rows ∙ filter_agree (λ row. p row && class row) (λ row. class row && p row) (λ row. either_way (p row) (class row)) rows) in
+    subst (λ (rs : List Row). IsPermutation rs (found p rows ds)) same (found_of_class class visible_at (λ row. refl) rows own ds held p)
+
+-- and among what is due, where what passes of the class is visible
+pub found_of_visible : (class p : Row → Bool) (m : ℕ) (rows : List Row) (ds : List Deadline) → HaveOwnSlots rows → Holds class visible_at rows ds → ((row : Row) → class row ≡ true → p row ≡ true → is_visible m row ≡ true)
     → IsPermutation (filter class (filter p rows)) (found_due p rows m ds)
 found_of_visible class p m rows ds own held due =
     let same : filter (λ row. (class row && is_due m (visible_at row)) && p row) rows ≡ filter class (filter p rows) =
@@ -308,20 +325,25 @@ found_of_visible class p m rows ds own held due =
 is_received_else : (r : ℕ) → nat_lt 0 r ≡ not (r == 0)
 is_received_else r = grind (arith, common_steps)
 
+-- rows of the three classes are all rows
+all_of_classes : (most : ℕ) (all a b c : List Row) → IsPermutation (filter unreceived_row all) a → IsPermutation (filter (received_row most) all) b → IsPermutation (filter (exhausted_row most) all) c → IsPermutation all (a ++ (b ++ c))
+all_of_classes most all a b c first second third =
+    let received = filter is_received all in
+    let often : Row → Bool = λ row. nat_lt row.receives most in
+    let exhausted : Row → Bool = λ row. nat_le most row.receives in
+    let two : IsPermutation received (filter (received_row most) all ++ filter (exhausted_row most) all) =
+    subst (λ (rs : List Row). IsPermutation received (rs ++ filter (exhausted_row most) all)) (filter_both is_received often all)
+    (subst (λ (rs : List Row). IsPermutation received (filter often received ++ rs)) (filter_both is_received exhausted all) (IsPermutation-filter_both often exhausted (λ row. is_least most row.receives) received)) in
+    IsPermutation-trans _ _ _ (IsPermutation-filter_both unreceived_row is_received (λ row. is_received_else row.receives) all)
+    (IsPermutation-append _ _ _ _ first (IsPermutation-trans _ _ _ two (IsPermutation-append _ _ _ _ second third)))
+
 -- what is found of the three classes is all that passes
 pub found_of_all : (p : Row → Bool) (m : ℕ) (rows : List Row) (v : VisibleFrom) → HaveOwnSlots rows → AreVisible rows v → ((row : Row) → p row ≡ true → is_visible m row ≡ true)
     → IsPermutation (filter p rows) (found_due p rows m v.unreceived.deadlines ++ (found_due p rows m v.received.deadlines ++ found_due p rows m v.exhausted.deadlines))
-found_of_all p m rows v own held due =
-    let all = filter p rows in
-    let received = filter is_received all in
-    let often : Row → Bool = λ row. nat_lt row.receives v.most in
-    let exhausted : Row → Bool = λ row. nat_le v.most row.receives in
-    let two : IsPermutation received (filter (received_row v.most) all ++ filter (exhausted_row v.most) all) =
-    subst (λ (rs : List Row). IsPermutation received (rs ++ filter (exhausted_row v.most) all)) (filter_both is_received often all)
-    (subst (λ (rs : List Row). IsPermutation received (filter often received ++ rs)) (filter_both is_received exhausted all) (IsPermutation-filter_both often exhausted (λ row. is_least v.most row.receives) received)) in
-    IsPermutation-trans _ _ _ (IsPermutation-filter_both unreceived_row is_received (λ row. is_received_else row.receives) all)
-    (IsPermutation-append _ _ _ _ (found_of_visible unreceived_row p m rows v.unreceived.deadlines own held.unreceived due)
-    (IsPermutation-trans _ _ _ two (IsPermutation-append _ _ _ _ (found_of_visible (received_row v.most) p m rows v.received.deadlines own held.received due) (found_of_visible (exhausted_row v.most) p m rows v.exhausted.deadlines own held.exhausted due))))
+found_of_all p m rows v own held due = all_of_classes v.most (filter p rows) _ _ _
+    (found_of_visible unreceived_row p m rows v.unreceived.deadlines own held.unreceived (λ row class. due row))
+    (found_of_visible (received_row v.most) p m rows v.received.deadlines own held.received (λ row class. due row))
+    (found_of_visible (exhausted_row v.most) p m rows v.exhausted.deadlines own held.exhausted (λ row class. due row))
 
 filtered_none : {X : Type 0} (p : X → Bool) (xs : List X) → ((x : X) → p x ≡ false) → filter p xs ≡ []
 filtered_none p [] none = refl
@@ -353,13 +375,28 @@ filtered_away {X} p (x ∷ xs) none =
       | false ↦ (λ is. filtered_away p xs is)
     ] none
 
+-- where there is none of what is kept and passes, none of the kept rows passes
+none_passes_of_kept : (p : Row → Bool) (s : Settings) (m : ℕ) (rows : List Row) → IsPermutation (filter (is_kept_and p s m) rows) [] → list_any p (unexpired s m rows) ≡ false
+none_passes_of_kept p s m rows none = filtered_away p (unexpired s m rows) (filter_both (λ row. not (is_expired s m row)) p rows ∙ none_of_none (filter (is_kept_and p s m) rows) none)
+
 -- where none is found in the three classes, none of the kept rows passes
 pub none_found : (p : Row → Bool) (s : Settings) (m : ℕ) (rows : List Row) (v : VisibleFrom) → HaveOwnSlots rows → AreVisible rows v → ((row : Row) → is_kept_and p s m row ≡ true → is_visible m row ≡ true)
     → found_due (is_kept_and p s m) rows m v.unreceived.deadlines ≡ [] → found_due (is_kept_and p s m) rows m v.received.deadlines ≡ [] → found_due (is_kept_and p s m) rows m v.exhausted.deadlines ≡ []
     → list_any p (unexpired s m rows) ≡ false
 none_found p s m rows v own held due unreceived received exhausted =
-    let nothing : filter (is_kept_and p s m) rows ≡ [] = none_of_none (filter (is_kept_and p s m) rows) (rw (unreceived, received, exhausted) at (found_of_all (is_kept_and p s m) m rows v own held due)) in
-    filtered_away p (unexpired s m rows) (filter_both (λ row. not (is_expired s m row)) p rows ∙ nothing)
+    none_passes_of_kept p s m rows (rw (unreceived, received, exhausted) at (found_of_all (is_kept_and p s m) m rows v own held due))
+
+-- the same, where what passes of those received is visible, and those never received are all walked over
+pub none_found_later : (p : Row → Bool) (s : Settings) (m : ℕ) (rows : List Row) (v : VisibleFrom) → HaveOwnSlots rows → AreVisible rows v → ((row : Row) → is_received row ≡ true → is_kept_and p s m row ≡ true → is_visible m row ≡ true)
+    → found (is_kept_and p s m) rows v.unreceived.deadlines ≡ [] → found_due (is_kept_and p s m) rows m v.received.deadlines ≡ [] → found_due (is_kept_and p s m) rows m v.exhausted.deadlines ≡ []
+    → list_any p (unexpired s m rows) ≡ false
+none_found_later p s m rows v own held due unreceived received exhausted =
+    let q = is_kept_and p s m in
+    let all = all_of_classes v.most (filter q rows) _ _ _
+    (found_of_each unreceived_row q rows v.unreceived.deadlines own held.unreceived)
+    (found_of_visible (received_row v.most) q m rows v.received.deadlines own held.received (λ row class. due row (and_parts (is_received row) (nat_lt row.receives v.most) class).0))
+    (found_of_visible (exhausted_row v.most) q m rows v.exhausted.deadlines own held.exhausted (λ row class. due row (and_parts (is_received row) (nat_le v.most row.receives) class).0)) in
+    none_passes_of_kept p s m rows (rw (unreceived, received, exhausted) at all)
 
 -- ---- those in flight
 

@@ -1,4 +1,4 @@
--- Of which classes live rows and dead rows are.
+-- Of which classes live rows and dead rows are, and rows at rest.
 use Rattle.std.proofs.Common.{◌≡◌, ◌⊎◌, ℕ, ◌≤◌, Bool, true, false, not, List, [], ◌∷◌, Option, Some, None, inl, inr, refl, arith}
 use Rattle.std.specs.Prelude.{◌&&◌, nat_le, nat_lt, IfNone}
 use Rattle.std.specs.List.{list_any}
@@ -7,13 +7,13 @@ use Rattle.std.proofs.lemmas.Grind.{common_steps}
 use Rattle.sq_base.specs.declared.row.Row.{Row}
 use Rattle.sq_base.specs.declared.settings.Redrive.{Redrive}
 use Rattle.sq_base.specs.declared.settings.Settings.{Settings}
-use Rattle.sq_model.specs.Rows.{is_dead, is_expired, is_live, is_spent, is_visible, unexpired}
+use Rattle.sq_model.specs.Rows.{is_at_rest, is_dead, is_expired, is_live, is_spent, is_visible, unexpired}
 use Rattle.sq_slots.specs.Slots.{HaveOwnSlots}
 use Rattle.sq_store.specs.inside.Due.{most_under}
-use Rattle.sq_store.specs.inside.Found.{found_due, is_kept_and}
+use Rattle.sq_store.specs.inside.Found.{found, found_due, is_kept_and}
 use Rattle.sq_store.specs.SlotStores.{AreVisible, received_row, unreceived_row, exhausted_row}
 use Rattle.sq_store.specs.declared.visible.VisibleFrom.{VisibleFrom}
-use Rattle.sq_store.proofs.DueLaws.{found_in_no_class, none_found}
+use Rattle.sq_store.proofs.DueLaws.{found_in_no_class, is_received, none_found, none_found_later}
 
 -- ---- tests
 
@@ -58,6 +58,12 @@ live_is_visible s m row h =
 pub dead_is_visible : (s : Settings) (m : ℕ) (row : Row) → is_kept_and (is_dead s m) s m row ≡ true → is_visible m row ≡ true
 dead_is_visible s m row h = (and_parts (is_visible m row) (is_spent s.redrive row) (and_parts (not (is_expired s m row)) (is_dead s m row) h).1).0
 
+visible_at_rest : (m r from : ℕ) → nat_lt 0 r ≡ true → not (nat_lt 0 r && nat_lt m from) ≡ true → nat_le from m ≡ true
+visible_at_rest m r from received rest = grind (arith, common_steps, received, rest)
+
+pub at_rest_is_visible : (s : Settings) (m : ℕ) (row : Row) → is_received row ≡ true → is_kept_and (is_at_rest m) s m row ≡ true → is_visible m row ≡ true
+at_rest_is_visible s m row received h = visible_at_rest m row.receives row.visible_from received (and_parts (not (is_expired s m row)) (is_at_rest m row) h).1
+
 -- a row that was received as often as the policy says is exhausted, or as often as can be counted
 exhausted_or_full : (policy : Option Redrive) (row : Row) → exhausted_row (most_under policy) row ≡ true → (is_spent policy row ≡ true) ⊎ (nat_lt row.receives 4294967295 ≡ false)
 exhausted_or_full None row h = inr (over row.receives 4294967295 (and_parts (nat_lt 0 row.receives) (nat_le 4294967295 row.receives) h).1)
@@ -83,6 +89,11 @@ module _ (s : Settings) (m : ℕ) (rows : List Row) (v : VisibleFrom) (own : Hav
   pub none_is_dead : found_due (is_kept_and (is_dead s m) s m) rows m v.unreceived.deadlines ≡ [] → found_due (is_kept_and (is_dead s m) s m) rows m v.received.deadlines ≡ []
       → found_due (is_kept_and (is_dead s m) s m) rows m v.exhausted.deadlines ≡ [] → list_any (is_dead s m) (unexpired s m rows) ≡ false
   none_is_dead = none_found (is_dead s m) s m rows v own held (dead_is_visible s m)
+
+  -- of those never received none is left out, since each of them is at rest
+  pub none_is_at_rest : found (is_kept_and (is_at_rest m) s m) rows v.unreceived.deadlines ≡ [] → found_due (is_kept_and (is_at_rest m) s m) rows m v.received.deadlines ≡ []
+      → found_due (is_kept_and (is_at_rest m) s m) rows m v.exhausted.deadlines ≡ [] → list_any (is_at_rest m) (unexpired s m rows) ≡ false
+  none_is_at_rest = none_found_later (is_at_rest m) s m rows v own held (at_rest_is_visible s m)
 
   -- no row is live that was received more often than the policy says
   pub no_exhausted_is_live : most_under s.redrive ≤ v.most → found_due (is_kept_and (is_live s m) s m) rows m v.exhausted.deadlines ≡ []

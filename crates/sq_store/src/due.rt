@@ -1,9 +1,10 @@
 //! What a store of rows in slots finds by what is due.
-ghost use Rattle.std.specs.Prelude.{◌≡◌, ◌++◌, ◌≤◌, [], count_by, false, length, map, nat_le, nat_lt, take, IfErr, IfNone, IfSome, OnOk};
+ghost use Rattle.std.specs.Prelude.{◌≡◌, ◌++◌, ◌≤◌, [], count_by, false, true, length, map, nat_le, nat_lt, take, IfErr, IfNone, IfSome, OnOk};
 ghost use Rattle.std.specs.List.{list_any};
+ghost use Rattle.sq_deadline.specs.Deadlines as deadlines;
 ghost use Rattle.sq_model.specs.Rows as model;
 ghost use Rattle.sq_slots.specs.Slots.{AreApart};
-ghost use Rattle.sq_store.specs.inside.Found.{found_due, is_kept_and, is_wanted as wanted};
+ghost use Rattle.sq_store.specs.inside.Found.{found, found_due, is_kept_and, is_wanted as wanted};
 ghost use Rattle.sq_store.specs.Picked.{GivesLive, IsOneOf};
 ghost use Rattle.sq_store.specs.inside.SlotStores.{IsFromBefore};
 
@@ -13,6 +14,7 @@ use crate::store::At;
 use sq_base::ids::Serial;
 use sq_base::refusal::Refusal;
 use sq_base::row::Row;
+use sq_deadline::deadline::Deadline;
 use sq_deadline::index::DeadlineIndex;
 use sq_model::listed::Listed;
 use sq_slots::table::SlotTable;
@@ -22,6 +24,7 @@ use sq_slots::table::SlotTable;
 pub(crate) enum Wanted {
     Live,
     Dead,
+    AtRest,
 }
 
 /// Whether a row is not past its retention, and is one that is looked for.
@@ -32,26 +35,41 @@ pub(crate) fn is_wanted(what: Wanted, at: &At, row: &Row) -> bool
         && match what {
             Wanted::Live => rows::is_live(at, row),
             Wanted::Dead => rows::is_dead(at, row),
+            Wanted::AtRest => !rows::is_in_flight(at.moment, row),
         }
 }
 
-// The first row that is looked for, of those whose deadlines are due. It takes time by the rows that are due before it.
+// Whether a deadline is due at a moment or before it. At the last moment that there is, each is.
+fn is_due(moment: u64, deadline: &Deadline) -> bool
+    ensures due { result ≡ deadlines.is_due moment deadline.now }
+    ensures last { moment ≡ 18446744073709551615 → result ≡ true }
+{
+    deadline.moment <= moment
+}
+
+// The first row that is looked for, of those whose deadlines are due at a moment or before it; of all, where it is the last that
+// there is. It takes time by the rows that are due before it.
 pub(crate) fn first_of<'a>(
     table: &'a SlotTable,
     index: &DeadlineIndex,
     what: Wanted,
     at: &At,
+    due: u64,
 ) -> Option<&'a Row>
     ensures one { IfSome result (λ row. IsOneOf (wanted what at.now.settings at.now.moment) (model.unexpired at.now.settings at.now.moment table.now.rows) row.now) }
-    ensures none { IfNone result (found_due (is_kept_and (wanted what at.now.settings at.now.moment) at.now.settings at.now.moment) table.now.rows at.now.moment index.now.deadlines ≡ []) }
+    ensures none { IfNone result (found_due (is_kept_and (wanted what at.now.settings at.now.moment) at.now.settings at.now.moment) table.now.rows due index.now.deadlines ≡ []) }
+    ensures all { IfNone result (due ≡ 18446744073709551615 → found (is_kept_and (wanted what at.now.settings at.now.moment) at.now.settings at.now.moment) table.now.rows index.now.deadlines ≡ []) }
     ensures apart { AreApart table.now.rows }
 {
     if table.len() == 0 {
         return None;
     }
     for rank in 0..index.len() {
-        let due = index.nth_due(rank, at.moment)?;
-        if let Some(row) = table.at(due.slot) {
+        let deadline = index.nth(rank)?;
+        if !is_due(due, deadline) {
+            return None;
+        }
+        if let Some(row) = table.at(deadline.slot) {
             if is_wanted(what, at, row) {
                 return Some(row);
             }

@@ -186,6 +186,10 @@ impl Store for PlainStore {
         first_row(&self.rows, Wanted::Live, at)
     }
 
+    fn find_at_rest(&self, at: &At) -> Option<&Row> {
+        first_row(&self.rows, Wanted::AtRest, at)
+    }
+
     fn has_held(&self, at: &At, receipt: &Receipt) -> bool {
         self.rows
             .iter()

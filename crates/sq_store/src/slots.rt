@@ -104,28 +104,41 @@ impl Store for SlotStore {
             return None;
         };
         let (table, visible) = (&self.table, &self.visible);
-        if let Some(row) = first_of(table, &visible.exhausted, Wanted::Dead, at) {
+        if let Some(row) = first_of(table, &visible.exhausted, Wanted::Dead, at, at.moment) {
             return Some(row);
         }
         if visible.most <= redrive.max_receives.get() {
             return None;
         }
-        first_of(table, &visible.received, Wanted::Dead, at)
+        first_of(table, &visible.received, Wanted::Dead, at, at.moment)
     }
 
     // It takes time by the rows that are due before it and not live.
     fn find_live(&self, at: &At) -> Option<&Row> {
         let (table, visible) = (&self.table, &self.visible);
-        if let Some(row) = first_of(table, &visible.unreceived, Wanted::Live, at) {
+        if let Some(row) = first_of(table, &visible.unreceived, Wanted::Live, at, at.moment) {
             return Some(row);
         }
-        if let Some(row) = first_of(table, &visible.received, Wanted::Live, at) {
+        if let Some(row) = first_of(table, &visible.received, Wanted::Live, at, at.moment) {
             return Some(row);
         }
         if rows::most_under(&at.settings.redrive) <= visible.most {
             return None;
         }
-        first_of(table, &visible.exhausted, Wanted::Live, at)
+        first_of(table, &visible.exhausted, Wanted::Live, at, at.moment)
+    }
+
+    // Of those never received any, delayed or not, and of the others those that are due: each of them is at rest, so that none
+    // is passed over but those past their retention. It takes time by these.
+    fn find_at_rest(&self, at: &At) -> Option<&Row> {
+        let (table, visible) = (&self.table, &self.visible);
+        if let Some(row) = first_of(table, &visible.unreceived, Wanted::AtRest, at, u64::MAX) {
+            return Some(row);
+        }
+        if let Some(row) = first_of(table, &visible.received, Wanted::AtRest, at, at.moment) {
+            return Some(row);
+        }
+        first_of(table, &visible.exhausted, Wanted::AtRest, at, at.moment)
     }
 
     // It is found by its slot, in no time that grows.

@@ -3,7 +3,7 @@ ghost use Rattle.std.specs.Prelude.{◌≡◌, ◌+◌, ◌++◌, ◌∷◌, [],
 ghost use Rattle.std.specs.List.{list_any};
 ghost use Rattle.sq_base.specs.declared.row.Row.{Row};
 ghost use Rattle.sq_model.specs.Homes.{counts_of};
-ghost use Rattle.sq_model.specs.Rows.{ms, unexpired, is_in_flight, is_live, is_dead, is_held, is_late, changed_if, IsLook, RisesFrom, serials_of, received_if, without, is_free, Takes};
+ghost use Rattle.sq_model.specs.Rows.{ms, unexpired, is_at_rest, is_in_flight, is_live, is_dead, is_held, is_late, changed_if, IsLook, RisesFrom, serials_of, received_if, without, is_free, Takes};
 ghost use Rattle.sq_slots.specs.Slots.{is_at};
 ghost use Rattle.sq_store.specs.Picked.{AreTheirs, GivesLive, IsOneOf};
 
@@ -53,6 +53,11 @@ pub trait Store: Drop {
     fn find_live(&self, at: &At) -> Option<&Row>
         ensures one { IfSome result (λ row. IsOneOf (is_live at.now.settings at.now.moment) (unexpired at.now.settings at.now.moment (rows self.now)) row.now) }
         ensures none { IfNone result (list_any (is_live at.now.settings at.now.moment) (unexpired at.now.settings at.now.moment (rows self.now)) ≡ false) };
+
+    /// One of them that is not in flight, any: visible, or never received.
+    fn find_at_rest(&self, at: &At) -> Option<&Row>
+        ensures one { IfSome result (λ row. IsOneOf (is_at_rest at.now.moment) (unexpired at.now.settings at.now.moment (rows self.now)) row.now) }
+        ensures none { IfNone result (list_any (is_at_rest at.now.moment) (unexpired at.now.settings at.now.moment (rows self.now)) ≡ false) };
 
     /// Whether one of them is the row of a receipt, and in flight.
     fn has_held(&self, at: &At, receipt: &Receipt) -> bool

@@ -24,6 +24,8 @@ pub enum Ask {
     Purge,
     Count,
     Close,
+    StartDrain,
+    FinishDrain,
 }
 
 /// What is answered, in numbers.
@@ -61,6 +63,8 @@ pub fn home_act(alloc: Global, ask: Ask) -> Result<HomeAct, Refusal> {
         Ask::Purge => HomeAct::Purge,
         Ask::Close => HomeAct::Close,
         Ask::Count => HomeAct::Count,
+        Ask::StartDrain => HomeAct::StartDrain,
+        Ask::FinishDrain => HomeAct::FinishDrain,
     })
 }
 

@@ -3,6 +3,7 @@
 
 mod blocks;
 mod cues;
+mod drains;
 mod evidence;
 mod home_steps;
 mod leaves;

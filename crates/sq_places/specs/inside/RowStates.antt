@@ -42,11 +42,11 @@ row_with keeps lineage serial slot = record { lineage = lineage; serial = serial
 
 -- the row of an item that comes in at its target at a moment
 abbrev pub entered_state : ℕ → Item → EnteredRow → RowState
-entered_state m item entered = row_with (carried item.reason m item.row.enqueued) item.row.lineage entered.serial entered.slot
+entered_state m item entered = row_with (carried item.reason m item.row) item.row.lineage entered.serial entered.slot
 
--- the row of an item that comes back to its source
-abbrev pub returned_state : Item → EnteredRow → RowState
-returned_state item entered = row_with (carried_back item.row.enqueued) item.row.lineage entered.serial entered.slot
+-- the row of an item that comes back to its source at a moment
+abbrev pub returned_state : ℕ → Item → EnteredRow → RowState
+returned_state m item entered = row_with (carried_back item.reason m item.row) item.row.lineage entered.serial entered.slot
 
 -- the row of this slot and serial
 abbrev pub is_state_of : Row → RowState → Bool
@@ -80,7 +80,10 @@ next_policy policy (call.Delete receipt) = policy
 next_policy policy (call.Change receipt timeout) = policy
 next_policy policy call.Purge = policy
 next_policy policy call.Count = policy
+next_policy policy call.StartDrain = policy
+next_policy policy call.FinishDrain = policy
 next_policy policy call.LeaveDead = policy
+next_policy policy call.LeaveDrain = policy
 next_policy policy (call.LeaveTask task) = policy
 next_policy policy (call.Enter item) = policy
 next_policy policy (call.TurnBack item) = policy
@@ -133,11 +136,14 @@ effect_of m (call.Delete receipt) reply = Leaves (is_state_named receipt) Delete
 effect_of m (call.Change receipt timeout) reply = Stays
 effect_of m call.Purge reply = Leaves (λ row. true) Purged
 effect_of m call.Count reply = Stays
+effect_of m call.StartDrain reply = Stays
+effect_of m call.FinishDrain reply = Stays
 effect_of m call.LeaveDead reply = reply_effect reply
+effect_of m call.LeaveDrain reply = reply_effect reply
 effect_of m (call.LeaveTask task) reply = reply_effect reply
 effect_of m (call.Enter item) reply = entry_effect (entered_state m item) reply
 effect_of m (call.TurnBack item) reply = Stays
-effect_of m (call.GiveBack item) reply = entry_effect (returned_state item) reply
+effect_of m (call.GiveBack item) reply = entry_effect (returned_state m item) reply
 effect_of m (call.Drop item) reply = Drops item.row.lineage
 
 -- A message is sent, goes into transit, or is in transit no more.

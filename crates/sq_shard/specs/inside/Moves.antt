@@ -8,7 +8,7 @@ use Rattle.sq_model.specs.Homes.{Home, Unopened, Serving, Closed, MayHoldOneMore
 -- a row is put last, with the next serial, which is told, and this slot
 abbrev pub IsPut : Site → Home → ℕ → Row → EnteredRow → Home → Type 0
 IsPut site (Serving its) m row entered after =
-    MayHoldOneMore site.limits its.next entered.slot (unexpired_rows its m)
+    MayHoldOneMore site.limits its.mode its.next entered.slot (unexpired_rows its m)
     × (entered.serial ≡ its.next)
     × (after ≡ Serving (record its { next = its.next + 1; rows = unexpired_rows its m ++ record row { serial = its.next; slot = entered.slot } ∷ [] }))
 IsPut site Unopened m row entered after = ⊥

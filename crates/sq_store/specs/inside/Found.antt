@@ -4,10 +4,10 @@ use Rattle.sq_base.specs.declared.row.Row.{Row}
 use Rattle.sq_base.specs.declared.settings.Settings.{Settings}
 use Rattle.sq_deadline.specs.declared.deadline.Deadline.{Deadline}
 use Rattle.sq_deadline.specs.Deadlines.{is_due}
-use Rattle.sq_model.specs.Rows.{is_dead, is_expired, is_live}
+use Rattle.sq_model.specs.Rows.{is_at_rest, is_dead, is_expired, is_live}
 use Rattle.sq_slots.specs.Slots.{is_in}
 use Rattle.sq_store.specs.declared.due.Wanted.{Wanted}
-use Rattle.sq_store.specs.declared.due.Wanted.TheVariants.{Live, Dead}
+use Rattle.sq_store.specs.declared.due.Wanted.TheVariants.{AtRest, Live, Dead}
 
 -- the row of a deadline
 abbrev pub row_of : List Row → Deadline → Option Row
@@ -25,6 +25,7 @@ found_due p rows m ds = found p rows (filter (is_due m) ds)
 abbrev pub is_wanted : Wanted → Settings → ℕ → Row → Bool
 is_wanted Live = is_live
 is_wanted Dead = is_dead
+is_wanted AtRest = λ s. is_at_rest
 
 -- what is not past its retention, and passes
 abbrev pub is_kept_and : (Row → Bool) → Settings → ℕ → Row → Bool

@@ -2,6 +2,7 @@
 use super::evidence::Evidence;
 use super::stage::Stage;
 use sq_base::ids::{HomeId, HomeNo, QueueNo};
+use sq_base::ranges::Timeout;
 use sq_base::refusal::Refusal;
 use sq_model::directory::{Attributes, DirectoryCall};
 use sq_model::item::{ItemNo, TaskNo};
@@ -19,14 +20,21 @@ pub enum AtHome {
     Open,
     Send,
     Look,
+    /// It hides no message.
+    LookAgain,
+    /// The message in the first slot, with serial 0, by its receive number.
+    Delete(u64),
     Purge,
     Close,
+    StartDrain,
+    FinishDrain,
 }
 
 /// What a home does together with the ledger, with an item by its number.
 #[derive(Clone, Copy)]
 pub enum Move {
     LeaveDead,
+    LeaveDrain,
     Enter(u64),
     TurnBack(u64),
     GiveBack(u64),
@@ -43,6 +51,8 @@ pub enum Asked {
     /// At a home of the first queue, by the home's number.
     Home(u64, AtHome),
     Shared(u32, Move),
+    /// At a home of the first queue, by the home's number.
+    MoveAt(u64, Move),
     /// A task of a queue.
     Start(u32),
     Finish(u64),
@@ -81,14 +91,19 @@ fn ask_of(what: AtHome) -> Ask {
         AtHome::Open => Ask::Open,
         AtHome::Send => Ask::Send(None),
         AtHome::Look => Ask::Look(None),
+        AtHome::LookAgain => Ask::Look(Some(Timeout::of(0))),
+        AtHome::Delete(receive) => Ask::Delete(0, 0, receive),
         AtHome::Purge => Ask::Purge,
         AtHome::Close => Ask::Close,
+        AtHome::StartDrain => Ask::StartDrain,
+        AtHome::FinishDrain => Ask::FinishDrain,
     }
 }
 
 fn shared_act(what: Move) -> SharedAct {
     match what {
         Move::LeaveDead => SharedAct::LeaveDead,
+        Move::LeaveDrain => SharedAct::LeaveDrain,
         Move::Enter(number) => SharedAct::Enter(item(number)),
         Move::TurnBack(number) => SharedAct::TurnBack(item(number)),
         Move::GiveBack(number) => SharedAct::GiveBack(item(number)),
@@ -123,6 +138,7 @@ pub fn act_of(alloc: Global, asked: Asked) -> Result<Act, Refusal> {
             };
             Act::Shared(id, shared_act(what))
         }
+        Asked::MoveAt(number, what) => Act::Shared(home(number), shared_act(what)),
         Asked::Start(index) => Act::Ledger(TaskAct::Start(start(index)?)),
         Asked::Finish(number) => Act::Ledger(TaskAct::Finish(task(number))),
         Asked::Last(index) => Act::LastTask(queue(index)),

@@ -13,6 +13,7 @@ use sq_model::calls::Receipt;
 use sq_model::place::{Limits, Site};
 use sq_model::replies::Counts;
 use sq_model::rows::{Rows, copy_row};
+use sq_model::shared::HomeLeave;
 use sq_shard::shard::Shard;
 use sq_store::plain::PlainStore;
 use sq_store::slots::SlotStore;
@@ -351,14 +352,18 @@ fn look(
     }
 }
 
-// A dead message, or a live one.
-fn found<S: Store>(home: &Shard<S>, moment: u64, dead: bool) -> Result<Option<Row>, Refusal>
+// A message that may leave so, or a live one.
+#[tactic(auto, using(sq_history::proofs::HalfLaws::has_row))]
+fn found<S: Store>(
+    home: &Shard<S>,
+    moment: u64,
+    what: Option<HomeLeave>,
+) -> Result<Option<Row>, Refusal>
     ensures { IfOk result (λ found. IfSome found (HasRow home.now.home moment)) }
 {
-    let found = if dead {
-        home.find_dead(moment)?
-    } else {
-        home.find_live(moment)
+    let found = match what {
+        Some(what) => home.find_leaving(what, moment)?,
+        None => home.find_live(moment),
     };
     match found {
         Some(row) => Ok(Some(copy_row(row)?)),
@@ -381,10 +386,10 @@ fn taken_out(pair: &mut Pair, moment: u64, row: &Row, other: &Row) -> (Told, Tol
     }
 }
 
-// Takes out a dead message, or a live one, where both find the same.
-fn leave(pair: &mut Pair, moment: u64, dead: bool) -> Result<(Told, Told), Refusal> {
-    let this = found(&pair.slots, moment, dead)?;
-    let that = found(&pair.plain, moment, dead)?;
+// Takes out a message that may leave so, or a live one, where both find the same.
+fn leave(pair: &mut Pair, moment: u64, what: Option<HomeLeave>) -> Result<(Told, Told), Refusal> {
+    let this = found(&pair.slots, moment, what)?;
+    let that = found(&pair.plain, moment, what)?;
     Ok(match (&this, &that) {
         (Some(row), Some(other)) if row.serial == other.serial => {
             taken_out(pair, moment, row, other)
@@ -477,10 +482,10 @@ struct Course {
 }
 
 impl Course {
-    fn new(alloc: Global) -> Course {
+    fn new(alloc: Global, seed: u64) -> Course {
         Course {
             pair: new_pair(alloc),
-            choices: Choices { state: 1 },
+            choices: Choices { state: seed },
             held: Held::new(),
         }
     }
@@ -502,8 +507,12 @@ impl Course {
                 look(alloc, pair, held, moment, max)
             }
             3 => {
-                let dead = choices.below(2) == 0;
-                leave(pair, moment, dead)
+                let what = if choices.below(2) == 0 {
+                    Some(HomeLeave::Dead)
+                } else {
+                    None
+                };
+                leave(pair, moment, what)
             }
             _ => {
                 let (this, that) = next_asked(choices, held, number);
@@ -546,7 +555,7 @@ fn first_other(course: &mut Course, alloc: Global, steps: u64) -> (u64, [u64; KI
 fn ran(rt: &impl Abort, alloc: Global, steps: u64) -> (u64, [u64; KINDS])
     requires { steps ≤ 100000 }
 {
-    let mut course = Box::new(alloc, Course::new(alloc)).expect(rt, "memory");
+    let mut course = Box::new(alloc, Course::new(alloc, 1)).expect(rt, "memory");
     first_other(&mut course, alloc, steps)
 }
 
@@ -556,4 +565,55 @@ fn both_stores_answer_alike(rt: HostRuntime) {
     let (wrong, kinds) = ran(&rt, rt.alloc(), 100_000);
     assert_eq!(rt; wrong, 100_000);
     assert!(rt; kinds.iter().all(|count| 0 < *count), "{kinds:?}");
+}
+
+// How a home drains at a moment: how many messages leave, the sum of their serials, and what the end of the drain is told.
+fn drained<S: Store>(home: &mut Shard<S>, moment: u64) -> Result<(u64, u64, Told), Refusal> {
+    home.start_drain(moment)?;
+    let mut count = 0u64;
+    let mut serials = 0u64;
+    for _ in 0..1000u64 {
+        let Some(row) = found(home, moment, Some(HomeLeave::Drain))? else {
+            break;
+        };
+        let row = home.take_out(moment, &row);
+        count = count.saturating_add(1);
+        serials = serials.saturating_add(row.serial.get());
+    }
+    Ok((count, serials, done(home.finish_drain(moment))))
+}
+
+// How both homes drain after so many steps, where they do so alike.
+fn drained_alike(rt: &impl Abort, alloc: Global, seed: u64, steps: u64) -> Option<(u64, u64, Told)>
+    requires { steps ≤ 100000 }
+{
+    let mut course = Box::new(alloc, Course::new(alloc, seed)).expect(rt, "memory");
+    let _ = first_other(&mut course, alloc, steps);
+    let moment = steps * 200;
+    let this = drained(&mut course.pair.slots, moment);
+    let that = drained(&mut course.pair.plain, moment);
+    match (this, that) {
+        (Ok(this), Ok(that)) if this == that => Some(this),
+        // Neither was opened.
+        (Err(this), Err(that)) if this == that => Some((0, 0, Told::Refused(this))),
+        _ => None,
+    }
+}
+
+// Messages leave; and of some homes the drain ends, of others it waits for messages in flight.
+#[test]
+fn both_stores_drain_alike(rt: HostRuntime) {
+    let mut left = 0u64;
+    let mut over = 0u64;
+    for seed in 1..=100u64 {
+        let (count, _, told) = drained_alike(&rt, rt.alloc(), seed, 300).expect(&rt, "alike");
+        left = left.saturating_add(count);
+        if told == Told::Done {
+            over = over.saturating_add(1);
+        }
+    }
+    assert!(rt;
+        100 < left && 0 < over && over < 100,
+        "{left} left, {over} over"
+    );
 }

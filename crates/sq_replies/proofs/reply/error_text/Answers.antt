@@ -98,3 +98,7 @@ returns-in-UnsupportedOperation c = rw c.in-UnsupportedOperation.is refl
 pub returns-in-TableFull : goal.returns-in-TableFull
 unfolding error_text digits
 returns-in-TableFull c = rw c.in-TableFull.is refl
+
+pub returns-in-HomeDraining : goal.returns-in-HomeDraining
+unfolding error_text digits
+returns-in-HomeDraining c = rw c.in-HomeDraining.is refl

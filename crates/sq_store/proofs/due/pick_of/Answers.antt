@@ -3,7 +3,7 @@ use Rattle.std.specs.Prelude.{filter, find, slice_get}
 use Rattle.std.specs.List.{cons_option}
 use Rattle.std.proofs.lemmas.List.{append-nil, append_assoc, length-append, length-map, map-append, take_all}
 use Rattle.sq_base.specs.declared.row.Row.{Row}
-use Rattle.sq_deadline.specs.Deadlines.{if_due}
+use Rattle.sq_deadline.specs.Deadlines.{if_due, is_due}
 use Rattle.sq_deadline.proofs.SetLaws.{due_at}
 use Rattle.sq_model.specs.Rows.{is_live, received}
 use Rattle.sq_store.specs.inside.Found.{found, is_kept_and, row_of}
@@ -16,7 +16,7 @@ use Rattle.sq_store.proofs.due.pick_of.Goals.{in-Some-at+then-is_wanted+in_ok-re
 
 pub returns-then-len-eq0-clause-picked : goal.returns-then-len-eq0-clause-picked
 returns-then-len-eq0-clause-picked c =
-    rw (found_in_none (is_kept_and (is_live c.args.at.now.settings c.args.at.now.moment) c.args.at.now.settings c.args.at.now.moment) c.args.table.now.rows c.args.at.now.moment c.args.index.now.deadlines (omega arith), append-nil c.args.picked.now)
+    rw (found_in_none (is_kept_and (is_live c.args.at.now.settings c.args.at.now.moment) c.args.at.now.settings c.args.at.now.moment) c.args.table.now.rows (filter (is_due c.args.at.now.moment) c.args.index.now.deadlines) (omega arith), append-nil c.args.picked.now)
     (sym (take_all c.args.max c.args.picked.now c.requires))
 
 pub returns-then-len-max-clause-picked : goal.returns-then-len-max-clause-picked

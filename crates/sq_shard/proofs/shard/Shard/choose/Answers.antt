@@ -10,7 +10,7 @@ pub returns-then-not-has_live-clause-step : goal.returns-then-not-has_live-claus
 returns-then-not-has_live-clause-step g c =
     let serving : c.self.inside.status ≡ Serving = search rules in
     let none : list_any (is_live c.self.inside.settings c.args.moment) (unexpired c.self.inside.settings c.args.moment (g.S.Store.rows c.self.inside.store)) ≡ false = search rules in
-    rw (← c.self.view_is, c.none.ensures, serving) (nothing_given c.self.inside.site (record { settings = c.self.inside.settings; version = c.self.inside.version; next = c.self.inside.next; rows = g.S.Store.rows c.self.inside.store }) c.args.moment c.args.max c.args.timeout none)
+    rw (← c.self.view_is, c.none.ensures, serving) (nothing_given c.self.inside.site (record { settings = c.self.inside.settings; version = c.self.inside.version; mode = c.self.inside.mode; next = c.self.inside.next; rows = g.S.Store.rows c.self.inside.store }) c.args.moment c.args.max c.args.timeout none)
 
 pub returns-clause-theirs : goal.returns-clause-theirs
 returns-clause-theirs g c =

@@ -12,8 +12,8 @@ invariant_of-self-in-Some g c =
     let next = c.self.inside.next in
     let old = g.S.Store.rows c.self.inside.store in
     let kept = unexpired c.self.inside.settings c.args.moment old in
-    let takes : TakesOne c.self.inside.status c.self.inside.site next kept =
-    takes_one c.self.inside.status c.self.inside.site (record { settings = c.self.inside.settings; version = c.self.inside.version; next = next; rows = old }) c.args.moment (search rules) in
+    let takes : TakesOne c.self.inside.status c.self.inside.site c.self.inside.mode next kept =
+    takes_one c.self.inside.status c.self.inside.site (record { settings = c.self.inside.settings; version = c.self.inside.version; mode = c.self.inside.mode; next = next; rows = old }) c.args.moment (search rules) in
     let added : Row = record c.args.row { serial = next; slot = c.insert-slot.result } in
     let rows : g.S.Store.rows c.insert-slot.new.self ≡ kept ++ added ∷ [] = search rules in
     let after : c.in-Some.after ≡ next + 1 = search rules in

@@ -11,7 +11,7 @@ use Rattle.sq_shard.proofs.shard.Shard.take_out.Given as given
 use Rattle.sq_shard.proofs.shard.Shard.take_out.Goals as goal
 
 abbrev held : (g : given.Over) (c : goal.In-Some g) → Contents
-held g c = record { settings = c.self.inside.settings; version = c.self.inside.version; next = c.self.inside.next; rows = g.S.Store.rows c.self.inside.store }
+held g c = record { settings = c.self.inside.settings; version = c.self.inside.version; mode = c.self.inside.mode; next = c.self.inside.next; rows = g.S.Store.rows c.self.inside.store }
 
 gone : (g : given.Over) (c : goal.In-Some g) → GoneOut c.self.inside.status (held g c) c.args.moment (g.S.Store.rows c.take_out.new.self) c.args.row.now c.in-Some.row
 gone g c =
