@@ -23,9 +23,8 @@ WORDS = ["--movers", "2", "--homes", "2", "--idle", "30"]
 BEGIN, CALLS, END, NEAR = "from its begin on", "once it has queues", "once all is taken", 300
 # Connections of a server that is asked nothing, and its longest run in seconds.
 FEW, SOON = 3, 20
-# The longest run; how long nothing comes once all is done; and how long a message that was sent may be on its way, on a machine that has
-# much else to do. In seconds.
-SECONDS, QUIET, LATE = 120, 1.0, 30.0
+# The longest run, and the longest that a message is on its way while all is quiet, in seconds.
+SECONDS, QUIET = 60, 1.0
 
 
 def helpers():
@@ -271,7 +270,7 @@ class Run:
         """Takes what is left in all queues, until nothing new has come for a second and none of what was sent is missing, or long after."""
         caller, last = Caller(server, self), time.monotonic()
         try:
-            while time.monotonic() - last < (LATE if self.missing() else QUIET):
+            while time.monotonic() - last < QUIET * (1 if not self.missing() else 5):
                 if any([caller.take(queue) for queue in QUEUES]):
                     last = time.monotonic()
                 if not self.missing():
